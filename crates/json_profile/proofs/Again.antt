@@ -1,0 +1,158 @@
+-- What was written is read again.
+use Rattle.std.proofs.Common.{◌≡◌, ℕ, suc, ◌≤◌, Bool, true, false, cond, List, [], ◌∷◌, ◌++◌, Option, Some, None, refl, sym, ap, ◌∙◌, subst, arith, nat_lt, append_assoc, append-nil}
+use Rattle.std.proofs.lemmas.Bool.{true≢false, and_parts, ltb-true, ltb-false, leb-true, lt-ltb, eqb-true}
+use Rattle.std.specs.Option.{option_map}
+use Rattle.serde_json.specs.Data.{Items, no_items, item}
+use Rattle.ticket_tree.specs.Attrs.{Pairs}
+use Rattle.ticket_tree.specs.Outline.{goes_on}
+use Rattle.ticket_tree.specs.Ticket.{IsValid, depths, are_shallow}
+use Rattle.ticket_tree.specs.declared.node_row.NodeRow.{NodeRow}
+use Rattle.json_profile.specs.Draft.{own_row, node_rows, item_rows, next_depth, node_members, root_members, ticket_draft}
+use Rattle.json_profile.specs.Read.{◌>>=◌, text_pairs}
+use Rattle.json_profile.specs.Written.{attr_members, node_data, root_data, Tree, children, others, trees, job_data}
+
+pub text_pairs-attr_members : (pairs : Pairs) → text_pairs (attr_members pairs) ≡ Some pairs
+text_pairs-attr_members [] = refl
+text_pairs-attr_members (p ∷ pairs) = ap (option_map (λ ps. p ∷ ps)) (text_pairs-attr_members pairs)
+
+-- a node's own members
+pub own_row-node_data : (r : NodeRow) (kids : Items) → own_row node_members r.depth (node_data r kids) ≡ Some r
+unfolding own_row
+own_row-node_data r kids = ap (λ o. o >>= λ attrs. Some (record { id = r.id; depth = r.depth; kind = r.kind; job_part = r.job_part; status = r.status; attrs = attrs })) (text_pairs-attr_members r.attrs)
+
+pub own_row-root_data : (job : List ℕ) (r : NodeRow) (kids : Items) → own_row root_members r.depth (root_data job r kids) ≡ Some r
+unfolding own_row
+own_row-root_data job r kids = ap (λ o. o >>= λ attrs. Some (record { id = r.id; depth = r.depth; kind = r.kind; job_part = r.job_part; status = r.status; attrs = attrs })) (text_pairs-attr_members r.attrs)
+
+-- the rows of a node: its own, and its children's
+pub node_rows-node_data : (r : NodeRow) (kids : Items) → node_rows node_members r.depth (node_data r kids) ≡ option_map (λ rows. r ∷ rows) (item_rows (next_depth r.depth) kids)
+node_rows-node_data r kids = ap (λ o. o >>= λ row. option_map (λ rows. row ∷ rows) (item_rows (next_depth r.depth) kids)) (own_row-node_data r kids)
+
+pub node_rows-root_data : (job : List ℕ) (r : NodeRow) (kids : Items) → node_rows root_members r.depth (root_data job r kids) ≡ option_map (λ rows. r ∷ rows) (item_rows (next_depth r.depth) kids)
+node_rows-root_data job r kids = ap (λ o. o >>= λ row. option_map (λ rows. row ∷ rows) (item_rows (next_depth r.depth) kids)) (own_row-root_data job r kids)
+
+-- ---- trees of rows
+
+-- the trees never stand deeper than the one before them, the first no deeper than this
+abbrev pub Falls : ℕ → List Tree → Type 0
+Falls most [] = Unit {0}
+Falls most (t ∷ ts) = (t.depth ≤ most) × Falls t.depth ts
+
+falls_at : (deeper : Bool) (depth : ℕ) (t : Tree) (ts : List Tree) → nat_lt depth t.depth ≡ deeper → t.depth ≤ suc depth → Falls t.depth ts → (Falls (suc depth) ts → Falls depth (others depth ts)) → Falls depth (cond deeper (others depth ts) (t ∷ ts))
+falls_at true depth t ts e top rest go =
+    let same : t.depth ≡ suc depth = omega (arith, ltb-true _ _ e) in
+    go (subst (λ d. Falls d ts) same rest)
+falls_at false depth t ts e top rest go = (ltb-false _ _ e, rest)
+
+Falls-others : (depth : ℕ) (ts : List Tree) → Falls (suc depth) ts → Falls depth (others depth ts)
+Falls-others depth [] h = tt
+Falls-others depth (t ∷ ts) h = falls_at (nat_lt depth t.depth) depth t ts refl h.0 h.1 (Falls-others depth ts)
+
+pub Falls-trees : (above : ℕ) (rows : List NodeRow) → goes_on above (depths rows) ≡ true → Falls (suc above) (trees rows)
+Falls-trees above [] h = tt
+Falls-trees above (r ∷ rows) h =
+    let parts = and_parts _ _ h in
+    let bounds = and_parts _ _ parts.0 in
+    (leb-true _ _ bounds.1, Falls-others r.depth (trees rows) (Falls-trees r.depth rows parts.1))
+
+-- the rows of trees, each read at its depth
+abbrev pub tree_rows : List Tree → Option (List NodeRow)
+tree_rows [] = Some []
+tree_rows (t ∷ ts) = node_rows node_members t.depth t.value >>= λ first. option_map (λ rest. first ++ rest) (tree_rows ts)
+
+-- ---- options of lists
+
+joined : {X : Type 0} (o k r : Option (List X)) → (o >>= λ first. option_map (λ rest. first ++ rest) (k >>= λ kids. option_map (λ rest. kids ++ rest) r)) ≡ ((o >>= λ first. option_map (λ rest. first ++ rest) k) >>= λ kids. option_map (λ rest. kids ++ rest) r)
+joined None k r = refl
+joined (Some first) None r = refl
+joined (Some first) (Some kids) None = refl
+joined (Some first) (Some kids) (Some rest) = ap Some (sym (append_assoc first kids rest))
+
+none_before : {X : Type 0} (r : Option (List X)) → option_map (λ rest. [] ++ rest) r ≡ r
+none_before None = refl
+none_before (Some rest) = refl
+
+first_before : {X : Type 0} (x : X) (k r : Option (List X)) → (option_map (λ xs. x ∷ xs) k >>= λ first. option_map (λ rest. first ++ rest) r) ≡ option_map (λ xs. x ∷ xs) (k >>= λ kids. option_map (λ rest. kids ++ rest) r)
+first_before x None r = refl
+first_before x (Some kids) None = refl
+first_before x (Some kids) (Some rest) = refl
+
+none_behind : {X : Type 0} (k : Option (List X)) → (k >>= λ kids. option_map (λ rest. kids ++ rest) (Some [])) ≡ k
+none_behind None = refl
+none_behind (Some kids) = ap Some (append-nil kids)
+
+-- ---- trees are read as their rows
+
+split_at : (deeper : Bool) (depth : ℕ) (t : Tree) (ts : List Tree) → nat_lt depth t.depth ≡ deeper → t.depth ≤ suc depth
+    → (Falls (suc depth) ts → tree_rows ts ≡ (item_rows (suc depth) (children depth ts) >>= λ kids. option_map (λ rest. kids ++ rest) (tree_rows (others depth ts)))) → Falls t.depth ts
+    → tree_rows (t ∷ ts) ≡ (item_rows (suc depth) (cond deeper (item t.value (children depth ts)) no_items) >>= λ kids. option_map (λ rest. kids ++ rest) (tree_rows (cond deeper (others depth ts) (t ∷ ts))))
+split_at true depth t ts e top go rest =
+    let same : t.depth ≡ suc depth = omega (arith, ltb-true _ _ e) in
+    ap (λ d. node_rows node_members d t.value >>= λ first. option_map (λ more. first ++ more) (tree_rows ts)) same
+    ∙ ap (λ o. node_rows node_members (suc depth) t.value >>= λ first. option_map (λ more. first ++ more) o) (go (subst (λ d. Falls d ts) same rest))
+    ∙ joined (node_rows node_members (suc depth) t.value) (item_rows (suc depth) (children depth ts)) (tree_rows (others depth ts))
+split_at false depth t ts e top go rest = sym (none_before (tree_rows (t ∷ ts)))
+
+-- the trees in front that stand deeper are a list of children, and the others follow
+tree_rows-split : (depth : ℕ) (ts : List Tree) → Falls (suc depth) ts → tree_rows ts ≡ (item_rows (suc depth) (children depth ts) >>= λ kids. option_map (λ rest. kids ++ rest) (tree_rows (others depth ts)))
+tree_rows-split depth [] h = refl
+tree_rows-split depth (t ∷ ts) h = split_at (nat_lt depth t.depth) depth t ts refl h.0 (tree_rows-split depth ts) h.1
+
+next_within : (depth : ℕ) → depth ≤ 32 → next_depth depth ≡ suc depth
+next_within depth h = omega arith
+
+pub tree_rows-trees : (above : ℕ) (rows : List NodeRow) → goes_on above (depths rows) ≡ true → are_shallow rows ≡ true → tree_rows (trees rows) ≡ Some rows
+tree_rows-trees above [] outline shallow = refl
+tree_rows-trees above (r ∷ rows) outline shallow =
+    let parts = and_parts _ _ outline in
+    let within = and_parts _ _ shallow in
+    let next : next_depth r.depth ≡ suc r.depth = next_within r.depth (leb-true _ _ within.0) in
+    let kids = children r.depth (trees rows) in
+    ap (λ o. o >>= λ first. option_map (λ rest. first ++ rest) (tree_rows (others r.depth (trees rows)))) (node_rows-node_data r kids ∙ ap (λ d. option_map (λ more. r ∷ more) (item_rows d kids)) next)
+    ∙ first_before r (item_rows (suc r.depth) kids) (tree_rows (others r.depth (trees rows)))
+    ∙ ap (option_map (λ more. r ∷ more)) (sym (tree_rows-split r.depth (trees rows) (Falls-trees r.depth rows parts.1)) ∙ tree_rows-trees r.depth rows parts.1 within.1)
+
+-- ---- the root's trees are its children
+
+abbrev pub AllDeep : List Tree → Type 0
+AllDeep [] = Unit {0}
+AllDeep (t ∷ ts) = (2 ≤ t.depth) × AllDeep ts
+
+deep_at : (deeper : Bool) (depth : ℕ) (t : Tree) (ts : List Tree) → 2 ≤ t.depth → AllDeep ts → AllDeep (others depth ts) → AllDeep (cond deeper (others depth ts) (t ∷ ts))
+deep_at true depth t ts low rest go = go
+deep_at false depth t ts low rest go = (low, rest)
+
+AllDeep-others : (depth : ℕ) (ts : List Tree) → AllDeep ts → AllDeep (others depth ts)
+AllDeep-others depth [] h = tt
+AllDeep-others depth (t ∷ ts) h = deep_at (nat_lt depth t.depth) depth t ts h.0 h.1 (AllDeep-others depth ts h.1)
+
+AllDeep-trees : (above : ℕ) (rows : List NodeRow) → goes_on above (depths rows) ≡ true → AllDeep (trees rows)
+AllDeep-trees above [] h = tt
+AllDeep-trees above (r ∷ rows) h =
+    let parts = and_parts _ _ h in
+    let bounds = and_parts _ _ parts.0 in
+    (leb-true _ _ bounds.0, AllDeep-others r.depth (trees rows) (AllDeep-trees r.depth rows parts.1))
+
+others-none : (ts : List Tree) → AllDeep ts → others 1 ts ≡ []
+others-none [] h = refl
+others-none (t ∷ ts) h = ap (λ b. cond b (others 1 ts) (t ∷ ts)) (lt-ltb 1 t.depth h.0) ∙ others-none ts h.1
+
+-- ---- tickets
+
+root_again : (job : List ℕ) (r : NodeRow) (kids : Items) (rows : List NodeRow) → r.depth ≡ 1 → item_rows 2 kids ≡ Some rows → ticket_draft (root_data job r kids) ≡ Some (record { job_id = job; rows = r ∷ rows })
+unfolding ticket_draft
+root_again job r kids rows one read =
+    let whole : node_rows root_members 1 (root_data job r kids) ≡ Some (r ∷ rows) =
+    ap (λ d. node_rows root_members d (root_data job r kids)) (sym one) ∙ node_rows-root_data job r kids ∙ ap (λ d. option_map (λ more. r ∷ more) (item_rows (next_depth d) kids)) one ∙ ap (option_map (λ more. r ∷ more)) read in
+    ap (λ o. o >>= λ all. Some (record { job_id = job; rows = all })) whole
+
+pub ticket_draft-job_data : (job : List ℕ) (rows : List NodeRow) → IsValid rows → ticket_draft (job_data job rows) ≡ Some (record { job_id = job; rows = rows })
+ticket_draft-job_data job [] valid = absurd (true≢false (sym valid.tree))
+ticket_draft-job_data job (r ∷ rows) valid =
+    let parts = and_parts _ _ valid.tree in
+    let one : r.depth ≡ 1 = eqb-true _ _ parts.0 in
+    let within = and_parts _ _ valid.shallow in
+    let all : item_rows 2 (children 1 (trees rows)) ≡ Some rows =
+    sym (none_behind (item_rows 2 (children 1 (trees rows)))) ∙ ap (λ ts. item_rows 2 (children 1 (trees rows)) >>= λ kids. option_map (λ rest. kids ++ rest) (tree_rows ts)) (sym (others-none (trees rows) (AllDeep-trees 1 rows parts.1)))
+    ∙ sym (tree_rows-split 1 (trees rows) (Falls-trees 1 rows parts.1)) ∙ tree_rows-trees 1 rows parts.1 within.1 in
+    root_again job r (children r.depth (trees rows)) rows one (ap (λ d. item_rows 2 (children d (trees rows))) one ∙ all)

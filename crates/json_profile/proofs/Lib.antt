@@ -1,0 +1,11 @@
+pub mod Again
+pub mod Attributes
+pub mod Faults
+pub mod Forests
+pub mod Members
+pub mod Nodes
+pub mod Objects
+pub mod Pairs
+pub mod RoundTrip
+pub mod Shape
+pub mod Taken

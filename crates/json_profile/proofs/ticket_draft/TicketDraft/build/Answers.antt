@@ -1,0 +1,17 @@
+use Rattle.std.proofs.Common.{◌∙◌, ap}
+use Rattle.std.proofs.lemmas.Bool.{and_parts}
+use Rattle.std.specs.List.{list_all}
+use Rattle.json_profile.specs.Drafted.{drafted_row}
+use Rattle.json_profile.specs.Form.{row_has_names, row_has_texts, has_names, has_texts}
+use Rattle.json_profile.proofs.Faults.{list_all-drafted}
+use Rattle.json_profile.proofs.ticket_draft.TicketDraft.build.Goals as goal
+
+pub build_rows-requires-clause-names : goal.build_rows-requires-clause-names
+build_rows-requires-clause-names c =
+    ap (list_all (λ d. row_has_names (drafted_row d))) c.as_slice.ensures.value ∙ list_all-drafted row_has_names c.self.inside.rows.items
+    ∙ (and_parts _ _ (ap has_names c.self.view_is ∙ c.requires.names)).1
+
+pub build_rows-requires-clause-texts : goal.build_rows-requires-clause-texts
+build_rows-requires-clause-texts c =
+    ap (list_all (λ d. row_has_texts (drafted_row d))) c.as_slice.ensures.value ∙ list_all-drafted row_has_texts c.self.inside.rows.items
+    ∙ ap has_texts c.self.view_is ∙ c.requires.texts

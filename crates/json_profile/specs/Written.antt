@@ -1,0 +1,85 @@
+-- What is written for tickets and edits: each member of a form, in the byte order of the names.
+use Rattle.std.specs.Prelude.{ℕ, Bool, false, List, [], ◌∷◌, codes, nat_lt, if◌then◌else◌}
+use Rattle.serde_json.specs.Data.{Data, Items, no_items, item, Members, no_members, member, null, string, array, object}
+use Rattle.ticket_tree.specs.Attrs.{Pairs}
+use Rattle.ticket_tree.specs.Ticket.{Job}
+use Rattle.ticket_tree.specs.declared.node_row.NodeRow.{NodeRow}
+use Rattle.ticket_tree.specs.declared.edit.Edit.{Edit}
+use Rattle.ticket_tree.specs.declared.edit.Edit.TheVariants.{SetStatus, SetAttr}
+
+-- attributes, a text each
+abbrev pub attr_members : Pairs → Members
+attr_members [] = no_members
+attr_members (p ∷ pairs) = member p.0 (string p.1) (attr_members pairs)
+
+-- ---- nodes
+
+-- from a node's part in its job on: what stands behind its children
+abbrev pub last_members : NodeRow → Members
+last_members r =
+    member (codes "JobPartID") (string r.job_part) (member (codes "ResourceLinkPool") (array no_items) (member (codes "ResourcePool") (array no_items)
+    (member (codes "Status") (string r.status) (member (codes "Type") (string r.kind) no_members))))
+
+-- a node with its children, the members in front of `last`
+abbrev pub with_first_members : NodeRow → Items → Members → Data
+with_first_members r children last =
+    object (member (codes "Attr") (object (attr_members r.attrs)) (member (codes "AuditPool") (array no_items) (member (codes "ID") (string r.id) (member (codes "JDF") (array children) last))))
+
+abbrev pub node_data : NodeRow → Items → Data
+node_data r children = with_first_members r children (last_members r)
+
+-- a ticket's root, which also has the job's id
+abbrev pub root_data : List ℕ → NodeRow → Items → Data
+root_data job r children = with_first_members r children (member (codes "JobID") (string job) (last_members r))
+
+-- the part of a node that is of its own kind: attributes and names
+abbrev pub own_members : NodeRow → Members
+own_members r =
+    member (codes "Attr") (object (attr_members r.attrs)) (member (codes "ID") (string r.id) (member (codes "JobPartID") (string r.job_part) (member (codes "Status") (string r.status) (member (codes "Type") (string r.kind) no_members))))
+
+-- ---- trees
+
+-- a node with all below it, and its depth
+pub record Tree : Type 0 where
+  pub depth : ℕ
+  pub value : Data
+
+-- whether the tree in front stands deeper
+abbrev pub has_deeper_front : ℕ → List Tree → Bool
+has_deeper_front depth [] = false
+has_deeper_front depth (t ∷ trees) = nat_lt depth t.depth
+
+-- the trees in front that stand deeper: the children of a node at this depth
+abbrev pub children : ℕ → List Tree → Items
+children depth [] = no_items
+children depth (t ∷ trees) = if nat_lt depth t.depth then item t.value (children depth trees) else no_items
+
+-- the trees from the first on that stands no deeper
+abbrev pub others : ℕ → List Tree → List Tree
+others depth [] = []
+others depth (t ∷ trees) = if nat_lt depth t.depth then others depth trees else t ∷ trees
+
+-- a row in front of trees: those that stand deeper are its children
+abbrev pub with_tree : NodeRow → List Tree → List Tree
+with_tree r ts = record { depth = r.depth; value = node_data r (children r.depth ts) } ∷ others r.depth ts
+
+-- the trees that rows in preorder are
+abbrev pub trees : List NodeRow → List Tree
+trees [] = []
+trees (r ∷ rows) = with_tree r (trees rows)
+
+abbrev pub job_data : List ℕ → List NodeRow → Data
+job_data job [] = null
+job_data job (r ∷ rows) = root_data job r (children r.depth (trees rows))
+
+-- a ticket: its root with all below it
+abbrev pub ticket_data : Job → Data
+ticket_data t = job_data t.job_id t.rows
+
+-- ---- edits
+
+abbrev pub edit_data : Edit → Data
+edit_data (SetStatus node status) =
+    object (member (codes "Edit") (string (codes "SetStatus")) (member (codes "Node") (string node) (member (codes "Status") (string status) no_members)))
+edit_data (SetAttr node name value) =
+    object (member (codes "Edit") (string (codes "SetAttr")) (member (codes "Name") (string name) (member (codes "Node") (string node) (member (codes "Value") (string value) no_members))))

@@ -1,0 +1,54 @@
+//! The nodes of a ticket's draft.
+
+ghost use Rattle.std.specs.Prelude.{◌≡◌, true, IfOk, IfErr};
+ghost use Rattle.std.specs.List.{list_all};
+ghost use Rattle.serde_json.specs.View.{view};
+ghost use Rattle.json_profile.specs.Draft.{node_rows, root_members};
+ghost use Rattle.json_profile.specs.Drafted.{drafted_row, drafted_rows};
+ghost use Rattle.json_profile.specs.Form.{row_has_names, row_has_texts};
+ghost use Rattle.json_profile.specs.Read.{Gives};
+
+use crate::node_draft::NodeDraft;
+use crate::node_reader::{ROOT_MEMBERS, push_node};
+use serde_json::Value;
+use std::alloc::Global;
+use ticket_tree::{NodeRow, Refusal};
+
+/// The nodes of a ticket, in preorder.
+pub fn node_drafts<'a>(alloc: Global, value: &'a Value) -> Result<Vec<NodeDraft<'a>>, Refusal>
+    ensures { Gives (λ v. drafted_rows v.items) result (node_rows root_members 1 (view value.now)) }
+{
+    let mut rows = Vec::new(alloc);
+    match push_node(alloc, &mut rows, ROOT_MEMBERS, 1, value) {
+        Ok(()) => Ok(rows),
+        Err(refusal) => Err(refusal),
+    }
+}
+
+/// Whether the ids and names of all nodes are such.
+pub fn have_names(drafts: &[NodeDraft<'_>]) -> bool
+    ensures { result ≡ list_all (λ d. row_has_names (drafted_row d)) drafts.now }
+{
+    drafts.iter().all(|draft| draft.has_names())
+}
+
+/// Whether the texts of all nodes are such.
+pub fn have_texts(drafts: &[NodeDraft<'_>]) -> bool
+    ensures { result ≡ list_all (λ d. row_has_texts (drafted_row d)) drafts.now }
+{
+    drafts.iter().all(|draft| draft.has_texts())
+}
+
+/// The nodes of drafts whose names and texts are such. Refuses `Memory` alone.
+pub fn build_rows(alloc: Global, drafts: &[NodeDraft<'_>]) -> Result<Vec<NodeRow>, Refusal>
+    requires names { list_all (λ d. row_has_names (drafted_row d)) drafts.now ≡ true }
+    requires texts { list_all (λ d. row_has_texts (drafted_row d)) drafts.now ≡ true }
+    ensures ok { IfOk result (λ rows. rows.items ≡ drafted_rows drafts.now) }
+    ensures memory { IfErr result (λ e. e ≡ Refusal.Memory) }
+{
+    let mut rows = Vec::with_capacity(alloc, drafts.len())?;
+    for draft in drafts {
+        rows.push(draft.build(alloc)?)?;
+    }
+    Ok(rows)
+}

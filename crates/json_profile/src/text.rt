@@ -1,0 +1,39 @@
+ghost use Rattle.std.specs.Prelude.{◌≡◌, ◌⊎◌, ◌≤◌, None, Some, false, IfOk, IfErr, IsErrOf};
+ghost use Rattle.std.specs.Str.{IsUtf8};
+ghost use Rattle.serde_json.specs.Data.{depth};
+ghost use Rattle.serde_json.specs.Read.{max_depth, read};
+ghost use Rattle.serde_json.specs.View.{view};
+ghost use Rattle.serde_json.specs.Written.{compact_text, has_float};
+
+use serde_json::Value;
+use std::alloc::{AllocError, Global};
+use ticket_tree::Refusal;
+
+/// The JSON value that the bytes are. Refuses `NotJson` where they aren't UTF-8, are no JSON, or nest
+/// deeper than 127 levels.
+pub fn value_of(alloc: Global, bytes: &[u8]) -> Result<Value, Refusal>
+    ensures ok { IfOk result (λ v. IsUtf8 bytes.now × (read bytes.now ≡ Some (view v))) }
+    ensures nests { IfOk result (λ v. depth (view v) ≤ max_depth) }
+    ensures not_json { IsErrOf result Refusal.NotJson → IsUtf8 bytes.now → read bytes.now ≡ None }
+    ensures kinds { IfErr result (λ e. (e ≡ Refusal.NotJson) ⊎ (e ≡ Refusal.Memory)) }
+{
+    match Value::from_slice(alloc, bytes) {
+        Ok(value) => Ok(value),
+        Err(error) => {
+            if error.is_memory() {
+                Err(Refusal::Memory)
+            } else {
+                Err(Refusal::NotJson)
+            }
+        }
+    }
+}
+
+/// The compact JSON text of a value: no white space, and the members of each object in byte order.
+pub fn text_of(alloc: Global, value: &Value) -> Result<Vec<u8>, AllocError>
+    ensures text { IfOk result (λ b. has_float (view value.now) ≡ false → b.items ≡ compact_text (view value.now)) }
+    ensures utf8 { IfOk result (λ b. IsUtf8 b.items) }
+    ensures reads_back { IfOk result (λ b. depth (view value.now) ≤ max_depth → read b.items ≡ Some (view value.now)) }
+{
+    value.to_vec(alloc)
+}

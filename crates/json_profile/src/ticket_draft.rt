@@ -1,0 +1,72 @@
+use crate::known::known_name;
+use crate::member::text_under;
+use crate::node_draft::NodeDraft;
+use crate::node_drafts::{build_rows, have_names, have_texts, node_drafts};
+use serde_json::Value;
+use std::alloc::Global;
+use std::marker::Model;
+use ticket_tree::{Refusal, Ticket, is_name};
+
+/// A ticket by its members and their kinds alone: its ids, names and texts may be any, and its rows
+/// no tree's. A document of several parts is read as drafts first, so that each refusal is looked
+/// for in all of it before the next one is.
+#[derive(Drop)]
+pub struct TicketDraft<'a> {
+    job: &'a str,
+    rows: Vec<NodeDraft<'a>>,
+}
+
+impl<'a> Model for TicketDraft<'a> {
+    ghost use Rattle.ticket_tree.specs.Ticket.{Job};
+    ghost use Rattle.json_profile.specs.Drafted.{drafted_rows};
+
+    ghost Value = { Job };
+
+    ghost view = { λ a. record { job_id = a.job.now; rows = drafted_rows a.rows.items } };
+}
+
+impl<'a> TicketDraft<'a> {
+    ghost use Rattle.std.specs.Prelude.{◌≡◌, ◌⊎◌, true, Some, IfOk, IfErr, OnOk};
+    ghost use Rattle.serde_json.specs.View.{view};
+    ghost use Rattle.ticket_tree.specs.Ticket.{IsValid, fault_of};
+    ghost use Rattle.json_profile.specs.Draft.{ticket_draft};
+    ghost use Rattle.json_profile.specs.Form as form;
+    ghost use Rattle.json_profile.specs.Read.{Gives};
+
+    /// The draft that a value is. Refuses `NotProfile`, and `Memory`.
+    #[tactic(auto, unfolding(crate::specs::Draft::ticket_draft))]
+    pub fn of(alloc: Global, value: &'a Value) -> Result<TicketDraft<'a>, Refusal>
+        ensures { Gives (λ t. t) result (ticket_draft (view value.now)) }
+    {
+        let job = text_under(value, "JobID").ok_or(Refusal::NotProfile)?;
+        let rows = node_drafts(alloc, value)?;
+        Ok(TicketDraft { job, rows })
+    }
+
+    /// Whether its ids and names are such.
+    pub fn has_names(&self) -> bool
+        ensures { result ≡ form.has_names self.now }
+    {
+        is_name(self.job) && have_names(self.rows.as_slice())
+    }
+
+    /// Whether its texts are such.
+    pub fn has_texts(&self) -> bool
+        ensures { result ≡ form.has_texts self.now }
+    {
+        have_texts(self.rows.as_slice())
+    }
+
+    /// The ticket of a draft whose names and texts are such. Refuses what `Ticket::from_rows` does.
+    pub fn build(&self, alloc: Global) -> Result<Ticket, Refusal>
+        requires names { form.has_names self.now ≡ true }
+        requires texts { form.has_texts self.now ≡ true }
+        ensures ok { IfOk result (λ t. t ≡ self.now) }
+        ensures valid { OnOk result (IsValid self.now.rows) }
+        ensures err { IfErr result (λ e. (e ≡ Refusal.Memory) ⊎ (fault_of self.now.rows ≡ Some e)) }
+    {
+        let job = known_name(alloc, self.job)?;
+        let rows = build_rows(alloc, self.rows.as_slice())?;
+        Ticket::from_rows(alloc, job, rows)
+    }
+}

@@ -1,0 +1,8 @@
+pub mod Apart
+pub mod Below
+pub mod Changes
+pub mod Parents
+pub mod Places
+pub mod Preorder
+pub mod Plain
+mod Worked

@@ -1,0 +1,9 @@
+pub mod Names
+pub mod Refusal
+pub mod Attrs
+pub mod Ids
+pub mod Outline
+pub mod Ticket
+pub mod Place
+pub mod Edit
+pub mod Laws

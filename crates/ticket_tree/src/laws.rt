@@ -1,0 +1,40 @@
+//! Laws of the words that the contracts of this crate use. Each function does nothing: its contract
+//! is the law.
+
+ghost use Rattle.ticket_tree.specs.Laws as law;
+
+/// Rows have no fault exactly if they are valid.
+pub fn valid_rows_have_no_fault()
+    ensures { law.NoFaultIsValid }
+{}
+
+/// Each node of valid rows is either the root, whose path is itself alone and which comes first, or
+/// has one parent: its path is itself and then its parent's path, on which it doesn't stand.
+pub fn each_node_has_one_parent()
+    ensures { law.OneParentEach }
+{}
+
+/// The depth of a node is the length of its path: 1 at the root, and one more than its parent's at
+/// another node.
+pub fn depth_is_length_of_path()
+    ensures { law.DepthIsPathLength }
+{}
+
+/// A node is another or below it exactly if it is known, and is the same or has a parent that is the
+/// other or below it.
+pub fn below_is_the_same_or_has_a_parent_below()
+    ensures { law.BelowByParent }
+{}
+
+/// Valid rows are their root followed by what is below each of its children, in order.
+pub fn rows_are_the_preorder_of_children()
+    ensures { law.RowsArePreorder }
+{}
+
+/// An edit of the rows is the edit of the plain ticket: it is refused for the same, it moves no
+/// node, and it changes the row of its own node alone.
+pub fn edit_of_the_rows_is_the_plain_edit()
+    ensures refused { law.RefusalIsPlain }
+    ensures stays { law.EditKeepsPlaces }
+    ensures touched { law.EditTouchesOneRow }
+{}

@@ -1,0 +1,17 @@
+use crate::attrs::Attrs;
+use crate::id::Id;
+use crate::name::Name;
+
+/// One node of a ticket (JDF 1.5, 3.2), and how deep it stands: the root at 1, a child one deeper
+/// than its parent, no node deeper than 32.
+#[derive(Debug, Drop)]
+pub struct NodeRow {
+    pub id: Id,
+    pub depth: u32,
+    /// The node's Type.
+    pub kind: Name,
+    /// The node's JobPartID.
+    pub job_part: Name,
+    pub status: Name,
+    pub attrs: Attrs,
+}

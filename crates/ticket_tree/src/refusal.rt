@@ -1,0 +1,104 @@
+use std::alloc::{AllocError, AllocFailed};
+use std::error::Error;
+use std::fmt;
+
+/// Why a call was refused. Each refusal has a number and a name, which are our own profile's.
+#[derive(Clone, Copy, Debug, PartialEq, Eq)]
+pub enum Refusal {
+    /// An id or a name isn't one.
+    BadId,
+    /// An id stands twice in a ticket (JDF 1.5, 3.1: an ID is unique within its document).
+    DuplicateId,
+    /// A node stands deeper than 32.
+    TooDeep,
+    /// A node shows the Status `Spawned`, which only a spawn gives (JDF 1.5, 4.4).
+    ReservedStatus,
+    /// A text has more than 1,024 bytes.
+    BadText,
+    /// The depths of the rows are those of no tree.
+    NotATree,
+    /// No node has the id.
+    UnknownNode,
+    /// The bytes are no JSON.
+    NotJson,
+    /// The JSON isn't of our profile's form.
+    NotProfile,
+    /// No memory was left.
+    Memory,
+}
+
+impl Refusal {
+    ghost use Rattle.std.specs.Prelude.{◌≡◌};
+    ghost use Rattle.ticket_tree.specs.Refusal as refusals;
+
+    /// The refusal's number.
+    pub fn number(self) -> u16
+        ensures { result ≡ refusals.number_of self }
+    {
+        match self {
+            Refusal::BadId => 1,
+            Refusal::DuplicateId => 2,
+            Refusal::TooDeep => 4,
+            Refusal::ReservedStatus => 5,
+            Refusal::BadText => 6,
+            Refusal::NotATree => 7,
+            Refusal::UnknownNode => 10,
+            Refusal::NotJson => 40,
+            Refusal::NotProfile => 41,
+            Refusal::Memory => 90,
+        }
+    }
+
+    /// The refusal's name.
+    pub fn name(self) -> &'static str
+        ensures { result.now ≡ refusals.name_of self }
+    {
+        match self {
+            Refusal::BadId => "BadId",
+            Refusal::DuplicateId => "DuplicateId",
+            Refusal::TooDeep => "TooDeep",
+            Refusal::ReservedStatus => "ReservedStatus",
+            Refusal::BadText => "BadText",
+            Refusal::NotATree => "NotATree",
+            Refusal::UnknownNode => "UnknownNode",
+            Refusal::NotJson => "NotJson",
+            Refusal::NotProfile => "NotProfile",
+            Refusal::Memory => "Memory",
+        }
+    }
+}
+
+impl fmt::Display for Refusal {
+    ghost use Rattle.std.specs.Prelude.{Some};
+    ghost use Rattle.ticket_tree.specs.Refusal as refusals;
+
+    ghost output = { λ refusal. Some (refusals.name_of refusal) };
+
+    fn fmt<W: fmt::Write>(&self, f: &mut fmt::Formatter<W>) -> fmt::Result {
+        write!(f, "{}", self.name())
+    }
+}
+
+impl Error for Refusal {}
+
+impl From<AllocError> for Refusal {
+    ghost use Rattle.std.specs.Prelude.{◌≡◌};
+    ghost use Rattle.ticket_tree.specs.declared.refusal.Refusal.TheVariants.{Memory};
+
+    ghost from_gives = { λ _ e. e ≡ Memory };
+
+    fn from(_error: AllocError) -> Refusal {
+        Refusal::Memory
+    }
+}
+
+impl<T: Drop> From<AllocFailed<T>> for Refusal {
+    ghost use Rattle.std.specs.Prelude.{◌≡◌};
+    ghost use Rattle.ticket_tree.specs.declared.refusal.Refusal.TheVariants.{Memory};
+
+    ghost from_gives = { λ _ e. e ≡ Memory };
+
+    fn from(_error: AllocFailed<T>) -> Refusal {
+        Refusal::Memory
+    }
+}

@@ -1,0 +1,148 @@
+//! The nodes of a ticket in preorder, and what is found among them.
+
+ghost use Rattle.std.specs.Prelude.{◌≡◌, ◌+◌, ◌<◌, ◌≤◌, ◌&&◌, ◌==◌, not, false, true, length, drop, nat_le, suc, slice_range, IfOk, IfSome, IfNone};
+ghost use Rattle.std.specs.List.{find, list_all, list_any, position, position_or_len};
+ghost use Rattle.std.specs.Option.{option_copied, option_map};
+ghost use Rattle.std.specs.Prelude.{is_some};
+ghost use Rattle.std.specs.Str.{bytes_eq};
+ghost use Rattle.ticket_tree.specs.Ids as id_lists;
+ghost use Rattle.ticket_tree.specs.Outline as outline;
+ghost use Rattle.ticket_tree.specs.Place.{BoundsNodesBelow, places};
+ghost use Rattle.ticket_tree.specs.Place as tree;
+ghost use Rattle.ticket_tree.specs.Ticket.{IsValid, depths, has_node, ids, row_of};
+ghost use Rattle.ticket_tree.specs.Ticket as valid;
+
+use crate::id::Id;
+use crate::name::Name;
+use crate::node_row::NodeRow;
+use std::alloc::{AllocError, Global};
+use std::collections::BTreeSet;
+
+/// The Status that only a spawned node shows (JDF 1.5, 4.4).
+pub const SPAWNED: &str = "Spawned";
+
+/// The greatest depth of a node.
+pub const MAX_DEPTH: u32 = 32;
+
+pub fn is_reserved(status: &Name) -> bool
+    ensures { result ≡ valid.is_reserved status.now }
+{
+    status.as_str() == SPAWNED
+}
+
+/// Whether the depths are those of a tree in preorder.
+pub fn is_outline(rows: &[NodeRow]) -> bool
+    ensures { result ≡ outline.is_outline (depths rows.now) }
+{
+    let Some((root, later)) = rows.split_first() else {
+        return false;
+    };
+    root.depth == 1 && goes_on(later)
+}
+
+/// Whether a row at `depth` may stand behind one at `above`.
+fn may_follow(depth: u32, above: u32) -> bool
+    ensures { result ≡ (nat_le 2 depth && nat_le depth (suc above)) }
+{
+    2 <= depth && depth - 1 <= above
+}
+
+/// Whether the rows may follow the root's.
+fn goes_on(rows: &[NodeRow]) -> bool
+    ensures { result ≡ outline.goes_on 1 (depths rows.now) }
+{
+    let mut above = 1;
+    for row in rows {
+        if !may_follow(row.depth, above) {
+            return false;
+        }
+        above = row.depth;
+    }
+    true
+}
+
+/// Whether no node's Status is `Spawned`.
+pub fn are_unreserved(rows: &[NodeRow]) -> bool
+    ensures { result ≡ valid.are_unreserved rows.now }
+{
+    rows.iter().all(|row| !is_reserved(&row.status))
+}
+
+/// Whether no node is deeper than 32.
+pub fn are_shallow(rows: &[NodeRow]) -> bool
+    ensures { result ≡ valid.are_shallow rows.now }
+{
+    rows.iter().all(|row| row.depth <= MAX_DEPTH)
+}
+
+/// Whether no id stands twice.
+pub fn are_distinct(alloc: Global, rows: &[NodeRow]) -> Result<bool, AllocError>
+    ensures { IfOk result (λ distinct. distinct ≡ id_lists.are_distinct (ids rows.now)) }
+{
+    let mut seen = BTreeSet::new(alloc);
+    for row in rows {
+        if !seen.insert(row.id.as_str())? {
+            return Ok(false);
+        }
+    }
+    Ok(true)
+}
+
+/// The row of a node.
+pub fn node<'a>(rows: &'a [NodeRow], id: &Id) -> Option<&'a NodeRow>
+    ensures { option_copied result ≡ row_of rows.now id.now }
+{
+    rows.iter().find(|row| row.id == *id)
+}
+
+/// Where the row of a node stands.
+pub fn place_of(rows: &[NodeRow], id: &Id) -> Option<usize>
+    ensures { result ≡ position (λ r. bytes_eq r.id id.now) rows.now }
+{
+    rows.iter().position(|row| row.id == *id)
+}
+
+/// Where the first row stands that is no deeper than `depth`.
+fn shallow_place(rows: &[NodeRow], depth: u32) -> Option<usize>
+    ensures { result ≡ position (λ r. nat_le r.depth depth) rows.now }
+{
+    rows.iter().position(|row| row.depth <= depth)
+}
+
+/// How many rows from the front on are deeper than `depth`.
+#[tactic(auto, using(crate::proofs::Places::unwrap_or_position))]
+fn deeper_count(rows: &[NodeRow], depth: u32) -> usize
+    ensures count { result ≡ position_or_len (λ r. nat_le r.depth depth) rows.now }
+    ensures within { result ≤ length rows.now }
+{
+    shallow_place(rows, depth).unwrap_or(rows.len())
+}
+
+/// Where the nodes below a node stand, itself among them: the first row, and the end.
+pub fn subtree(rows: &[NodeRow], id: &Id) -> Option<(usize, usize)>
+    requires { IsValid rows.now }
+    ensures found { IfSome result (λ b. BoundsNodesBelow rows.now id.now b.0 b.1) }
+    ensures known { is_some result ≡ has_node rows.now id.now }
+{
+    match place_of(rows, id) {
+        None => None,
+        Some(from) => {
+            let to = from + 1 + deeper_count(&rows[from + 1..], rows[from].depth);
+            Some((from, to))
+        }
+    }
+}
+
+/// Whether the node `lower` is `upper` or below it.
+pub fn is_below(rows: &[NodeRow], lower: &Id, upper: &Id) -> bool
+    requires { IsValid rows.now }
+    ensures { result ≡ tree.is_below (places rows.now) lower.now upper.now }
+{
+    match subtree(rows, upper) {
+        None => false,
+        Some((from, to)) => match place_of(rows, lower) {
+            None => false,
+            Some(place) => from <= place && place < to,
+        },
+    }
+}

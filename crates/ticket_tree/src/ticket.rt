@@ -1,0 +1,121 @@
+use crate::edit::Edit;
+use crate::id::Id;
+use crate::name::Name;
+use crate::node_row::NodeRow;
+use crate::refusal::Refusal;
+use crate::rows_iter::Rows;
+use crate::{edits, rows};
+use std::alloc::Global;
+use std::marker::Model;
+
+/// A job's ticket (JDF 1.5, 3.1): the job's id, and its nodes in preorder. Its rows are always a
+/// tree, no node's Status is `Spawned`, each id stands once, and no node is deeper than 32.
+#[derive(Debug, Drop)]
+pub struct Ticket {
+    job: Name,
+    rows: Vec<NodeRow>,
+}
+
+impl Model for Ticket {
+    ghost use Rattle.ticket_tree.specs.Ticket.{Job, IsValid};
+
+    ghost Value = { Job };
+
+    ghost view = { λ a. record { job_id = a.job; rows = a.rows.items } };
+
+    ghost invariant = { λ a. IsValid a.rows.items };
+}
+
+impl Ticket {
+    ghost use Rattle.std.specs.Prelude.{◌≡◌, ◌⊎◌, None, Some, OnOk, OnErr, IfOk, IfErr, IfNone, IfSome, MatchResult, is_some};
+    ghost use Rattle.std.specs.Option.{option_copied};
+    ghost use Rattle.ticket_tree.specs.Edit.{edited, refusal_of};
+    ghost use Rattle.ticket_tree.specs.Place.{BoundsNodesBelow, places};
+    ghost use Rattle.ticket_tree.specs.Place as tree;
+    ghost use Rattle.ticket_tree.specs.Ticket.{IsValid, fault_of, has_node, row_of};
+
+    /// The ticket of a job with these nodes, in preorder with their depths. Refuses the first of
+    /// `NotATree` (no row, a first depth other than 1, a later one under 2 or more than one above
+    /// the row before), `ReservedStatus`, `DuplicateId` and `TooDeep` that the rows have. The first
+    /// two need no memory.
+    pub fn from_rows(alloc: Global, job: Name, rows: Vec<NodeRow>) -> Result<Ticket, Refusal>
+        ensures ok { IfOk result (λ t. t ≡ record { job_id = job; rows = rows.items }) }
+        ensures valid { OnOk result (IsValid rows.items) }
+        ensures err { IfErr result (λ e. (e ≡ Refusal.Memory) ⊎ (fault_of rows.items ≡ Some e)) }
+        ensures not_a_tree { fault_of rows.items ≡ Some Refusal.NotATree → result ≡ Err Refusal.NotATree }
+        ensures reserved { fault_of rows.items ≡ Some Refusal.ReservedStatus → result ≡ Err Refusal.ReservedStatus }
+    {
+        if !rows::is_outline(rows.as_slice()) {
+            return Err(Refusal::NotATree);
+        }
+        if !rows::are_unreserved(rows.as_slice()) {
+            return Err(Refusal::ReservedStatus);
+        }
+        if !rows::are_distinct(alloc, rows.as_slice())? {
+            return Err(Refusal::DuplicateId);
+        }
+        if !rows::are_shallow(rows.as_slice()) {
+            return Err(Refusal::TooDeep);
+        }
+        Ok(Ticket { job, rows })
+    }
+
+    /// The job's id.
+    pub fn job(&self) -> &Name
+        ensures { result.now ≡ self.now.job_id }
+    {
+        &self.job
+    }
+
+    /// The nodes in preorder.
+    pub fn rows(&self) -> Rows<'_>
+        ensures rows { result ≡ self.now.rows }
+        ensures valid { IsValid self.now.rows }
+    {
+        Rows::new(self.rows.as_slice())
+    }
+
+    /// The node of an id.
+    pub fn node(&self, id: &Id) -> Option<&NodeRow>
+        ensures { option_copied result ≡ row_of self.now.rows id.now }
+    {
+        rows::node(self.rows.as_slice(), id)
+    }
+
+    /// Where the nodes below a node stand among the rows, itself the first of them: from where, and
+    /// up to where. `None` where no node has the id.
+    pub fn subtree(&self, id: &Id) -> Option<(usize, usize)>
+        ensures found { IfSome result (λ b. BoundsNodesBelow self.now.rows id.now b.0 b.1) }
+        ensures known { is_some result ≡ has_node self.now.rows id.now }
+    {
+        rows::subtree(self.rows.as_slice(), id)
+    }
+
+    /// Whether `lower` is `upper` or stands below it; false where either is unknown.
+    pub fn is_below(&self, lower: &Id, upper: &Id) -> bool
+        ensures { result ≡ tree.is_below (places self.now.rows) lower.now upper.now }
+    {
+        rows::is_below(self.rows.as_slice(), lower, upper)
+    }
+
+    /// Why `apply` would refuse an edit, want of memory aside: `UnknownNode`, and at `SetStatus`
+    /// then `ReservedStatus`. Needs no memory.
+    pub fn check(&self, edit: &Edit) -> Result<(), Refusal>
+        ensures { MatchResult result
+            (λ _. refusal_of edit.now self.now.rows ≡ None)
+            (λ e. refusal_of edit.now self.now.rows ≡ Some e) }
+    {
+        edits::check(self.rows.as_slice(), edit)
+    }
+
+    /// Does an edit, at a time in seconds since 1970. Refuses what `check` says, which needs no
+    /// memory, and then `Memory`. A refusal changes nothing.
+    pub fn apply(&mut self, alloc: Global, edit: Edit, at: u64) -> Result<(), Refusal>
+        ensures ok { OnOk result (self.new ≡ edited edit at self.old) }
+        ensures err { OnErr result (self.new ≡ self.old) }
+        ensures refused { IfSome (refusal_of edit self.old.rows) (λ e. result ≡ Err e) }
+        ensures memory { IfNone (refusal_of edit self.old.rows) (IfErr result (λ e. e ≡ Refusal.Memory)) }
+    {
+        edits::apply(&mut self.rows, edit, at)
+    }
+}
