@@ -1,9 +1,9 @@
--- How `edit` ends: what is written and told, by the bytes that the reader had and the writer held, where these are known.
-use Rattle.std.specs.Prelude.{◌≡◌, ℕ, ◌<◌, Bool, true, false, List, length, Option, Some, IfSome, if◌then◌else◌}
+-- How `edit` ends: what is written and told, by the bytes that the reader had and the writers held, where these are known.
+use Rattle.std.specs.Prelude.{◌≡◌, ◌⊎◌, ℕ, ◌<◌, Bool, true, false, List, length, take, Option, Some, IfSome, if◌then◌else◌}
 use Rattle.std.specs.Io.KnownBytes.{Appends, Keeps}
 use Rattle.ticket_tree.specs.declared.refusal.Refusal.{Refusal}
 use Rattle.jdf_cli.specs.Document.{IsRefusalOf}
-use Rattle.jdf_cli.specs.Fault.{fault_status}
+use Rattle.jdf_cli.specs.Fault.{fault_line, fault_status}
 use Rattle.jdf_cli.specs.Run.{IsOutput}
 use Rattle.jdf_cli.specs.declared.fault.Fault.{Fault}
 use Rattle.jdf_cli.specs.declared.fault.Fault.TheVariants.{Refused, TooLarge, ReadFailed, WriteFailed}
@@ -32,3 +32,12 @@ LeavesWriter _ before later = Keeps before later
 -- the fault is one of the input, the status is the fault's, and nothing was written
 abbrev pub GivesUp : Option (List ℕ) → Option (List ℕ) → Option (List ℕ) → ℕ → Fault → Type 0
 GivesUp input before later status fault = (status ≡ fault_status fault) × IfSome input (IsFaultOf fault) × LeavesWriter fault before later
+
+-- the fault's line was told, as far as the writer took it
+abbrev pub Tells : Fault → Option (List ℕ) → Option (List ℕ) → Type 0
+Tells fault before later = (k : ℕ) × Appends before later (take k (fault_line fault))
+
+-- the output was written and nothing told, or it was given up and the fault told
+abbrev pub Ends : Option (List ℕ) → Option (List ℕ) → Option (List ℕ) → Option (List ℕ) → Option (List ℕ) → ℕ → Type 0
+Ends input before later untold told status =
+    (Writes input before later status × Keeps untold told) ⊎ ((fault : Fault) × GivesUp input before later status fault × Tells fault untold told)

@@ -1,15 +1,16 @@
 //! The command `edit`.
 
-ghost use Rattle.std.specs.Prelude.{◌≡◌, ℕ, None, Some, take, IfOk, IfErr, IfSome, MatchOption};
-ghost use Rattle.std.specs.Io.KnownBytes.{Appends};
+ghost use Rattle.std.specs.Prelude.{◌≡◌, IfOk, IfErr};
+ghost use Rattle.std.specs.Io.KnownBytes.{Keeps};
 ghost use Rattle.jdf_cli.specs.EndsAs as ends;
-ghost use Rattle.jdf_cli.specs.Fault.{fault_line, fault_status};
+ghost use Rattle.jdf_cli.specs.Fault.{fault_status};
 
 use crate::edit_output::edit_output;
 use crate::fault::Fault;
-use crate::fault_line::FaultLine;
 use crate::input::read_input;
 use crate::output::write_bytes;
+use crate::patient::Patient;
+use crate::told::{Told, tell};
 use std::alloc::Global;
 use std::io::{Read, Write};
 
@@ -22,20 +23,32 @@ pub fn run_edit<R: Read, W: Write, F: Write>(
     alloc: Global,
     reader: &mut R,
     writer: &mut W,
-    faults: &mut FaultLine<F>,
+    faults: &mut F,
 ) -> u8
-    requires fresh { faults.old.told ≡ None }
-    ensures ends { MatchOption faults.new.told
-        (ends.Writes (R.remaining reader.old) (W.contents writer.old) (W.contents writer.new) result)
-        (ends.GivesUp (R.remaining reader.old) (W.contents writer.old) (W.contents writer.new) result) }
-    ensures line { IfSome faults.new.told (λ fault. (k : ℕ) × Appends (F.contents faults.old.writer) (F.contents faults.new.writer) (take k (fault_line fault))) }
+    ensures { ends.Ends (R.remaining reader.old) (W.contents writer.old) (W.contents writer.new)
+        (F.contents faults.old) (F.contents faults.new) result }
+{
+    match edit_or_tell(alloc, reader, writer, faults) {
+        Ok(status) => status,
+        Err(told) => told.status(),
+    }
+}
+
+/// The command, which tells why it gave up.
+fn edit_or_tell<R: Read, W: Write, F: Write>(
+    alloc: Global,
+    reader: &mut R,
+    writer: &mut W,
+    faults: &mut F,
+) -> Result<u8, Told>
+    ensures writes { IfOk result (λ status. ends.Writes (R.remaining reader.old) (W.contents writer.old) (W.contents writer.new) status
+        × Keeps (F.contents faults.old) (F.contents faults.new)) }
+    ensures gives_up { IfErr result (λ told. ends.GivesUp (R.remaining reader.old) (W.contents writer.old) (W.contents writer.new) (fault_status told.fault) told.fault
+        × ends.Tells told.fault (F.contents faults.old) (F.contents faults.new)) }
 {
     match edit(alloc, reader, writer) {
-        Ok(status) => status,
-        Err(fault) => {
-            faults.tell(fault);
-            fault.status()
-        }
+        Ok(status) => Ok(status),
+        Err(fault) => Err(tell(faults, fault)),
     }
 }
 
@@ -44,7 +57,8 @@ fn edit<R: Read, W: Write>(alloc: Global, reader: &mut R, writer: &mut W) -> Res
     ensures writes { IfOk result (ends.Writes (R.remaining reader.old) (W.contents writer.old) (W.contents writer.new)) }
     ensures gives_up { IfErr result (λ fault. ends.GivesUp (R.remaining reader.old) (W.contents writer.old) (W.contents writer.new) (fault_status fault) fault) }
 {
-    let input = read_input(alloc, reader)?;
+    let mut patient = Patient::new(reader);
+    let input = read_input(alloc, &mut patient)?;
     match edit_output(alloc, input.as_slice()) {
         Ok(output) => {
             write_bytes(writer, output.text.as_slice())?;

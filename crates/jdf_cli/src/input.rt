@@ -19,17 +19,18 @@ fn zeros(alloc: Global, size: usize) -> Result<Vec<u8>, AllocError>
     vec![in alloc; 0; size]
 }
 
-/// Reads to the end. More bytes than `MOST_INPUT` are too large, and then no more is read.
-pub fn read_input<R: Read>(alloc: Global, reader: &mut R) -> Result<Vec<u8>, Fault>
-    ensures bytes { IfOk result (λ v. IfSome (R.remaining reader.old) (λ xs. v.items ≡ xs)) }
+/// Reads to the end. More bytes than `MOST_INPUT` are too large, and then no more is read. All reads
+/// are the patient reader's, so that all of them together are made again as often as it does that.
+pub fn read_input<R: Read>(alloc: Global, patient: &mut Patient<R>) -> Result<Vec<u8>, Fault>
+    ensures bytes { IfOk result (λ v. IfSome (R.remaining patient.old.reader) (λ xs. v.items ≡ xs)) }
     ensures small { IfOk result (λ v. length v.items ≤ 4194304) }
-    ensures large { result ≡ Err Fault.TooLarge → IfSome (R.remaining reader.old) (λ xs.
+    ensures large { result ≡ Err Fault.TooLarge → IfSome (R.remaining patient.old.reader) (λ xs.
         4194304 < length xs) }
     ensures faults { IfErr result IsInputFault }
+    ensures again { patient.old.again ≤ patient.new.again }
 {
     let mut buffer = zeros(alloc, READ_SIZE)?;
     let mut input = Vec::new(alloc);
-    let mut patient = Patient::new(reader);
     loop {
         let count = patient.read(&mut buffer)?;
         if count == 0 {

@@ -1,6 +1,6 @@
 //! Laws of the definitions that the program's contracts cite.
 
-ghost use Rattle.std.specs.Prelude.{◌≡◌, Bool, List, ℕ, Option};
+ghost use Rattle.std.specs.Prelude.{◌≡◌, Bool, List, ℕ};
 ghost use Rattle.jdf_cli.specs.Document.{Document};
 ghost use Rattle.jdf_cli.specs.Run.{IsRunOf, NoneWanted, output_of};
 

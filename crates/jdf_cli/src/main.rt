@@ -7,18 +7,17 @@ pub mod document_draft;
 pub mod edit_command;
 pub mod edit_output;
 pub mod fault;
-pub mod fault_line;
 pub mod input;
 pub mod laws;
 pub mod output;
 pub mod patient;
-pub mod run;
+mod run;
 #[cfg(test)]
 mod tests;
+pub mod told;
 pub mod words;
 
 use crate::edit_command::run_edit;
-use crate::fault_line::FaultLine;
 use crate::words::is_edit;
 use std::alloc::AllocError;
 use std::process::ExitCode;
@@ -38,12 +37,11 @@ fn main(rt: HostRuntime) -> ExitCode {
     if !asks_for_edit(&rt).unwrap_or(false) {
         return ExitCode::from(NO_COMMAND);
     }
-    let mut faults = FaultLine::new(rt.stderr());
     let status = run_edit(
         rt.alloc(),
         &mut rt.reader(),
         &mut io::writer(&rt),
-        &mut faults,
+        &mut rt.stderr(),
     );
     ExitCode::from(status)
 }

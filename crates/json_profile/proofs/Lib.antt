@@ -5,6 +5,7 @@ pub mod Forests
 pub mod Members
 pub mod Nodes
 pub mod Objects
+pub mod Outlines
 pub mod Pairs
 pub mod RoundTrip
 pub mod Shape

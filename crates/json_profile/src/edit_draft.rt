@@ -90,8 +90,24 @@ impl<'a> EditDraft<'a> {
         }
     }
 
-    /// The edit of a draft whose names and texts are such. Refuses `Memory` alone.
+    /// The edit. Refuses the first of `BadId` and `BadText` that stands in the draft, and `Memory`.
     pub fn build(&self, alloc: Global) -> Result<Edit, Refusal>
+        ensures answers { form.Answers result (form.sound (form.edit_fault (drafted_edit self.now)) (drafted_edit self.now)) }
+        ensures ok { IfOk result (λ e. e ≡ drafted_edit self.now) }
+        ensures memory { form.edit_has_names (drafted_edit self.now) ≡ true → form.edit_has_texts (drafted_edit self.now) ≡ true
+            → IfErr result (λ e. e ≡ Refusal.Memory) }
+    {
+        if !self.has_names() {
+            return Err(Refusal::BadId);
+        }
+        if !self.has_texts() {
+            return Err(Refusal::BadText);
+        }
+        self.build_known(alloc)
+    }
+
+    /// The edit of a draft whose names and texts are such. Refuses `Memory` alone.
+    fn build_known(&self, alloc: Global) -> Result<Edit, Refusal>
         requires names { form.edit_has_names (drafted_edit self.now) ≡ true }
         requires texts { form.edit_has_texts (drafted_edit self.now) ≡ true }
         ensures ok { IfOk result (λ e. e ≡ drafted_edit self.now) }

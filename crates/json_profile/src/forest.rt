@@ -1,10 +1,9 @@
 //! Writing the nodes of a ticket, from the last to the first: each takes the trees behind it that
 //! stand deeper as its children.
 
-ghost use Rattle.std.specs.Prelude.{◌≡◌, ◌++◌, ◌∷◌, [], true, map, IfOk, OnOk};
+ghost use Rattle.std.specs.Prelude.{◌≡◌, true, map, IfOk, OnOk};
 ghost use Rattle.std.specs.List.{list_all};
-ghost use Rattle.serde_json.specs.Data.{object};
-ghost use Rattle.serde_json.specs.View.{items_view, members_view, view};
+ghost use Rattle.serde_json.specs.View.{items_view, view};
 ghost use Rattle.json_profile.specs.Form.{row_has_names, row_has_texts};
 ghost use Rattle.json_profile.specs.Trees.{trees_of};
 ghost use Rattle.json_profile.specs.Written as written;

@@ -18,10 +18,8 @@ mod ticket_draft;
 mod tree;
 mod write;
 
-pub use attrs_draft::AttrsDraft;
 pub use edit_draft::EditDraft;
 pub use member::{has_only, number_under, text_under};
-pub use node_draft::NodeDraft;
 pub use read::{edit_of, ticket_of};
 pub use text::{text_of, value_of};
 pub use ticket_draft::TicketDraft;

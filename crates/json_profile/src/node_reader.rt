@@ -1,8 +1,8 @@
 //! Reading nodes: from a JSON value to drafts in preorder.
 
-ghost use Rattle.std.specs.Prelude.{◌≡◌, codes, map};
+ghost use Rattle.std.specs.Prelude.{◌≡◌, map};
 ghost use Rattle.serde_json.specs.Data.{depth};
-ghost use Rattle.serde_json.specs.View.{items_view, view};
+ghost use Rattle.serde_json.specs.View.{view};
 ghost use Rattle.json_profile.specs.Draft as form;
 ghost use Rattle.json_profile.specs.Drafted.{drafted_row, drafted_rows};
 ghost use Rattle.json_profile.specs.Read.{Adds, Gives};

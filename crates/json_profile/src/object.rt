@@ -1,7 +1,7 @@
 //! Making the objects that are written.
 
 ghost use Rattle.std.specs.Prelude.{◌≡◌, IfOk, OnOk};
-ghost use Rattle.serde_json.specs.Data.{put, string, array, no_items};
+ghost use Rattle.serde_json.specs.Data.{put, string, array};
 ghost use Rattle.serde_json.specs.View.{items_view, members_view, view};
 
 use serde_json::{Map, Value};

@@ -57,8 +57,26 @@ impl<'a> TicketDraft<'a> {
         have_texts(self.rows.as_slice())
     }
 
-    /// The ticket of a draft whose names and texts are such. Refuses what `Ticket::from_rows` does.
+    /// The ticket. Refuses the first of `BadId`, `BadText`, `ReservedStatus`, `DuplicateId` and
+    /// `TooDeep` that stands in the draft; `Memory` may come before the last three.
     pub fn build(&self, alloc: Global) -> Result<Ticket, Refusal>
+        ensures answers { form.Answers result (form.sound (form.ticket_fault self.now) self.now) }
+        ensures ok { IfOk result (λ t. t ≡ self.now) }
+        ensures valid { OnOk result (IsValid self.now.rows) }
+        ensures err { form.has_names self.now ≡ true → form.has_texts self.now ≡ true
+            → IfErr result (λ e. (e ≡ Refusal.Memory) ⊎ (fault_of self.now.rows ≡ Some e)) }
+    {
+        if !self.has_names() {
+            return Err(Refusal::BadId);
+        }
+        if !self.has_texts() {
+            return Err(Refusal::BadText);
+        }
+        self.build_known(alloc)
+    }
+
+    /// The ticket of a draft whose names and texts are such. Refuses what `Ticket::from_rows` does.
+    fn build_known(&self, alloc: Global) -> Result<Ticket, Refusal>
         requires names { form.has_names self.now ≡ true }
         requires texts { form.has_texts self.now ≡ true }
         ensures ok { IfOk result (λ t. t ≡ self.now) }

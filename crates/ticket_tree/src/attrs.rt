@@ -13,7 +13,7 @@ pub struct Attrs {
 }
 
 impl Model for Attrs {
-    ghost use Rattle.std.specs.Prelude.{◌≡◌, ℕ, List};
+    ghost use Rattle.std.specs.Prelude.{◌≡◌};
     ghost use Rattle.ticket_tree.specs.Attrs.{Pairs};
 
     ghost Value = { Pairs };

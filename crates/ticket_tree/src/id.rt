@@ -23,7 +23,7 @@ impl Model for Id {
 }
 
 impl Id {
-    ghost use Rattle.std.specs.Prelude.{◌≡◌, ◌⊎◌, true, false, IfOk, IfErr};
+    ghost use Rattle.std.specs.Prelude.{◌≡◌, true, false, IfOk, IfErr};
     ghost use Rattle.ticket_tree.specs.Names as names;
 
     /// The id that the text is. Refuses `BadId` where it is none, and then needs no memory.

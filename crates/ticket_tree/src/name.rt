@@ -24,7 +24,7 @@ impl Model for Name {
 }
 
 impl Name {
-    ghost use Rattle.std.specs.Prelude.{◌≡◌, ◌⊎◌, true, false, IfOk, IfErr};
+    ghost use Rattle.std.specs.Prelude.{◌≡◌, true, false, IfOk, IfErr};
     ghost use Rattle.ticket_tree.specs.Names as names;
 
     /// The name that the text is. Refuses `BadId` where it is none, and then needs no memory.

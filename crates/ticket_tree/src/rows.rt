@@ -1,8 +1,8 @@
 //! The nodes of a ticket in preorder, and what is found among them.
 
-ghost use Rattle.std.specs.Prelude.{◌≡◌, ◌+◌, ◌<◌, ◌≤◌, ◌&&◌, ◌==◌, not, false, true, length, drop, nat_le, suc, slice_range, IfOk, IfSome, IfNone};
-ghost use Rattle.std.specs.List.{find, list_all, list_any, position, position_or_len};
-ghost use Rattle.std.specs.Option.{option_copied, option_map};
+ghost use Rattle.std.specs.Prelude.{◌≡◌, ◌+◌, ◌<◌, ◌≤◌, ◌&&◌, ◌==◌, false, true, length, nat_le, suc, IfOk, IfSome};
+ghost use Rattle.std.specs.List.{find, position, position_or_len};
+ghost use Rattle.std.specs.Option.{option_copied};
 ghost use Rattle.std.specs.Prelude.{is_some};
 ghost use Rattle.std.specs.Str.{bytes_eq};
 ghost use Rattle.ticket_tree.specs.Ids as id_lists;

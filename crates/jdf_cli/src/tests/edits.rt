@@ -1,11 +1,8 @@
 use crate::edit_command::run_edit;
-use crate::fault::Fault;
-use crate::fault_line::FaultLine;
 use crate::words::is_edit;
 use std::alloc::{AllocError, Global};
 use std::io::{self, ErrorKind, Read, Write};
 use std::test::Fail;
-use ticket_tree::Refusal;
 
 /// What a run of `edit` answered and wrote, and what it told.
 #[derive(Drop)]
@@ -13,19 +10,17 @@ struct Ended {
     status: u8,
     written: Vec<u8>,
     told: Vec<u8>,
-    fault: Option<Fault>,
 }
 
 fn run_on(alloc: Global, input: &[u8]) -> Ended {
     let mut reader = input;
     let mut written = Vec::new(alloc);
-    let mut faults = FaultLine::new(Vec::new(alloc));
-    let status = run_edit(alloc, &mut reader, &mut written, &mut faults);
+    let mut told = Vec::new(alloc);
+    let status = run_edit(alloc, &mut reader, &mut written, &mut told);
     Ended {
         status,
         written,
-        fault: faults.told(),
-        told: faults.writer,
+        told,
     }
 }
 
@@ -55,7 +50,6 @@ fn writes_a_ticket_without_edits(rt: HostRuntime) -> Result<(), Fail> {
     assert_eq!(rt; ended.status, 0);
     assert_eq!(rt; ended.written.as_slice(), PLAIN.as_bytes());
     assert_eq!(rt; ended.told.as_slice(), b"".as_slice());
-    assert_eq!(rt; ended.fault, None);
     Ok(())
 }
 
@@ -81,7 +75,6 @@ fn tells_refused_edits_and_goes_on(rt: HostRuntime) -> Result<(), Fail> {
         "Refused 10 UnknownNode\nRefused 5 ReservedStatus\nEdited\nRefused 10 UnknownNode\n{\"Attr\":{},\"AuditPool\":[],\"ID\":\"n0\",\"JDF\":[],\"JobID\":\"J0\",\"JobPartID\":\"p0\",\"ResourceLinkPool\":[],\"ResourcePool\":[],\"Status\":\"Ready\",\"Type\":\"Product\"}\n";
     assert_eq!(rt; ended.status, 1);
     assert_eq!(rt; ended.written.as_slice(), wanted.as_bytes());
-    assert_eq!(rt; ended.fault, None);
     Ok(())
 }
 
@@ -138,7 +131,7 @@ fn refuses_what_is_no_document(rt: HostRuntime) -> Result<(), Fail> {
         assert_eq!(rt; ended.written.as_slice(), b"".as_slice());
     }
     let ended = run_on(alloc, b"\"\xff\"");
-    assert_eq!(rt; ended.fault, Some(Fault::Refused(Refusal::NotJson)));
+    assert_eq!(rt; ended.told.as_slice(), b"Refused 40 NotJson\n".as_slice());
     Ok(())
 }
 
@@ -176,17 +169,17 @@ fn chain(alloc: Global, nodes: u32) -> Result<String, AllocError> {
 fn takes_chains_of_32_nodes(rt: HostRuntime) -> Result<(), Fail> {
     let alloc = rt.alloc();
     let cases = [
-        (32, 0, None),
-        (33, 3, Some(Fault::Refused(Refusal::TooDeep))),
-        (60, 3, Some(Fault::Refused(Refusal::TooDeep))),
-        (100, 3, Some(Fault::Refused(Refusal::NotJson))),
+        (32, 0, ""),
+        (33, 3, "Refused 4 TooDeep\n"),
+        (60, 3, "Refused 4 TooDeep\n"),
+        (100, 3, "Refused 40 NotJson\n"),
     ];
-    for (nodes, status, fault) in cases {
+    for (nodes, status, told) in cases {
         let ticket = chain(alloc, nodes)?;
         let input = document(alloc, "", ticket.as_str())?;
         let ended = run_on(alloc, input.as_bytes());
         assert_eq!(rt; ended.status, status, "at {nodes}");
-        assert_eq!(rt; ended.fault, fault, "at {nodes}");
+        assert_eq!(rt; ended.told.as_slice(), told.as_bytes(), "at {nodes}");
     }
     Ok(())
 }
@@ -213,27 +206,21 @@ impl Write for Broken {
 #[test]
 fn gives_up_where_a_read_fails(rt: HostRuntime) -> Result<(), Fail> {
     let mut written = Vec::new(rt.alloc());
-    let mut faults = FaultLine::new(Vec::new(rt.alloc()));
+    let mut faults = Vec::new(rt.alloc());
     let status = run_edit(rt.alloc(), &mut Broken, &mut written, &mut faults);
     assert_eq!(rt; status, 4);
     assert_eq!(rt; written.as_slice(), b"".as_slice());
-    assert_eq!(rt;
-        faults.writer.as_slice(),
-        b"Refused 55 ReadFailed\n".as_slice()
-    );
+    assert_eq!(rt; faults.as_slice(), b"Refused 55 ReadFailed\n".as_slice());
     Ok(())
 }
 
 #[test]
 fn gives_up_where_a_write_fails(rt: HostRuntime) -> Result<(), Fail> {
     let input = document(rt.alloc(), "", TICKET)?;
-    let mut faults = FaultLine::new(Vec::new(rt.alloc()));
+    let mut faults = Vec::new(rt.alloc());
     let status = run_edit(rt.alloc(), &mut input.as_bytes(), &mut Broken, &mut faults);
     assert_eq!(rt; status, 4);
-    assert_eq!(rt;
-        faults.writer.as_slice(),
-        b"Refused 56 WriteFailed\n".as_slice()
-    );
+    assert_eq!(rt; faults.as_slice(), b"Refused 56 WriteFailed\n".as_slice());
     Ok(())
 }
 
@@ -241,10 +228,9 @@ fn gives_up_where_a_write_fails(rt: HostRuntime) -> Result<(), Fail> {
 #[test]
 fn gives_up_without_a_place_to_tell(rt: HostRuntime) -> Result<(), Fail> {
     let mut written = Vec::new(rt.alloc());
-    let mut faults = FaultLine::new(Broken);
+    let mut faults = Broken;
     let status = run_edit(rt.alloc(), &mut b"{}".as_slice(), &mut written, &mut faults);
     assert_eq!(rt; status, 3);
-    assert_eq!(rt; faults.told(), Some(Fault::Refused(Refusal::NotProfile)));
     Ok(())
 }
 

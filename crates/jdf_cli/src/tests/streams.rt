@@ -1,8 +1,8 @@
 use crate::fault::{Fault, refusal_line};
-use crate::fault_line::FaultLine;
 use crate::input::{MOST_INPUT, read_input};
 use crate::output::write_bytes;
 use crate::patient::{MOST_AGAIN, Patient};
+use crate::told::tell;
 use std::alloc::{AllocError, Global};
 use std::io::{self, ErrorKind, Read, Write};
 use std::test::Fail;
@@ -93,7 +93,7 @@ fn crosses(alloc: Global, size: usize) -> Result<Vec<u8>, AllocError> {
 #[test]
 fn reads_a_slice(rt: HostRuntime) -> Result<(), Fail> {
     let mut reader: &[u8] = b"{\"id\":\"n0\"}";
-    let input = read_input(rt.alloc(), &mut reader)?;
+    let input = read_input(rt.alloc(), &mut Patient::new(&mut reader))?;
     assert_eq!(rt; input.as_slice(), b"{\"id\":\"n0\"}".as_slice());
     Ok(())
 }
@@ -101,14 +101,14 @@ fn reads_a_slice(rt: HostRuntime) -> Result<(), Fail> {
 #[test]
 fn reads_nothing(rt: HostRuntime) -> Result<(), Fail> {
     let mut reader: &[u8] = b"";
-    let input = read_input(rt.alloc(), &mut reader)?;
+    let input = read_input(rt.alloc(), &mut Patient::new(&mut reader))?;
     assert!(rt; input.is_empty());
     Ok(())
 }
 
 #[test]
 fn reads_a_byte_at_a_time(rt: HostRuntime) -> Result<(), Fail> {
-    let input = read_input(rt.alloc(), &mut Drip::new(0, 5, false))?;
+    let input = read_input(rt.alloc(), &mut Patient::new(&mut Drip::new(0, 5, false)))?;
     assert_eq!(rt; input.as_slice(), b"xxxxx".as_slice());
     Ok(())
 }
@@ -116,7 +116,7 @@ fn reads_a_byte_at_a_time(rt: HostRuntime) -> Result<(), Fail> {
 #[test]
 fn reads_the_most_a_byte_at_a_time(rt: HostRuntime) -> Result<(), Fail> {
     let mut reader = Drip::new(0, MOST_INPUT, false);
-    let input = read_input(rt.alloc(), &mut reader)?;
+    let input = read_input(rt.alloc(), &mut Patient::new(&mut reader))?;
     assert_eq!(rt; input.len(), MOST_INPUT);
     assert_eq!(rt; reader.asked, 4_194_305);
     Ok(())
@@ -125,7 +125,7 @@ fn reads_the_most_a_byte_at_a_time(rt: HostRuntime) -> Result<(), Fail> {
 #[test]
 fn stops_at_one_byte_too_many(rt: HostRuntime) {
     let mut reader = Drip::new(0, MOST_INPUT + 9, false);
-    let fault = read_input(rt.alloc(), &mut reader).err();
+    let fault = read_input(rt.alloc(), &mut Patient::new(&mut reader)).err();
     assert_eq!(rt; fault, Some(Fault::TooLarge));
     assert_eq!(rt; reader.left, 8, "no more is read");
 }
@@ -134,24 +134,27 @@ fn stops_at_one_byte_too_many(rt: HostRuntime) {
 fn bounds_a_slice(rt: HostRuntime) -> Result<(), Fail> {
     let bytes = crosses(rt.alloc(), 4_194_304)?;
     let mut reader = bytes.as_slice();
-    assert_eq!(rt; read_input(rt.alloc(), &mut reader)?.len(), 4_194_304);
+    assert_eq!(rt;
+        read_input(rt.alloc(), &mut Patient::new(&mut reader))?.len(),
+        4_194_304
+    );
     let bytes = crosses(rt.alloc(), 4_194_305)?;
     let mut reader = bytes.as_slice();
-    let fault = read_input(rt.alloc(), &mut reader).err();
+    let fault = read_input(rt.alloc(), &mut Patient::new(&mut reader)).err();
     assert_eq!(rt; fault, Some(Fault::TooLarge));
     Ok(())
 }
 
 #[test]
 fn tells_a_failed_read(rt: HostRuntime) {
-    let fault = read_input(rt.alloc(), &mut Drip::new(0, 3, true)).err();
+    let fault = read_input(rt.alloc(), &mut Patient::new(&mut Drip::new(0, 3, true))).err();
     assert_eq!(rt; fault, Some(Fault::ReadFailed));
 }
 
 #[test]
 fn reads_on_after_two_interruptions(rt: HostRuntime) -> Result<(), Fail> {
     let mut reader = Drip::new(2, 3, false);
-    let input = read_input(rt.alloc(), &mut reader)?;
+    let input = read_input(rt.alloc(), &mut Patient::new(&mut reader))?;
     assert_eq!(rt; input.as_slice(), b"xxx".as_slice());
     assert_eq!(rt; reader.asked, 6);
     Ok(())
@@ -160,7 +163,7 @@ fn reads_on_after_two_interruptions(rt: HostRuntime) -> Result<(), Fail> {
 #[test]
 fn gives_up_where_it_is_interrupted_for_ever(rt: HostRuntime) {
     let mut reader = Drip::new(u32::MAX, 3, false);
-    let fault = read_input(rt.alloc(), &mut reader).err();
+    let fault = read_input(rt.alloc(), &mut Patient::new(&mut reader)).err();
     assert_eq!(rt; fault, Some(Fault::ReadFailed));
     assert_eq!(rt; reader.asked, 2_000_001);
 }
@@ -199,23 +202,19 @@ fn tells_a_failed_write(rt: HostRuntime) {
 }
 
 #[test]
-fn tells_a_fault_and_remembers_it(rt: HostRuntime) {
-    let mut place = FaultLine::new(Vec::new(rt.alloc()));
-    assert_eq!(rt; place.told(), None);
-    place.tell(Fault::Refused(Refusal::NotProfile));
-    assert_eq!(rt; place.told(), Some(Fault::Refused(Refusal::NotProfile)));
-    assert_eq!(rt;
-        place.writer.as_slice(),
-        b"Refused 41 NotProfile\n".as_slice()
-    );
+fn tells_a_fault(rt: HostRuntime) {
+    let mut line = Vec::new(rt.alloc());
+    let told = tell(&mut line, Fault::Refused(Refusal::NotProfile));
+    assert_eq!(rt; told.status(), 3);
+    assert_eq!(rt; line.as_slice(), b"Refused 41 NotProfile\n".as_slice());
 }
 
 #[test]
-fn remembers_a_fault_that_it_could_not_write(rt: HostRuntime) {
-    let mut place = FaultLine::new(Narrow::new(rt.alloc(), 3, Some(ErrorKind::Other)));
-    place.tell(Fault::WriteFailed);
-    assert_eq!(rt; place.told(), Some(Fault::WriteFailed));
-    assert_eq!(rt; place.writer.taken.as_slice(), b"Ref".as_slice());
+fn tells_a_fault_as_far_as_it_can(rt: HostRuntime) {
+    let mut line = Narrow::new(rt.alloc(), 3, Some(ErrorKind::Other));
+    let told = tell(&mut line, Fault::WriteFailed);
+    assert_eq!(rt; told.status(), 4);
+    assert_eq!(rt; line.taken.as_slice(), b"Ref".as_slice());
 }
 
 #[test]

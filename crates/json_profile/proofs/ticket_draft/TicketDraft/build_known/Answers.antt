@@ -4,7 +4,7 @@ use Rattle.std.specs.List.{list_all}
 use Rattle.json_profile.specs.Drafted.{drafted_row}
 use Rattle.json_profile.specs.Form.{row_has_names, row_has_texts, has_names, has_texts}
 use Rattle.json_profile.proofs.Faults.{list_all-drafted}
-use Rattle.json_profile.proofs.ticket_draft.TicketDraft.build.Goals as goal
+use Rattle.json_profile.proofs.ticket_draft.TicketDraft.build_known.Goals as goal
 
 pub build_rows-requires-clause-names : goal.build_rows-requires-clause-names
 build_rows-requires-clause-names c =

@@ -1,7 +1,7 @@
 use Rattle.std.proofs.Common.{◌≡◌, ℕ, List, length, take, Result, Ok, Err, OnOk, OnErr, subst, sym, ◌∙◌, take_all, le_refl}
 use Rattle.std.specs.declared.option.Option.{Option}
 use Rattle.std.specs.Io.KnownBytes.{Appends}
-use Rattle.jdf_cli.proofs.fault_line.FaultLine.tell.Goals as goal
+use Rattle.jdf_cli.proofs.told.tell.Goals as goal
 
 -- all of the line is a front of it, too
 front_of : {T E : Type 0} (r : Result T E) (a b : Option (List ℕ)) (bytes line : List ℕ) → bytes ≡ line
