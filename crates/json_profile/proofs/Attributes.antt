@@ -10,13 +10,10 @@ use Rattle.std.specs.Ordering.{nat_cmp, match_ordering, ordering_reverse}
 use Rattle.serde_json.specs.Data.{member, string, put}
 use Rattle.serde_json.specs.View.{members_view}
 use Rattle.serde_json.specs.declared.value.Value.{Value}
+use Rattle.ticket_tree.proofs.Ordered.{below_middle}
 use Rattle.ticket_tree.specs.Attrs.{Pairs, IsInOrder}
 use Rattle.ticket_tree.specs.Names.{is_name, is_text}
 use Rattle.json_profile.specs.Written.{attr_members}
-
-below_middle : (k : List ℕ) (done : Pairs) (p : List ℕ × List ℕ) (rest : Pairs) → AllByRecursion (λ y. slice_cmp nat_cmp k y ≡ Less) (keys_of (done ++ p ∷ rest)) → slice_cmp nat_cmp k p.0 ≡ Less
-below_middle k [] p rest h = h.0
-below_middle k (x ∷ done) p rest h = below_middle k done p rest h.1
 
 -- a name above those before it is written last
 pub put-attr_members : (done : Pairs) (p : List ℕ × List ℕ) (rest : Pairs) → IsInOrder (done ++ p ∷ rest) → put p.0 (string p.1) (attr_members done) ≡ attr_members (done ++ p ∷ [])

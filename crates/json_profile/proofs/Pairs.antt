@@ -10,6 +10,7 @@ use Rattle.std.specs.Ordering.{nat_cmp, match_ordering, ordering_reverse}
 use Rattle.serde_json.specs.Find.{as_str}
 use Rattle.serde_json.specs.View.{members_view, view}
 use Rattle.serde_json.specs.declared.value.Value.{Value}
+use Rattle.ticket_tree.proofs.Ordered.{with_attr-last}
 use Rattle.ticket_tree.specs.Attrs.{Pairs, IsInOrder, with_attr}
 use Rattle.ticket_tree.specs.Names.{is_name, is_text}
 use Rattle.json_profile.specs.Lent.{lent}
@@ -77,21 +78,6 @@ list_all_texts [] = refl
 list_all_texts (p ∷ pairs) = ap (λ b. is_text p.1.now && b) (list_all_texts pairs)
 
 -- ---- attributes set one after another
-
-last_at : (o : Ordering) (k v : List ℕ) (first : List ℕ × List ℕ) (done : Pairs) → slice_cmp nat_cmp k first.0 ≡ o → slice_cmp nat_cmp first.0 k ≡ Less → with_attr k v done ≡ done ++ (k, v) ∷ [] → with_attr k v (first ∷ done) ≡ first ∷ done ++ (k, v) ∷ []
-last_at o k v first done e less later =
-    let above : slice_cmp nat_cmp k first.0 ≡ Greater = nat_list_cmp_total.antisymm k first.0 ∙ ap ordering_reverse less in
-    ap (λ c. match_ordering c ((k, v) ∷ first ∷ done) ((first.0, v) ∷ done) (first ∷ with_attr k v done)) above ∙ ap (λ ps. first ∷ ps) later
-
-below_middle : (k : List ℕ) (done : Pairs) (p : List ℕ × List ℕ) (rest : Pairs) → AllByRecursion (λ y. slice_cmp nat_cmp k y ≡ Less) (keys_of (done ++ p ∷ rest)) → slice_cmp nat_cmp k p.0 ≡ Less
-below_middle k [] p rest h = h.0
-below_middle k (x ∷ done) p rest h = below_middle k done p rest h.1
-
--- a name above those before it goes last
-pub with_attr-last : (done : Pairs) (p : List ℕ × List ℕ) (rest : Pairs) → IsInOrder (done ++ p ∷ rest) → with_attr p.0 p.1 done ≡ done ++ p ∷ []
-unfolding IsStrictlySortedBy
-with_attr-last [] p rest h = refl
-with_attr-last (first ∷ done) p rest h = last_at _ p.0 p.1 first done refl (below_middle first.0 done p rest h.0) (with_attr-last done p rest h.1)
 
 -- the lent pairs before a place, the one there and those behind it
 pub lent-split : (pairs : List (Bor (List ℕ) × Bor (List ℕ))) (i : ℕ) (d : Bor (List ℕ) × Bor (List ℕ)) → i < length pairs

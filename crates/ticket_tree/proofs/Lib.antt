@@ -1,6 +1,7 @@
 pub mod Apart
 pub mod Below
 pub mod Changes
+pub mod Ordered
 pub mod Parents
 pub mod Places
 pub mod Preorder

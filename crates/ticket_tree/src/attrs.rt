@@ -22,7 +22,7 @@ impl Model for Attrs {
 }
 
 impl Attrs {
-    ghost use Rattle.std.specs.Prelude.{◌≡◌, ◌↔◌, [], length, IsTrue, OnOk, OnErr};
+    ghost use Rattle.std.specs.Prelude.{◌≡◌, ◌↔◌, [], length, IsTrue, IfOk, OnOk, OnErr};
     ghost use Rattle.std.specs.Option.{option_copied};
     ghost use Rattle.ticket_tree.specs.Attrs.{IsInOrder, text_at, with_attr};
 
@@ -63,6 +63,19 @@ impl Attrs {
     {
         self.pairs.insert(name, text)?;
         Ok(())
+    }
+
+    /// Equal attributes.
+    pub fn copy(&self, alloc: Global) -> Result<Attrs, AllocError>
+        ensures { IfOk result (λ attrs. attrs ≡ self.now) }
+    {
+        let mut copied = Attrs::new(alloc);
+        for (name, text) in self.iter() {
+            let copied_name = name.copy(alloc)?;
+            let copied_text = text.copy(alloc)?;
+            copied.set(copied_name, copied_text)?;
+        }
+        Ok(copied)
     }
 
     /// The names with their texts, in byte order of the names.

@@ -1,3 +1,4 @@
+use crate::items::Items;
 use crate::refusal::Refusal;
 use crate::rules::is_name;
 use std::alloc::{AllocError, Global};
@@ -48,11 +49,26 @@ impl Id {
     }
 
     /// An equal id.
-    pub fn copy(&self) -> Result<Id, AllocError>
+    pub fn copy(&self, alloc: Global) -> Result<Id, AllocError>
         ensures { IfOk result (λ id. id ≡ self.now) }
     {
-        let text = self.text.clone()?;
+        let text = String::from_str(alloc, self.as_str())?;
         Ok(Id { text })
+    }
+}
+
+impl Items<Id> {
+    ghost use Rattle.std.specs.Prelude.{◌≡◌, IfOk};
+
+    /// An equal list.
+    pub fn copy(&self, alloc: Global) -> Result<Items<Id>, AllocError>
+        ensures { IfOk result (λ all. all ≡ self.now) }
+    {
+        let mut copied = Vec::with_capacity(alloc, self.as_slice().len())?;
+        for item in self.as_slice() {
+            copied.push(item.copy(alloc)?)?;
+        }
+        Ok(Items::new(copied))
     }
 }
 

@@ -2,28 +2,40 @@
 #![tactic(auto)]
 
 mod attrs;
+mod audit;
 mod edit;
 mod edits;
 mod id;
+mod items;
 pub mod laws;
+mod link;
 mod name;
 mod node_row;
 mod refusal;
+mod resource;
 mod rows;
 mod rows_iter;
 mod rules;
+mod spawn_status;
 #[cfg(test)]
 mod tests;
 mod text;
 mod ticket;
+mod usage;
 
 pub use attrs::Attrs;
+pub use audit::Audit;
 pub use edit::Edit;
 pub use id::Id;
+pub use items::{Audits, Ids, Items, Links, Resources};
+pub use link::Link;
 pub use name::Name;
 pub use node_row::NodeRow;
 pub use refusal::Refusal;
+pub use resource::Resource;
 pub use rows_iter::Rows;
 pub use rules::{MAX_TEXT_BYTES, is_name, is_text};
+pub use spawn_status::SpawnStatus;
 pub use text::Text;
 pub use ticket::Ticket;
+pub use usage::Usage;

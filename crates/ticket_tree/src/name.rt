@@ -49,10 +49,10 @@ impl Name {
     }
 
     /// An equal name.
-    pub fn copy(&self) -> Result<Name, AllocError>
+    pub fn copy(&self, alloc: Global) -> Result<Name, AllocError>
         ensures { IfOk result (λ name. name ≡ self.now) }
     {
-        let text = self.text.clone()?;
+        let text = String::from_str(alloc, self.as_str())?;
         Ok(Name { text })
     }
 }

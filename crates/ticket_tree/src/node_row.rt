@@ -1,6 +1,7 @@
 use crate::attrs::Attrs;
 use crate::id::Id;
 use crate::name::Name;
+use std::alloc::{AllocError, Global};
 
 /// One node of a ticket (JDF 1.5, 3.2), and how deep it stands: the root at 1, a child one deeper
 /// than its parent, no node deeper than 32.
@@ -14,4 +15,22 @@ pub struct NodeRow {
     pub job_part: Name,
     pub status: Name,
     pub attrs: Attrs,
+}
+
+impl NodeRow {
+    ghost use Rattle.std.specs.Prelude.{◌≡◌, IfOk};
+
+    /// An equal row.
+    pub fn copy(&self, alloc: Global) -> Result<NodeRow, AllocError>
+        ensures { IfOk result (λ row. row ≡ self.now) }
+    {
+        Ok(NodeRow {
+            id: self.id.copy(alloc)?,
+            depth: self.depth,
+            kind: self.kind.copy(alloc)?,
+            job_part: self.job_part.copy(alloc)?,
+            status: self.status.copy(alloc)?,
+            attrs: self.attrs.copy(alloc)?,
+        })
+    }
 }

@@ -88,6 +88,17 @@ pub fn are_distinct(alloc: Global, rows: &[NodeRow]) -> Result<bool, AllocError>
     Ok(true)
 }
 
+/// Equal rows.
+pub fn copy(alloc: Global, rows: &[NodeRow]) -> Result<Vec<NodeRow>, AllocError>
+    ensures { IfOk result (λ copied. copied.items ≡ rows.now) }
+{
+    let mut copied = Vec::with_capacity(alloc, rows.len())?;
+    for row in rows {
+        copied.push(row.copy(alloc)?)?;
+    }
+    Ok(copied)
+}
+
 /// The row of a node.
 pub fn node<'a>(rows: &'a [NodeRow], id: &Id) -> Option<&'a NodeRow>
     ensures { option_copied result ≡ row_of rows.now id.now }

@@ -1,3 +1,5 @@
+mod copies;
+
 use crate::{
     Attrs, Edit, Id, MAX_TEXT_BYTES, Name, NodeRow, Refusal, Text, Ticket, is_name, is_text,
 };
@@ -196,18 +198,18 @@ fn texts(rt: HostRuntime) -> Result<(), Fail> {
 }
 
 #[test]
-fn copies(rt: HostRuntime) -> Result<(), Fail> {
+fn copies_texts(rt: HostRuntime) -> Result<(), Fail> {
     let alloc = rt.alloc();
     let id = Id::new(alloc, "n1")?;
-    let id_copy = id.copy()?;
+    let id_copy = id.copy(alloc)?;
     assert_eq!(rt; id_copy.as_str(), "n1");
     assert!(rt; id_copy == id);
     let name = Name::new(alloc, "Type")?;
-    let name_copy = name.copy()?;
+    let name_copy = name.copy(alloc)?;
     assert_eq!(rt; name_copy.as_str(), "Type");
     assert!(rt; name_copy == name);
     let text = Text::new(alloc, "a text")?;
-    let text_copy = text.copy()?;
+    let text_copy = text.copy(alloc)?;
     assert_eq!(rt; text_copy.as_str(), "a text");
     assert!(rt; text_copy == text);
     Ok(())

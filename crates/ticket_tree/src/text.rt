@@ -47,10 +47,10 @@ impl Text {
     }
 
     /// An equal text.
-    pub fn copy(&self) -> Result<Text, AllocError>
+    pub fn copy(&self, alloc: Global) -> Result<Text, AllocError>
         ensures { IfOk result (λ t. t ≡ self.now) }
     {
-        let text = self.text.clone()?;
+        let text = String::from_str(alloc, self.as_str())?;
         Ok(Text { text })
     }
 }

@@ -5,7 +5,7 @@ use crate::node_row::NodeRow;
 use crate::refusal::Refusal;
 use crate::rows_iter::Rows;
 use crate::{edits, rows};
-use std::alloc::Global;
+use std::alloc::{AllocError, Global};
 use std::marker::Model;
 
 /// A job's ticket (JDF 1.5, 3.1): the job's id, and its nodes in preorder. Its rows are always a
@@ -57,6 +57,15 @@ impl Ticket {
         if !rows::are_shallow(rows.as_slice()) {
             return Err(Refusal::TooDeep);
         }
+        Ok(Ticket { job, rows })
+    }
+
+    /// An equal ticket.
+    pub fn copy(&self, alloc: Global) -> Result<Ticket, AllocError>
+        ensures { IfOk result (λ t. t ≡ self.now) }
+    {
+        let job = self.job.copy(alloc)?;
+        let rows = rows::copy(alloc, self.rows.as_slice())?;
         Ok(Ticket { job, rows })
     }
 

@@ -1,0 +1,67 @@
+use crate::audit::Audit;
+use crate::id::Id;
+use crate::link::Link;
+use crate::resource::Resource;
+use std::alloc::AllocError;
+use std::marker::Model;
+
+/// Ids in order, such as those that an audit tells. An id may stand twice.
+pub type Ids = Items<Id>;
+
+/// The links of a node (JDF 1.5, 3.9), in order. The same link may stand twice.
+pub type Links = Items<Link>;
+
+/// The resources of a node's pool (JDF 1.5, 3.8), in order.
+pub type Resources = Items<Resource>;
+
+/// The audits of a node's pool (JDF 1.5, 3.11), in order.
+pub type Audits = Items<Audit>;
+
+/// A list, which contracts see as that list alone.
+#[derive(Debug, Drop)]
+pub struct Items<T> {
+    items: Vec<T>,
+}
+
+impl<T> Model for Items<T> {
+    ghost use Rattle.std.specs.Prelude.{List};
+
+    ghost Value = { List T };
+
+    ghost view = { λ a. a.items.items };
+}
+
+impl<T: Drop> Items<T> {
+    ghost use Rattle.std.specs.Prelude.{◌≡◌, ◌∷◌, ◌++◌, [], OnOk, OnErr};
+
+    /// The list of these.
+    pub fn new(items: Vec<T>) -> Items<T>
+        ensures { result ≡ items.items }
+    {
+        Items { items }
+    }
+
+    /// What is in it, in order.
+    pub fn as_slice(&self) -> &[T]
+        ensures { result.now ≡ self.now }
+    {
+        self.items.as_slice()
+    }
+
+    /// What is in it, by itself.
+    pub fn into_vec(self) -> Vec<T>
+        ensures { result.items ≡ self }
+    {
+        let Items { items } = self;
+        items
+    }
+
+    /// Puts an item last. Without memory nothing changes.
+    pub fn push(&mut self, item: T) -> Result<(), AllocError>
+        ensures ok { OnOk result (self.new ≡ self.old ++ item ∷ []) }
+        ensures err { OnErr result (self.new ≡ self.old) }
+    {
+        self.items.push(item)?;
+        Ok(())
+    }
+}
