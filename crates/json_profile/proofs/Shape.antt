@@ -10,7 +10,7 @@ use Rattle.json_profile.specs.Written.{attr_members, node_data, root_data, Tree,
 
 -- ---- no float
 
-attrs_plain : (pairs : Pairs) → members_have_float (attr_members pairs) ≡ false
+pub attrs_plain : (pairs : Pairs) → members_have_float (attr_members pairs) ≡ false
 attrs_plain [] = refl
 attrs_plain (p ∷ pairs) = attrs_plain pairs
 
@@ -50,7 +50,7 @@ job_data_plain job (r ∷ rows) = root_plain job r (children r.depth (trees rows
 
 -- ---- nesting
 
-attrs_flat : (pairs : Pairs) → members_depth (attr_members pairs) ≡ 0
+pub attrs_flat : (pairs : Pairs) → members_depth (attr_members pairs) ≡ 0
 attrs_flat [] = refl
 attrs_flat (p ∷ pairs) = ap (max 0) (attrs_flat pairs)
 

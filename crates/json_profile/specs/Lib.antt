@@ -6,3 +6,9 @@ pub mod DraftedEdit
 pub mod Form
 pub mod Written
 pub mod Trees
+pub mod Listed
+pub mod PoolDraft
+pub mod AuditDraft
+pub mod PoolForm
+pub mod PoolWritten
+pub mod DraftedPool

@@ -1,5 +1,7 @@
 //! Texts whose reading the rules say: what each is refused for, and what is written for it.
 
+mod pools;
+
 use crate::{
     edit_of, edit_value, has_only, number_under, text_of, text_under, ticket_of, ticket_value,
     value_of,

@@ -1,0 +1,104 @@
+-- Resources, links and audits that were written are read again.
+use Rattle.std.proofs.Common.{◌≡◌, ℕ, ◌&&◌, Bool, true, false, not, List, [], ◌∷◌, map, Some, refl, ap, ◌∙◌}
+use Rattle.serde_json.specs.Data.{string, array}
+use Rattle.serde_json.specs.Find.{as_str}
+use Rattle.ticket_tree.specs.declared.audit.Audit.{Audit}
+use Rattle.ticket_tree.specs.declared.audit.Audit.TheVariants.{Notification, Spawned, Merged}
+use Rattle.ticket_tree.specs.declared.link.Link.{Link}
+use Rattle.ticket_tree.specs.declared.resource.Resource.{Resource}
+use Rattle.ticket_tree.specs.declared.spawn_status.SpawnStatus.{SpawnStatus}
+use Rattle.ticket_tree.specs.declared.spawn_status.SpawnStatus.TheVariants.{NotSpawned, SpawnedRO, SpawnedRW}
+use Rattle.ticket_tree.specs.declared.usage.Usage.{Usage}
+use Rattle.ticket_tree.specs.declared.usage.Usage.TheVariants.{Input, Output}
+use Rattle.json_profile.proofs.Again.{text_pairs-attr_members}
+use Rattle.json_profile.proofs.Lists.{each-again, pool-again, pool-seen}
+use Rattle.json_profile.specs.AuditDraft.{notification_draft, spawned_draft, merged_draft, audit_draft}
+use Rattle.json_profile.specs.DraftedPool.{own_resource, drafted_resource}
+use Rattle.json_profile.specs.Listed.{pool_draft, data_items}
+use Rattle.json_profile.specs.PoolDraft.{RawResource, spawn_status_named, usage_named, shown_draft, resource_draft, link_draft}
+use Rattle.json_profile.specs.PoolForm.{nothing_shown, shows_nothing, is_none, is_not_spawned}
+use Rattle.json_profile.specs.PoolWritten.{spawn_status_word, usage_word, resource_data, link_data, audit_data}
+use Rattle.json_profile.specs.Read.{◌>>=◌}
+use Rattle.json_profile.specs.declared.resource_draft.ResourceDraft.{ResourceDraft}
+use Rattle.json_profile.specs.declared.shown.Shown.{Shown}
+
+-- ---- resources
+
+spawn_status-again : (s : SpawnStatus) → spawn_status_named (spawn_status_word s) ≡ Some s
+spawn_status-again NotSpawned = refl
+spawn_status-again SpawnedRO = refl
+spawn_status-again SpawnedRW = refl
+
+texts-again : (texts : List (List ℕ)) → pool_draft as_str (Some (array (data_items string texts))) ≡ Some texts
+texts-again texts = each-again as_str string (λ s. refl) texts
+
+pub shown_draft-resource_data : (shown : Shown) (r : Resource) → shown_draft (resource_data shown r) ≡ Some shown
+unfolding shown_draft
+shown_draft-resource_data shown r =
+    ap (λ o. o >>= λ ids. spawn_status_named (spawn_status_word shown.spawn_status) >>= λ s. Some (record { locked = shown.locked; spawn_ids = ids; spawn_status = s })) (texts-again shown.spawn_ids)
+    ∙ ap (λ o. o >>= λ s. Some (record { locked = shown.locked; spawn_ids = shown.spawn_ids; spawn_status = s })) (spawn_status-again shown.spawn_status)
+
+pub resource_draft-resource_data : (shown : Shown) (r : Resource) → resource_draft (resource_data shown r) ≡ Some (record { resource = r; shown = shown })
+unfolding resource_draft
+resource_draft-resource_data shown r =
+    ap (λ o. o >>= λ attrs. shown_draft (resource_data shown r) >>= λ s. Some (record { resource = record { id = r.id; name = r.name; class = r.class; status = r.status; attrs = attrs }; shown = s })) (text_pairs-attr_members r.attrs)
+    ∙ ap (λ o. o >>= λ s. Some (record { resource = r; shown = s })) (shown_draft-resource_data shown r)
+
+-- a pool whose resources all show the same
+pub resources-again : (shown : Shown) (rs : List Resource) → pool_draft resource_draft (Some (array (data_items (resource_data shown) rs))) ≡ Some (map (λ r. record { resource = r; shown = shown }) rs)
+resources-again shown rs = pool-seen resource_draft (resource_data shown) (λ r. record { resource = r; shown = shown }) (resource_draft-resource_data shown) rs
+
+-- a pool whose resources show something each
+pub raw_resources-again : (raws : List RawResource) → pool_draft resource_draft (Some (array (data_items (λ r. resource_data r.shown r.resource) raws))) ≡ Some raws
+raw_resources-again raws = pool-again resource_draft (λ r. resource_data r.shown r.resource) (λ r. resource_draft-resource_data r.shown r.resource) raws
+
+-- the resources that resources shown as nothing are
+pub bare_resources : (shown : Shown) (rs : List Resource) → map (λ r. r.resource) (map {B = RawResource} (λ r. record { resource = r; shown = shown }) rs) ≡ rs
+bare_resources shown [] = refl
+bare_resources shown (r ∷ rs) = ap (λ more. r ∷ more) (bare_resources shown rs)
+
+pub own_resources : (drafts : List ResourceDraft) → map (λ r. r.resource) (map drafted_resource drafts) ≡ map own_resource drafts
+own_resources [] = refl
+own_resources (d ∷ drafts) = ap (λ more. own_resource d ∷ more) (own_resources drafts)
+
+-- what shows nothing is what absent members mean
+nothing_at : (locked : Bool) (ids : List (List ℕ)) (s : SpawnStatus) → (not locked && is_none ids && is_not_spawned s) ≡ true → (locked ≡ false) × (ids ≡ []) × (s ≡ NotSpawned)
+nothing_at false [] NotSpawned h = (refl, refl, refl)
+nothing_at true ids s h = cc
+nothing_at false (x ∷ ids) s h = cc
+nothing_at false [] SpawnedRO h = cc
+nothing_at false [] SpawnedRW h = cc
+
+pub shows_nothing-exact : (shown : Shown) → shows_nothing shown ≡ true → shown ≡ nothing_shown
+shows_nothing-exact shown h =
+    let parts = nothing_at shown.locked shown.spawn_ids shown.spawn_status h in
+    ap (λ b. record { locked = b; spawn_ids = shown.spawn_ids; spawn_status = shown.spawn_status }) parts.0
+    ∙ ap (λ ids. record { locked = false; spawn_ids = ids; spawn_status = shown.spawn_status }) parts.1
+    ∙ ap (λ s. record { locked = false; spawn_ids = []; spawn_status = s }) parts.2
+
+-- ---- links
+
+usage-again : (u : Usage) → usage_named (usage_word u) ≡ Some u
+usage-again Input = refl
+usage-again Output = refl
+
+pub link_draft-link_data : (l : Link) → link_draft (link_data l) ≡ Some l
+unfolding link_draft
+link_draft-link_data l = ap (λ o. o >>= λ u. Some (record { rref = l.rref; usage = u })) (usage-again l.usage)
+
+pub links-again : (ls : List Link) → pool_draft link_draft (Some (array (data_items link_data ls))) ≡ Some ls
+links-again ls = pool-again link_draft link_data link_draft-link_data ls
+
+-- ---- audits
+
+pub audit_draft-audit_data : (a : Audit) → audit_draft (audit_data a) ≡ Some a
+unfolding audit_draft notification_draft spawned_draft merged_draft
+audit_draft-audit_data (Notification time text) = refl
+audit_draft-audit_data (Spawned time jref spawn_id ro changed status) =
+    ap (λ o. o >>= λ first. pool_draft as_str (Some (array (data_items string changed))) >>= λ second. Some (Spawned time jref spawn_id first second status)) (texts-again ro)
+    ∙ ap (λ o. o >>= λ second. Some (Spawned time jref spawn_id ro second status)) (texts-again changed)
+audit_draft-audit_data (Merged time jref merge_id overwritten) =
+    ap (λ o. o >>= λ ids. Some (Merged time jref merge_id ids)) (texts-again overwritten)
+
+pub audits-again : (as' : List Audit) → pool_draft audit_draft (Some (array (data_items audit_data as'))) ≡ Some as'
+audits-again as' = pool-again audit_draft audit_data audit_draft-audit_data as'

@@ -1,0 +1,72 @@
+-- Resources, links and audits that are written have no float, and nest little.
+use Rattle.std.proofs.Common.{◌≡◌, ℕ, ◌≤◌, ◌||◌, false, List, [], ◌∷◌, refl, ap, arith}
+use Rattle.std.proofs.lemmas.Bool.{or_from}
+use Rattle.serde_json.specs.Data.{Data, string, depth, items_depth}
+use Rattle.serde_json.specs.Written.{has_float, items_have_float}
+use Rattle.ticket_tree.specs.declared.audit.Audit.{Audit}
+use Rattle.ticket_tree.specs.declared.audit.Audit.TheVariants.{Notification, Spawned, Merged}
+use Rattle.ticket_tree.specs.declared.link.Link.{Link}
+use Rattle.ticket_tree.specs.declared.resource.Resource.{Resource}
+use Rattle.json_profile.proofs.Shape.{attrs_plain, attrs_flat}
+use Rattle.json_profile.specs.Listed.{data_items}
+use Rattle.json_profile.specs.PoolWritten.{resource_data, link_data, audit_data}
+use Rattle.json_profile.specs.declared.shown.Shown.{Shown}
+
+-- ---- no float
+
+pub items_plain : {X : Type 0} (form : X → Data) → ((x : X) → has_float (form x) ≡ false) → (xs : List X) → items_have_float (data_items form xs) ≡ false
+items_plain form plain [] = refl
+items_plain form plain (x ∷ xs) = or_from _ _ (plain x) (items_plain form plain xs)
+
+texts_plain : (texts : List (List ℕ)) → items_have_float (data_items string texts) ≡ false
+texts_plain texts = items_plain string (λ s. refl) texts
+
+pub resource_plain : (shown : Shown) (r : Resource) → has_float (resource_data shown r) ≡ false
+resource_plain shown r = or_from _ _ (attrs_plain r.attrs) (ap (λ b. b || false) (texts_plain shown.spawn_ids))
+
+pub link_plain : (l : Link) → has_float (link_data l) ≡ false
+link_plain l = refl
+
+pub audit_plain : (a : Audit) → has_float (audit_data a) ≡ false
+audit_plain (Notification time text) = refl
+audit_plain (Spawned time jref spawn_id ro changed status) = or_from _ _ (texts_plain ro) (ap (λ b. b || false) (texts_plain changed))
+audit_plain (Merged time jref merge_id overwritten) = ap (λ b. b || false) (texts_plain overwritten)
+
+pub resources_plain : (shown : Shown) (rs : List Resource) → items_have_float (data_items (resource_data shown) rs) ≡ false
+resources_plain shown rs = items_plain (resource_data shown) (resource_plain shown) rs
+
+pub links_plain : (ls : List Link) → items_have_float (data_items link_data ls) ≡ false
+links_plain ls = items_plain link_data link_plain ls
+
+pub audits_plain : (audits : List Audit) → items_have_float (data_items audit_data audits) ≡ false
+audits_plain audits = items_plain audit_data audit_plain audits
+
+-- ---- nesting
+
+pub items_low : {X : Type 0} (form : X → Data) (most : ℕ) → ((x : X) → depth (form x) ≤ most) → (xs : List X) → items_depth (data_items form xs) ≤ most
+items_low form most low [] = omega arith
+items_low form most low (x ∷ xs) = omega (arith, low x, items_low form most low xs)
+
+texts_flat : (texts : List (List ℕ)) → items_depth (data_items string texts) ≤ 0
+texts_flat texts = items_low string 0 (λ s. omega arith) texts
+
+pub resource_nests : (shown : Shown) (r : Resource) → depth (resource_data shown r) ≡ 2
+resource_nests shown r = omega (arith, attrs_flat r.attrs, texts_flat shown.spawn_ids)
+
+pub link_nests : (l : Link) → depth (link_data l) ≡ 1
+link_nests l = refl
+
+-- 1 for a note, else 2
+pub audit_nests : (a : Audit) → depth (audit_data a) ≤ 2
+audit_nests (Notification time text) = omega arith
+audit_nests (Spawned time jref spawn_id ro changed status) = omega (arith, texts_flat ro, texts_flat changed)
+audit_nests (Merged time jref merge_id overwritten) = omega (arith, texts_flat overwritten)
+
+pub resources_low : (shown : Shown) (rs : List Resource) → items_depth (data_items (resource_data shown) rs) ≤ 2
+resources_low shown rs = items_low (resource_data shown) 2 (λ r. omega (arith, resource_nests shown r)) rs
+
+pub links_low : (ls : List Link) → items_depth (data_items link_data ls) ≤ 1
+links_low ls = items_low link_data 1 (λ l. omega arith) ls
+
+pub audits_low : (audits : List Audit) → items_depth (data_items audit_data audits) ≤ 2
+audits_low audits = items_low audit_data 2 audit_nests audits

@@ -1,0 +1,165 @@
+-- The definitions, computed on small data.
+use Rattle.std.proofs.Common.{◌≡◌, true, false, [], ◌∷◌, Some, None, refl}
+use Rattle.std.specs.Prelude.{codes}
+use Rattle.serde_json.specs.Data.{Data, no_items, item, Members, no_members, member, unsigned, null, number, string, array, object}
+use Rattle.ticket_tree.specs.declared.audit.Audit.TheVariants.{Notification, Spawned, Merged}
+use Rattle.ticket_tree.specs.declared.resource.Resource.{Resource}
+use Rattle.ticket_tree.specs.declared.spawn_status.SpawnStatus.TheVariants.{NotSpawned, SpawnedRO, SpawnedRW}
+use Rattle.ticket_tree.specs.declared.usage.Usage.TheVariants.{Input, Output}
+use Rattle.json_profile.specs.AuditDraft.{notification_draft, spawned_draft, merged_draft, audit_draft}
+use Rattle.json_profile.specs.Listed.{pool_draft}
+use Rattle.json_profile.specs.PoolDraft.{shown_draft, resource_draft, link_draft}
+use Rattle.json_profile.specs.PoolForm.{resource_has_names, audit_has_names, nothing_shown, shows_nothing}
+use Rattle.json_profile.specs.PoolWritten.{link_data}
+
+-- ---- resources
+
+abbrev media : Resource
+media = record { id = codes "r1"; name = codes "Media"; class = codes "Consumable"; status = codes "Available"; attrs = [] }
+
+-- {"Class":"Consumable","ID":"r1","Name":"Media",..,"Status":"Available"}
+abbrev media_with : Members → Data
+media_with more = object (member (codes "Class") (string (codes "Consumable")) (member (codes "ID") (string (codes "r1")) (member (codes "Name") (string (codes "Media")) more)))
+
+abbrev with_status : Members
+with_status = member (codes "Status") (string (codes "Available")) no_members
+
+absent_members : resource_draft (media_with with_status) ≡ Some (record { resource = media; shown = nothing_shown })
+unfolding resource_draft shown_draft
+absent_members = refl
+
+no_status : resource_draft (media_with no_members) ≡ None
+unfolding resource_draft
+no_status = refl
+
+spawned_for_reading : resource_draft (media_with (member (codes "SpawnIDs") (array (item (string (codes "S1")) no_items)) (member (codes "SpawnStatus") (string (codes "SpawnedRO")) with_status)))
+    ≡ Some (record { resource = media; shown = record { locked = false; spawn_ids = codes "S1" ∷ []; spawn_status = SpawnedRO } })
+unfolding resource_draft shown_draft
+spawned_for_reading = refl
+
+other_spawn_status : resource_draft (media_with (member (codes "SpawnStatus") (string (codes "Spawned")) with_status)) ≡ None
+unfolding resource_draft shown_draft
+other_spawn_status = refl
+
+spawn_ids_of_numbers : resource_draft (media_with (member (codes "SpawnIDs") (array (item (number (unsigned 1)) no_items)) with_status)) ≡ None
+unfolding resource_draft shown_draft
+spawn_ids_of_numbers = refl
+
+locked_as_text : resource_draft (object (member (codes "Class") (string []) (member (codes "ID") (string []) (member (codes "Locked") (string (codes "true")) (member (codes "Name") (string []) (member (codes "Status") (string []) no_members)))))) ≡ None
+unfolding resource_draft shown_draft
+locked_as_text = refl
+
+unknown_member : resource_draft (media_with (member (codes "Number") (number (unsigned 1)) with_status)) ≡ None
+unfolding resource_draft shown_draft
+unknown_member = refl
+
+no_object : resource_draft (string (codes "r1")) ≡ None
+unfolding resource_draft
+no_object = refl
+
+media_named : resource_has_names media ≡ true
+unfolding resource_has_names
+media_named = refl
+
+class_no_name : resource_has_names (record { id = codes "r1"; name = codes "Media"; class = []; status = codes "Available"; attrs = [] }) ≡ false
+unfolding resource_has_names
+class_no_name = refl
+
+attr_no_name : resource_has_names (record { id = codes "r1"; name = codes "Media"; class = codes "C"; status = codes "Available"; attrs = (codes "a b", []) ∷ [] }) ≡ false
+unfolding resource_has_names
+attr_no_name = refl
+
+nothing : shows_nothing nothing_shown ≡ true
+nothing = refl
+
+locked : shows_nothing (record { locked = true; spawn_ids = []; spawn_status = NotSpawned }) ≡ false
+locked = refl
+
+-- an id that isn't one is also something
+empty_spawn_id : shows_nothing (record { locked = false; spawn_ids = [] ∷ []; spawn_status = NotSpawned }) ≡ false
+empty_spawn_id = refl
+
+for_writing : shows_nothing (record { locked = false; spawn_ids = []; spawn_status = SpawnedRW }) ≡ false
+for_writing = refl
+
+-- ---- links and lists
+
+abbrev r2_input : Data
+r2_input = object (member (codes "Usage") (string (codes "Input")) (member (codes "rRef") (string (codes "r2")) no_members))
+
+input : link_draft r2_input ≡ Some (record { rref = codes "r2"; usage = Input })
+unfolding link_draft
+input = refl
+
+output : link_draft (object (member (codes "Usage") (string (codes "Output")) (member (codes "rRef") (string (codes "2")) no_members))) ≡ Some (record { rref = codes "2"; usage = Output })
+unfolding link_draft
+output = refl
+
+other_usage : link_draft (object (member (codes "Usage") (string (codes "input")) (member (codes "rRef") (string (codes "r2")) no_members))) ≡ None
+unfolding link_draft
+other_usage = refl
+
+absent_pool : pool_draft link_draft None ≡ Some []
+absent_pool = refl
+
+one_link : pool_draft link_draft (Some (array (item r2_input no_items))) ≡ Some (record { rref = codes "r2"; usage = Input } ∷ [])
+unfolding link_draft
+one_link = refl
+
+no_link_in_it : pool_draft link_draft (Some (array (item r2_input (item null no_items)))) ≡ None
+unfolding link_draft
+no_link_in_it = refl
+
+no_list : pool_draft link_draft (Some r2_input) ≡ None
+no_list = refl
+
+link_written : link_data (record { rref = codes "r2"; usage = Input }) ≡ r2_input
+link_written = refl
+
+-- ---- audits
+
+abbrev note : Members → Data
+note more = object (member (codes "Name") (string (codes "Notification")) (member (codes "Text") (string (codes "late")) more))
+
+a_note : audit_draft (note (member (codes "TimeStamp") (number (unsigned 100)) no_members)) ≡ Some (Notification 100 (codes "late"))
+unfolding audit_draft notification_draft
+a_note = refl
+
+time_as_text : audit_draft (note (member (codes "TimeStamp") (string (codes "100")) no_members)) ≡ None
+unfolding audit_draft notification_draft
+time_as_text = refl
+
+note_of_a_node : audit_draft (note (member (codes "TimeStamp") (number (unsigned 100)) (member (codes "jRef") (string (codes "n1")) no_members))) ≡ None
+unfolding audit_draft notification_draft
+note_of_a_node = refl
+
+abbrev times_and_node : Members → Members
+times_and_node more = member (codes "TimeStamp") (number (unsigned 100)) (member (codes "jRef") (string (codes "n1")) more)
+
+spawned : audit_draft (object (member (codes "Name") (string (codes "Spawned")) (member (codes "NewSpawnID") (string (codes "S1")) (member (codes "Status") (string (codes "Waiting"))
+    (times_and_node (member (codes "rRefsROCopied") (array (item (string (codes "r1")) no_items)) (member (codes "rRefsRWCopied") (array (item (string (codes "r2")) no_items)) no_members)))))))
+    ≡ Some (Spawned 100 (codes "n1") (codes "S1") (codes "r1" ∷ []) (codes "r2" ∷ []) (codes "Waiting"))
+unfolding audit_draft spawned_draft
+spawned = refl
+
+merged : audit_draft (object (member (codes "MergeID") (string (codes "S1")) (member (codes "Name") (string (codes "Merged")) (times_and_node (member (codes "rRefsOverwritten") (array no_items) no_members)))))
+    ≡ Some (Merged 100 (codes "n1") (codes "S1") [])
+unfolding audit_draft merged_draft
+merged = refl
+
+-- lists of ids may not be absent
+merged_without_list : audit_draft (object (member (codes "MergeID") (string (codes "S1")) (member (codes "Name") (string (codes "Merged")) (times_and_node no_members)))) ≡ None
+unfolding audit_draft merged_draft
+merged_without_list = refl
+
+other_audit : audit_draft (object (member (codes "Name") (string (codes "Created")) no_members)) ≡ None
+unfolding audit_draft
+other_audit = refl
+
+copied_no_id : audit_has_names (Spawned 100 (codes "n1") (codes "S1") (codes "r1" ∷ [] ∷ []) [] (codes "Waiting")) ≡ false
+unfolding audit_has_names
+copied_no_id = refl
+
+note_has_no_name : audit_has_names (Notification 100 []) ≡ true
+unfolding audit_has_names
+note_has_no_name = refl

@@ -1,0 +1,145 @@
+use crate::known::known_id;
+use crate::listed::{items_under, pool_items};
+use crate::object::text_value;
+use serde_json::Value;
+use std::alloc::{AllocError, Global};
+use std::marker::Model;
+use ticket_tree::{Ids, Items, Refusal, is_name};
+
+/// Texts in order, which are lent: the ids of a draft before they are looked at.
+#[derive(Drop)]
+pub struct LentTexts<'a> {
+    texts: Vec<&'a str>,
+}
+
+impl<'a> Model for LentTexts<'a> {
+    ghost use Rattle.std.specs.Prelude.{ℕ, List, map};
+
+    ghost Value = { List (List ℕ) };
+
+    ghost view = { λ a. map (λ s. s.now) a.texts.items };
+}
+
+ghost use Rattle.std.specs.Prelude.{◌≡◌, true, map, IfOk, IfErr};
+ghost use Rattle.std.specs.List.{list_all};
+ghost use Rattle.serde_json.specs.Data.{string};
+ghost use Rattle.serde_json.specs.Find.{as_str, get};
+ghost use Rattle.serde_json.specs.View.{items_view, view};
+ghost use Rattle.ticket_tree.specs.Names as names;
+ghost use Rattle.json_profile.specs.Listed.{data_items, each, pool_draft, texts_under};
+ghost use Rattle.json_profile.specs.PoolForm.{is_none};
+ghost use Rattle.json_profile.specs.Read.{Gives};
+
+impl<'a> LentTexts<'a> {
+    /// These texts.
+    pub fn new(texts: Vec<&'a str>) -> LentTexts<'a>
+        ensures { result ≡ map (λ s. s.now) texts.entry.items }
+    {
+        LentTexts { texts }
+    }
+
+    /// The texts that the items are. Refuses `NotProfile` where one is no text, and `Memory`.
+    pub fn of(alloc: Global, items: &'a [Value]) -> Result<LentTexts<'a>, Refusal>
+        ensures { Gives (λ t. t) result (each as_str (items_view items.now)) }
+    {
+        let texts = texts_of(alloc, items)?;
+        Ok(LentTexts { texts })
+    }
+
+    /// The list of texts under a name. Refuses `NotProfile` where none stands there, and `Memory`.
+    pub fn under(alloc: Global, value: &'a Value, name: &str) -> Result<LentTexts<'a>, Refusal>
+        ensures { Gives (λ t. t) result (texts_under name.now (view value.now)) }
+    {
+        LentTexts::of(alloc, items_under(value, name)?)
+    }
+
+    /// The list of texts under a name, none where nothing stands there. Refuses `NotProfile` where
+    /// something else does, and `Memory`.
+    pub fn in_pool(alloc: Global, value: &'a Value, name: &str) -> Result<LentTexts<'a>, Refusal>
+        ensures { Gives (λ t. t) result (pool_draft as_str (get name.now (view value.now))) }
+    {
+        LentTexts::of(alloc, pool_items(value, name)?)
+    }
+
+    /// Whether there is none.
+    pub fn is_empty(&self) -> bool
+        ensures { result ≡ is_none self.now }
+    {
+        is_none(self.texts.as_slice())
+    }
+
+    /// Whether all can be ids.
+    pub fn are_names(&self) -> bool
+        ensures { result ≡ list_all names.is_name self.now }
+    {
+        are_names(self.texts.as_slice())
+    }
+
+    /// The ids that they are. Refuses `Memory` alone.
+    pub fn build_ids(&self, alloc: Global) -> Result<Ids, Refusal>
+        requires { list_all names.is_name self.now ≡ true }
+        ensures ok { IfOk result (λ ids. ids ≡ self.now) }
+        ensures memory { IfErr result (λ e. e ≡ Refusal.Memory) }
+    {
+        build_ids(alloc, self.texts.as_slice())
+    }
+
+    /// The texts as values.
+    pub fn values(&self, alloc: Global) -> Result<Vec<Value>, AllocError>
+        ensures { IfOk result (λ vs. items_view vs.items ≡ data_items string self.now) }
+    {
+        text_values(alloc, self.texts.as_slice())
+    }
+}
+
+/// Each item as a text.
+fn texts_of<'a>(alloc: Global, items: &'a [Value]) -> Result<Vec<&'a str>, Refusal>
+    ensures { Gives (λ v. map (λ s. s.now) v.items) result (each as_str (items_view items.now)) }
+{
+    let mut texts = Vec::with_capacity(alloc, items.len())?;
+    for item in items {
+        let Some(text) = item.as_str() else {
+            return Err(Refusal::NotProfile);
+        };
+        texts.push(text)?;
+    }
+    Ok(texts)
+}
+
+/// Whether there is no text.
+fn is_none(texts: &[&str]) -> bool
+    ensures { result ≡ is_none (map (λ s. s.now) texts.now) }
+{
+    texts.is_empty()
+}
+
+/// Whether each text can be an id.
+fn are_names(texts: &[&str]) -> bool
+    ensures { result ≡ list_all (λ s. names.is_name s.now) texts.now }
+{
+    texts.iter().all(|text| is_name(text))
+}
+
+/// The ids that the texts are. Refuses `Memory` alone.
+fn build_ids(alloc: Global, texts: &[&str]) -> Result<Ids, Refusal>
+    requires { list_all (λ s. names.is_name s.now) texts.now ≡ true }
+    ensures ok { IfOk result (λ ids. ids ≡ map (λ s. s.now) texts.now) }
+    ensures memory { IfErr result (λ e. e ≡ Refusal.Memory) }
+{
+    let mut ids = Vec::with_capacity(alloc, texts.len())?;
+    for text in texts {
+        ids.push(known_id(alloc, text)?)?;
+    }
+    Ok(Items::new(ids))
+}
+
+/// Each text as a value.
+fn text_values(alloc: Global, texts: &[&str]) -> Result<Vec<Value>, AllocError>
+    ensures { IfOk result (λ vs. items_view vs.items ≡ data_items string (map (λ s. s.now) texts.now)) }
+{
+    let mut values = Vec::with_capacity(alloc, texts.len())?;
+    for text in texts {
+        values.push(text_value(alloc, text)?)?;
+    }
+    Ok(values)
+}

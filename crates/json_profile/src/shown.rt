@@ -1,0 +1,92 @@
+use crate::lent_texts::LentTexts;
+use crate::words::spawn_status_named;
+use serde_json::Value;
+use std::alloc::Global;
+use ticket_tree::{Refusal, SpawnStatus};
+
+/// What a resource shows of the spawns that copied it (JDF 1.5, 3.8).
+#[derive(Drop)]
+pub struct Shown<'a> {
+    /// Whether the resource may not be changed.
+    pub locked: bool,
+    /// The ids of the spawns.
+    pub spawn_ids: LentTexts<'a>,
+    pub spawn_status: SpawnStatus,
+}
+
+impl<'a> Shown<'a> {
+    ghost use Rattle.std.specs.Prelude.{◌≡◌, codes};
+    ghost use Rattle.serde_json.specs.Find.{get};
+    ghost use Rattle.serde_json.specs.View.{view};
+    ghost use Rattle.json_profile.specs.PoolDraft as draft;
+    ghost use Rattle.json_profile.specs.PoolForm as form;
+    ghost use Rattle.json_profile.specs.Read.{Gives};
+
+    /// Nothing, which absent members mean too.
+    pub fn nothing(alloc: Global) -> Shown<'a>
+        ensures { result ≡ form.nothing_shown }
+    {
+        Shown {
+            locked: false,
+            spawn_ids: LentTexts::new(Vec::new(alloc)),
+            spawn_status: SpawnStatus::NotSpawned,
+        }
+    }
+
+    /// What a resource's value shows. Refuses `NotProfile`, and `Memory`.
+    #[tactic(auto, unfolding(crate::specs::PoolDraft::shown_draft))]
+    pub fn of(alloc: Global, value: &'a Value) -> Result<Shown<'a>, Refusal>
+        ensures { Gives (λ s. s) result (draft.shown_draft (view value.now)) }
+    {
+        let locked = is_locked(value).ok_or(Refusal::NotProfile)?;
+        let spawn_ids = LentTexts::in_pool(alloc, value, "SpawnIDs")?;
+        let spawn_status = spawn_status(value).ok_or(Refusal::NotProfile)?;
+        Ok(Shown {
+            locked,
+            spawn_ids,
+            spawn_status,
+        })
+    }
+
+    /// Whether it is nothing.
+    pub fn shows_nothing(&self) -> bool
+        ensures { result ≡ form.shows_nothing self.now }
+    {
+        !self.locked && self.spawn_ids.is_empty() && is_not_spawned(self.spawn_status)
+    }
+}
+
+ghost use Rattle.std.specs.Prelude.{◌≡◌, codes};
+ghost use Rattle.serde_json.specs.Find.{get};
+ghost use Rattle.serde_json.specs.View.{view};
+ghost use Rattle.json_profile.specs.PoolDraft as draft;
+ghost use Rattle.json_profile.specs.PoolForm as form;
+
+/// What stands under `Locked`, `false` where nothing does.
+fn is_locked(value: &Value) -> Option<bool>
+    ensures { result ≡ draft.flag_of (get (codes "Locked") (view value.now)) }
+{
+    match value.get("Locked") {
+        None => Some(false),
+        Some(locked) => locked.as_bool(),
+    }
+}
+
+/// What stands under `SpawnStatus`, `NotSpawned` where nothing does.
+fn spawn_status(value: &Value) -> Option<SpawnStatus>
+    ensures { result ≡ draft.spawn_status_of (get (codes "SpawnStatus") (view value.now)) }
+{
+    match value.get("SpawnStatus") {
+        None => Some(SpawnStatus::NotSpawned),
+        Some(status) => spawn_status_named(status.as_str()?),
+    }
+}
+
+fn is_not_spawned(status: SpawnStatus) -> bool
+    ensures { result ≡ form.is_not_spawned status }
+{
+    match status {
+        SpawnStatus::NotSpawned => true,
+        SpawnStatus::SpawnedRO | SpawnStatus::SpawnedRW => false,
+    }
+}
