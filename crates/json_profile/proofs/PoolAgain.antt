@@ -1,5 +1,6 @@
 -- Resources, links and audits that were written are read again.
 use Rattle.std.proofs.Common.{◌≡◌, ℕ, ◌&&◌, Bool, true, false, not, List, [], ◌∷◌, map, Some, refl, ap, ◌∙◌}
+use Rattle.std.specs.List.{list_all}
 use Rattle.serde_json.specs.Data.{string, array}
 use Rattle.serde_json.specs.Find.{as_str}
 use Rattle.ticket_tree.specs.declared.audit.Audit.{Audit}
@@ -75,6 +76,10 @@ shows_nothing-exact shown h =
     ap (λ b. record { locked = b; spawn_ids = shown.spawn_ids; spawn_status = shown.spawn_status }) parts.0
     ∙ ap (λ ids. record { locked = false; spawn_ids = ids; spawn_status = shown.spawn_status }) parts.1
     ∙ ap (λ s. record { locked = false; spawn_ids = []; spawn_status = s }) parts.2
+
+pub all_show_nothing : (rs : List Resource) → list_all (λ r. shows_nothing r.shown) (map {B = RawResource} (λ r. record { resource = r; shown = nothing_shown }) rs) ≡ true
+all_show_nothing [] = refl
+all_show_nothing (r ∷ rs) = all_show_nothing rs
 
 -- ---- links
 

@@ -1,3 +1,15 @@
+//! Lists of texts that are lent.
+
+ghost use Rattle.std.specs.Prelude.{◌≡◌, true, map, IfOk, IfErr};
+ghost use Rattle.std.specs.List.{list_all};
+ghost use Rattle.serde_json.specs.Data.{string};
+ghost use Rattle.serde_json.specs.Find.{as_str, get};
+ghost use Rattle.serde_json.specs.View.{items_view, view};
+ghost use Rattle.ticket_tree.specs.Names as names;
+ghost use Rattle.json_profile.specs.Listed.{data_items, each, pool_draft, texts_under};
+ghost use Rattle.json_profile.specs.PoolForm.{is_none};
+ghost use Rattle.json_profile.specs.Read.{Gives};
+
 use crate::known::known_id;
 use crate::listed::{items_under, pool_items};
 use crate::object::text_value;
@@ -19,16 +31,6 @@ impl<'a> Model for LentTexts<'a> {
 
     ghost view = { λ a. map (λ s. s.now) a.texts.items };
 }
-
-ghost use Rattle.std.specs.Prelude.{◌≡◌, true, map, IfOk, IfErr};
-ghost use Rattle.std.specs.List.{list_all};
-ghost use Rattle.serde_json.specs.Data.{string};
-ghost use Rattle.serde_json.specs.Find.{as_str, get};
-ghost use Rattle.serde_json.specs.View.{items_view, view};
-ghost use Rattle.ticket_tree.specs.Names as names;
-ghost use Rattle.json_profile.specs.Listed.{data_items, each, pool_draft, texts_under};
-ghost use Rattle.json_profile.specs.PoolForm.{is_none};
-ghost use Rattle.json_profile.specs.Read.{Gives};
 
 impl<'a> LentTexts<'a> {
     /// These texts.
@@ -55,7 +57,11 @@ impl<'a> LentTexts<'a> {
 
     /// The list of texts under a name, none where nothing stands there. Refuses `NotProfile` where
     /// something else does, and `Memory`.
-    pub fn in_pool(alloc: Global, value: &'a Value, name: &str) -> Result<LentTexts<'a>, Refusal>
+    pub fn under_or_none(
+        alloc: Global,
+        value: &'a Value,
+        name: &str,
+    ) -> Result<LentTexts<'a>, Refusal>
         ensures { Gives (λ t. t) result (pool_draft as_str (get name.now (view value.now))) }
     {
         LentTexts::of(alloc, pool_items(value, name)?)

@@ -23,7 +23,8 @@ impl<'a> LinkDraft<'a> {
     /// The draft that a value is. Refuses `NotProfile`, and needs no memory.
     #[tactic(auto, unfolding(crate::specs::PoolDraft::link_draft))]
     pub fn of(value: &'a Value) -> Result<LinkDraft<'a>, Refusal>
-        ensures { Gives drafted_link result (draft.link_draft (view value.now)) }
+        ensures gives { Gives drafted_link result (draft.link_draft (view value.now)) }
+        ensures kinds { IfErr result (λ e. e ≡ Refusal.NotProfile) }
     {
         if !has_only(value, &["Usage", "rRef"]) {
             return Err(Refusal::NotProfile);

@@ -1,3 +1,12 @@
+//! What resources show of spawns.
+
+ghost use Rattle.std.specs.Prelude.{◌≡◌, codes};
+ghost use Rattle.serde_json.specs.Find.{get};
+ghost use Rattle.serde_json.specs.View.{view};
+ghost use Rattle.json_profile.specs.PoolDraft as draft;
+ghost use Rattle.json_profile.specs.PoolForm as form;
+ghost use Rattle.json_profile.specs.Read.{Gives};
+
 use crate::lent_texts::LentTexts;
 use crate::words::spawn_status_named;
 use serde_json::Value;
@@ -15,13 +24,6 @@ pub struct Shown<'a> {
 }
 
 impl<'a> Shown<'a> {
-    ghost use Rattle.std.specs.Prelude.{◌≡◌, codes};
-    ghost use Rattle.serde_json.specs.Find.{get};
-    ghost use Rattle.serde_json.specs.View.{view};
-    ghost use Rattle.json_profile.specs.PoolDraft as draft;
-    ghost use Rattle.json_profile.specs.PoolForm as form;
-    ghost use Rattle.json_profile.specs.Read.{Gives};
-
     /// Nothing, which absent members mean too.
     pub fn nothing(alloc: Global) -> Shown<'a>
         ensures { result ≡ form.nothing_shown }
@@ -39,7 +41,7 @@ impl<'a> Shown<'a> {
         ensures { Gives (λ s. s) result (draft.shown_draft (view value.now)) }
     {
         let locked = is_locked(value).ok_or(Refusal::NotProfile)?;
-        let spawn_ids = LentTexts::in_pool(alloc, value, "SpawnIDs")?;
+        let spawn_ids = LentTexts::under_or_none(alloc, value, "SpawnIDs")?;
         let spawn_status = spawn_status(value).ok_or(Refusal::NotProfile)?;
         Ok(Shown {
             locked,
@@ -55,12 +57,6 @@ impl<'a> Shown<'a> {
         !self.locked && self.spawn_ids.is_empty() && is_not_spawned(self.spawn_status)
     }
 }
-
-ghost use Rattle.std.specs.Prelude.{◌≡◌, codes};
-ghost use Rattle.serde_json.specs.Find.{get};
-ghost use Rattle.serde_json.specs.View.{view};
-ghost use Rattle.json_profile.specs.PoolDraft as draft;
-ghost use Rattle.json_profile.specs.PoolForm as form;
 
 /// What stands under `Locked`, `false` where nothing does.
 fn is_locked(value: &Value) -> Option<bool>
@@ -82,6 +78,7 @@ fn spawn_status(value: &Value) -> Option<SpawnStatus>
     }
 }
 
+/// Whether no copy is out.
 fn is_not_spawned(status: SpawnStatus) -> bool
     ensures { result ≡ form.is_not_spawned status }
 {

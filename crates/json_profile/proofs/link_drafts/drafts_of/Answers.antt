@@ -9,7 +9,7 @@ use Rattle.json_profile.proofs.link_drafts.drafts_of.Goals as goal
 pub returns-in_err-draft : goal.returns-in_err-draft
 returns-in_err-draft c =
     Gives-failed (λ v. map drafted_link v.items) c.from_residual-in_err-draft.result c.in_err-draft.field-0.0 _ c.from_residual-in_err-draft.ensures.1
-    (Fails-each c.in_err-draft.field-0.0 link_draft c.args.items.now c.loop-item.item-index c.item-item.result c.loop-item-test.true c.item-item.is c.in_err-draft.ensures)
+    (Fails-each c.in_err-draft.field-0.0 link_draft c.args.items.now c.loop-item.item-index c.item-item.result c.loop-item-test.true c.item-item.is c.in_err-draft.ensures.gives)
 
 pub returns : goal.returns
 returns c =
