@@ -17,7 +17,7 @@ use Rattle.json_profile.specs.AuditDraft.{notification_draft, spawned_draft, mer
 use Rattle.json_profile.specs.DraftedPool.{own_resource, drafted_resource}
 use Rattle.json_profile.specs.Listed.{pool_draft, data_items}
 use Rattle.json_profile.specs.PoolDraft.{RawResource, spawn_status_named, usage_named, shown_draft, resource_draft, link_draft}
-use Rattle.json_profile.specs.PoolForm.{nothing_shown, shows_nothing, is_none, is_not_spawned}
+use Rattle.json_profile.specs.PoolForm.{nothing_shown, shows_nothing, is_empty, is_not_spawned}
 use Rattle.json_profile.specs.PoolWritten.{spawn_status_word, usage_word, resource_data, link_data, audit_data}
 use Rattle.json_profile.specs.Read.{◌>>=◌}
 use Rattle.json_profile.specs.declared.resource_draft.ResourceDraft.{ResourceDraft}
@@ -63,7 +63,7 @@ own_resources [] = refl
 own_resources (d ∷ drafts) = ap (λ more. own_resource d ∷ more) (own_resources drafts)
 
 -- what shows nothing is what absent members mean
-nothing_at : (locked : Bool) (ids : List (List ℕ)) (s : SpawnStatus) → (not locked && is_none ids && is_not_spawned s) ≡ true → (locked ≡ false) × (ids ≡ []) × (s ≡ NotSpawned)
+nothing_at : (locked : Bool) (ids : List (List ℕ)) (s : SpawnStatus) → (not locked && is_empty ids && is_not_spawned s) ≡ true → (locked ≡ false) × (ids ≡ []) × (s ≡ NotSpawned)
 nothing_at false [] NotSpawned h = (refl, refl, refl)
 nothing_at true ids s h = cc
 nothing_at false (x ∷ ids) s h = cc

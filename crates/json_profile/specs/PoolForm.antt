@@ -42,9 +42,9 @@ audit_has_texts (Merged time jref merge_id overwritten) = true
 abbrev pub nothing_shown : Shown
 nothing_shown = record { locked = false; spawn_ids = []; spawn_status = NotSpawned }
 
-abbrev pub is_none : List (List ℕ) → Bool
-is_none [] = true
-is_none (x ∷ xs) = false
+abbrev pub is_empty : List (List ℕ) → Bool
+is_empty [] = true
+is_empty (x ∷ xs) = false
 
 abbrev pub is_not_spawned : SpawnStatus → Bool
 is_not_spawned NotSpawned = true
@@ -52,4 +52,4 @@ is_not_spawned SpawnedRO = false
 is_not_spawned SpawnedRW = false
 
 abbrev pub shows_nothing : Shown → Bool
-shows_nothing s = not s.locked && is_none s.spawn_ids && is_not_spawned s.spawn_status
+shows_nothing s = not s.locked && is_empty s.spawn_ids && is_not_spawned s.spawn_status

@@ -7,7 +7,7 @@ ghost use Rattle.serde_json.specs.Find.{as_str, get};
 ghost use Rattle.serde_json.specs.View.{items_view, view};
 ghost use Rattle.ticket_tree.specs.Names as names;
 ghost use Rattle.json_profile.specs.Listed.{data_items, each, pool_draft, texts_under};
-ghost use Rattle.json_profile.specs.PoolForm.{is_none};
+ghost use Rattle.json_profile.specs.PoolForm as form;
 ghost use Rattle.json_profile.specs.Read.{Gives};
 
 use crate::known::known_id;
@@ -69,9 +69,9 @@ impl<'a> LentTexts<'a> {
 
     /// Whether there is none.
     pub fn is_empty(&self) -> bool
-        ensures { result ≡ is_none self.now }
+        ensures { result ≡ form.is_empty self.now }
     {
-        is_none(self.texts.as_slice())
+        self.texts.is_empty()
     }
 
     /// Whether all can be ids.
@@ -110,13 +110,6 @@ fn texts_of<'a>(alloc: Global, items: &'a [Value]) -> Result<Vec<&'a str>, Refus
         texts.push(text)?;
     }
     Ok(texts)
-}
-
-/// Whether there is no text.
-fn is_none(texts: &[&str]) -> bool
-    ensures { result ≡ is_none (map (λ s. s.now) texts.now) }
-{
-    texts.is_empty()
 }
 
 /// Whether each text can be an id.
