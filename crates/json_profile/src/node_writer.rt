@@ -1,30 +1,16 @@
 //! Writing one node.
 
 ghost use Rattle.std.specs.Prelude.{◌≡◌, true, IfOk, OnOk};
-ghost use Rattle.std.specs.List.{list_all};
 ghost use Rattle.serde_json.specs.Data.{object};
 ghost use Rattle.serde_json.specs.View.{items_view, members_view, view};
-ghost use Rattle.ticket_tree.specs.Names as names;
 ghost use Rattle.json_profile.specs.Form.{row_has_names, row_has_texts};
 ghost use Rattle.json_profile.specs.Written as written;
 
+use crate::attrs_writer::attr_map;
 use crate::object::{put_list, put_text, put_value};
 use serde_json::{Map, Value};
 use std::alloc::{AllocError, Global};
-use ticket_tree::{Attrs, NodeRow};
-
-/// The attributes as members of an object.
-fn attr_map(alloc: Global, attrs: &Attrs) -> Result<Map<String, Value>, AllocError>
-    ensures members { IfOk result (λ m. members_view m.entries ≡ written.attr_members attrs.now) }
-    ensures names { OnOk result (list_all (λ p. names.is_name p.0) attrs.now ≡ true) }
-    ensures texts { OnOk result (list_all (λ p. names.is_text p.1) attrs.now ≡ true) }
-{
-    let mut members = Map::new(alloc);
-    for (name, text) in attrs.iter() {
-        put_text(alloc, &mut members, name.as_str(), text.as_str())?;
-    }
-    Ok(members)
-}
+use ticket_tree::NodeRow;
 
 /// What a node has of its own, without its children: its ids and names are such, its texts too.
 #[tactic(auto, unfolding(crate::specs::Form::row_has_names, crate::specs::Form::row_has_texts))]
