@@ -166,7 +166,8 @@ fn copies_an_edit(rt: HostRuntime) -> Result<(), Fail> {
         name: Name::new(alloc, "DescriptiveName")?,
         value: Text::new(alloc, "Cover")?,
     };
-    match edit.copy(alloc)? {
+    let copy = edit.copy(alloc)?;
+    match &copy {
         Edit::SetAttr { node, name, value } => {
             assert_eq!(rt; node.as_str(), "n1");
             assert_eq!(rt; name.as_str(), "DescriptiveName");
