@@ -1,8 +1,7 @@
 -- Edits done in turn.
-use Rattle.std.proofs.Common.{◌≡◌, ℕ, ◌+◌, ◌<◌, ◌≤◌, ◌||◌, Bool, true, false, List, [], ◌∷◌, ◌++◌, length, get_or, drop, map, Option, Some, None, is_some, refl, sym, ap, ◌∙◌, append_assoc, append-nil, subst, ⊎_elim}
+use Rattle.std.proofs.Common.{◌≡◌, ℕ, ◌+◌, ◌<◌, ◌≤◌, ◌||◌, Bool, true, false, List, [], ◌∷◌, ◌++◌, length, get_or, drop, map, Option, Some, is_some, refl, sym, ap, ◌∙◌, append_assoc, append-nil, subst, ⊎_elim}
 use Rattle.std.proofs.lemmas.List.{drop_more, drop_all}
 use Rattle.std.proofs.lemmas.List.Folds.{list_any-append}
-use Rattle.std.specs.List.{flat_map, list_any}
 use Rattle.ticket_tree.specs.Ticket.{Job}
 use Rattle.ticket_tree.specs.declared.edit.Edit.{Edit}
 use Rattle.ticket_tree.specs.declared.refusal.Refusal.{Refusal}

@@ -1,7 +1,6 @@
 -- How `edit` ends: what is written and told, by the bytes that the reader had and the writers held, where these are known.
-use Rattle.std.specs.Prelude.{◌≡◌, ◌⊎◌, ℕ, ◌<◌, Bool, true, false, List, length, take, Option, Some, IfSome, if◌then◌else◌}
+use Rattle.std.specs.Prelude.{◌≡◌, ◌⊎◌, ℕ, ◌<◌, Bool, List, length, take, Option, IfSome, if◌then◌else◌}
 use Rattle.std.specs.Io.KnownBytes.{Appends, Keeps}
-use Rattle.ticket_tree.specs.declared.refusal.Refusal.{Refusal}
 use Rattle.jdf_cli.specs.Document.{IsRefusalOf}
 use Rattle.jdf_cli.specs.Fault.{fault_line, fault_status}
 use Rattle.jdf_cli.specs.Run.{IsOutput}

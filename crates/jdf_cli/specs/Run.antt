@@ -1,5 +1,5 @@
 -- What `edit` does with a document, and what it writes.
-use Rattle.std.specs.Prelude.{◌≡◌, ℕ, Bool, true, false, List, [], ◌∷◌, ◌++◌, codes, if◌then◌else◌, Option, Some, None, is_some, Ok, ◌⊎◌}
+use Rattle.std.specs.Prelude.{◌≡◌, ℕ, Bool, List, [], ◌∷◌, ◌++◌, codes, Option, Some, None, is_some, Ok, ◌⊎◌}
 use Rattle.std.specs.List.{flat_map, list_any}
 use Rattle.serde_json.specs.Written.{compact_text}
 use Rattle.ticket_tree.specs.Edit.{refusal_of, edited}
@@ -52,6 +52,13 @@ pub record IsRun (start : Job) (at : ℕ) (edits : List Edit) (old new : List �
   pub status : refused ≡ has_refusal outcomes
 
 -- ---- what is written
+
+-- the edits of a document have outcomes that leave this ticket; these are their lines, and this tells whether one was refused
+pub record IsEdited (document : Document) (text : List ℕ) (end : Job) (refused : Bool) : Type 0 where
+  pub outcomes : List (Option Refusal)
+  pub runs : Runs document.ticket document.at document.edits outcomes end
+  pub written : text ≡ lines outcomes
+  pub status : refused ≡ has_refusal outcomes
 
 -- the ticket's text, and the end of its line
 abbrev pub ticket_text : Job → List ℕ

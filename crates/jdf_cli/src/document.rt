@@ -4,6 +4,8 @@ ghost use Rattle.std.specs.Prelude.{◌≡◌, map};
 ghost use Rattle.std.specs.List.{list_all};
 ghost use Rattle.serde_json.specs.View.{items_view, view};
 ghost use Rattle.json_profile.specs.DraftedEdit.{drafted_edit};
+ghost use Rattle.json_profile.specs.EditDraft.{edit_draft};
+ghost use Rattle.json_profile.specs.Listed.{each};
 ghost use Rattle.json_profile.specs.Form.{edit_has_names, edit_has_texts};
 ghost use Rattle.json_profile.specs.Read.{Gives};
 ghost use Rattle.jdf_cli.specs.Document as form;
@@ -15,14 +17,12 @@ use ticket_tree::Refusal;
 
 /// The drafts of the edits in a list.
 fn edit_drafts<'a>(alloc: Global, items: &'a [Value]) -> Result<Vec<EditDraft<'a>>, Refusal>
-    ensures { Gives (λ v. map drafted_edit v.items) result (form.edit_drafts (items_view items.now)) }
+    ensures { Gives (λ v. map drafted_edit v.items) result (each edit_draft (items_view items.now)) }
 {
     let mut edits = Vec::with_capacity(alloc, items.len())?;
     for item in items {
-        match EditDraft::of(item) {
-            Ok(edit) => edits.push(edit)?,
-            Err(refusal) => return Err(refusal),
-        }
+        let edit = EditDraft::of(alloc, item)?;
+        edits.push(edit)?;
     }
     Ok(edits)
 }

@@ -1,6 +1,6 @@
 //! The command `edit`.
 
-ghost use Rattle.std.specs.Prelude.{◌≡◌, IfOk, IfErr};
+ghost use Rattle.std.specs.Prelude.{IfOk, IfErr};
 ghost use Rattle.std.specs.Io.KnownBytes.{Keeps};
 ghost use Rattle.jdf_cli.specs.EndsAs as ends;
 ghost use Rattle.jdf_cli.specs.Fault.{fault_status};

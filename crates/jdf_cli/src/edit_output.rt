@@ -2,10 +2,10 @@
 
 ghost use Rattle.std.specs.Prelude.{◌≡◌, ◌⊎◌, ◌++◌, None, Some, true, IfErr, IfOk, OnOk, Err, Ok};
 ghost use Rattle.serde_json.specs.View.{view};
-ghost use Rattle.ticket_tree.specs.Ticket.{IsValid, fault_of};
-ghost use Rattle.jdf_cli.specs.Document.{Document, IsRefusalOf, document_fault, document_has_names, document_has_texts, document_read};
+ghost use Rattle.json_profile.specs.Form.{built_fault};
+ghost use Rattle.jdf_cli.specs.Document.{Document, IsReadAs, IsRefusalOf, document_fault, document_of, document_has_names, document_has_texts, document_read};
 ghost use Rattle.jdf_cli.specs.Drafted.{drafted_document};
-ghost use Rattle.jdf_cli.specs.Run.{IsOutput, IsRunOf, ticket_text};
+ghost use Rattle.jdf_cli.specs.Run.{IsEdited, IsOutput, ticket_text};
 
 use crate::document_draft::DocumentDraft;
 use crate::run::run_edits;
@@ -32,30 +32,41 @@ fn push_ticket(alloc: Global, text: &mut Vec<u8>, ticket: &Ticket) -> Result<(),
     Ok(())
 }
 
-/// The output for a draft whose names and texts are such.
-fn run_draft(alloc: Global, draft: &DocumentDraft<'_>) -> Result<EditOutput, Refusal>
+/// A ticket after edits, the line of each, and whether one was refused.
+#[derive(Drop)]
+struct EditedTicket {
+    ticket: Ticket,
+    lines: Vec<u8>,
+    refused: bool,
+}
+
+/// The edited ticket of a draft whose names and texts are such.
+fn run_draft(alloc: Global, draft: &DocumentDraft<'_>) -> Result<EditedTicket, Refusal>
     requires names { document_has_names (drafted_document draft.now) ≡ true }
     requires texts { document_has_texts (drafted_document draft.now) ≡ true }
-    ensures done { IfOk result (λ o. IsRunOf (drafted_document draft.now) o.text.items o.refused) }
-    ensures valid { OnOk result (IsValid draft.now.ticket.rows) }
-    ensures refused { IfErr result (λ e. (e ≡ Refusal.Memory) ⊎ (fault_of draft.now.ticket.rows ≡ Some e)) }
+    ensures done { IfOk result (λ o. IsEdited (document_of (drafted_document draft.now)) o.lines.items o.ticket o.refused) }
+    ensures sound { OnOk result (built_fault draft.now.ticket ≡ None) }
+    ensures refused { IfErr result (λ e. (e ≡ Refusal.Memory) ⊎ (built_fault draft.now.ticket ≡ Some e)) }
 {
     let mut ticket = draft.ticket.build(alloc)?;
-    let mut text = Vec::new(alloc);
+    let mut lines = Vec::new(alloc);
     let refused = run_edits(
         alloc,
         &mut ticket,
         draft.at,
         draft.edits.as_slice(),
-        &mut text,
+        &mut lines,
     )?;
-    push_ticket(alloc, &mut text, &ticket)?;
-    Ok(EditOutput { text, refused })
+    Ok(EditedTicket {
+        ticket,
+        lines,
+        refused,
+    })
 }
 
-/// The output for a draft, or its first refusal.
-fn checked_output(alloc: Global, draft: &DocumentDraft<'_>) -> Result<EditOutput, Refusal>
-    ensures done { IfOk result (λ o. IsRunOf (drafted_document draft.now) o.text.items o.refused) }
+/// The edited ticket of a draft, or its first refusal.
+fn checked_edits(alloc: Global, draft: &DocumentDraft<'_>) -> Result<EditedTicket, Refusal>
+    ensures done { IfOk result (λ o. IsEdited (document_of (drafted_document draft.now)) o.lines.items o.ticket o.refused) }
     ensures sound { OnOk result (document_fault (drafted_document draft.now) ≡ None) }
     ensures refused { IfErr result (λ e. (e ≡ Refusal.Memory) ⊎ (document_fault (drafted_document draft.now) ≡ Some e)) }
 {
@@ -68,21 +79,37 @@ fn checked_output(alloc: Global, draft: &DocumentDraft<'_>) -> Result<EditOutput
     run_draft(alloc, draft)
 }
 
-/// The output for a JSON value, or its first refusal.
-fn value_output(alloc: Global, value: &Value) -> Result<EditOutput, Refusal>
-    ensures done { IfOk result (λ o. (document : Document) × (document_read (view value.now) ≡ Ok document) × IsRunOf document o.text.items o.refused) }
+/// The edited ticket of a JSON value, or its first refusal.
+fn value_edits(alloc: Global, value: &Value) -> Result<EditedTicket, Refusal>
+    ensures done { IfOk result (λ o. (document : Document) × (document_read (view value.now) ≡ Ok document) × IsEdited document o.lines.items o.ticket o.refused) }
     ensures refused { IfErr result (λ e. (e ≡ Refusal.Memory) ⊎ (document_read (view value.now) ≡ Err e)) }
 {
     let draft = DocumentDraft::of(alloc, value)?;
-    checked_output(alloc, &draft)
+    checked_edits(alloc, &draft)
+}
+
+/// The edited ticket of an input, or the first refusal of it. Its value and what was drafted of it
+/// are dropped here, so that they don't stand beside the value that is written.
+fn edited_ticket(alloc: Global, input: &[u8]) -> Result<EditedTicket, Refusal>
+    ensures done { IfOk result (λ o. (document : Document) × IsReadAs input.now (Ok document) × IsEdited document o.lines.items o.ticket o.refused) }
+    ensures refused { IfErr result (IsRefusalOf input.now) }
+{
+    let value = value_of(alloc, input)?;
+    value_edits(alloc, &value)
 }
 
 /// What `edit` writes for an input, or the first refusal of it: `NotJson`, `NotProfile`, `BadId`,
-/// `BadText`, `ReservedStatus`, `DuplicateId`, `TooDeep`; `Memory` may come before any.
+/// `BadText`, `ReservedStatus`, `DuplicateId`, `TooDeep`, `UnresolvedLink`; `Memory` may come before any.
 pub fn edit_output(alloc: Global, input: &[u8]) -> Result<EditOutput, Refusal>
     ensures done { IfOk result (λ o. IsOutput input.now o.text.items o.refused) }
     ensures refused { IfErr result (IsRefusalOf input.now) }
 {
-    let value = value_of(alloc, input)?;
-    value_output(alloc, &value)
+    let EditedTicket {
+        ticket,
+        lines,
+        refused,
+    } = edited_ticket(alloc, input)?;
+    let mut text = lines;
+    push_ticket(alloc, &mut text, &ticket)?;
+    Ok(EditOutput { text, refused })
 }

@@ -26,11 +26,13 @@ pub fn refusal_line(refusal: Refusal) -> &'static str
     match refusal {
         Refusal::BadId => "Refused 1 BadId\n",
         Refusal::DuplicateId => "Refused 2 DuplicateId\n",
+        Refusal::UnresolvedLink => "Refused 3 UnresolvedLink\n",
         Refusal::TooDeep => "Refused 4 TooDeep\n",
         Refusal::ReservedStatus => "Refused 5 ReservedStatus\n",
         Refusal::BadText => "Refused 6 BadText\n",
         Refusal::NotATree => "Refused 7 NotATree\n",
         Refusal::UnknownNode => "Refused 10 UnknownNode\n",
+        Refusal::UnknownResource => "Refused 11 UnknownResource\n",
         Refusal::NotJson => "Refused 40 NotJson\n",
         Refusal::NotProfile => "Refused 41 NotProfile\n",
         Refusal::Memory => "Refused 90 Memory\n",

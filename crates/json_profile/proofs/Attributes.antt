@@ -1,11 +1,10 @@
 -- Attributes written one after another.
-use Rattle.std.proofs.Common.{◌≡◌, ℕ, true, List, [], ◌∷◌, ◌++◌, Less, Greater, String, Global, refl, sym, ap, ◌∙◌, append_assoc, append-nil, subst}
+use Rattle.std.proofs.Common.{◌≡◌, ℕ, true, List, [], ◌∷◌, ◌++◌, Greater, String, Global, refl, sym, ap, ◌∙◌, append_assoc, append-nil, subst}
 use Rattle.std.proofs.lemmas.Bool.{and_from}
 use Rattle.std.proofs.lemmas.List.Folds.{list_all-append}
 use Rattle.std.specs.Cmp.Lexicographic.{slice_cmp, nat_list_cmp_total}
-use Rattle.std.specs.List.{AllByRecursion, list_all}
+use Rattle.std.specs.List.{list_all}
 use Rattle.std.specs.List.Sorted.{IsStrictlySortedBy}
-use Rattle.std.specs.Map.{keys_of}
 use Rattle.std.specs.Ordering.{nat_cmp, match_ordering, ordering_reverse}
 use Rattle.serde_json.specs.Data.{member, string, put}
 use Rattle.serde_json.specs.View.{members_view}
@@ -13,7 +12,7 @@ use Rattle.serde_json.specs.declared.value.Value.{Value}
 use Rattle.ticket_tree.proofs.Ordered.{below_middle}
 use Rattle.ticket_tree.specs.Attrs.{Pairs, IsInOrder}
 use Rattle.ticket_tree.specs.Names.{is_name, is_text}
-use Rattle.json_profile.specs.Written.{attr_members}
+use Rattle.json_profile.specs.PoolWritten.{attr_members}
 
 -- a name above those before it is written last
 pub put-attr_members : (done : Pairs) (p : List ℕ × List ℕ) (rest : Pairs) → IsInOrder (done ++ p ∷ rest) → put p.0 (string p.1) (attr_members done) ≡ attr_members (done ++ p ∷ [])

@@ -1,31 +1,115 @@
 -- What the tests of drafts say of their parts.
-use Rattle.std.proofs.Common.{◌≡◌, ◌&&◌, Bool, true, List, [], ◌∷◌, refl, ap}
+use Rattle.std.proofs.Common.{◌≡◌, ℕ, ◌&&◌, Bool, true, false, List, [], ◌∷◌, map, Option, Some, refl, sym, ap}
+use Rattle.std.proofs.lemmas.List.Folds.{list_all-map}
 use Rattle.std.proofs.lemmas.Bool.{and_parts}
 use Rattle.std.specs.List.{list_all}
-use Rattle.ticket_tree.specs.Names.{is_name}
+use Rattle.ticket_tree.specs.Names.{is_name, is_text}
+use Rattle.ticket_tree.specs.Ticket.{fault_of, first_of, unless}
+use Rattle.ticket_tree.specs.declared.refusal.Refusal.{Refusal}
+use Rattle.ticket_tree.specs.declared.refusal.Refusal.TheVariants.{ReservedStatus}
 use Rattle.ticket_tree.specs.declared.node_row.NodeRow.{NodeRow}
-use Rattle.json_profile.specs.Drafted.{drafted_row, drafted_rows}
+use Rattle.ticket_tree.specs.declared.resource.Resource.{Resource}
+use Rattle.json_profile.specs.Draft.{RawTicket, resources_of, are_bare}
+use Rattle.json_profile.specs.Drafted.{drafted_raw, drafted_resources, drafted_row, drafted_rows}
+use Rattle.json_profile.specs.DraftedPool.{own_resource, drafted_link, drafted_audit}
+use Rattle.json_profile.specs.Form.{built_fault, node_has_names, pools_have_names, row_has_names, row_has_texts}
+use Rattle.json_profile.specs.PoolForm.{resource_has_names, resource_has_texts, link_has_names, audit_has_names, audit_has_texts, shows_nothing}
+use Rattle.json_profile.specs.declared.audit_draft.AuditDraft.{AuditDraft}
+use Rattle.json_profile.specs.declared.link_draft.LinkDraft.{LinkDraft}
 use Rattle.json_profile.specs.declared.node_draft.NodeDraft.{NodeDraft}
-use Rattle.json_profile.specs.Form.{row_has_names}
+use Rattle.json_profile.specs.declared.resource_draft.ResourceDraft.{ResourceDraft}
 
--- the id and the names of a row
+-- the ids and the names of a row
 pub record NamesOfRow (r : NodeRow) : Type 0 where
   pub id : is_name r.id ≡ true
   pub kind : is_name r.kind ≡ true
   pub job_part : is_name r.job_part ≡ true
   pub status : is_name r.status ≡ true
   pub attrs : list_all (λ p. is_name p.0) r.attrs ≡ true
+  pub resources : list_all resource_has_names r.resources ≡ true
+  pub links : list_all link_has_names r.links ≡ true
+  pub audits : list_all audit_has_names r.audits ≡ true
 
 pub names_of_row : (r : NodeRow) → row_has_names r ≡ true → NamesOfRow r
-unfolding row_has_names
+unfolding node_has_names pools_have_names
 names_of_row r h =
+    let both = and_parts _ _ h in
+    let first = and_parts _ _ both.0 in
+    let second = and_parts _ _ first.0 in
+    let third = and_parts _ _ second.0 in
+    let fourth = and_parts _ _ third.0 in
+    let pools = and_parts _ _ both.1 in
+    let two = and_parts _ _ pools.0 in
+    record { id = fourth.0; kind = fourth.1; job_part = third.1; status = second.1; attrs = first.1; resources = two.0; links = two.1; audits = pools.1 }
+
+-- the texts of a row
+pub record TextsOfRow (r : NodeRow) : Type 0 where
+  pub attrs : list_all (λ p. is_text p.1) r.attrs ≡ true
+  pub resources : list_all resource_has_texts r.resources ≡ true
+  pub audits : list_all audit_has_texts r.audits ≡ true
+
+pub texts_of_row : (r : NodeRow) → row_has_texts r ≡ true → TextsOfRow r
+unfolding row_has_texts
+texts_of_row r h =
+    let both = and_parts _ _ h in
+    let two = and_parts _ _ both.0 in
+    record { attrs = two.0; resources = two.1; audits = both.1 }
+
+-- a test of drafts is one of the rows that they are
+pub list_all-drafted : (p : NodeRow → Bool) (drafts : List NodeDraft) → list_all (λ d. p (drafted_row d)) drafts ≡ list_all p (map (λ r. r.row) (drafted_rows drafts))
+list_all-drafted p [] = refl
+list_all-drafted p (d ∷ drafts) = ap (λ b. p (drafted_row d) && b) (list_all-drafted p drafts)
+
+pub bare-drafted : (drafts : List NodeDraft) → list_all (λ d. (drafted_raw d).bare) drafts ≡ list_all (λ r. r.bare) (drafted_rows drafts)
+bare-drafted [] = refl
+bare-drafted (d ∷ drafts) = ap (λ b. (drafted_raw d).bare && b) (bare-drafted drafts)
+
+-- ---- tests of the drafts in a pool are tests of what they are
+
+tested_resources : (p : Resource → Bool) (drafts : List ResourceDraft) → list_all (λ d. p (own_resource d)) drafts ≡ list_all p (resources_of (drafted_resources drafts))
+tested_resources p [] = refl
+tested_resources p (d ∷ drafts) = ap (λ b. p (own_resource d) && b) (tested_resources p drafts)
+
+pub names_in_resources : (drafts : List ResourceDraft) → list_all (λ d. resource_has_names (own_resource d)) drafts ≡ list_all resource_has_names (resources_of (drafted_resources drafts))
+names_in_resources drafts = tested_resources resource_has_names drafts
+
+pub texts_in_resources : (drafts : List ResourceDraft) → list_all (λ d. resource_has_texts (own_resource d)) drafts ≡ list_all resource_has_texts (resources_of (drafted_resources drafts))
+texts_in_resources drafts = tested_resources resource_has_texts drafts
+
+pub names_in_links : (drafts : List LinkDraft) → list_all (λ d. link_has_names (drafted_link d)) drafts ≡ list_all link_has_names (map drafted_link drafts)
+names_in_links drafts = sym (list_all-map link_has_names drafted_link drafts)
+
+pub names_in_audits : (drafts : List AuditDraft) → list_all (λ d. audit_has_names (drafted_audit d)) drafts ≡ list_all audit_has_names (map drafted_audit drafts)
+names_in_audits drafts = sym (list_all-map audit_has_names drafted_audit drafts)
+
+pub texts_in_audits : (drafts : List AuditDraft) → list_all (λ d. audit_has_texts (drafted_audit d)) drafts ≡ list_all audit_has_texts (map drafted_audit drafts)
+texts_in_audits drafts = sym (list_all-map audit_has_texts drafted_audit drafts)
+
+pub bare_drafts : (drafts : List ResourceDraft) → list_all (λ d. shows_nothing d.shown) drafts ≡ are_bare (drafted_resources drafts)
+bare_drafts [] = refl
+bare_drafts (d ∷ drafts) = ap (λ b. shows_nothing d.shown && b) (bare_drafts drafts)
+
+-- the ids and the names of a new node
+pub record NamesOfNode (node id kind job_part status : List ℕ) : Type 0 where
+  pub node_named : is_name node ≡ true
+  pub id_named : is_name id ≡ true
+  pub kind_named : is_name kind ≡ true
+  pub job_part_named : is_name job_part ≡ true
+  pub status_named : is_name status ≡ true
+
+pub names_of_node : (node id kind job_part status : List ℕ) → (is_name node && is_name id && is_name kind && is_name job_part && is_name status) ≡ true → NamesOfNode node id kind job_part status
+names_of_node node id kind job_part status h =
     let first = and_parts _ _ h in
     let second = and_parts _ _ first.0 in
     let third = and_parts _ _ second.0 in
     let fourth = and_parts _ _ third.0 in
-    record { id = fourth.0; kind = fourth.1; job_part = third.1; status = second.1; attrs = first.1 }
+    record { node_named = fourth.0; id_named = fourth.1; kind_named = third.1; job_part_named = second.1; status_named = first.1 }
 
--- a test of drafts is one of the rows that they are
-pub list_all-drafted : (p : NodeRow → Bool) (drafts : List NodeDraft) → list_all (λ d. p (drafted_row d)) drafts ≡ list_all p (drafted_rows drafts)
-list_all-drafted p [] = refl
-list_all-drafted p (d ∷ drafts) = ap (λ b. p (drafted_row d) && b) (list_all-drafted p drafts)
+-- ---- what is wrong with the draft of a ticket
+
+marked_at : (bare : Bool) (o : Option Refusal) → bare ≡ false → first_of (unless bare ReservedStatus ∷ o ∷ []) ≡ Some ReservedStatus
+marked_at false o h = refl
+marked_at true o h = cc
+
+pub fault_of_marks : (t : RawTicket) → t.bare ≡ false → built_fault t ≡ Some ReservedStatus
+fault_of_marks t h = marked_at t.bare (fault_of t.job.rows) h

@@ -1,16 +1,11 @@
--- Members, items and their names.
-use Rattle.std.proofs.Common.{◌≡◌, ℕ, Bool, List, [], ◌∷◌, length, map, refl, ap, ◌||◌, ◌&&◌, ◌∙◌, sym, nat_eq, arith, Bor, String, Global, string_bytes}
-use Rattle.std.proofs.lemmas.Bool.{ne_eqb}
+-- Members and their names.
+use Rattle.std.proofs.Common.{◌≡◌, ℕ, Bool, List, [], ◌∷◌, map, refl, ap, ◌||◌, ◌&&◌, ◌∙◌, sym, Bor, String, Global, string_bytes}
 use Rattle.std.specs.List.{list_any}
 use Rattle.std.specs.Str.{bytes_eq}
-use Rattle.serde_json.specs.View.{items_view, members_view}
+use Rattle.serde_json.specs.View.{members_view}
 use Rattle.serde_json.specs.declared.value.Value.{Value}
 use Rattle.ticket_tree.specs.Ids.{mem}
-use Rattle.json_profile.specs.Read.{no_item, are_among}
-
-pub no_item_from_length : (vs : List Value) → nat_eq (length vs) 0 ≡ no_item (items_view vs)
-no_item_from_length [] = refl
-no_item_from_length (v ∷ vs) = ne_eqb (length (v ∷ vs)) 0 (λ e. omega (arith, e))
+use Rattle.json_profile.specs.Read.{are_among}
 
 -- a name among names that are lent
 pub mem-lent : (x : List ℕ) (names : List (Bor (List ℕ))) → mem x (map (λ n. n.now) names) ≡ list_any (λ n. bytes_eq n.now x) names

@@ -12,20 +12,19 @@ use Rattle.serde_json.specs.Find.{get_member}
 use Rattle.serde_json.specs.View.{items_view, members_view, view}
 use Rattle.serde_json.proofs.Views.{view-Array, view-Object, view-lookup, view_of_ref}
 use Rattle.serde_json.specs.declared.value.Value.{Value, Array, Object}
-use Rattle.ticket_tree.specs.declared.node_row.NodeRow.{NodeRow}
-use Rattle.json_profile.specs.Draft.{own_row, node_rows, child_rows, list_rows, item_rows, next_depth, node_members}
-use Rattle.json_profile.specs.Drafted.{drafted_row, drafted_rows}
+use Rattle.json_profile.specs.Draft.{RawRow, own_row, node_rows, child_rows, list_rows, item_rows, next_depth, node_members}
+use Rattle.json_profile.specs.Drafted.{drafted_raw, drafted_rows}
 use Rattle.json_profile.specs.Read.{◌>>=◌, Fails}
 use Rattle.ticket_tree.specs.declared.refusal.Refusal.{Refusal}
 use Rattle.ticket_tree.specs.declared.refusal.Refusal.TheVariants.{Memory, NotProfile}
 use Rattle.json_profile.specs.declared.node_draft.NodeDraft.{NodeDraft}
 
 -- the children, by what stands under `JDF`
-abbrev pub rows_under : ℕ → Option Data → Option (List NodeRow)
+abbrev pub rows_under : ℕ → Option Data → Option (List RawRow)
 rows_under depth None = Some []
 rows_under depth (Some d) = list_rows depth d
 
-under_at : (o : Ordering) (depth : ℕ) (d : Data) (rest : Option Data) (rows : Option (List NodeRow)) → rows ≡ rows_under depth rest → match_ordering o rows (list_rows depth d) rows ≡ rows_under depth (match_ordering o rest (Some d) rest)
+under_at : (o : Ordering) (depth : ℕ) (d : Data) (rest : Option Data) (rows : Option (List RawRow)) → rows ≡ rows_under depth rest → match_ordering o rows (list_rows depth d) rows ≡ rows_under depth (match_ordering o rest (Some d) rest)
 under_at Less depth d rest rows e = e
 under_at Equal depth d rest rows e = refl
 under_at Greater depth d rest rows e = e
@@ -40,7 +39,7 @@ pub found_children : (ms : BTreeMap (String Global) Value) (found : Option (Bor 
 found_children ms found e = sym (view_of_ref found ∙ ap (option_map view) e ∙ view-lookup (codes "JDF") ms.entries)
 
 -- a node's rows: its own, and its children's
-pub node_rows-object : (names : List (List ℕ)) (depth : ℕ) (value : Value) (ms : BTreeMap (String Global) Value) (row : NodeRow) (found : Option Data) → value ≡ Object ms
+pub node_rows-object : (names : List (List ℕ)) (depth : ℕ) (value : Value) (ms : BTreeMap (String Global) Value) (row : RawRow) (found : Option Data) → value ≡ Object ms
     → own_row names depth (view value) ≡ Some row → get_member (codes "JDF") (members_view ms.entries) ≡ found
     → node_rows names depth (view value) ≡ option_map (λ rows. row ∷ rows) (rows_under (next_depth depth) found)
 node_rows-object names depth value ms row found is own under =
@@ -51,28 +50,28 @@ node_rows-object names depth value ms row found is own under =
     ∙ ap (option_map (λ rows. row ∷ rows)) (child_rows-get_member (next_depth depth) (members_view ms.entries) ∙ ap (rows_under (next_depth depth)) under)
 
 -- one draft more
-pub drafted_rows-push : (old new : List NodeDraft) (d : NodeDraft) → new ≡ old ++ d ∷ [] → drafted_rows new ≡ drafted_rows old ++ drafted_row d ∷ []
-drafted_rows-push old new d e = ap drafted_rows e ∙ map_push drafted_row old d
+pub drafted_rows-push : (old new : List NodeDraft) (d : NodeDraft) → new ≡ old ++ d ∷ [] → drafted_rows new ≡ drafted_rows old ++ drafted_raw d ∷ []
+drafted_rows-push old new d e = ap drafted_rows e ∙ map_push drafted_raw old d
 
 -- ---- a list of nodes
 
 -- the rows of a list: those of its first node, and the others
-pub item_rows-more : (depth : ℕ) (vs : List Value) (i : ℕ) (v : Value) (first : Option (List NodeRow)) → i < length vs → v ≡ get_or vs i v → node_rows node_members depth (view v) ≡ first
+pub item_rows-more : (depth : ℕ) (vs : List Value) (i : ℕ) (v : Value) (first : Option (List RawRow)) → i < length vs → v ≡ get_or vs i v → node_rows node_members depth (view v) ≡ first
     → item_rows depth (items_view (drop i vs)) ≡ (first >>= λ rows. option_map (λ rest. rows ++ rest) (item_rows depth (items_view (drop (i + 1) vs))))
 item_rows-more depth vs i v first within is read =
     ap (λ xs. item_rows depth (items_view xs)) (drop_more vs i v within)
     ∙ ap (λ o. o >>= λ rows. option_map (λ rest. rows ++ rest) (item_rows depth (items_view (drop (i + 1) vs)))) (ap (λ x. node_rows node_members depth (view x)) (sym is) ∙ read)
 
-regrouped : (done first : List NodeRow) (rest : Option (List NodeRow)) → option_map (λ more. (done ++ first) ++ more) rest ≡ option_map (λ more. done ++ more) (option_map (λ more. first ++ more) rest)
+regrouped : (done first : List RawRow) (rest : Option (List RawRow)) → option_map (λ more. (done ++ first) ++ more) rest ≡ option_map (λ more. done ++ more) (option_map (λ more. first ++ more) rest)
 regrouped done first None = refl
 regrouped done first (Some more) = ap Some (append_assoc done first more)
 
 -- what was appended so far, and the rows of the values from i on, are those of all values
 abbrev pub IsSoFar : ℕ → List Value → ℕ → List NodeDraft → List NodeDraft → Type 0
-IsSoFar depth vs i old new = (so_far : List NodeRow) × (drafted_rows new ≡ drafted_rows old ++ so_far) × (option_map (λ more. so_far ++ more) (item_rows depth (items_view (drop i vs))) ≡ item_rows depth (items_view vs))
+IsSoFar depth vs i old new = (so_far : List RawRow) × (drafted_rows new ≡ drafted_rows old ++ so_far) × (option_map (λ more. so_far ++ more) (item_rows depth (items_view (drop i vs))) ≡ item_rows depth (items_view vs))
 
 pub so_far_more : (depth : ℕ) (vs : List Value) (i : ℕ) (v : Value) (start old new : List NodeDraft) → i < length vs → v ≡ get_or vs i v → IsSoFar depth vs i start old
-    → ((added : List NodeRow) × (node_rows node_members depth (view v) ≡ Some added) × (drafted_rows new ≡ drafted_rows old ++ added)) → IsSoFar depth vs (i + 1) start new
+    → ((added : List RawRow) × (node_rows node_members depth (view v) ≡ Some added) × (drafted_rows new ≡ drafted_rows old ++ added)) → IsSoFar depth vs (i + 1) start new
 so_far_more depth vs i v start old new within is before step = (
   before.0 ++ step.0,
   step.2 ∙ ap (λ rows. rows ++ step.0) before.1 ∙ append_assoc (drafted_rows start) before.0 step.0,
@@ -83,7 +82,7 @@ pub so_far_none : (depth : ℕ) (vs : List Value) (i : ℕ) (v : Value) (start o
 so_far_none depth vs i v start old within is before read =
     sym before.2 ∙ ap (option_map (λ more. before.0 ++ more)) (item_rows-more depth vs i v None within is read)
 
-pub so_far_all : (depth : ℕ) (vs : List Value) (i : ℕ) (start new : List NodeDraft) → length vs ≤ i → IsSoFar depth vs i start new → (added : List NodeRow) × (item_rows depth (items_view vs) ≡ Some added) × (drafted_rows new ≡ drafted_rows start ++ added)
+pub so_far_all : (depth : ℕ) (vs : List Value) (i : ℕ) (start new : List NodeDraft) → length vs ≤ i → IsSoFar depth vs i start new → (added : List RawRow) × (item_rows depth (items_view vs) ≡ Some added) × (drafted_rows new ≡ drafted_rows start ++ added)
 so_far_all depth vs i start new past before =
     (before.0, sym before.2 ∙ ap (λ xs. option_map (λ more. before.0 ++ more) (item_rows depth (items_view xs))) (drop_all i vs past) ∙ ap Some (append-nil before.0), before.1)
 
@@ -98,5 +97,5 @@ Fails-weaker NotProfile o p f h = f h
 Fails-weaker e o p f h = absurd h
 
 -- a draft, and then those of its children
-pub pushed_children : (old pushed new : List NodeDraft) (d : NodeDraft) (rows : List NodeRow) → pushed ≡ old ++ d ∷ [] → drafted_rows new ≡ drafted_rows pushed ++ rows → drafted_rows new ≡ drafted_rows old ++ drafted_row d ∷ rows
-pushed_children old pushed new d rows e h = h ∙ ap (λ xs. xs ++ rows) (drafted_rows-push old pushed d e) ∙ append_assoc (drafted_rows old) (drafted_row d ∷ []) rows
+pub pushed_children : (old pushed new : List NodeDraft) (d : NodeDraft) (rows : List RawRow) → pushed ≡ old ++ d ∷ [] → drafted_rows new ≡ drafted_rows pushed ++ rows → drafted_rows new ≡ drafted_rows old ++ drafted_raw d ∷ rows
+pushed_children old pushed new d rows e h = h ∙ ap (λ xs. xs ++ rows) (drafted_rows-push old pushed d e) ∙ append_assoc (drafted_rows old) (drafted_raw d ∷ []) rows

@@ -1,48 +1,69 @@
 -- The rows of a draft are an outline: each child stands one deeper than its parent, as far as depths are counted.
-use Rattle.std.proofs.Common.{◌≡◌, ℕ, suc, ◌≤◌, true, List, [], ◌∷◌, ◌++◌, Option, Some, None, refl, sym, ap, ◌∙◌, subst, arith, append_assoc, append-nil}
+use Rattle.std.proofs.Common.{◌≡◌, ℕ, suc, ◌≤◌, true, List, [], ◌∷◌, ◌++◌, map, Option, Some, None, refl, sym, ap, ◌∙◌, subst, arith, append_assoc, append-nil}
 use Rattle.std.proofs.lemmas.Bool.{and_from, le-leb}
 use Rattle.std.proofs.lemmas.List.{map-append}
 use Rattle.std.specs.Bool.{⊤}
 use Rattle.std.specs.Option.{IfSome, option_map}
 use Rattle.std.specs.Cmp.Lexicographic.{slice_cmp}
 use Rattle.std.specs.Ordering.{nat_cmp, match_ordering}
-use Rattle.std.proofs.Common.{◌==◌, ◌&&◌, ◌⊎◌, inl, inr, Bool, false, Ordering, Less, Equal, Greater, codes, Result, Ok, Err, IfErr}
+use Rattle.std.proofs.Common.{◌==◌, ◌⊎◌, inl, inr, Bool, false, Ordering, Less, Equal, Greater, codes, Result, Ok, Err, IfErr}
 use Rattle.serde_json.specs.Data.{Data, null, boolean, number, string, array, object, Items, no_items, item, Members, no_members, member}
 use Rattle.serde_json.specs.Find.{get}
 use Rattle.ticket_tree.specs.Attrs.{Pairs}
 use Rattle.ticket_tree.specs.Outline.{goes_on, is_outline}
 use Rattle.ticket_tree.specs.Ticket.{Job, depths}
+use Rattle.ticket_tree.specs.declared.audit.Audit.{Audit}
+use Rattle.ticket_tree.specs.declared.link.Link.{Link}
 use Rattle.ticket_tree.specs.declared.node_row.NodeRow.{NodeRow}
-use Rattle.json_profile.specs.Draft.{own_row, node_rows, child_rows, list_rows, item_rows, next_depth, has_empty_pools, node_members, root_members, ticket_draft}
+use Rattle.json_profile.specs.AuditDraft.{audit_draft}
+use Rattle.json_profile.specs.Listed.{pool_draft}
+use Rattle.json_profile.specs.PoolDraft.{RawResource, resource_draft, link_draft}
+use Rattle.json_profile.specs.Draft.{RawRow, RawTicket, resources_of, are_bare, raw_ticket, own_row, node_rows, child_rows, list_rows, item_rows, next_depth, node_members, root_members, ticket_draft}
 use Rattle.ticket_tree.specs.Ids.{are_distinct}
-use Rattle.ticket_tree.specs.Ticket.{ids, are_unreserved, are_shallow, unless, first_of, fault_of}
+use Rattle.ticket_tree.specs.Ticket.{ids, are_unreserved, are_shallow, are_resolved, unless, first_of, fault_of}
 use Rattle.ticket_tree.specs.declared.refusal.Refusal.{Refusal}
-use Rattle.ticket_tree.specs.declared.refusal.Refusal.TheVariants.{BadId, DuplicateId, TooDeep, ReservedStatus, BadText, NotATree, Memory}
-use Rattle.json_profile.specs.Form.{Answers, has_names, has_texts, judged, sound, ticket_fault}
+use Rattle.ticket_tree.specs.declared.refusal.Refusal.TheVariants.{BadId, DuplicateId, TooDeep, ReservedStatus, BadText, NotATree, UnresolvedLink, Memory}
+use Rattle.json_profile.specs.Form.{Answers, has_names, has_texts, built_fault, sound, ticket_fault}
 use Rattle.json_profile.specs.Read.{◌>>=◌, provided, has_only, text_under, attrs_of}
 
--- a node's own row stands at its depth
-own_made : (depth : ℕ) (fits : Option ⊤) (id job_part kind status : Option (List ℕ)) (attrs : Option Pairs)
-    → IfSome {T = NodeRow} (fits >>= λ _. id >>= λ i. job_part >>= λ j. kind >>= λ k. status >>= λ s. attrs >>= λ a. Some (record { id = i; depth = depth; kind = k; job_part = j; status = s; attrs = a })) (λ r. r.depth ≡ depth)
-own_made depth None id job_part kind status attrs = tt
-own_made depth (Some u) None job_part kind status attrs = tt
-own_made depth (Some u) (Some i) None kind status attrs = tt
-own_made depth (Some u) (Some i) (Some j) None status attrs = tt
-own_made depth (Some u) (Some i) (Some j) (Some k) None attrs = tt
-own_made depth (Some u) (Some i) (Some j) (Some k) (Some s) None = tt
-own_made depth (Some u) (Some i) (Some j) (Some k) (Some s) (Some a) = refl
+-- ---- a node's own row
 
-own_depth : (names : List (List ℕ)) (depth : ℕ) (d : Data) → IfSome (own_row names depth d) (λ r. r.depth ≡ depth)
+-- stands at its depth
+abbrev StandsAt : ℕ → RawRow → Type 0
+StandsAt depth r = r.row.depth ≡ depth
+
+pools_made : (depth : ℕ) (i j k s : List ℕ) (a : Pairs) (resources : Option (List RawResource)) (links : Option (List Link)) (audits : Option (List Audit))
+    → IfSome {T = RawRow} (resources >>= λ xs. links >>= λ ls. audits >>= λ us. Some (record { row = record { id = i; depth = depth; kind = k; job_part = j; status = s; attrs = a; resources = resources_of xs; links = ls; audits = us }; bare = are_bare xs })) (StandsAt depth)
+pools_made depth i j k s a None links audits = tt
+pools_made depth i j k s a (Some xs) None audits = tt
+pools_made depth i j k s a (Some xs) (Some ls) None = tt
+pools_made depth i j k s a (Some xs) (Some ls) (Some us) = refl
+
+own_made : (depth : ℕ) (fits : Option ⊤) (id job_part kind status : Option (List ℕ)) (attrs : Option Pairs) (resources : Option (List RawResource)) (links : Option (List Link)) (audits : Option (List Audit))
+    → IfSome {T = RawRow} (fits >>= λ _. id >>= λ i. job_part >>= λ j. kind >>= λ k. status >>= λ s. attrs >>= λ a. resources >>= λ xs. links >>= λ ls. audits >>= λ us.
+    Some (record { row = record { id = i; depth = depth; kind = k; job_part = j; status = s; attrs = a; resources = resources_of xs; links = ls; audits = us }; bare = are_bare xs })) (StandsAt depth)
+own_made depth None id job_part kind status attrs resources links audits = tt
+own_made depth (Some u) None job_part kind status attrs resources links audits = tt
+own_made depth (Some u) (Some i) None kind status attrs resources links audits = tt
+own_made depth (Some u) (Some i) (Some j) None status attrs resources links audits = tt
+own_made depth (Some u) (Some i) (Some j) (Some k) None attrs resources links audits = tt
+own_made depth (Some u) (Some i) (Some j) (Some k) (Some s) None resources links audits = tt
+own_made depth (Some u) (Some i) (Some j) (Some k) (Some s) (Some a) resources links audits = pools_made depth i j k s a resources links audits
+
+own_depth : (names : List (List ℕ)) (depth : ℕ) (d : Data) → IfSome (own_row names depth d) (StandsAt depth)
 unfolding own_row
 own_depth names depth d =
-    own_made depth (provided (has_only names d && has_empty_pools d)) (text_under (codes "ID") d) (text_under (codes "JobPartID") d) (text_under (codes "Type") d) (text_under (codes "Status") d)
-    (attrs_of (get (codes "Attr") d))
+    own_made depth (provided (has_only names d)) (text_under (codes "ID") d) (text_under (codes "JobPartID") d) (text_under (codes "Type") d) (text_under (codes "Status") d) (attrs_of (get (codes "Attr") d))
+    (pool_draft resource_draft (get (codes "ResourcePool") d)) (pool_draft link_draft (get (codes "ResourceLinkPool") d)) (pool_draft audit_draft (get (codes "AuditPool") d))
 
 -- ---- nodes below the root
 
+abbrev raw_depths : List RawRow → List ℕ
+raw_depths raws = map (λ r. r.row.depth) raws
+
 -- rows of nodes at this depth may follow any row that may have such a child, if what comes behind them may
-abbrev Continues : ℕ → List NodeRow → Type 0
-Continues depth rows = (above : ℕ) (behind : List ℕ) → depth ≤ suc above → ((b : ℕ) → depth ≤ suc b → goes_on b behind ≡ true) → goes_on above (depths rows ++ behind) ≡ true
+abbrev Continues : ℕ → List RawRow → Type 0
+Continues depth rows = (above : ℕ) (behind : List ℕ) → depth ≤ suc above → ((b : ℕ) → depth ≤ suc b → goes_on b behind ≡ true) → goes_on above (raw_depths rows ++ behind) ≡ true
 
 next_near : (r depth : ℕ) → r ≡ depth → next_depth depth ≤ suc r
 next_near r depth e = omega (arith, e)
@@ -51,33 +72,33 @@ next_far : (depth b : ℕ) → depth ≤ 33 → next_depth depth ≤ suc b → d
 next_far depth b high later = omega (arith, high, later)
 
 -- a row in front of its children
-with_kids : (depth : ℕ) (row : NodeRow) (kids : List NodeRow) → 2 ≤ depth → depth ≤ 33 → row.depth ≡ depth → Continues (next_depth depth) kids → Continues depth (row ∷ kids)
+with_kids : (depth : ℕ) (row : RawRow) (kids : List RawRow) → 2 ≤ depth → depth ≤ 33 → row.row.depth ≡ depth → Continues (next_depth depth) kids → Continues depth (row ∷ kids)
 with_kids depth row kids low high at below = λ above behind near go.
     and_from _ _
-    (and_from _ _ (le-leb 2 row.depth (subst (λ n. 2 ≤ n) (sym at) low)) (le-leb row.depth (suc above) (subst (λ n. n ≤ suc above) (sym at) near)))
-    (below row.depth behind (next_near row.depth depth at) (λ b later. go b (next_far depth b high later)))
+    (and_from _ _ (le-leb 2 row.row.depth (subst (λ n. 2 ≤ n) (sym at) low)) (le-leb row.row.depth (suc above) (subst (λ n. n ≤ suc above) (sym at) near)))
+    (below row.row.depth behind (next_near row.row.depth depth at) (λ b later. go b (next_far depth b high later)))
 
 -- the rows of a node in front of those of the nodes behind it
-in_front : (depth : ℕ) (first rest : List NodeRow) → Continues depth first → Continues depth rest → Continues depth (first ++ rest)
+in_front : (depth : ℕ) (first rest : List RawRow) → Continues depth first → Continues depth rest → Continues depth (first ++ rest)
 in_front depth first rest f r = λ above behind near go.
-    ap (λ ds. goes_on above (ds ++ behind)) (map-append (λ r. r.depth) first rest) ∙ ap (goes_on above) (append_assoc (depths first) (depths rest) behind)
-    ∙ f above (depths rest ++ behind) near (λ b later. r b behind later go)
+    ap (λ ds. goes_on above (ds ++ behind)) (map-append (λ r. r.row.depth) first rest) ∙ ap (goes_on above) (append_assoc (raw_depths first) (raw_depths rest) behind)
+    ∙ f above (raw_depths rest ++ behind) near (λ b later. r b behind later go)
 
 none_continues : (depth : ℕ) → Continues depth []
 none_continues depth = λ above behind near go. go above near
 
-headed : (depth : ℕ) (own : Option NodeRow) (kids : Option (List NodeRow)) → 2 ≤ depth → depth ≤ 33 → IfSome own (λ r. r.depth ≡ depth) → IfSome kids (Continues (next_depth depth))
+headed : (depth : ℕ) (own : Option RawRow) (kids : Option (List RawRow)) → 2 ≤ depth → depth ≤ 33 → IfSome own (StandsAt depth) → IfSome kids (Continues (next_depth depth))
     → IfSome (own >>= λ row. option_map (λ rows. row ∷ rows) kids) (Continues depth)
 headed depth None kids low high at below = tt
 headed depth (Some row) None low high at below = tt
 headed depth (Some row) (Some kids) low high at below = with_kids depth row kids low high at below
 
-followed : (depth : ℕ) (first rest : Option (List NodeRow)) → IfSome first (Continues depth) → IfSome rest (Continues depth) → IfSome (first >>= λ f. option_map (λ r. f ++ r) rest) (Continues depth)
+followed : (depth : ℕ) (first rest : Option (List RawRow)) → IfSome first (Continues depth) → IfSome rest (Continues depth) → IfSome (first >>= λ f. option_map (λ r. f ++ r) rest) (Continues depth)
 followed depth None rest f r = tt
 followed depth (Some x) None f r = tt
 followed depth (Some x) (Some y) f r = in_front depth x y f r
 
-chosen : (o : Ordering) (P : List NodeRow → Type 0) (here others : Option (List NodeRow)) → IfSome here P → IfSome others P → IfSome (match_ordering o others here others) P
+chosen : (o : Ordering) (P : List RawRow → Type 0) (here others : Option (List RawRow)) → IfSome here P → IfSome others P → IfSome (match_ordering o others here others) P
 chosen Less P here others h r = r
 chosen Equal P here others h r = h
 chosen Greater P here others h r = r
@@ -121,12 +142,12 @@ mutual
 
 -- ---- the root
 
-root_outline : (own : Option NodeRow) (kids : Option (List NodeRow)) → IfSome own (λ r. r.depth ≡ 1) → IfSome kids (Continues 2) → IfSome (own >>= λ row. option_map (λ rows. row ∷ rows) kids) (λ rows. is_outline (depths rows) ≡ true)
+root_outline : (own : Option RawRow) (kids : Option (List RawRow)) → IfSome own (StandsAt 1) → IfSome kids (Continues 2) → IfSome (own >>= λ row. option_map (λ rows. row ∷ rows) kids) (λ rows. is_outline (raw_depths rows) ≡ true)
 root_outline None kids at below = tt
 root_outline (Some row) None at below = tt
-root_outline (Some row) (Some kids) at below = and_from _ _ (ap (λ n. n == 1) at) (ap (goes_on 1) (sym (append-nil (depths kids))) ∙ below 1 [] (next_low 1 (omega arith)) (λ b later. refl))
+root_outline (Some row) (Some kids) at below = and_from _ _ (ap (λ n. n == 1) at) (ap (goes_on 1) (sym (append-nil (raw_depths kids))) ∙ below 1 [] (next_low 1 (omega arith)) (λ b later. refl))
 
-root_is_tree : (d : Data) → IfSome (node_rows root_members 1 d) (λ rows. is_outline (depths rows) ≡ true)
+root_is_tree : (d : Data) → IfSome (node_rows root_members 1 d) (λ rows. is_outline (raw_depths rows) ≡ true)
 root_is_tree null = tt
 root_is_tree (boolean b) = tt
 root_is_tree (number n) = tt
@@ -134,14 +155,18 @@ root_is_tree (string s) = tt
 root_is_tree (array ds) = tt
 root_is_tree (object ms) = root_outline (own_row root_members 1 (object ms)) (child_rows 2 ms) (own_depth root_members 1 (object ms)) (children_continue 2 ms (omega arith) (omega arith))
 
-job_made : (job : Option (List ℕ)) (rows : Option (List NodeRow)) → IfSome rows (λ rows. is_outline (depths rows) ≡ true)
-    → IfSome {T = Job} (job >>= λ j. rows >>= λ rs. Some (record { job_id = j; rows = rs })) (λ t. is_outline (depths t.rows) ≡ true)
+depths-raw : (raws : List RawRow) → depths (map (λ r. r.row) raws) ≡ raw_depths raws
+depths-raw [] = refl
+depths-raw (r ∷ raws) = ap (λ ds. r.row.depth ∷ ds) (depths-raw raws)
+
+job_made : (job : Option (List ℕ)) (rows : Option (List RawRow)) → IfSome rows (λ rows. is_outline (raw_depths rows) ≡ true)
+    → IfSome {T = RawTicket} (job >>= λ j. rows >>= λ rs. Some (raw_ticket j rs)) (λ t. is_outline (depths t.job.rows) ≡ true)
 job_made None rows h = tt
 job_made (Some j) None h = tt
-job_made (Some j) (Some rs) h = h
+job_made (Some j) (Some rs) h = ap is_outline (depths-raw rs) ∙ h
 
 -- the rows of a ticket's draft are an outline
-pub draft_is_outline : (d : Data) → IfSome (ticket_draft d) (λ t. is_outline (depths t.rows) ≡ true)
+pub draft_is_outline : (d : Data) → IfSome (ticket_draft d) (λ t. is_outline (depths t.job.rows) ≡ true)
 unfolding ticket_draft
 draft_is_outline d = job_made (text_under (codes "JobID") d) (node_rows root_members 1 d) (root_is_tree d)
 
@@ -152,16 +177,23 @@ abbrev IsOther : Refusal → Type 0
 IsOther NotATree = ⊥
 IsOther e = Unit {0}
 
-rows_fault : (unreserved distinct shallow : Bool) → IfSome (first_of (unless unreserved ReservedStatus ∷ unless distinct DuplicateId ∷ unless shallow TooDeep ∷ [])) IsOther
-rows_fault false distinct shallow = tt
-rows_fault true false shallow = tt
-rows_fault true true false = tt
-rows_fault true true true = tt
+rows_fault : (unreserved distinct shallow resolved : Bool)
+    → IfSome (first_of (unless unreserved ReservedStatus ∷ unless distinct DuplicateId ∷ unless shallow TooDeep ∷ unless resolved UnresolvedLink ∷ [])) IsOther
+rows_fault false distinct shallow resolved = tt
+rows_fault true false shallow resolved = tt
+rows_fault true true false resolved = tt
+rows_fault true true true false = tt
+rows_fault true true true true = tt
 
 fault_of-outline : (rows : List NodeRow) → is_outline (depths rows) ≡ true → IfSome (fault_of rows) IsOther
 fault_of-outline rows h =
-    subst (λ b. IfSome (first_of (unless b NotATree ∷ unless (are_unreserved rows) ReservedStatus ∷ unless (are_distinct (ids rows)) DuplicateId ∷ unless (are_shallow rows) TooDeep ∷ [])) IsOther) (sym h)
-    (rows_fault (are_unreserved rows) (are_distinct (ids rows)) (are_shallow rows))
+    subst (λ b. IfSome (first_of (unless b NotATree ∷ unless (are_unreserved rows) ReservedStatus ∷ unless (are_distinct (ids rows)) DuplicateId ∷ unless (are_shallow rows) TooDeep ∷ unless (are_resolved rows) UnresolvedLink ∷ [])) IsOther) (sym h)
+    (rows_fault (are_unreserved rows) (are_distinct (ids rows)) (are_shallow rows) (are_resolved rows))
+
+made_fault : (bare : Bool) (f : Option Refusal) → IfSome f IsOther → IfSome (first_of (unless bare ReservedStatus ∷ f ∷ [])) IsOther
+made_fault false f h = tt
+made_fault true None h = tt
+made_fault true (Some e) h = h
 
 draft_fault : (names texts : Bool) (f : Option Refusal) → IfSome f IsOther → IfSome (first_of (unless names BadId ∷ unless texts BadText ∷ f ∷ [])) IsOther
 draft_fault false texts f h = tt
@@ -173,15 +205,14 @@ judged_other : {X : Type 0} (f : Option Refusal) (x : X) → IfSome f IsOther �
 judged_other None x h = tt
 judged_other (Some e) x h = h
 
-read_other : (o : Option Job) → IfSome o (λ t. is_outline (depths t.rows) ≡ true) → IfErr (judged ticket_fault o) IsOther
-read_other None h = tt
-read_other (Some t) h = judged_other (ticket_fault t) t (draft_fault (has_names t) (has_texts t) (fault_of t.rows) (fault_of-outline t.rows h))
+ticket_other : (t : RawTicket) → is_outline (depths t.job.rows) ≡ true → IfErr (sound (ticket_fault t) t.job) IsOther
+ticket_other t h = judged_other (ticket_fault t) t.job (draft_fault (has_names t) (has_texts t) (built_fault t) (made_fault t.bare (fault_of t.job.rows) (fault_of-outline t.job.rows h)))
 
 memory_or : {X : Type 0} (e : Refusal) (read : Result X Refusal) → IfErr read IsOther → (e ≡ Memory) ⊎ (read ≡ Err e) → IsOther e
 memory_or e read h (inl m) = subst IsOther (sym m) tt
 memory_or e read h (inr r) = subst (λ x. IfErr x IsOther) r h
 
 -- the ticket of a draft is never refused for rows that are no tree
-pub never_no_tree : (d : Data) (t : Job) (result : Result Job Refusal) → ticket_draft d ≡ Some t → Answers result (sound (ticket_fault t) t) → IfErr result (λ e. e ≡ NotATree → ⊥)
+pub never_no_tree : (d : Data) (t : RawTicket) (result : Result Job Refusal) → ticket_draft d ≡ Some t → Answers result (sound (ticket_fault t) t.job) → IfErr result (λ e. e ≡ NotATree → ⊥)
 never_no_tree d t (Ok x) is h = tt
-never_no_tree d t (Err e) is h = λ same. subst IsOther same (memory_or e (sound (ticket_fault t) t) (read_other (Some t) (subst (λ o. IfSome o (λ t. is_outline (depths t.rows) ≡ true)) is (draft_is_outline d))) h)
+never_no_tree d t (Err e) is h = λ same. subst IsOther same (memory_or e (sound (ticket_fault t) t.job) (ticket_other t (subst (λ o. IfSome o (λ t. is_outline (depths t.job.rows) ≡ true)) is (draft_is_outline d))) h)

@@ -1,12 +1,12 @@
 -- The pairs of an object of texts.
-use Rattle.std.proofs.Common.{◌≡◌, ℕ, List, [], ◌∷◌, ◌++◌, ◌+◌, ◌<◌, ◌&&◌, length, get_or, take, drop, map, Greater, Ordering, Option, Some, None, String, Global, string_bytes, string_cmp, Bor, refl, sym, ap, ◌∙◌, append_assoc, subst, Less}
+use Rattle.std.proofs.Common.{◌≡◌, ℕ, List, [], ◌∷◌, ◌++◌, ◌+◌, ◌<◌, ◌&&◌, length, get_or, take, drop, map, Option, Some, None, String, Global, string_bytes, string_cmp, Bor, refl, sym, ap, ◌∙◌, append_assoc, subst, Less}
 use Rattle.std.proofs.lemmas.List.{map_push, map-append, take-append-drop, drop_more, take_more}
-use Rattle.std.specs.Cmp.Lexicographic.{slice_cmp, nat_list_cmp_total}
+use Rattle.std.specs.Cmp.Lexicographic.{slice_cmp}
 use Rattle.std.specs.List.{AllByRecursion, list_all}
 use Rattle.std.specs.List.Sorted.{IsStrictlySortedBy}
 use Rattle.std.specs.Map.{keys_of}
 use Rattle.std.specs.Option.{option_map}
-use Rattle.std.specs.Ordering.{nat_cmp, match_ordering, ordering_reverse}
+use Rattle.std.specs.Ordering.{nat_cmp}
 use Rattle.serde_json.specs.Find.{as_str}
 use Rattle.serde_json.specs.View.{members_view, view}
 use Rattle.serde_json.specs.declared.value.Value.{Value}

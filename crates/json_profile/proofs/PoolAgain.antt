@@ -1,6 +1,8 @@
 -- Resources, links and audits that were written are read again.
 use Rattle.std.proofs.Common.{◌≡◌, ℕ, ◌&&◌, Bool, true, false, not, List, [], ◌∷◌, map, Some, refl, ap, ◌∙◌}
 use Rattle.std.specs.List.{list_all}
+use Rattle.std.specs.Option.{option_map}
+use Rattle.ticket_tree.specs.Attrs.{Pairs}
 use Rattle.serde_json.specs.Data.{string, array}
 use Rattle.serde_json.specs.Find.{as_str}
 use Rattle.ticket_tree.specs.declared.audit.Audit.{Audit}
@@ -11,17 +13,22 @@ use Rattle.ticket_tree.specs.declared.spawn_status.SpawnStatus.{SpawnStatus}
 use Rattle.ticket_tree.specs.declared.spawn_status.SpawnStatus.TheVariants.{NotSpawned, SpawnedRO, SpawnedRW}
 use Rattle.ticket_tree.specs.declared.usage.Usage.{Usage}
 use Rattle.ticket_tree.specs.declared.usage.Usage.TheVariants.{Input, Output}
-use Rattle.json_profile.proofs.Again.{text_pairs-attr_members}
 use Rattle.json_profile.proofs.Lists.{each-again, pool-again, pool-seen}
 use Rattle.json_profile.specs.AuditDraft.{notification_draft, spawned_draft, merged_draft, audit_draft}
 use Rattle.json_profile.specs.DraftedPool.{own_resource, drafted_resource}
 use Rattle.json_profile.specs.Listed.{pool_draft, data_items}
 use Rattle.json_profile.specs.PoolDraft.{RawResource, spawn_status_named, usage_named, shown_draft, resource_draft, link_draft}
 use Rattle.json_profile.specs.PoolForm.{nothing_shown, shows_nothing, is_empty, is_not_spawned}
-use Rattle.json_profile.specs.PoolWritten.{spawn_status_word, usage_word, resource_data, link_data, audit_data}
-use Rattle.json_profile.specs.Read.{◌>>=◌}
+use Rattle.json_profile.specs.PoolWritten.{attr_members, spawn_status_word, usage_word, resource_data, link_data, audit_data}
+use Rattle.json_profile.specs.Read.{◌>>=◌, text_pairs}
 use Rattle.json_profile.specs.declared.resource_draft.ResourceDraft.{ResourceDraft}
 use Rattle.json_profile.specs.declared.shown.Shown.{Shown}
+
+-- ---- attributes
+
+pub text_pairs-attr_members : (pairs : Pairs) → text_pairs (attr_members pairs) ≡ Some pairs
+text_pairs-attr_members [] = refl
+text_pairs-attr_members (p ∷ pairs) = ap (option_map (λ ps. p ∷ ps)) (text_pairs-attr_members pairs)
 
 -- ---- resources
 
@@ -83,7 +90,7 @@ all_show_nothing (r ∷ rs) = all_show_nothing rs
 
 -- ---- links
 
-usage-again : (u : Usage) → usage_named (usage_word u) ≡ Some u
+pub usage-again : (u : Usage) → usage_named (usage_word u) ≡ Some u
 usage-again Input = refl
 usage-again Output = refl
 

@@ -1,18 +1,22 @@
 -- Resources, links and audits that are written have no float, and nest little.
-use Rattle.std.proofs.Common.{◌≡◌, ℕ, ◌≤◌, ◌||◌, false, List, [], ◌∷◌, refl, ap, arith}
+use Rattle.std.proofs.Common.{◌≡◌, ℕ, max, ◌≤◌, ◌||◌, false, List, [], ◌∷◌, refl, ap, arith}
 use Rattle.std.proofs.lemmas.Bool.{or_from}
-use Rattle.serde_json.specs.Data.{Data, string, depth, items_depth}
-use Rattle.serde_json.specs.Written.{has_float, items_have_float}
+use Rattle.serde_json.specs.Data.{Data, string, depth, items_depth, members_depth}
+use Rattle.serde_json.specs.Written.{has_float, items_have_float, members_have_float}
+use Rattle.ticket_tree.specs.Attrs.{Pairs}
 use Rattle.ticket_tree.specs.declared.audit.Audit.{Audit}
 use Rattle.ticket_tree.specs.declared.audit.Audit.TheVariants.{Notification, Spawned, Merged}
 use Rattle.ticket_tree.specs.declared.link.Link.{Link}
 use Rattle.ticket_tree.specs.declared.resource.Resource.{Resource}
-use Rattle.json_profile.proofs.Shape.{attrs_plain, attrs_flat}
 use Rattle.json_profile.specs.Listed.{data_items}
-use Rattle.json_profile.specs.PoolWritten.{resource_data, link_data, audit_data}
+use Rattle.json_profile.specs.PoolWritten.{attr_members, resource_data, link_data, audit_data}
 use Rattle.json_profile.specs.declared.shown.Shown.{Shown}
 
 -- ---- no float
+
+pub attrs_plain : (pairs : Pairs) → members_have_float (attr_members pairs) ≡ false
+attrs_plain [] = refl
+attrs_plain (p ∷ pairs) = attrs_plain pairs
 
 pub items_plain : {X : Type 0} (form : X → Data) → ((x : X) → has_float (form x) ≡ false) → (xs : List X) → items_have_float (data_items form xs) ≡ false
 items_plain form plain [] = refl
@@ -42,6 +46,10 @@ pub audits_plain : (audits : List Audit) → items_have_float (data_items audit_
 audits_plain audits = items_plain audit_data audit_plain audits
 
 -- ---- nesting
+
+pub attrs_flat : (pairs : Pairs) → members_depth (attr_members pairs) ≡ 0
+attrs_flat [] = refl
+attrs_flat (p ∷ pairs) = ap (max 0) (attrs_flat pairs)
 
 pub items_low : {X : Type 0} (form : X → Data) (most : ℕ) → ((x : X) → depth (form x) ≤ most) → (xs : List X) → items_depth (data_items form xs) ≤ most
 items_low form most low [] = omega arith

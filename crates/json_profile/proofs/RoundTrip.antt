@@ -1,28 +1,41 @@
 -- A written ticket and a written edit are read as what they were.
-use Rattle.std.proofs.Common.{◌≡◌, ◌≤◌, Bool, true, false, [], ◌∷◌, Option, Some, None, Ok, refl, ap, ◌∙◌, arith}
+use Rattle.std.proofs.Common.{◌≡◌, ◌≤◌, Bool, true, false, List, [], ◌∷◌, Option, Some, None, Ok, Err, refl, ap, ◌∙◌, arith}
+use Rattle.std.proofs.lemmas.Bool.{or_from}
+use Rattle.std.specs.Option.{option_map_or}
 use Rattle.serde_json.specs.Data.{depth}
 use Rattle.serde_json.specs.Written.{has_float}
 use Rattle.ticket_tree.specs.Ticket.{Job, IsValid, fault_of, unless, first_of}
 use Rattle.ticket_tree.specs.declared.edit.Edit.{Edit}
-use Rattle.ticket_tree.specs.declared.edit.Edit.TheVariants.{SetStatus, SetAttr}
+use Rattle.ticket_tree.specs.declared.edit.Edit.TheVariants.{SetStatus, SetAttr, SetResStatus, SetResAttr, Note, AddNode, AddResource, AddLink}
+use Rattle.ticket_tree.specs.declared.node_row.NodeRow.{NodeRow}
 use Rattle.ticket_tree.specs.declared.refusal.Refusal.{Refusal}
-use Rattle.ticket_tree.specs.declared.refusal.Refusal.TheVariants.{NotATree, ReservedStatus, DuplicateId, TooDeep, BadId, BadText}
-use Rattle.json_profile.specs.Draft.{edit_draft, set_status_draft, set_attr_draft}
-use Rattle.json_profile.specs.Form.{has_names, has_texts, ticket_fault, ticket_read, edit_has_names, edit_has_texts, edit_fault, edit_read, judged, sound}
+use Rattle.ticket_tree.specs.declared.refusal.Refusal.TheVariants.{NotATree, NotProfile, ReservedStatus, DuplicateId, TooDeep, UnresolvedLink, BadId, BadText}
+use Rattle.json_profile.specs.EditDraft.{edit_draft, adding_draft, setting_draft, set_status_draft, set_attr_draft, set_resource_status_draft, set_resource_attr_draft, note_draft, add_node_draft, add_resource_draft, add_link_draft}
+use Rattle.json_profile.specs.Form.{job_has_names, job_has_texts, ticket_fault, ticket_read, edit_has_names, edit_has_texts, edit_fault, edit_read, judged, sound}
 use Rattle.json_profile.specs.Written.{ticket_data, edit_data}
 use Rattle.json_profile.proofs.Again.{ticket_draft-job_data}
+use Rattle.json_profile.proofs.PoolAgain.{text_pairs-attr_members, usage-again}
+use Rattle.json_profile.proofs.PoolShape.{attrs_plain, attrs_flat}
+use Rattle.json_profile.specs.Read.{◌>>=◌}
 
-four : (a b c d : Bool) → a ≡ true → b ≡ true → c ≡ true → d ≡ true → first_of (unless a NotATree ∷ unless b ReservedStatus ∷ unless c DuplicateId ∷ unless d TooDeep ∷ []) ≡ None
-four true true true true p q r s = refl
-four false b c d p q r s = cc
-four true false c d p q r s = cc
-four true true false d p q r s = cc
-four true true true false p q r s = cc
+five : (a b c d e : Bool) → a ≡ true → b ≡ true → c ≡ true → d ≡ true → e ≡ true
+    → first_of (unless a NotATree ∷ unless b ReservedStatus ∷ unless c DuplicateId ∷ unless d TooDeep ∷ unless e UnresolvedLink ∷ []) ≡ None
+five true true true true true p q r s t = refl
+five false b c d e p q r s t = cc
+five true false c d e p q r s t = cc
+five true true false d e p q r s t = cc
+five true true true false e p q r s t = cc
+five true true true true false p q r s t = cc
 
 -- valid rows have no fault
-no_fault : (t : Job) → IsValid t.rows → fault_of t.rows ≡ None
-no_fault t valid =
-    four _ _ _ _ valid.tree valid.unreserved valid.distinct valid.shallow
+pub no_fault : (rows : List NodeRow) → IsValid rows → fault_of rows ≡ None
+no_fault rows valid =
+    five _ _ _ _ _ valid.tree valid.unreserved valid.distinct valid.shallow valid.resolved
+
+no_built_fault : (bare : Bool) (o : Option Refusal) → bare ≡ true → o ≡ None → first_of (unless bare ReservedStatus ∷ o ∷ []) ≡ None
+no_built_fault true None p q = refl
+no_built_fault true (Some e) p q = cc
+no_built_fault false o p q = cc
 
 three : (a b : Bool) (o : Option Refusal) → a ≡ true → b ≡ true → o ≡ None → first_of (unless a BadId ∷ unless b BadText ∷ o ∷ []) ≡ None
 three true true None p q r = refl
@@ -30,9 +43,10 @@ three true true (Some e) p q r = cc
 three false b o p q r = cc
 three true false o p q r = cc
 
-pub ticket_again : (t : Job) → IsValid t.rows → has_names t ≡ true → has_texts t ≡ true → ticket_read (ticket_data t) ≡ Ok t
+pub ticket_again : (t : Job) → IsValid t.rows → job_has_names t ≡ true → job_has_texts t ≡ true → ticket_read (ticket_data t) ≡ Ok t
 ticket_again t valid names texts =
-    ap (judged ticket_fault) (ticket_draft-job_data t.job_id t.rows valid) ∙ ap (λ f. sound f t) (three _ _ _ names texts (no_fault t valid))
+    ap (λ o. option_map_or (λ raw. sound (ticket_fault raw) raw.job) o (Err NotProfile)) (ticket_draft-job_data t.job_id t.rows valid)
+    ∙ ap (λ f. sound f t) (three _ _ _ names texts (no_built_fault true (fault_of t.rows) refl (no_fault t.rows valid)))
 
 two : (a b : Bool) → a ≡ true → b ≡ true → first_of (unless a BadId ∷ unless b BadText ∷ []) ≡ None
 two true true p q = refl
@@ -40,9 +54,15 @@ two false b p q = cc
 two true false p q = cc
 
 edit_draft-edit_data : (e : Edit) → edit_draft (edit_data e) ≡ Some e
-unfolding edit_draft set_status_draft set_attr_draft
+unfolding edit_draft adding_draft setting_draft set_status_draft set_attr_draft set_resource_status_draft set_resource_attr_draft note_draft add_node_draft add_resource_draft add_link_draft
 edit_draft-edit_data (SetStatus node status) = refl
 edit_draft-edit_data (SetAttr node name value) = refl
+edit_draft-edit_data (SetResStatus resource status) = refl
+edit_draft-edit_data (SetResAttr resource name value) = refl
+edit_draft-edit_data (Note node text) = refl
+edit_draft-edit_data (AddNode node id kind job_part status) = refl
+edit_draft-edit_data (AddResource node resource) = ap (λ o. o >>= λ attrs. Some (AddResource node (record resource { attrs = attrs }))) (text_pairs-attr_members resource.attrs)
+edit_draft-edit_data (AddLink node link) = ap (λ o. o >>= λ usage. Some (AddLink node (record { rref = link.rref; usage = usage }))) (usage-again link.usage)
 
 pub edit_again : (e : Edit) → edit_has_names e ≡ true → edit_has_texts e ≡ true → edit_read (edit_data e) ≡ Ok e
 edit_again e names texts = ap (judged edit_fault) (edit_draft-edit_data e) ∙ ap (λ f. sound f e) (two _ _ names texts)
@@ -50,7 +70,19 @@ edit_again e names texts = ap (judged edit_fault) (edit_draft-edit_data e) ∙ a
 pub edit_plain : (e : Edit) → has_float (edit_data e) ≡ false
 edit_plain (SetStatus node status) = refl
 edit_plain (SetAttr node name value) = refl
+edit_plain (SetResStatus resource status) = refl
+edit_plain (SetResAttr resource name value) = refl
+edit_plain (Note node text) = refl
+edit_plain (AddNode node id kind job_part status) = refl
+edit_plain (AddResource node resource) = or_from _ _ (attrs_plain resource.attrs) refl
+edit_plain (AddLink node link) = refl
 
 pub edit_nests : (e : Edit) → depth (edit_data e) ≤ 127
 edit_nests (SetStatus node status) = omega arith
 edit_nests (SetAttr node name value) = omega arith
+edit_nests (SetResStatus resource status) = omega arith
+edit_nests (SetResAttr resource name value) = omega arith
+edit_nests (Note node text) = omega arith
+edit_nests (AddNode node id kind job_part status) = omega arith
+edit_nests (AddResource node resource) = omega (arith, attrs_flat resource.attrs)
+edit_nests (AddLink node link) = omega arith

@@ -1,12 +1,16 @@
 -- The definitions, computed on small data.
-use Rattle.std.proofs.Common.{◌≡◌, true, false, [], ◌∷◌, Some, None, refl}
+use Rattle.std.proofs.Common.{◌≡◌, true, false, List, [], ◌∷◌, Some, None, refl}
 use Rattle.std.specs.Prelude.{codes}
-use Rattle.serde_json.specs.Data.{Data, no_items, item, Members, no_members, member, unsigned, null, number, string, array, object}
+use Rattle.serde_json.specs.Data.{Data, no_items, item, Members, no_members, member, unsigned, null, boolean, number, string, array, object}
 use Rattle.ticket_tree.specs.declared.audit.Audit.TheVariants.{Notification, Spawned, Merged}
+use Rattle.ticket_tree.specs.declared.node_row.NodeRow.{NodeRow}
+use Rattle.ticket_tree.specs.declared.refusal.Refusal.TheVariants.{NotATree, ReservedStatus}
 use Rattle.ticket_tree.specs.declared.resource.Resource.{Resource}
 use Rattle.ticket_tree.specs.declared.spawn_status.SpawnStatus.TheVariants.{NotSpawned, SpawnedRO, SpawnedRW}
 use Rattle.ticket_tree.specs.declared.usage.Usage.TheVariants.{Input, Output}
 use Rattle.json_profile.specs.AuditDraft.{notification_draft, spawned_draft, merged_draft, audit_draft}
+use Rattle.json_profile.specs.Draft.{node_members, own_row}
+use Rattle.json_profile.specs.Form.{built_fault}
 use Rattle.json_profile.specs.Listed.{pool_draft}
 use Rattle.json_profile.specs.PoolDraft.{shown_draft, resource_draft, link_draft}
 use Rattle.json_profile.specs.PoolForm.{resource_has_names, audit_has_names, nothing_shown, shows_nothing}
@@ -163,3 +167,41 @@ copied_no_id = refl
 note_has_no_name : audit_has_names (Notification 100 []) ≡ true
 unfolding audit_has_names
 note_has_no_name = refl
+
+-- ---- nodes
+
+-- {..,"ID":"n0",..,"Status":"Waiting","Type":"Product"}
+abbrev node_with : Members → Data
+node_with pools = object (member (codes "ID") (string (codes "n0")) (member (codes "JobPartID") (string (codes "p0")) pools))
+
+abbrev waiting : Members
+waiting = member (codes "Status") (string (codes "Waiting")) (member (codes "Type") (string (codes "Product")) no_members)
+
+abbrev locked_media : Data
+locked_media =
+    object (member (codes "Class") (string (codes "Consumable")) (member (codes "ID") (string (codes "r1")) (member (codes "Locked") (boolean true) (member (codes "Name") (string (codes "Media")) with_status))))
+
+absent_pools : own_row node_members 1 (node_with waiting)
+    ≡ Some (record { row = record { id = codes "n0"; depth = 1; kind = codes "Product"; job_part = codes "p0"; status = codes "Waiting"; attrs = []; resources = []; links = []; audits = [] }; bare = true })
+unfolding own_row
+absent_pools = refl
+
+one_locked : own_row node_members 1 (node_with (member (codes "ResourceLinkPool") (array (item r2_input no_items)) (member (codes "ResourcePool") (array (item (media_with with_status) (item locked_media no_items))) waiting)))
+    ≡ Some (record {
+      row = record { id = codes "n0"; depth = 1; kind = codes "Product"; job_part = codes "p0"; status = codes "Waiting"; attrs = []; resources = media ∷ media ∷ []; links = record { rref = codes "r2"; usage = Input } ∷ []; audits = [] };
+      bare = false;
+    })
+unfolding own_row resource_draft shown_draft link_draft
+one_locked = refl
+
+job_id_of_a_child : own_row node_members 2 (object (member (codes "ID") (string (codes "n1")) (member (codes "JobID") (string (codes "J1")) no_members))) ≡ None
+unfolding own_row
+job_id_of_a_child = refl
+
+-- marks come before what is wrong with the rows
+marks_before_rows : (rows : List NodeRow) → built_fault (record { job = record { job_id = codes "J1"; rows = rows }; bare = false }) ≡ Some ReservedStatus
+marks_before_rows rows = refl
+
+-- no rows are no tree
+no_rows : built_fault (record { job = record { job_id = codes "J1"; rows = [] }; bare = true }) ≡ Some NotATree
+no_rows = refl

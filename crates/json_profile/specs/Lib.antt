@@ -1,5 +1,6 @@
 pub mod Read
 pub mod Draft
+pub mod EditDraft
 pub mod Lent
 pub mod Drafted
 pub mod DraftedEdit

@@ -1,6 +1,7 @@
 -- What is written for resources, links and audits: each member of a form, in the byte order of the names.
-use Rattle.std.specs.Prelude.{ℕ, List, codes}
+use Rattle.std.specs.Prelude.{ℕ, List, [], ◌∷◌, codes}
 use Rattle.serde_json.specs.Data.{Data, Members, no_members, member, unsigned, boolean, number, string, array, object}
+use Rattle.ticket_tree.specs.Attrs.{Pairs}
 use Rattle.ticket_tree.specs.declared.audit.Audit.{Audit}
 use Rattle.ticket_tree.specs.declared.audit.Audit.TheVariants.{Notification, Spawned, Merged}
 use Rattle.ticket_tree.specs.declared.link.Link.{Link}
@@ -10,8 +11,12 @@ use Rattle.ticket_tree.specs.declared.spawn_status.SpawnStatus.TheVariants.{NotS
 use Rattle.ticket_tree.specs.declared.usage.Usage.{Usage}
 use Rattle.ticket_tree.specs.declared.usage.Usage.TheVariants.{Input, Output}
 use Rattle.json_profile.specs.Listed.{data_items}
-use Rattle.json_profile.specs.Written.{attr_members}
 use Rattle.json_profile.specs.declared.shown.Shown.{Shown}
+
+-- attributes, a text each
+abbrev pub attr_members : Pairs → Members
+attr_members [] = no_members
+attr_members (p ∷ pairs) = member p.0 (string p.1) (attr_members pairs)
 
 -- a list of texts
 abbrev pub texts_data : List (List ℕ) → Data

@@ -1,8 +1,8 @@
 -- Reading JSON data: one member, and what a reader answers.
 use Rattle.std.specs.Prelude.{◌≡◌, ℕ, ◌&&◌, Bool, true, false, List, [], ◌∷◌, ◌++◌, Option, Some, None, Result, Ok, Err, ⊤}
 use Rattle.std.specs.Option.{option_map, option_and_then, option_map_or}
-use Rattle.serde_json.specs.Data.{Data, Items, no_items, item, Members, no_members, member}
-use Rattle.serde_json.specs.Find.{get, as_str, as_number, as_u64, as_object, as_array}
+use Rattle.serde_json.specs.Data.{Data, Members, no_members, member}
+use Rattle.serde_json.specs.Find.{get, as_str, as_number, as_u64, as_object}
 use Rattle.ticket_tree.specs.Attrs.{Pairs}
 use Rattle.ticket_tree.specs.Ids.{mem}
 use Rattle.ticket_tree.specs.declared.refusal.Refusal.{Refusal}
@@ -48,15 +48,6 @@ text_pairs (member k d ms) = as_str d >>= λ s. option_map (λ ps. (k, s) ∷ ps
 abbrev pub attrs_of : Option Data → Option Pairs
 attrs_of None = Some []
 attrs_of (Some d) = option_and_then text_pairs (as_object d)
-
-abbrev pub no_item : Items → Bool
-no_item no_items = true
-no_item (item d ds) = false
-
--- a list without items, or none
-abbrev pub is_empty_list : Option Data → Bool
-is_empty_list None = true
-is_empty_list (Some d) = option_map_or no_item (as_array d) false
 
 -- ---- what a reader answers
 

@@ -1,29 +1,26 @@
 -- What is written for tickets and edits: each member of a form, in the byte order of the names.
 use Rattle.std.specs.Prelude.{ℕ, Bool, false, List, [], ◌∷◌, codes, nat_lt, if◌then◌else◌}
 use Rattle.serde_json.specs.Data.{Data, Items, no_items, item, Members, no_members, member, null, string, array, object}
-use Rattle.ticket_tree.specs.Attrs.{Pairs}
 use Rattle.ticket_tree.specs.Ticket.{Job}
 use Rattle.ticket_tree.specs.declared.node_row.NodeRow.{NodeRow}
 use Rattle.ticket_tree.specs.declared.edit.Edit.{Edit}
-use Rattle.ticket_tree.specs.declared.edit.Edit.TheVariants.{SetStatus, SetAttr}
-
--- attributes, a text each
-abbrev pub attr_members : Pairs → Members
-attr_members [] = no_members
-attr_members (p ∷ pairs) = member p.0 (string p.1) (attr_members pairs)
+use Rattle.ticket_tree.specs.declared.edit.Edit.TheVariants.{SetStatus, SetAttr, SetResStatus, SetResAttr, Note, AddNode, AddResource, AddLink}
+use Rattle.json_profile.specs.Listed.{data_items}
+use Rattle.json_profile.specs.PoolForm.{nothing_shown}
+use Rattle.json_profile.specs.PoolWritten.{attr_members, resource_data, link_data, audit_data, usage_word}
 
 -- ---- nodes
 
--- from a node's part in its job on: what stands behind its children
+-- from a node's part in its job on: what stands behind its children. Its resources show nothing of spawns.
 abbrev pub last_members : NodeRow → Members
 last_members r =
-    member (codes "JobPartID") (string r.job_part) (member (codes "ResourceLinkPool") (array no_items) (member (codes "ResourcePool") (array no_items)
+    member (codes "JobPartID") (string r.job_part) (member (codes "ResourceLinkPool") (array (data_items link_data r.links)) (member (codes "ResourcePool") (array (data_items (resource_data nothing_shown) r.resources))
     (member (codes "Status") (string r.status) (member (codes "Type") (string r.kind) no_members))))
 
 -- a node with its children, the members in front of `last`
 abbrev pub with_first_members : NodeRow → Items → Members → Data
 with_first_members r children last =
-    object (member (codes "Attr") (object (attr_members r.attrs)) (member (codes "AuditPool") (array no_items) (member (codes "ID") (string r.id) (member (codes "JDF") (array children) last))))
+    object (member (codes "Attr") (object (attr_members r.attrs)) (member (codes "AuditPool") (array (data_items audit_data r.audits)) (member (codes "ID") (string r.id) (member (codes "JDF") (array children) last))))
 
 abbrev pub node_data : NodeRow → Items → Data
 node_data r children = with_first_members r children (last_members r)
@@ -83,3 +80,15 @@ edit_data (SetStatus node status) =
     object (member (codes "Edit") (string (codes "SetStatus")) (member (codes "Node") (string node) (member (codes "Status") (string status) no_members)))
 edit_data (SetAttr node name value) =
     object (member (codes "Edit") (string (codes "SetAttr")) (member (codes "Name") (string name) (member (codes "Node") (string node) (member (codes "Value") (string value) no_members))))
+edit_data (SetResStatus resource status) =
+    object (member (codes "Edit") (string (codes "SetResStatus")) (member (codes "Resource") (string resource) (member (codes "Status") (string status) no_members)))
+edit_data (SetResAttr resource name value) =
+    object (member (codes "Edit") (string (codes "SetResAttr")) (member (codes "Name") (string name) (member (codes "Resource") (string resource) (member (codes "Value") (string value) no_members))))
+edit_data (Note node text) =
+    object (member (codes "Edit") (string (codes "Note")) (member (codes "Node") (string node) (member (codes "Text") (string text) no_members)))
+edit_data (AddNode node id kind job_part status) =
+    object (member (codes "Edit") (string (codes "AddNode")) (member (codes "ID") (string id) (member (codes "JobPartID") (string job_part) (member (codes "Node") (string node) (member (codes "Status") (string status) (member (codes "Type") (string kind) no_members))))))
+edit_data (AddResource node resource) =
+    object (member (codes "Attr") (object (attr_members resource.attrs)) (member (codes "Class") (string resource.class) (member (codes "Edit") (string (codes "AddResource")) (member (codes "ID") (string resource.id) (member (codes "Name") (string resource.name) (member (codes "Node") (string node) (member (codes "Status") (string resource.status) no_members)))))))
+edit_data (AddLink node link) =
+    object (member (codes "Edit") (string (codes "AddLink")) (member (codes "Node") (string node) (member (codes "Usage") (string (usage_word link.usage)) (member (codes "rRef") (string link.rref) no_members))))

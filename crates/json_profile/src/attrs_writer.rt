@@ -4,7 +4,7 @@ ghost use Rattle.std.specs.Prelude.{◌≡◌, true, IfOk, OnOk};
 ghost use Rattle.std.specs.List.{list_all};
 ghost use Rattle.serde_json.specs.View.{members_view};
 ghost use Rattle.ticket_tree.specs.Names as names;
-ghost use Rattle.json_profile.specs.Written.{attr_members};
+ghost use Rattle.json_profile.specs.PoolWritten.{attr_members};
 
 use crate::object::put_text;
 use serde_json::{Map, Value};

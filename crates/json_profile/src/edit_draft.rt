@@ -1,10 +1,13 @@
+ghost use Rattle.std.specs.Prelude.{◌≡◌, true, IfOk, IfErr};
+ghost use Rattle.ticket_tree.specs.Names as names;
+
 use crate::known::{known_id, known_name, known_text};
-use crate::member::{has_only, text_under};
-use serde_json::Value;
+use crate::link_draft::LinkDraft;
+use crate::resource_draft::ResourceDraft;
 use std::alloc::Global;
 use ticket_tree::{Edit, Refusal, is_name, is_text};
 
-/// An edit by its members and their kinds alone: its id, names and text may be any.
+/// An edit by its members and their kinds alone: its ids, names and texts may be any.
 #[derive(Drop)]
 pub enum EditDraft<'a> {
     SetStatus {
@@ -16,77 +19,81 @@ pub enum EditDraft<'a> {
         name: &'a str,
         value: &'a str,
     },
+    SetResStatus {
+        resource: &'a str,
+        status: &'a str,
+    },
+    SetResAttr {
+        resource: &'a str,
+        name: &'a str,
+        value: &'a str,
+    },
+    Note {
+        node: &'a str,
+        text: &'a str,
+    },
+    AddNode {
+        node: &'a str,
+        id: &'a str,
+        kind: &'a str,
+        job_part: &'a str,
+        status: &'a str,
+    },
+    AddResource {
+        node: &'a str,
+        resource: ResourceDraft<'a>,
+    },
+    AddLink {
+        node: &'a str,
+        link: LinkDraft<'a>,
+    },
 }
 
 impl<'a> EditDraft<'a> {
-    ghost use Rattle.std.specs.Prelude.{◌≡◌, true, IfOk, IfErr};
-    ghost use Rattle.serde_json.specs.View.{view};
-    ghost use Rattle.json_profile.specs.Draft as draft;
     ghost use Rattle.json_profile.specs.DraftedEdit.{drafted_edit};
     ghost use Rattle.json_profile.specs.Form as form;
-    ghost use Rattle.json_profile.specs.Read.{Gives};
 
-    /// The draft that a value is. Refuses `NotProfile`, and needs no memory.
-    #[tactic(auto, unfolding(crate::specs::Draft::edit_draft))]
-    pub fn of(value: &'a Value) -> Result<EditDraft<'a>, Refusal>
-        ensures { Gives drafted_edit result (draft.edit_draft (view value.now)) }
-    {
-        let kind = text_under(value, "Edit").ok_or(Refusal::NotProfile)?;
-        if kind == "SetStatus" {
-            EditDraft::set_status(value)
-        } else if kind == "SetAttr" {
-            EditDraft::set_attr(value)
-        } else {
-            Err(Refusal::NotProfile)
-        }
-    }
-
-    #[tactic(auto, unfolding(crate::specs::Draft::set_status_draft))]
-    fn set_status(value: &'a Value) -> Result<EditDraft<'a>, Refusal>
-        ensures { Gives drafted_edit result (draft.set_status_draft (view value.now)) }
-    {
-        if !has_only(value, &["Edit", "Node", "Status"]) {
-            return Err(Refusal::NotProfile);
-        }
-        let node = text_under(value, "Node").ok_or(Refusal::NotProfile)?;
-        let status = text_under(value, "Status").ok_or(Refusal::NotProfile)?;
-        Ok(EditDraft::SetStatus { node, status })
-    }
-
-    #[tactic(auto, unfolding(crate::specs::Draft::set_attr_draft))]
-    fn set_attr(value: &'a Value) -> Result<EditDraft<'a>, Refusal>
-        ensures { Gives drafted_edit result (draft.set_attr_draft (view value.now)) }
-    {
-        if !has_only(value, &["Edit", "Name", "Node", "Value"]) {
-            return Err(Refusal::NotProfile);
-        }
-        let name = text_under(value, "Name").ok_or(Refusal::NotProfile)?;
-        let node = text_under(value, "Node").ok_or(Refusal::NotProfile)?;
-        let text = text_under(value, "Value").ok_or(Refusal::NotProfile)?;
-        Ok(EditDraft::SetAttr {
-            node,
-            name,
-            value: text,
-        })
-    }
-
-    /// Whether its id and names are such.
+    /// Whether its ids and names are such.
     pub fn has_names(&self) -> bool
         ensures { result ≡ form.edit_has_names (drafted_edit self.now) }
     {
         match self {
             EditDraft::SetStatus { node, status } => is_name(node) && is_name(status),
             EditDraft::SetAttr { node, name, .. } => is_name(node) && is_name(name),
+            EditDraft::SetResStatus { resource, status } => is_name(resource) && is_name(status),
+            EditDraft::SetResAttr { resource, name, .. } => is_name(resource) && is_name(name),
+            EditDraft::Note { node, .. } => is_name(node),
+            EditDraft::AddNode {
+                node,
+                id,
+                kind,
+                job_part,
+                status,
+            } => {
+                is_name(node)
+                    && is_name(id)
+                    && is_name(kind)
+                    && is_name(job_part)
+                    && is_name(status)
+            }
+            EditDraft::AddResource { node, resource } => is_name(node) && resource.has_names(),
+            EditDraft::AddLink { node, link } => is_name(node) && link.has_names(),
         }
     }
 
-    /// Whether its text is such.
+    /// Whether its texts are such.
     pub fn has_texts(&self) -> bool
         ensures { result ≡ form.edit_has_texts (drafted_edit self.now) }
     {
         match self {
-            EditDraft::SetStatus { .. } => true,
             EditDraft::SetAttr { value, .. } => is_text(value),
+            EditDraft::SetResAttr { value, .. } => is_text(value),
+            EditDraft::Note { text, .. } => is_text(text),
+            EditDraft::AddResource { resource, .. } => resource.has_texts(),
+            EditDraft::SetStatus { .. }
+            | EditDraft::SetResStatus { .. }
+            | EditDraft::AddNode { .. }
+            | EditDraft::AddLink { .. } => true,
         }
     }
 
@@ -125,6 +132,73 @@ impl<'a> EditDraft<'a> {
                 let value = known_text(alloc, value)?;
                 Ok(Edit::SetAttr { node, name, value })
             }
+            EditDraft::SetResStatus { resource, status } => {
+                let resource = known_id(alloc, resource)?;
+                let status = known_name(alloc, status)?;
+                Ok(Edit::SetResStatus { resource, status })
+            }
+            EditDraft::SetResAttr {
+                resource,
+                name,
+                value,
+            } => {
+                let resource = known_id(alloc, resource)?;
+                let name = known_name(alloc, name)?;
+                let value = known_text(alloc, value)?;
+                Ok(Edit::SetResAttr {
+                    resource,
+                    name,
+                    value,
+                })
+            }
+            EditDraft::Note { node, text } => {
+                let node = known_id(alloc, node)?;
+                let text = known_text(alloc, text)?;
+                Ok(Edit::Note { node, text })
+            }
+            EditDraft::AddNode {
+                node,
+                id,
+                kind,
+                job_part,
+                status,
+            } => new_node(alloc, node, id, kind, job_part, status),
+            EditDraft::AddResource { node, resource } => {
+                let node = known_id(alloc, node)?;
+                let resource = resource.build(alloc)?;
+                Ok(Edit::AddResource { node, resource })
+            }
+            EditDraft::AddLink { node, link } => {
+                let node = known_id(alloc, node)?;
+                let link = link.build(alloc)?;
+                Ok(Edit::AddLink { node, link })
+            }
         }
     }
+}
+
+/// The edit that adds a node, of names that are such. Refuses `Memory` alone.
+fn new_node(
+    alloc: Global,
+    node: &str,
+    id: &str,
+    kind: &str,
+    job_part: &str,
+    status: &str,
+) -> Result<Edit, Refusal>
+    requires node { names.is_name node.now ≡ true }
+    requires id { names.is_name id.now ≡ true }
+    requires kind { names.is_name kind.now ≡ true }
+    requires job_part { names.is_name job_part.now ≡ true }
+    requires status { names.is_name status.now ≡ true }
+    ensures ok { IfOk result (λ e. e ≡ Edit.AddNode node.now id.now kind.now job_part.now status.now) }
+    ensures memory { IfErr result (λ e. e ≡ Refusal.Memory) }
+{
+    Ok(Edit::AddNode {
+        node: known_id(alloc, node)?,
+        id: known_id(alloc, id)?,
+        kind: known_name(alloc, kind)?,
+        job_part: known_name(alloc, job_part)?,
+        status: known_name(alloc, status)?,
+    })
 }

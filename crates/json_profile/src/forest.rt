@@ -3,7 +3,7 @@
 
 ghost use Rattle.std.specs.Prelude.{◌≡◌, true, map, IfOk, OnOk};
 ghost use Rattle.std.specs.List.{list_all};
-ghost use Rattle.serde_json.specs.View.{items_view, view};
+ghost use Rattle.serde_json.specs.View.{items_view};
 ghost use Rattle.json_profile.specs.Form.{row_has_names, row_has_texts};
 ghost use Rattle.json_profile.specs.Trees.{trees_of};
 ghost use Rattle.json_profile.specs.Written as written;

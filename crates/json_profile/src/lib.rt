@@ -8,6 +8,8 @@ mod audit_draft;
 mod audit_drafts;
 mod audit_writer;
 mod edit_draft;
+mod edit_reader;
+mod edit_writer;
 mod forest;
 mod ids_writer;
 mod known;

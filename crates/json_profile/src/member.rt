@@ -4,9 +4,7 @@ ghost use Rattle.std.specs.Prelude.{◌≡◌, map};
 ghost use Rattle.std.specs.List.{list_any};
 ghost use Rattle.std.specs.Option.{option_map};
 ghost use Rattle.std.specs.Str.{bytes_eq};
-ghost use Rattle.serde_json.specs.Find.{get};
-ghost use Rattle.serde_json.specs.View.{view, items_view, members_view};
-ghost use Rattle.ticket_tree.specs.Ids.{mem};
+ghost use Rattle.serde_json.specs.View.{view, members_view};
 ghost use Rattle.json_profile.specs.Read as form;
 
 use serde_json::{Map, Value};
@@ -51,26 +49,5 @@ pub fn has_only(value: &Value, names: &[&str]) -> bool
     match value.as_object() {
         Some(members) => are_among(members, names),
         None => false,
-    }
-}
-
-/// Whether there are no items.
-#[tactic(auto, using(crate::proofs::Members::no_item_from_length))]
-fn has_no_item(items: &[Value]) -> bool
-    ensures { result ≡ form.no_item (items_view items.now) }
-{
-    items.is_empty()
-}
-
-/// Whether a list without items stands under a name, or nothing.
-pub fn is_empty_list(value: &Value, name: &str) -> bool
-    ensures { result ≡ form.is_empty_list (get name.now (view value.now)) }
-{
-    match value.get(name) {
-        None => true,
-        Some(list) => match list.as_array() {
-            Some(items) => has_no_item(items.as_slice()),
-            None => false,
-        },
     }
 }

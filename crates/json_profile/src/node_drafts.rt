@@ -1,10 +1,10 @@
 //! The nodes of a ticket's draft.
 
-ghost use Rattle.std.specs.Prelude.{◌≡◌, true, IfOk, IfErr};
+ghost use Rattle.std.specs.Prelude.{◌≡◌, true, map, IfOk, IfErr};
 ghost use Rattle.std.specs.List.{list_all};
 ghost use Rattle.serde_json.specs.View.{view};
 ghost use Rattle.json_profile.specs.Draft.{node_rows, root_members};
-ghost use Rattle.json_profile.specs.Drafted.{drafted_row, drafted_rows};
+ghost use Rattle.json_profile.specs.Drafted.{drafted_raw, drafted_row, drafted_rows};
 ghost use Rattle.json_profile.specs.Form.{row_has_names, row_has_texts};
 ghost use Rattle.json_profile.specs.Read.{Gives};
 
@@ -39,11 +39,19 @@ pub fn have_texts(drafts: &[NodeDraft<'_>]) -> bool
     drafts.iter().all(|draft| draft.has_texts())
 }
 
-/// The nodes of drafts whose names and texts are such. Refuses `Memory` alone.
+/// Whether no node's resources show anything of spawns.
+pub fn are_bare(drafts: &[NodeDraft<'_>]) -> bool
+    ensures { result ≡ list_all (λ d. (drafted_raw d).bare) drafts.now }
+{
+    drafts.iter().all(|draft| draft.is_bare())
+}
+
+/// The nodes of drafts whose names and texts are such, without what their resources show of spawns. Refuses
+/// `Memory` alone.
 pub fn build_rows(alloc: Global, drafts: &[NodeDraft<'_>]) -> Result<Vec<NodeRow>, Refusal>
     requires names { list_all (λ d. row_has_names (drafted_row d)) drafts.now ≡ true }
     requires texts { list_all (λ d. row_has_texts (drafted_row d)) drafts.now ≡ true }
-    ensures ok { IfOk result (λ rows. rows.items ≡ drafted_rows drafts.now) }
+    ensures ok { IfOk result (λ rows. rows.items ≡ map (λ r. r.row) (drafted_rows drafts.now)) }
     ensures memory { IfErr result (λ e. e ≡ Refusal.Memory) }
 {
     let mut rows = Vec::with_capacity(alloc, drafts.len())?;

@@ -4,12 +4,15 @@ ghost use Rattle.std.specs.Prelude.{◌≡◌, map};
 ghost use Rattle.serde_json.specs.Data.{depth};
 ghost use Rattle.serde_json.specs.View.{view};
 ghost use Rattle.json_profile.specs.Draft as form;
-ghost use Rattle.json_profile.specs.Drafted.{drafted_row, drafted_rows};
+ghost use Rattle.json_profile.specs.Drafted.{drafted_raw, drafted_rows};
 ghost use Rattle.json_profile.specs.Read.{Adds, Gives};
 
 use crate::attrs_draft::AttrsDraft;
-use crate::member::{has_only, is_empty_list, text_under};
+use crate::audit_drafts::audit_drafts;
+use crate::link_drafts::link_drafts;
+use crate::member::{has_only, text_under};
 use crate::node_draft::NodeDraft;
+use crate::resource_drafts::resource_drafts;
 use serde_json::Value;
 use std::alloc::Global;
 use ticket_tree::Refusal;
@@ -44,15 +47,6 @@ pub const ROOT_MEMBERS: &[&str] = &[
 /// How far depths are counted: one more than a ticket may have.
 const DEEPEST_READ: u32 = 33;
 
-/// Whether the pools that stand in a node have nothing in them.
-fn has_empty_pools(value: &Value) -> bool
-    ensures { result ≡ form.has_empty_pools (view value.now) }
-{
-    is_empty_list(value, "AuditPool")
-        && is_empty_list(value, "ResourceLinkPool")
-        && is_empty_list(value, "ResourcePool")
-}
-
 /// A node without its children, of an object with no other members than `names`.
 #[tactic(auto, unfolding(crate::specs::Draft::own_row))]
 fn own_row<'a>(
@@ -61,9 +55,9 @@ fn own_row<'a>(
     depth: u32,
     value: &'a Value,
 ) -> Result<NodeDraft<'a>, Refusal>
-    ensures { Gives drafted_row result (form.own_row (map (λ n. n.now) names.now) depth (view value.now)) }
+    ensures { Gives drafted_raw result (form.own_row (map (λ n. n.now) names.now) depth (view value.now)) }
 {
-    if !has_only(value, names) || !has_empty_pools(value) {
+    if !has_only(value, names) {
         return Err(Refusal::NotProfile);
     }
     let id = text_under(value, "ID").ok_or(Refusal::NotProfile)?;
@@ -71,6 +65,9 @@ fn own_row<'a>(
     let kind = text_under(value, "Type").ok_or(Refusal::NotProfile)?;
     let status = text_under(value, "Status").ok_or(Refusal::NotProfile)?;
     let attrs = AttrsDraft::under_attr(alloc, value)?;
+    let resources = resource_drafts(alloc, value, "ResourcePool")?;
+    let links = link_drafts(alloc, value, "ResourceLinkPool")?;
+    let audits = audit_drafts(alloc, value, "AuditPool")?;
     Ok(NodeDraft {
         id,
         depth,
@@ -78,6 +75,9 @@ fn own_row<'a>(
         job_part,
         status,
         attrs,
+        resources,
+        links,
+        audits,
     })
 }
 

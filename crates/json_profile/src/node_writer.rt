@@ -1,23 +1,30 @@
 //! Writing one node.
 
 ghost use Rattle.std.specs.Prelude.{◌≡◌, true, IfOk, OnOk};
+ghost use Rattle.std.specs.List.{list_all};
 ghost use Rattle.serde_json.specs.Data.{object};
-ghost use Rattle.serde_json.specs.View.{items_view, members_view, view};
-ghost use Rattle.json_profile.specs.Form.{row_has_names, row_has_texts};
+ghost use Rattle.serde_json.specs.View.{items_view, members_view};
+ghost use Rattle.ticket_tree.specs.Names.{is_text};
+ghost use Rattle.json_profile.specs.Form.{node_has_names, row_has_names, row_has_texts};
 ghost use Rattle.json_profile.specs.Written as written;
 
 use crate::attrs_writer::attr_map;
+use crate::audit_writer::audit_values;
+use crate::link_writer::link_values;
 use crate::object::{put_list, put_text, put_value};
+use crate::resource_writer::resource_values;
+use crate::shown::Shown;
 use serde_json::{Map, Value};
 use std::alloc::{AllocError, Global};
 use ticket_tree::NodeRow;
 
-/// What a node has of its own, without its children: its ids and names are such, its texts too.
-#[tactic(auto, unfolding(crate::specs::Form::row_has_names, crate::specs::Form::row_has_texts))]
+/// What a node has of its own, without its children and pools: its id and names are such, its texts
+/// too.
+#[tactic(auto, unfolding(crate::specs::Form::node_has_names))]
 fn own_members(alloc: Global, row: &NodeRow) -> Result<Map<String, Value>, AllocError>
     ensures members { IfOk result (λ m. members_view m.entries ≡ written.own_members row.now) }
-    ensures names { OnOk result (row_has_names row.now ≡ true) }
-    ensures texts { OnOk result (row_has_texts row.now ≡ true) }
+    ensures names { OnOk result (node_has_names row.now ≡ true) }
+    ensures texts { OnOk result (list_all (λ p. is_text p.1) row.now.attrs ≡ true) }
 {
     let attrs = attr_map(alloc, &row.attrs)?;
     let mut members = Map::new(alloc);
@@ -29,7 +36,8 @@ fn own_members(alloc: Global, row: &NodeRow) -> Result<Map<String, Value>, Alloc
     Ok(members)
 }
 
-/// A node as members of an object.
+/// A node as members of an object. Its resources show nothing of spawns.
+#[tactic(auto, unfolding(crate::specs::Form::pools_have_names, crate::specs::Form::row_has_texts))]
 pub fn node_map(
     alloc: Global,
     row: &NodeRow,
@@ -40,9 +48,12 @@ pub fn node_map(
     ensures texts { OnOk result (row_has_texts row.now ≡ true) }
 {
     let mut members = own_members(alloc, row)?;
-    put_list(alloc, &mut members, "AuditPool", Vec::new(alloc))?;
+    let audits = audit_values(alloc, row.audits.as_slice())?;
+    let links = link_values(alloc, row.links.as_slice())?;
+    let resources = resource_values(alloc, row.resources.as_slice(), &Shown::nothing(alloc))?;
+    put_list(alloc, &mut members, "AuditPool", audits)?;
     put_list(alloc, &mut members, "JDF", children)?;
-    put_list(alloc, &mut members, "ResourceLinkPool", Vec::new(alloc))?;
-    put_list(alloc, &mut members, "ResourcePool", Vec::new(alloc))?;
+    put_list(alloc, &mut members, "ResourceLinkPool", links)?;
+    put_list(alloc, &mut members, "ResourcePool", resources)?;
     Ok(members)
 }

@@ -11,8 +11,9 @@ use std::alloc::Global;
 use ticket_tree::{Edit, Refusal, Ticket};
 
 /// The ticket that a value is. Refuses the first of `NotProfile`, `BadId`, `BadText`,
-/// `ReservedStatus`, `DuplicateId` and `TooDeep` that stands in it, each looked for in all of it
-/// before the next one is; `Memory` may come before any.
+/// `ReservedStatus` (a node's Status, or what a resource shows of spawns), `DuplicateId`, `TooDeep`
+/// and `UnresolvedLink` that stands in it, each looked for in all of it before the next one is;
+/// `Memory` may come before any.
 pub fn ticket_of(alloc: Global, value: &Value) -> Result<Ticket, Refusal>
     ensures answers { Answers result (ticket_read (view value.now)) }
     ensures tree { IfErr result (λ e. e ≡ Refusal.NotATree → ⊥) }
@@ -26,6 +27,6 @@ pub fn ticket_of(alloc: Global, value: &Value) -> Result<Ticket, Refusal>
 pub fn edit_of(alloc: Global, value: &Value) -> Result<Edit, Refusal>
     ensures { Answers result (edit_read (view value.now)) }
 {
-    let draft = EditDraft::of(value)?;
+    let draft = EditDraft::of(alloc, value)?;
     draft.build(alloc)
 }

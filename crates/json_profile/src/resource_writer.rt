@@ -19,7 +19,7 @@ use ticket_tree::Resource;
 /// What a resource has of its own, without what it shows of spawns: its id and names are such, its
 /// texts too.
 #[tactic(auto, unfolding(crate::specs::PoolForm::resource_has_names, crate::specs::PoolForm::resource_has_texts))]
-fn own_members(alloc: Global, resource: &Resource) -> Result<Map<String, Value>, AllocError>
+pub fn own_members(alloc: Global, resource: &Resource) -> Result<Map<String, Value>, AllocError>
     ensures members { IfOk result (λ m. members_view m.entries ≡ written.own_members resource.now) }
     ensures names { OnOk result (resource_has_names resource.now ≡ true) }
     ensures texts { OnOk result (resource_has_texts resource.now ≡ true) }

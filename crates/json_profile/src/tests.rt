@@ -1,5 +1,7 @@
 //! Texts whose reading the rules say: what each is refused for, and what is written for it.
 
+mod edits;
+mod nodes_with_pools;
 mod pools;
 
 use crate::{
@@ -127,10 +129,97 @@ fn refusal_of(alloc: Global, bytes: &[u8]) -> u16 {
     }
 }
 
+/// A text in which 1025 letters stand for its word `LONG`.
+fn lengthened(alloc: Global, text: &str) -> Result<String, AllocError> {
+    let long = times(alloc, "x", 1_025)?;
+    text.replacen(alloc, "LONG", long.as_str(), 1)
+}
+
+/// The number of the refusal of a root with these members as its last, or 0.
+fn root_refusal(alloc: Global, members: &str) -> Result<u16, AllocError> {
+    let members = lengthened(alloc, members)?;
+    let text = root(alloc, members.as_str())?;
+    Ok(refusal_of(alloc, text.as_str().as_bytes()))
+}
+
 /// The number of the refusal of a root with these members and a child with those, or 0.
 fn family_refusal(alloc: Global, of_root: &str, of_child: &str) -> Result<u16, AllocError> {
-    let text = family(alloc, of_root, of_child)?;
+    let of_root = lengthened(alloc, of_root)?;
+    let of_child = lengthened(alloc, of_child)?;
+    let text = family(alloc, of_root.as_str(), of_child.as_str())?;
     Ok(refusal_of(alloc, text.as_str().as_bytes()))
+}
+
+/// The number of the refusal of a chain of nodes, with these members as the deepest one's last, or 0.
+fn chain_refusal(alloc: Global, nodes: u32, last: &str) -> Result<u16, AllocError> {
+    let text = chain(alloc, nodes, last)?;
+    Ok(refusal_of(alloc, text.as_str().as_bytes()))
+}
+
+/// The first of the texts that isn't refused as it should be.
+fn wrong_text<'a>(alloc: Global, cases: &[(&'a str, u16)]) -> Option<&'a str> {
+    for &(text, expected) in cases {
+        if refusal_of(alloc, text.as_bytes()) != expected {
+            return Some(text);
+        }
+    }
+    None
+}
+
+/// The first of the members with which a root isn't refused as it should be.
+fn wrong_root<'a>(alloc: Global, cases: &[(&'a str, u16)]) -> Result<Option<&'a str>, AllocError> {
+    for &(members, expected) in cases {
+        if root_refusal(alloc, members)? != expected {
+            return Ok(Some(members));
+        }
+    }
+    Ok(None)
+}
+
+/// The first of the pairs of members with which a root and a child aren't refused as they should be.
+fn wrong_family<'a>(
+    alloc: Global,
+    cases: &[(&'a str, &'a str, u16)],
+) -> Result<Option<(&'a str, &'a str)>, AllocError> {
+    for &(of_root, of_child, expected) in cases {
+        if family_refusal(alloc, of_root, of_child)? != expected {
+            return Ok(Some((of_root, of_child)));
+        }
+    }
+    Ok(None)
+}
+
+/// The first of the members with which the deepest of 33 nodes isn't refused as it should be.
+fn wrong_deepest<'a>(
+    alloc: Global,
+    cases: &[(&'a str, u16)],
+) -> Result<Option<&'a str>, AllocError> {
+    for &(last, expected) in cases {
+        if chain_refusal(alloc, 33, last)? != expected {
+            return Ok(Some(last));
+        }
+    }
+    Ok(None)
+}
+
+/// The first of the tickets whose answer isn't what it should be.
+fn wrong_ticket<'a>(alloc: Global, cases: &[(&'a str, &'a str)]) -> Result<Option<&'a str>, Fail> {
+    for &(text, expected) in cases {
+        if ticket_answer(alloc, text.as_bytes())?.as_str() != expected {
+            return Ok(Some(text));
+        }
+    }
+    Ok(None)
+}
+
+/// The first of the edits whose answer isn't what it should be.
+fn wrong_edit<'a>(alloc: Global, cases: &[(&'a str, &'a str)]) -> Result<Option<&'a str>, Fail> {
+    for &(text, expected) in cases {
+        if edit_answer(alloc, text.as_bytes())?.as_str() != expected {
+            return Ok(Some(text));
+        }
+    }
+    Ok(None)
 }
 
 #[test]
@@ -150,19 +239,19 @@ fn tickets_are_written_in_order(rt: HostRuntime) -> Result<(), Fail> {
         "#;
     let mixed_small =
         "{\t\"Type\" : \"Product\",\r\n\"Status\":\"Waiting\" , \"ID\":\"n0\",\"JobPartID\":\"p0\",\"JobID\":\"J0\" } \n";
-    for (text, expected) in [
-        (SMALL, SMALL_WRITTEN),
-        (SMALL_WRITTEN, SMALL_WRITTEN),
-        (mixed_small, SMALL_WRITTEN),
-        (mixed, tree),
-        (tree, tree),
-    ] {
-        assert_eq!(rt;
-            ticket_answer(alloc, text.as_bytes())?.as_str(),
-            expected,
-            "at {text}"
-        );
-    }
+    assert_eq!(rt;
+        wrong_ticket(
+            alloc,
+            &[
+                (SMALL, SMALL_WRITTEN),
+                (SMALL_WRITTEN, SMALL_WRITTEN),
+                (mixed_small, SMALL_WRITTEN),
+                (mixed, tree),
+                (tree, tree),
+            ]
+        )?,
+        None
+    );
     Ok(())
 }
 
@@ -182,23 +271,33 @@ fn escapes_are_written_and_read_again(rt: HostRuntime) -> Result<(), Fail> {
 #[test]
 fn no_json_is_refused(rt: HostRuntime) -> Result<(), Fail> {
     let alloc = rt.alloc();
-    for (text, expected) in [
-        ("", 40),
-        (" ", 40),
-        ("{", 40),
-        (r#"{"ID":"n0""#, 40),
-        (r#"{"ID":"n0",}"#, 40),
-        (r#"{"ID":"n0"#, 40),
-        (r#"["\ud800"]"#, 40),
-        (r#"["\udc00\ud800"]"#, 40),
-        ("[] []", 40),
-        ("{}x", 40),
-        ("{} \n", 41),
-        ("nul", 40),
-        (SMALL, 0),
-    ] {
-        assert_eq!(rt; refusal_of(alloc, text.as_bytes()), expected, "at {text}");
-    }
+    assert_eq!(rt;
+        wrong_text(
+            alloc,
+            &[
+                ("", 40),
+                (" ", 40),
+                ("{", 40),
+                (r#"{"ID":"n0""#, 40),
+                (r#"{"ID":"n0",}"#, 40),
+                (r#"{"ID":"n0"#, 40),
+                (r#"["\ud800"]"#, 40),
+                (r#"["\udc00\ud800"]"#, 40),
+                ("[] []", 40),
+                ("{}x", 40),
+                ("{} \n", 41),
+                ("nul", 40),
+                (SMALL, 0),
+            ]
+        ),
+        None
+    );
+    Ok(())
+}
+
+#[test]
+fn bytes_that_are_no_text_are_refused(rt: HostRuntime) -> Result<(), Fail> {
+    let alloc = rt.alloc();
     assert_eq!(rt; refusal_of(alloc, b"[\"\xff\"]"), 40);
     assert_eq!(rt;
         refusal_of(alloc, b"[\"\xed\xa0\x80\"]"),
@@ -206,180 +305,210 @@ fn no_json_is_refused(rt: HostRuntime) -> Result<(), Fail> {
         "a surrogate's bytes"
     );
     assert_eq!(rt; refusal_of(alloc, b"[\"\xc3\xa9\"]"), 41);
+    Ok(())
+}
+
+#[test]
+fn each_cut_of_a_ticket_is_refused(rt: HostRuntime) -> Result<(), Fail> {
+    let alloc = rt.alloc();
     for end in 0..SMALL.len() {
         let part = SMALL.get(0..end).ok_or("a cut within a letter")?;
         assert_eq!(rt; refusal_of(alloc, part.as_bytes()), 40, "at {part}");
     }
-    let deep = chain(alloc, 100, "")?;
-    assert_eq!(rt; refusal_of(alloc, deep.as_str().as_bytes()), 40);
     Ok(())
 }
 
 #[test]
 fn other_forms_are_refused(rt: HostRuntime) -> Result<(), Fail> {
     let alloc = rt.alloc();
-    for (text, expected) in [
-        (
-            r#"{"JobID":"J0","JobPartID":"p0","Status":"Waiting","Type":"Product"}"#,
-            41,
+    assert_eq!(rt;
+        wrong_text(
+            alloc,
+            &[
+                (
+                    r#"{"JobID":"J0","JobPartID":"p0","Status":"Waiting","Type":"Product"}"#,
+                    41,
+                ),
+                (
+                    r#"{"ID":"n0","JobPartID":"p0","Status":"Waiting","Type":"Product"}"#,
+                    41,
+                ),
+                (
+                    r#"{"ID":"n0","JobID":"J0","Status":"Waiting","Type":"Product"}"#,
+                    41,
+                ),
+                (
+                    r#"{"ID":"n0","JobID":"J0","JobPartID":"p0","Type":"Product"}"#,
+                    41,
+                ),
+                (
+                    r#"{"ID":"n0","JobID":"J0","JobPartID":"p0","Status":"Waiting"}"#,
+                    41,
+                ),
+                ("{}", 41),
+                ("[]", 41),
+                ("7", 41),
+                ("null", 41),
+                ("true", 41),
+                (r#""n0""#, 41),
+            ]
         ),
-        (
-            r#"{"ID":"n0","JobPartID":"p0","Status":"Waiting","Type":"Product"}"#,
-            41,
-        ),
-        (
-            r#"{"ID":"n0","JobID":"J0","Status":"Waiting","Type":"Product"}"#,
-            41,
-        ),
-        (
-            r#"{"ID":"n0","JobID":"J0","JobPartID":"p0","Type":"Product"}"#,
-            41,
-        ),
-        (
-            r#"{"ID":"n0","JobID":"J0","JobPartID":"p0","Status":"Waiting"}"#,
-            41,
-        ),
-        ("{}", 41),
-        ("[]", 41),
-        ("7", 41),
-        ("null", 41),
-        ("true", 41),
-        (r#""n0""#, 41),
-    ] {
-        assert_eq!(rt; refusal_of(alloc, text.as_bytes()), expected, "at {text}");
-    }
-    for (members, expected) in [
-        (r#""Foo":1"#, 41),
-        (r#""Foo":"1""#, 41),
-        (r#""Foo":null"#, 41),
-        (r#""id":"n0""#, 41),
-        (r#""ID":"9x","Foo":1"#, 41),
-        (r#""ID":7"#, 41),
-        (r#""ID":null"#, 41),
-        (r#""JobID":7"#, 41),
-        (r#""JobPartID":7"#, 41),
-        (r#""Status":7"#, 41),
-        (r#""Type":7"#, 41),
-        (r#""Type":["Product"]"#, 41),
-        (r#""Attr":[]"#, 41),
-        (r#""Attr":null"#, 41),
-        (r#""Attr":{"A":1}"#, 41),
-        (r#""Attr":{"A":"","B":null}"#, 41),
-        (r#""Attr":{"A":{}}"#, 41),
-        (r#""JDF":{}"#, 41),
-        (r#""JDF":null"#, 41),
-        (r#""JDF":[7]"#, 41),
-        (r#""JDF":[[]]"#, 41),
-        (r#""JDF":["n1"]"#, 41),
-        (r#""JDF":[null]"#, 41),
-        (r#""JDF":[{}]"#, 41),
-        (r#""AuditPool":[1]"#, 41),
-        (r#""AuditPool":[{}]"#, 41),
-        (r#""AuditPool":{}"#, 41),
-        (r#""AuditPool":null"#, 41),
-        (r#""ResourcePool":[{}]"#, 41),
-        (r#""ResourcePool":{}"#, 41),
-        (r#""ResourceLinkPool":[{}]"#, 41),
-        (r#""ResourceLinkPool":{}"#, 41),
-        (
-            r#""AuditPool":[],"ResourcePool":[],"ResourceLinkPool":[]"#,
-            0,
-        ),
-        (r#""JDF":[],"Attr":{}"#, 0),
-    ] {
-        let text = root(alloc, members)?;
-        assert_eq!(rt;
-            refusal_of(alloc, text.as_str().as_bytes()),
-            expected,
-            "at {text}"
-        );
-    }
-    for (members, expected) in [
-        (r#""JobID":"J0""#, 41),
-        (r#""Foo":1"#, 41),
-        (r#""Type":7"#, 41),
-        (r#""Attr":[]"#, 41),
-        (r#""AuditPool":[1]"#, 41),
-        (r#""JDF":{}"#, 41),
-        (r#""JDF":[7]"#, 41),
-        (r#""JDF":[]"#, 0),
-    ] {
-        let text = family(alloc, r#""Attr":{}"#, members)?;
-        assert_eq!(rt;
-            refusal_of(alloc, text.as_str().as_bytes()),
-            expected,
-            "at {text}"
-        );
-    }
+        None
+    );
+    Ok(())
+}
+
+#[test]
+fn other_members_of_a_root_are_refused(rt: HostRuntime) -> Result<(), Fail> {
+    let alloc = rt.alloc();
+    assert_eq!(rt;
+        wrong_root(
+            alloc,
+            &[
+                (r#""Foo":1"#, 41),
+                (r#""Foo":"1""#, 41),
+                (r#""Foo":null"#, 41),
+                (r#""id":"n0""#, 41),
+                (r#""ID":"9x","Foo":1"#, 41),
+                (r#""ID":7"#, 41),
+                (r#""ID":null"#, 41),
+                (r#""JobID":7"#, 41),
+                (r#""JobPartID":7"#, 41),
+                (r#""Status":7"#, 41),
+                (r#""Type":7"#, 41),
+                (r#""Type":["Product"]"#, 41),
+                (r#""Attr":[]"#, 41),
+                (r#""Attr":null"#, 41),
+                (r#""Attr":{"A":1}"#, 41),
+                (r#""Attr":{"A":"","B":null}"#, 41),
+                (r#""Attr":{"A":{}}"#, 41),
+                (r#""JDF":{}"#, 41),
+                (r#""JDF":null"#, 41),
+                (r#""JDF":[7]"#, 41),
+                (r#""JDF":[[]]"#, 41),
+                (r#""JDF":["n1"]"#, 41),
+                (r#""JDF":[null]"#, 41),
+                (r#""JDF":[{}]"#, 41),
+                (r#""AuditPool":[1]"#, 41),
+                (r#""AuditPool":[{}]"#, 41),
+                (r#""AuditPool":{}"#, 41),
+                (r#""AuditPool":null"#, 41),
+                (r#""ResourcePool":[{}]"#, 41),
+                (r#""ResourcePool":{}"#, 41),
+                (r#""ResourceLinkPool":[{}]"#, 41),
+                (r#""ResourceLinkPool":{}"#, 41),
+                (
+                    r#""AuditPool":[],"ResourcePool":[],"ResourceLinkPool":[]"#,
+                    0,
+                ),
+                (r#""JDF":[],"Attr":{}"#, 0),
+            ]
+        )?,
+        None
+    );
+    Ok(())
+}
+
+#[test]
+fn other_forms_of_a_child_are_refused(rt: HostRuntime) -> Result<(), Fail> {
+    let alloc = rt.alloc();
+    let plain = r#""Attr":{}"#;
+    assert_eq!(rt;
+        wrong_family(
+            alloc,
+            &[
+                (plain, r#""JobID":"J0""#, 41),
+                (plain, r#""Foo":1"#, 41),
+                (plain, r#""Type":7"#, 41),
+                (plain, r#""Attr":[]"#, 41),
+                (plain, r#""AuditPool":[1]"#, 41),
+                (plain, r#""JDF":{}"#, 41),
+                (plain, r#""JDF":[7]"#, 41),
+                (plain, r#""JDF":[]"#, 0),
+            ]
+        )?,
+        None
+    );
     Ok(())
 }
 
 #[test]
 fn wrong_names_and_texts_are_refused(rt: HostRuntime) -> Result<(), Fail> {
     let alloc = rt.alloc();
-    for (members, expected) in [
-        (r#""ID":"9x""#, 1),
-        (r#""ID":"n 0""#, 1),
-        (r#""ID":"é""#, 1),
-        (r#""JobID":"""#, 1),
-        (r#""JobPartID":"-p""#, 1),
-        (r#""Type":"""#, 1),
-        (r#""Attr":{"a b":""}"#, 1),
-        (r#""Attr":{"":""}"#, 1),
-        (r#""Attr":{"_.-9":""}"#, 0),
-        (r#""Status":"Spawned""#, 5),
-        (r#""Status":"spawned""#, 0),
-        (r#""Type":"Spawned","ID":"Spawned""#, 0),
+    assert_eq!(rt;
+        wrong_root(
+            alloc,
+            &[
+                (r#""ID":"9x""#, 1),
+                (r#""ID":"n 0""#, 1),
+                (r#""ID":"é""#, 1),
+                (r#""JobID":"""#, 1),
+                (r#""JobPartID":"-p""#, 1),
+                (r#""Type":"""#, 1),
+                (r#""Attr":{"a b":""}"#, 1),
+                (r#""Attr":{"":""}"#, 1),
+                (r#""Attr":{"_.-9":""}"#, 0),
+                (r#""Status":"Spawned""#, 5),
+                (r#""Status":"spawned""#, 0),
+                (r#""Type":"Spawned","ID":"Spawned""#, 0),
+            ]
+        )?,
+        None
+    );
+    Ok(())
+}
+
+/// The number of the refusal of a root whose Status has so many letters, or 0.
+fn long_status_refusal(alloc: Global, letters: u32) -> Result<u16, AllocError> {
+    let status = times(alloc, "S", letters)?;
+    let member = between(alloc, r#""Status":""#, status.as_str(), r#"""#)?;
+    root_refusal(alloc, member.as_str())
+}
+
+/// The number of the refusal of a root with an attribute of so many bytes, or 0.
+fn long_attr_refusal(alloc: Global, bytes: u32) -> Result<u16, AllocError> {
+    let attr = long_attr(alloc, bytes)?;
+    root_refusal(alloc, attr.as_str())
+}
+
+/// The number of the refusal of a root whose child has an attribute of so many bytes, or 0.
+fn long_attr_below_refusal(alloc: Global, bytes: u32) -> Result<u16, AllocError> {
+    let attr = long_attr(alloc, bytes)?;
+    family_refusal(alloc, r#""JDF":[]"#, attr.as_str())
+}
+
+#[test]
+fn names_have_64_characters_at_most(rt: HostRuntime) -> Result<(), Fail> {
+    let alloc = rt.alloc();
+    assert_eq!(rt; long_status_refusal(alloc, 64)?, 0);
+    assert_eq!(rt; long_status_refusal(alloc, 65)?, 1);
+    Ok(())
+}
+
+#[test]
+fn texts_have_1024_bytes_at_most(rt: HostRuntime) -> Result<(), Fail> {
+    let alloc = rt.alloc();
+    assert_eq!(rt; long_attr_refusal(alloc, 1_024)?, 0);
+    assert_eq!(rt; long_attr_refusal(alloc, 1_025)?, 6);
+    assert_eq!(rt; long_attr_below_refusal(alloc, 1_024)?, 0);
+    assert_eq!(rt; long_attr_below_refusal(alloc, 1_025)?, 6);
+    Ok(())
+}
+
+#[test]
+fn tickets_have_32_levels_at_most(rt: HostRuntime) -> Result<(), Fail> {
+    let alloc = rt.alloc();
+    for (nodes, expected) in [
+        (1, 0),
+        (2, 0),
+        (32, 0),
+        (33, 4),
+        (34, 4),
+        (63, 4),
+        (100, 40),
     ] {
-        let text = root(alloc, members)?;
         assert_eq!(rt;
-            refusal_of(alloc, text.as_str().as_bytes()),
-            expected,
-            "at {text}"
-        );
-    }
-    for (letters, expected) in [(64, 0), (65, 1)] {
-        let status = times(alloc, "S", letters)?;
-        let member = between(alloc, r#""Status":""#, status.as_str(), r#"""#)?;
-        let text = root(alloc, member.as_str())?;
-        assert_eq!(rt;
-            refusal_of(alloc, text.as_str().as_bytes()),
-            expected,
-            "at {text}"
-        );
-    }
-    for (bytes, expected) in [(1_024, 0), (1_025, 6)] {
-        let attr = long_attr(alloc, bytes)?;
-        let text = root(alloc, attr.as_str())?;
-        assert_eq!(rt;
-            refusal_of(alloc, text.as_str().as_bytes()),
-            expected,
-            "at {bytes} bytes"
-        );
-        let below = family(alloc, r#""Attr":{}"#, attr.as_str())?;
-        assert_eq!(rt;
-            refusal_of(alloc, below.as_str().as_bytes()),
-            expected,
-            "at {bytes} bytes below"
-        );
-    }
-    for (members, expected) in [
-        (r#""ID":"9x""#, 1),
-        (r#""Status":"Spawned""#, 5),
-        (r#""ID":"n0""#, 2),
-        (r#""ID":"N0""#, 0),
-    ] {
-        let text = family(alloc, r#""Attr":{}"#, members)?;
-        assert_eq!(rt;
-            refusal_of(alloc, text.as_str().as_bytes()),
-            expected,
-            "at {text}"
-        );
-    }
-    for (nodes, expected) in [(1, 0), (2, 0), (32, 0), (33, 4), (34, 4), (63, 4)] {
-        let text = chain(alloc, nodes, "")?;
-        assert_eq!(rt;
-            refusal_of(alloc, text.as_str().as_bytes()),
+            chain_refusal(alloc, nodes, "")?,
             expected,
             "at {nodes} nodes"
         );
@@ -388,68 +517,98 @@ fn wrong_names_and_texts_are_refused(rt: HostRuntime) -> Result<(), Fail> {
 }
 
 #[test]
-fn refusals_come_in_order(rt: HostRuntime) -> Result<(), Fail> {
+fn wrong_names_and_texts_of_a_child_are_refused(rt: HostRuntime) -> Result<(), Fail> {
     let alloc = rt.alloc();
-    let long = long_attr(alloc, 1_025)?;
+    let plain = r#""Attr":{}"#;
+    assert_eq!(rt;
+        wrong_family(
+            alloc,
+            &[
+                (plain, r#""ID":"9x""#, 1),
+                (plain, r#""Status":"Spawned""#, 5),
+                (plain, r#""ID":"n0""#, 2),
+                (plain, r#""ID":"N0""#, 0),
+            ]
+        )?,
+        None
+    );
+    Ok(())
+}
+
+#[test]
+fn refusals_of_a_root_and_its_child_come_in_order(rt: HostRuntime) -> Result<(), Fail> {
+    let alloc = rt.alloc();
+    let plain = r#""JDF":[]"#;
+    let long = r#""Attr":{"A":"LONG"}"#;
     let bad_id = r#""ID":"9x""#;
     let spawned = r#""Status":"Spawned""#;
-    let all = between(alloc, long.as_str(), r#","Status":"Spawned","ID":"9x""#, "")?;
-    let later = between(alloc, long.as_str(), r#","Status":"Spawned","ID":"n0""#, "")?;
-    assert_eq!(rt; family_refusal(alloc, long.as_str(), bad_id)?, 1);
-    assert_eq!(rt; family_refusal(alloc, bad_id, long.as_str())?, 1);
-    assert_eq!(rt; family_refusal(alloc, spawned, long.as_str())?, 6);
-    assert_eq!(rt; family_refusal(alloc, long.as_str(), spawned)?, 6);
-    assert_eq!(rt; family_refusal(alloc, spawned, r#""ID":"n0""#)?, 5);
-    assert_eq!(rt; family_refusal(alloc, r#""ID":"n1""#, spawned)?, 5);
-    assert_eq!(rt; family_refusal(alloc, all.as_str(), r#""Foo":1"#)?, 41);
+    let all = r#""Attr":{"A":"LONG"},"Status":"Spawned","ID":"9x""#;
+    let later = r#""Attr":{"A":"LONG"},"Status":"Spawned","ID":"n0""#;
     assert_eq!(rt;
-        family_refusal(alloc, all.as_str(), r#""JobPartID":7"#)?,
-        41
+        wrong_family(
+            alloc,
+            &[
+                (long, bad_id, 1),
+                (bad_id, long, 1),
+                (spawned, long, 6),
+                (long, spawned, 6),
+                (spawned, r#""ID":"n0""#, 5),
+                (r#""ID":"n1""#, spawned, 5),
+                (all, r#""Foo":1"#, 41),
+                (all, r#""JobPartID":7"#, 41),
+                (plain, all, 1),
+                (plain, later, 6),
+            ]
+        )?,
+        None
     );
-    assert_eq!(rt; family_refusal(alloc, r#""Attr":{}"#, all.as_str())?, 1);
-    assert_eq!(rt; family_refusal(alloc, r#""Attr":{}"#, later.as_str())?, 6);
-    for (last, expected) in [
-        (r#","ID":"n0""#, 2),
-        (r#","Status":"Spawned","ID":"n0""#, 5),
-        (r#","Attr":{"a b":""},"Status":"Spawned","ID":"n0""#, 1),
-        (
-            r#","Foo":"","Attr":{"a b":""},"Status":"Spawned","ID":"n0""#,
-            41,
-        ),
-    ] {
-        let text = chain(alloc, 33, last)?;
-        assert_eq!(rt;
-            refusal_of(alloc, text.as_str().as_bytes()),
-            expected,
-            "at {last}"
-        );
-    }
+    Ok(())
+}
+
+#[test]
+fn other_refusals_come_before_too_many_levels(rt: HostRuntime) -> Result<(), Fail> {
+    let alloc = rt.alloc();
+    assert_eq!(rt;
+        wrong_deepest(
+            alloc,
+            &[
+                (r#","ID":"n0""#, 2),
+                (r#","Status":"Spawned","ID":"n0""#, 5),
+                (r#","Attr":{"a b":""},"Status":"Spawned","ID":"n0""#, 1),
+                (
+                    r#","Foo":"","Attr":{"a b":""},"Status":"Spawned","ID":"n0""#,
+                    41,
+                ),
+            ]
+        )?,
+        None
+    );
     Ok(())
 }
 
 #[test]
 fn of_a_name_that_stands_twice_the_last_counts(rt: HostRuntime) -> Result<(), Fail> {
     let alloc = rt.alloc();
-    for (text, expected) in [
-        (
-            r#"{"ID":"9x","ID":"n0","JobID":"J0","JobPartID":"p0","Status":"Waiting","Type":"Product"}"#,
-            SMALL_WRITTEN,
-        ),
-        (
-            r#"{"ID":7,"Attr":[],"JDF":7,"ID":"n0","JobID":"J0","JobPartID":"p0","Status":"Spawned","Type":"Product","Status":"Waiting","JDF":[],"Attr":{}}"#,
-            SMALL_WRITTEN,
-        ),
-        (
-            r#"{"ID":"n0","JobID":"J0","JobPartID":"p0","Status":"Waiting","Type":"Product","ID":"9x"}"#,
-            "1",
-        ),
-    ] {
-        assert_eq!(rt;
-            ticket_answer(alloc, text.as_bytes())?.as_str(),
-            expected,
-            "at {text}"
-        );
-    }
+    assert_eq!(rt;
+        wrong_ticket(
+            alloc,
+            &[
+                (
+                    r#"{"ID":"9x","ID":"n0","JobID":"J0","JobPartID":"p0","Status":"Waiting","Type":"Product"}"#,
+                    SMALL_WRITTEN,
+                ),
+                (
+                    r#"{"ID":7,"Attr":[],"JDF":7,"ID":"n0","JobID":"J0","JobPartID":"p0","Status":"Spawned","Type":"Product","Status":"Waiting","JDF":[],"Attr":{}}"#,
+                    SMALL_WRITTEN,
+                ),
+                (
+                    r#"{"ID":"n0","JobID":"J0","JobPartID":"p0","Status":"Waiting","Type":"Product","ID":"9x"}"#,
+                    "1",
+                ),
+            ]
+        )?,
+        None
+    );
     Ok(())
 }
 
@@ -457,98 +616,116 @@ fn of_a_name_that_stands_twice_the_last_counts(rt: HostRuntime) -> Result<(), Fa
 fn edits_are_read_and_written(rt: HostRuntime) -> Result<(), Fail> {
     let alloc = rt.alloc();
     let named = r#"{"Edit":"SetAttr","Name":"DescriptiveName","Node":"n0","Value":"Cover"}"#;
-    for (text, expected) in [
-        (
-            r#"{"Edit":"SetStatus","Node":"n1","Status":"Ready"}"#,
-            r#"{"Edit":"SetStatus","Node":"n1","Status":"Ready"}"#,
-        ),
-        (
-            r#" { "Status":"Ready", "Node":"n1", "Edit":"SetStatus" } "#,
-            r#"{"Edit":"SetStatus","Node":"n1","Status":"Ready"}"#,
-        ),
-        (
-            r#"{"Edit":"SetAttr","Name":"A","Node":"n0","Value":""}"#,
-            r#"{"Edit":"SetAttr","Name":"A","Node":"n0","Value":""}"#,
-        ),
-        (
-            r#"{"Value":"Cover","Node":"n0","Name":"DescriptiveName","Edit":"SetAttr"}"#,
-            named,
-        ),
-        (named, named),
-        (
-            r#"{"Edit":"SetStatus","Node":"n1","Status":"Spawned"}"#,
-            r#"{"Edit":"SetStatus","Node":"n1","Status":"Spawned"}"#,
-        ),
-        (r#"{"Edit":"Note","Node":"n1","Status":"Ready"}"#, "41"),
-        (r#"{"Edit":"setstatus","Node":"n1","Status":"Ready"}"#, "41"),
-        (r#"{"Edit":"","Node":"n1","Status":"Ready"}"#, "41"),
-        (r#"{"Edit":1,"Node":"n1","Status":"Ready"}"#, "41"),
-        (
-            r#"{"Edit":"SetStatus","Node":"n1","Status":"Ready","Foo":1}"#,
-            "41",
-        ),
-        (
-            r#"{"Edit":"SetStatus","Name":"A","Node":"n1","Status":"Ready"}"#,
-            "41",
-        ),
-        (
-            r#"{"Edit":"SetAttr","Name":"A","Node":"n0","Status":"Ready","Value":""}"#,
-            "41",
-        ),
-        (r#"{"Edit":"SetAttr","Node":"n1","Status":"Ready"}"#, "41"),
-        (r#"{"Node":"n1","Status":"Ready"}"#, "41"),
-        (r#"{"Edit":"SetStatus","Status":"Ready"}"#, "41"),
-        (r#"{"Edit":"SetStatus","Node":"n1"}"#, "41"),
-        (r#"{"Edit":"SetAttr","Node":"n0","Value":""}"#, "41"),
-        (r#"{"Edit":"SetAttr","Name":"A","Value":""}"#, "41"),
-        (r#"{"Edit":"SetAttr","Name":"A","Node":"n0"}"#, "41"),
-        (
-            r#"{"Edit":"SetAttr","Name":"A","Node":"n0","Value":1}"#,
-            "41",
-        ),
-        (
-            r#"{"Edit":"SetAttr","Name":"A","Node":"9x","Value":1}"#,
-            "41",
-        ),
-        (r#"{"Edit":"SetStatus","Node":"9x","Status":"Ready"}"#, "1"),
-        (r#"{"Edit":"SetStatus","Node":"n1","Status":""}"#, "1"),
-        (
-            r#"{"Edit":"SetAttr","Name":"a b","Node":"n0","Value":""}"#,
-            "1",
-        ),
-        ("[]", "41"),
-        ("null", "41"),
-        ("{}", "41"),
-        ("{", "40"),
-    ] {
-        assert_eq!(rt;
-            edit_answer(alloc, text.as_bytes())?.as_str(),
-            expected,
-            "at {text}"
-        );
-    }
-    for (node, bytes, expected) in [("n0", 1_025, "6"), ("9x", 1_025, "1"), ("9x", 1_024, "1")] {
-        let value = times(alloc, "x", bytes)?;
-        let members = between(alloc, r#"","Value":""#, value.as_str(), r#""}"#)?;
-        let text = between(
+    assert_eq!(rt;
+        wrong_edit(
             alloc,
-            r#"{"Edit":"SetAttr","Name":"A","Node":""#,
-            node,
-            members.as_str(),
-        )?;
-        assert_eq!(rt;
-            edit_answer(alloc, text.as_str().as_bytes())?.as_str(),
-            expected,
-            "at {node}"
-        );
-    }
-    let longest = times(alloc, "é", 512)?;
-    let text = between(
+            &[
+                (
+                    r#"{"Edit":"SetStatus","Node":"n1","Status":"Ready"}"#,
+                    r#"{"Edit":"SetStatus","Node":"n1","Status":"Ready"}"#,
+                ),
+                (
+                    r#" { "Status":"Ready", "Node":"n1", "Edit":"SetStatus" } "#,
+                    r#"{"Edit":"SetStatus","Node":"n1","Status":"Ready"}"#,
+                ),
+                (
+                    r#"{"Edit":"SetAttr","Name":"A","Node":"n0","Value":""}"#,
+                    r#"{"Edit":"SetAttr","Name":"A","Node":"n0","Value":""}"#,
+                ),
+                (
+                    r#"{"Value":"Cover","Node":"n0","Name":"DescriptiveName","Edit":"SetAttr"}"#,
+                    named,
+                ),
+                (named, named),
+                (
+                    r#"{"Edit":"SetStatus","Node":"n1","Status":"Spawned"}"#,
+                    r#"{"Edit":"SetStatus","Node":"n1","Status":"Spawned"}"#,
+                ),
+                (r#"{"Edit":"Note","Node":"n1","Status":"Ready"}"#, "41"),
+                (r#"{"Edit":"setstatus","Node":"n1","Status":"Ready"}"#, "41"),
+                (r#"{"Edit":"","Node":"n1","Status":"Ready"}"#, "41"),
+                (r#"{"Edit":1,"Node":"n1","Status":"Ready"}"#, "41"),
+                (
+                    r#"{"Edit":"SetStatus","Node":"n1","Status":"Ready","Foo":1}"#,
+                    "41",
+                ),
+                (
+                    r#"{"Edit":"SetStatus","Name":"A","Node":"n1","Status":"Ready"}"#,
+                    "41",
+                ),
+                (
+                    r#"{"Edit":"SetAttr","Name":"A","Node":"n0","Status":"Ready","Value":""}"#,
+                    "41",
+                ),
+                (r#"{"Edit":"SetAttr","Node":"n1","Status":"Ready"}"#, "41"),
+                (r#"{"Node":"n1","Status":"Ready"}"#, "41"),
+                (r#"{"Edit":"SetStatus","Status":"Ready"}"#, "41"),
+                (r#"{"Edit":"SetStatus","Node":"n1"}"#, "41"),
+                (r#"{"Edit":"SetAttr","Node":"n0","Value":""}"#, "41"),
+                (r#"{"Edit":"SetAttr","Name":"A","Value":""}"#, "41"),
+                (r#"{"Edit":"SetAttr","Name":"A","Node":"n0"}"#, "41"),
+                (
+                    r#"{"Edit":"SetAttr","Name":"A","Node":"n0","Value":1}"#,
+                    "41",
+                ),
+                (
+                    r#"{"Edit":"SetAttr","Name":"A","Node":"9x","Value":1}"#,
+                    "41",
+                ),
+                (r#"{"Edit":"SetStatus","Node":"9x","Status":"Ready"}"#, "1"),
+                (r#"{"Edit":"SetStatus","Node":"n1","Status":""}"#, "1"),
+                (
+                    r#"{"Edit":"SetAttr","Name":"a b","Node":"n0","Value":""}"#,
+                    "1",
+                ),
+                ("[]", "41"),
+                ("null", "41"),
+                ("{}", "41"),
+                ("{", "40"),
+            ]
+        )?,
+        None
+    );
+    Ok(())
+}
+
+/// The edit that sets an attribute of this node to this letter so many times.
+fn long_edit(alloc: Global, node: &str, letter: &str, letters: u32) -> Result<String, AllocError> {
+    let value = times(alloc, letter, letters)?;
+    let members = between(alloc, r#"","Value":""#, value.as_str(), r#""}"#)?;
+    between(
         alloc,
-        r#"{"Edit":"SetAttr","Name":"A","Node":"n0","Value":""#,
-        longest.as_str(),
-        r#""}"#,
-    )?;
+        r#"{"Edit":"SetAttr","Name":"A","Node":""#,
+        node,
+        members.as_str(),
+    )
+}
+
+/// Whether the edit that sets an attribute to this letter so many times is answered so.
+fn is_long_edit_answered(
+    alloc: Global,
+    node: &str,
+    letters: u32,
+    expected: &str,
+) -> Result<bool, Fail> {
+    let text = long_edit(alloc, node, "x", letters)?;
+    let answer = edit_answer(alloc, text.as_str().as_bytes())?;
+    Ok(answer.as_str() == expected)
+}
+
+#[test]
+fn long_texts_of_edits_are_refused(rt: HostRuntime) -> Result<(), Fail> {
+    let alloc = rt.alloc();
+    assert!(rt; is_long_edit_answered(alloc, "n0", 1_025, "6")?);
+    assert!(rt; is_long_edit_answered(alloc, "9x", 1_025, "1")?);
+    assert!(rt; is_long_edit_answered(alloc, "9x", 1_024, "1")?);
+    Ok(())
+}
+
+#[test]
+fn letters_of_two_bytes_count_as_two(rt: HostRuntime) -> Result<(), Fail> {
+    let alloc = rt.alloc();
+    let text = long_edit(alloc, "n0", "é", 512)?;
     let written = edit_answer(alloc, text.as_str().as_bytes())?;
     assert_eq!(rt; written.as_str(), text.as_str());
     Ok(())

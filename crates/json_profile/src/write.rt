@@ -2,21 +2,22 @@
 
 ghost use Rattle.std.specs.Prelude.{◌≡◌, ◌≤◌, Ok, false, true, map, IfOk, OnOk};
 ghost use Rattle.std.specs.List.{list_all};
-ghost use Rattle.serde_json.specs.Data.{depth, object};
+ghost use Rattle.serde_json.specs.Data.{depth};
 ghost use Rattle.serde_json.specs.Read.{max_depth};
-ghost use Rattle.serde_json.specs.View.{members_view, view};
+ghost use Rattle.serde_json.specs.View.{view};
 ghost use Rattle.serde_json.specs.Written.{has_float};
 ghost use Rattle.ticket_tree.specs.Names.{is_name};
 ghost use Rattle.ticket_tree.specs.Ticket.{IsValid};
-ghost use Rattle.json_profile.specs.Form.{edit_has_names, edit_has_texts, edit_read, row_has_names, row_has_texts, ticket_read};
+ghost use Rattle.json_profile.specs.Form.{edit_read, row_has_names, row_has_texts, ticket_read};
 ghost use Rattle.json_profile.specs.Written.{edit_data, job_data, ticket_data};
 
+use crate::edit_writer::edit_map;
 use crate::forest::{forest, take_children};
 use crate::node_writer::node_map;
 use crate::object::put_text;
 use serde_json::{Map, Value};
 use std::alloc::{AllocError, Global};
-use ticket_tree::{Edit, Id, Name, NodeRow, Text, Ticket};
+use ticket_tree::{Edit, Name, NodeRow, Ticket};
 
 /// The nodes of a ticket in preorder.
 fn rows_of<'a>(alloc: Global, ticket: &'a Ticket) -> Result<Vec<&'a NodeRow>, AllocError>
@@ -58,49 +59,6 @@ pub fn ticket_value(alloc: Global, ticket: &Ticket) -> Result<Value, AllocError>
     let rows = rows_of(alloc, ticket)?;
     let value = job_value(alloc, ticket.job(), rows.as_slice())?;
     Ok(value)
-}
-
-/// The members of a `SetStatus`.
-fn set_status_map(alloc: Global, node: &Id, status: &Name) -> Result<Map<String, Value>, AllocError>
-    ensures members { IfOk result (λ m. object (members_view m.entries) ≡ edit_data (Edit.SetStatus node.now status.now)) }
-    ensures names { OnOk result (edit_has_names (Edit.SetStatus node.now status.now) ≡ true) }
-{
-    let mut members = Map::new(alloc);
-    put_text(alloc, &mut members, "Edit", "SetStatus")?;
-    put_text(alloc, &mut members, "Node", node.as_str())?;
-    put_text(alloc, &mut members, "Status", status.as_str())?;
-    Ok(members)
-}
-
-/// The members of a `SetAttr`.
-fn set_attr_map(
-    alloc: Global,
-    node: &Id,
-    name: &Name,
-    value: &Text,
-) -> Result<Map<String, Value>, AllocError>
-    ensures members { IfOk result (λ m. object (members_view m.entries) ≡ edit_data (Edit.SetAttr node.now name.now value.now)) }
-    ensures names { OnOk result (edit_has_names (Edit.SetAttr node.now name.now value.now) ≡ true) }
-    ensures texts { OnOk result (edit_has_texts (Edit.SetAttr node.now name.now value.now) ≡ true) }
-{
-    let mut members = Map::new(alloc);
-    put_text(alloc, &mut members, "Edit", "SetAttr")?;
-    put_text(alloc, &mut members, "Name", name.as_str())?;
-    put_text(alloc, &mut members, "Node", node.as_str())?;
-    put_text(alloc, &mut members, "Value", value.as_str())?;
-    Ok(members)
-}
-
-/// The members of an edit.
-fn edit_map(alloc: Global, edit: &Edit) -> Result<Map<String, Value>, AllocError>
-    ensures members { IfOk result (λ m. object (members_view m.entries) ≡ edit_data edit.now) }
-    ensures names { OnOk result (edit_has_names edit.now ≡ true) }
-    ensures texts { OnOk result (edit_has_texts edit.now ≡ true) }
-{
-    match edit {
-        Edit::SetStatus { node, status } => set_status_map(alloc, node, status),
-        Edit::SetAttr { node, name, value } => set_attr_map(alloc, node, name, value),
-    }
 }
 
 /// An edit as a value, which `edit_of` reads as that edit.

@@ -1,5 +1,5 @@
--- Ids apart from each other, and a set of the ids so far.
-use Rattle.std.proofs.Common.{◌≡◌, ℕ, ◌+◌, ◌<◌, ◌&&◌, ◌||◌, Bool, true, false, not, cond, List, [], ◌∷◌, ◌++◌, length, get_or, take, drop, Bor, refl, sym, ap, ◌∙◌, is_eq, nat_cmp}
+-- Ids apart from each other, and a set of the node_ids so far.
+use Rattle.std.proofs.Common.{◌≡◌, ℕ, ◌+◌, ◌<◌, ◌&&◌, ◌||◌, Bool, true, false, not, cond, List, [], ◌∷◌, ◌++◌, map, length, get_or, take, drop, Bor, refl, sym, ap, ◌∙◌, is_eq, nat_cmp}
 use Rattle.std.proofs.lemmas.Bool.{true≢false, and_parts, and_from, and_right, not_from_false, not-true}
 use Rattle.std.proofs.lemmas.List.{take_more, map_push, map-append, take-append-drop, drop_more}
 use Rattle.std.proofs.lemmas.List.Folds.{list_any-append}
@@ -8,8 +8,6 @@ use Rattle.std.specs.BTreeSet.{BTreeSet, contains_by, Updates}
 use Rattle.std.specs.Cmp.Lexicographic.{slice_cmp, nat_list_eq_equiv}
 use Rattle.std.specs.Str.{bytes_eq}
 use Rattle.ticket_tree.specs.Ids.{mem, are_distinct}
-use Rattle.ticket_tree.specs.Ticket.{ids}
-use Rattle.ticket_tree.specs.declared.node_row.NodeRow.{NodeRow}
 
 pub bytes_eq-symm : (x y : List ℕ) → bytes_eq x y ≡ bytes_eq y x
 bytes_eq-symm = nat_list_eq_equiv.symm
@@ -67,12 +65,20 @@ contains-inserted s n k h q =
     let key : Bor (List ℕ) = record { ref_ptr = (0, 0); now = q } in
     h.0 key ∙ or_first (is_eq (slice_cmp nat_cmp k.now q)) (bytes_eq k.now q) _ (is_eq-slice_cmp k.now q)
 
--- the ids of one row more
-pub ids_more : (rows : List NodeRow) (i : ℕ) (r : NodeRow) → i < length rows → r ≡ get_or rows i r → ids (take (i + 1) rows) ≡ ids (take i rows) ++ r.id ∷ []
-ids_more rows i r within is = ap ids (take_more rows i r within) ∙ map_push (λ x. x.id) (take i rows) (get_or rows i r) ∙ ap (λ x. ids (take i rows) ++ x.id ∷ []) (sym is)
+abbrev pub texts_of : List (Bor (List ℕ)) → List (List ℕ)
+texts_of ts = map (λ s. s.now) ts
 
--- the ids before a row, its own, and those behind it
-pub ids_split : (rows : List NodeRow) (i : ℕ) (r : NodeRow) → i < length rows → r ≡ get_or rows i r → ids rows ≡ ids (take i rows) ++ r.id ∷ ids (drop (i + 1) rows)
-ids_split rows i r within is =
-    ap ids (sym (take-append-drop i rows)) ∙ map-append (λ x. x.id) (take i rows) (drop i rows)
-    ∙ ap (λ xs. ids (take i rows) ++ ids xs) (drop_more rows i r within ∙ ap (λ x. x ∷ drop (i + 1) rows) (sym is))
+-- one text more
+pub texts_more : (ts : List (Bor (List ℕ))) (i : ℕ) (d : Bor (List ℕ)) → i < length ts → texts_of (take (i + 1) ts) ≡ texts_of (take i ts) ++ (get_or ts i d).now ∷ []
+texts_more ts i d within = ap texts_of (take_more ts i d within) ∙ map_push (λ s. s.now) (take i ts) (get_or ts i d)
+
+-- the texts before a place, the one there, and those behind it
+pub texts_split : (ts : List (Bor (List ℕ))) (i : ℕ) (d : Bor (List ℕ)) → i < length ts → texts_of ts ≡ texts_of (take i ts) ++ (get_or ts i d).now ∷ texts_of (drop (i + 1) ts)
+texts_split ts i d within =
+    ap texts_of (sym (take-append-drop i ts)) ∙ map-append (λ s. s.now) (take i ts) (drop i ts) ∙ ap (λ xs. texts_of (take i ts) ++ texts_of xs) (drop_more ts i d within)
+
+abbrev pub no_text : Bor (List ℕ)
+no_text = record { ref_ptr = (0, 0); now = [] }
+
+abbrev pub text_at : List (Bor (List ℕ)) → ℕ → Bor (List ℕ)
+text_at ts i = get_or ts i no_text

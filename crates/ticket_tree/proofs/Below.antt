@@ -10,8 +10,10 @@ use Rattle.ticket_tree.proofs.Places.{position-cons, below_length, passes_at_pos
 use Rattle.ticket_tree.proofs.Apart.{mem-append, bytes_eq-same, or_true}
 use Rattle.ticket_tree.specs.Ids.{mem, are_distinct}
 use Rattle.ticket_tree.specs.Outline.{goes_on, is_outline}
-use Rattle.ticket_tree.specs.Place.{path_of, paths_from, place_of, places_from, place_at, places, Place, below, is_below, BoundsNodesBelow}
-use Rattle.ticket_tree.specs.Ticket.{depths, ids, row_of, IsValid}
+use Rattle.ticket_tree.proofs.NodePlaces.{nodes_from, node_places-rows, node_ids_distinct}
+use Rattle.ticket_tree.specs.Paths.{path_of, paths_from}
+use Rattle.ticket_tree.specs.Place.{node_place, node_places, place_at, Place, below, is_below, BoundsNodesBelow}
+use Rattle.ticket_tree.specs.Ticket.{depths, node_ids, row_of, IsValid}
 use Rattle.ticket_tree.specs.declared.node_row.NodeRow.{NodeRow}
 
 abbrev pub Path : Type 0
@@ -56,15 +58,15 @@ Follows-outline (r ∷ rows) h =
 -- ---- rows that aren't below x
 
 -- an id that is neither on the way nor in the rows is on no path
-pub never : (x : List ℕ) (before : Path) (rows : List NodeRow) → mem x before ≡ false → mem x (ids rows) ≡ false → (k : ℕ) (path : Path) → slice_get (paths_from before rows) k ≡ Some path → mem x path ≡ false
+pub never : (x : List ℕ) (before : Path) (rows : List NodeRow) → mem x before ≡ false → mem x (node_ids rows) ≡ false → (k : ℕ) (path : Path) → slice_get (paths_from before rows) k ≡ Some path → mem x path ≡ false
 never x before [] off out k path h = cc
 never x before (r ∷ rows) off out zero path h =
-    let parts = or_parts (bytes_eq r.id x) (mem x (ids rows)) out in
+    let parts = or_parts (bytes_eq r.id x) (mem x (node_ids rows)) out in
     let here : mem x (path_of before r) ≡ false = or_from _ _ parts.0 (mem-drop x _ before off) in
     let same : path_of before r ≡ path = cc in
     ap (mem x) (sym same) ∙ here
 never x before (r ∷ rows) off out (suc k) path h =
-    let parts = or_parts (bytes_eq r.id x) (mem x (ids rows)) out in
+    let parts = or_parts (bytes_eq r.id x) (mem x (node_ids rows)) out in
     never x (path_of before r) rows (or_from _ _ parts.0 (mem-drop x _ before off)) parts.1 k path h
 
 -- ---- the rows behind x
@@ -73,7 +75,7 @@ abbrev pub run_length : ℕ → List NodeRow → ℕ
 run_length depth rows = position_or_len (λ r. nat_le r.depth depth) rows
 
 -- what leads up from a row no deeper than x is above x
-above_x : (x : List ℕ) (front up : Path) (r : NodeRow) → mem x up ≡ false → r.depth ≤ suc (length up) → mem x (drop (suc (length (front ++ x ∷ up)) - r.depth) (front ++ x ∷ up)) ≡ false
+pub above_x : (x : List ℕ) (front up : Path) (r : NodeRow) → mem x up ≡ false → r.depth ≤ suc (length up) → mem x (drop (suc (length (front ++ x ∷ up)) - r.depth) (front ++ x ∷ up)) ≡ false
 above_x x front up r off shallow =
     let long : length (front ++ x ∷ up) ≡ length front + suc (length up) = length-append front (x ∷ up) in
     let more : ℕ = suc (length up) - r.depth in
@@ -82,7 +84,7 @@ above_x x front up r off shallow =
     ap (λ n. mem x (drop n (front ++ x ∷ up))) cut ∙ ap (mem x) (sym (drop-drop more (suc (length front)) (front ++ x ∷ up)) ∙ ap (drop more) past) ∙ mem-drop x more up off
 
 -- what leads up from a deeper row still has x, and what leads from it
-below_x : (x : List ℕ) (front up : Path) (r : NodeRow) → suc (length up) < r.depth
+pub below_x : (x : List ℕ) (front up : Path) (r : NodeRow) → suc (length up) < r.depth
     → path_of (front ++ x ∷ up) r ≡ (r.id ∷ drop (suc (length (front ++ x ∷ up)) - r.depth) front) ++ x ∷ up
 below_x x front up r deep =
     let long : length (front ++ x ∷ up) ≡ length front + suc (length up) = length-append front (x ∷ up) in
@@ -100,14 +102,14 @@ suc_lt_at false k n e = le-ltb (suc k) (1 + n) (omega (arith, ltb-false k n e))
 abbrev Behind : List ℕ → Path → Path → List NodeRow → ℕ → Type 0
 Behind x front up rows run = (k : ℕ) (path : Path) → slice_get (paths_from (front ++ x ∷ up) rows) k ≡ Some path → mem x path ≡ nat_lt k run
 
-behind_row : (shallow : Bool) (x : List ℕ) (front up : Path) (r : NodeRow) (rows : List NodeRow) → leb r.depth (suc (length up)) ≡ shallow → mem x up ≡ false → mem x (ids (r ∷ rows)) ≡ false
+behind_row : (shallow : Bool) (x : List ℕ) (front up : Path) (r : NodeRow) (rows : List NodeRow) → leb r.depth (suc (length up)) ≡ shallow → mem x up ≡ false → mem x (node_ids (r ∷ rows)) ≡ false
     → ((front' : Path) → Behind x front' up rows (run_length (suc (length up)) rows)) → Behind x front up (r ∷ rows) (cond (not shallow) (1 + run_length (suc (length up)) rows) 0)
 behind_row true x front up r rows e off out later zero path h =
-    let parts = or_parts (bytes_eq r.id x) (mem x (ids rows)) out in
+    let parts = or_parts (bytes_eq r.id x) (mem x (node_ids rows)) out in
     let same : path_of (front ++ x ∷ up) r ≡ path = cc in
     ap (mem x) (sym same) ∙ or_from _ _ parts.0 (above_x x front up r off (leb-true _ _ e))
 behind_row true x front up r rows e off out later (suc k) path h =
-    let parts = or_parts (bytes_eq r.id x) (mem x (ids rows)) out in
+    let parts = or_parts (bytes_eq r.id x) (mem x (node_ids rows)) out in
     never x (path_of (front ++ x ∷ up) r) rows (or_from _ _ parts.0 (above_x x front up r off (leb-true _ _ e))) parts.1 k path h ∙ sym (le-ltb (suc k) 0 (omega arith))
 behind_row false x front up r rows e off out later zero path h =
     let same : path_of (front ++ x ∷ up) r ≡ path = cc in
@@ -119,10 +121,10 @@ behind_row false x front up r rows e off out later (suc k) path h =
     later kept k path (subst (λ p. slice_get (paths_from p rows) k ≡ Some path) (below_x x front up r (leb-false _ _ e)) h) ∙ sym (suc_lt_at _ k (run_length (suc (length up)) rows) refl)
 
 -- behind x, whose parent's path is up: x is on the paths of the deeper rows that follow, and on no others
-pub behind : (x : List ℕ) (front up : Path) (rows : List NodeRow) → mem x up ≡ false → mem x (ids rows) ≡ false → Behind x front up rows (run_length (suc (length up)) rows)
+pub behind : (x : List ℕ) (front up : Path) (rows : List NodeRow) → mem x up ≡ false → mem x (node_ids rows) ≡ false → Behind x front up rows (run_length (suc (length up)) rows)
 behind x front up [] off out k path h = cc
 behind x front up (r ∷ rows) off out k path h =
-    let out_later : mem x (ids rows) ≡ false = (or_parts (bytes_eq r.id x) (mem x (ids rows)) out).1 in
+    let out_later : mem x (node_ids rows) ≡ false = (or_parts (bytes_eq r.id x) (mem x (node_ids rows)) out).1 in
     behind_row (leb r.depth (suc (length up))) x front up r rows refl off out (λ front'. behind x front' up rows off out_later) k path h
 
 -- ---- the whole
@@ -138,7 +140,7 @@ RunOf (r ∷ rows) x (suc from) (suc to) = (bytes_eq r.id x ≡ false) × RunOf 
 abbrev pub Exact : Path → List NodeRow → List ℕ → ℕ → ℕ → Type 0
 Exact before rows x from to = (k : ℕ) (path : Path) → slice_get (paths_from before rows) k ≡ Some path → mem x path ≡ (nat_le from k && nat_lt k to)
 
-root_exact : (before : Path) (r : NodeRow) (rows : List NodeRow) (x : List ℕ) (to : ℕ) → Follows before (r ∷ rows) → mem x before ≡ false → are_distinct (ids (r ∷ rows)) ≡ true → RunOf (r ∷ rows) x zero to → Exact before (r ∷ rows) x zero to
+root_exact : (before : Path) (r : NodeRow) (rows : List NodeRow) (x : List ℕ) (to : ℕ) → Follows before (r ∷ rows) → mem x before ≡ false → are_distinct (node_ids (r ∷ rows)) ≡ true → RunOf (r ∷ rows) x zero to → Exact before (r ∷ rows) x zero to
 root_exact before r rows x to follows off apart run zero path h =
     let same : path_of before r ≡ path = cc in
     let up : Path = drop (suc (length before) - r.depth) before in
@@ -147,7 +149,7 @@ root_exact before r rows x to follows off apart run zero path h =
     ap (mem x) (sym same) ∙ ap (λ b. b || mem x up) (ap (λ y. bytes_eq y x) run.0 ∙ bytes_eq-same x) ∙ sym (and_from _ _ starts within)
 root_exact before r rows x to follows off apart run (suc k) path h =
     let parts = and_parts _ _ apart in
-    let out : mem x (ids rows) ≡ false = ap (λ y. mem y (ids rows)) (sym run.0) ∙ not-true _ parts.0 in
+    let out : mem x (node_ids rows) ≡ false = ap (λ y. mem y (node_ids rows)) (sym run.0) ∙ not-true _ parts.0 in
     let up : Path = drop (suc (length before) - r.depth) before in
     let deep : suc (length up) ≡ r.depth = length-path_of before r follows.0 follows.1 in
     let above : mem x up ≡ false = mem-drop x (suc (length before) - r.depth) before off in
@@ -156,7 +158,7 @@ root_exact before r rows x to follows off apart run (suc k) path h =
     behind x [] up rows above out k path named ∙ ap (λ d. ltb k (run_length d rows)) deep
     ∙ sym (ap (λ b. b && ltb (suc k) to) starts ∙ ap (ltb (suc k)) (run.1 ∙ sym (one-add (run_length r.depth rows))) ∙ suc_lt_at _ k (run_length r.depth rows) refl)
 
-pub run_exact : (before : Path) (rows : List NodeRow) (x : List ℕ) (from to : ℕ) → Follows before rows → mem x before ≡ false → are_distinct (ids rows) ≡ true → RunOf rows x from to → Exact before rows x from to
+pub run_exact : (before : Path) (rows : List NodeRow) (x : List ℕ) (from to : ℕ) → Follows before rows → mem x before ≡ false → are_distinct (node_ids rows) ≡ true → RunOf rows x from to → Exact before rows x from to
 run_exact before [] x from to follows off apart run k path h = absurd run
 run_exact before (r ∷ rows) x zero to follows off apart run k path h = root_exact before r rows x to follows off apart run k path h
 run_exact before (r ∷ rows) x (suc from) zero follows off apart run k path h = absurd run
@@ -199,19 +201,19 @@ same_at false x y o q h = h
 
 -- the id stands at a row with this path
 abbrev pub HasPath : Path → List NodeRow → List ℕ → ℕ → Type 0
-HasPath before rows a k = (path : Path) × (slice_get (paths_from before rows) k ≡ Some path) × (option_map (λ p. p.path) (place_at (places_from before rows) a) ≡ Some path)
+HasPath before rows a k = (path : Path) × (slice_get (paths_from before rows) k ≡ Some path) × (option_map (λ p. p.path) (place_at (nodes_from before rows) a) ≡ Some path)
 
 path_of_row : (here : Bool) (later : Option ℕ) (before : Path) (r : NodeRow) (rows : List NodeRow) (a : List ℕ) (k : ℕ) → bytes_eq r.id a ≡ here → cond here (Some 0) (option_map suc later) ≡ Some k
     → ((j : ℕ) → later ≡ Some j → HasPath (path_of before r) rows a j) → HasPath before (r ∷ rows) a k
 path_of_row true later before r rows a zero e found go =
-    (path_of before r, refl, ap (λ b. option_map (λ p. p.path) (cond b (Some (place_of r (path_of before r))) (place_at (places_from (path_of before r) rows) a))) e)
+    (path_of before r, refl, ap (λ b. option_map (λ p. p.path) (cond b (Some (node_place r (path_of before r))) (place_at (nodes_from (path_of before r) rows) a))) e)
 path_of_row true later before r rows a (suc k) e found go = cc
 path_of_row false None before r rows a k e found go = cc
 path_of_row false (Some j) before r rows a zero e found go = cc
 path_of_row false (Some j) before r rows a (suc k) e found go =
     let next : j ≡ k = cc in
     let rest : HasPath (path_of before r) rows a k = subst (HasPath (path_of before r) rows a) next (go j refl) in
-    (rest.0, rest.1, ap (λ b. option_map (λ p. p.path) (cond b (Some (place_of r (path_of before r))) (place_at (places_from (path_of before r) rows) a))) e ∙ rest.2)
+    (rest.0, rest.1, ap (λ b. option_map (λ p. p.path) (cond b (Some (node_place r (path_of before r))) (place_at (nodes_from (path_of before r) rows) a))) e ∙ rest.2)
 
 pub path_found : (before : Path) (rows : List NodeRow) (a : List ℕ) (k : ℕ) → position (λ r. bytes_eq r.id a) rows ≡ Some k → HasPath before rows a k
 path_found before [] a k found = cc
@@ -219,7 +221,7 @@ path_found before (r ∷ rows) a k found =
     path_of_row (bytes_eq r.id a) (position (λ y. bytes_eq y.id a) rows) before r rows a k refl (sym (position-cons (λ y. bytes_eq y.id a) r rows) ∙ found) (path_found (path_of before r) rows a)
 
 -- the places are there for the rows
-pub is_some-place_at : (before : Path) (rows : List NodeRow) (a : List ℕ) → is_some (place_at (places_from before rows) a) ≡ is_some (row_of rows a)
+pub is_some-place_at : (before : Path) (rows : List NodeRow) (a : List ℕ) → is_some (place_at (nodes_from before rows) a) ≡ is_some (row_of rows a)
 is_some-place_at before [] a = refl
 is_some-place_at before (r ∷ rows) a = same_at (bytes_eq r.id a) _ _ _ _ (is_some-place_at (path_of before r) rows a)
 
@@ -234,47 +236,49 @@ bounds rows later x k n s behind_k valid found at run fits =
     record {
       node = ap (option_map (λ r. r.id)) at ∙ ap Some ((bytes_eq-Decides s.id x).0 (passes_at_position (λ r. bytes_eq r.id x) rows k s found at));
       end = omega (arith, length-drop (k + 1) rows, ap length behind_k);
-      exact = subst (λ to. Exact [] rows x k to) end (run_exact [] rows x k (suc (k + n)) (Follows-outline rows valid.tree) refl valid.distinct whole);
+      exact = subst (λ to. Exact [] rows x k to) end (run_exact [] rows x k (suc (k + n)) (Follows-outline rows valid.tree) refl (node_ids_distinct rows valid.distinct) whole);
     }
 
 some_at : {X : Type 0} (b : Bool) (x : X) (o : Option X) (c : Bool) → c ≡ is_some o → (b || c) ≡ is_some (cond b (Some x) o)
 some_at true x o c h = refl
 some_at false x o c h = h
 
--- the ids of the rows are those that are found
-pub mem-ids : (rows : List NodeRow) (x : List ℕ) → mem x (ids rows) ≡ is_some (row_of rows x)
-mem-ids [] x = refl
-mem-ids (r ∷ rows) x = some_at (bytes_eq r.id x) r (row_of rows x) _ (mem-ids rows x)
+-- the node_ids of the rows are those that are found
+pub mem-node_ids : (rows : List NodeRow) (x : List ℕ) → mem x (node_ids rows) ≡ is_some (row_of rows x)
+mem-node_ids [] x = refl
+mem-node_ids (r ∷ rows) x = some_at (bytes_eq r.id x) r (row_of rows x) _ (mem-node_ids rows x)
 
 map_or-path : (b : List ℕ) (o : Option Place) → option_map_or (below b) o false ≡ option_map_or (mem b) (option_map (λ p. p.path) o) false
 map_or-path b None = refl
 map_or-path b (Some p) = refl
 
 -- an id is below those on its path
-pub is_below-path : (rows : List NodeRow) (a b : List ℕ) (k : ℕ) → (h : HasPath [] rows a k) → is_below (places rows) a b ≡ mem b h.0
-is_below-path rows a b k h = map_or-path b (place_at (places rows) a) ∙ ap (λ o. option_map_or (mem b) o false) h.2
+pub is_below-path : (rows : List NodeRow) (a b : List ℕ) (k : ℕ) → (h : HasPath [] rows a k) → is_below (node_places rows) a b ≡ mem b h.0
+is_below-path rows a b k h =
+    ap (λ nodes. is_below nodes a b) (node_places-rows rows) ∙ map_or-path b (place_at (nodes_from [] rows) a) ∙ ap (λ o. option_map_or (mem b) o false) h.2
 
 none_from_is_some : {X : Type 0} (o : Option X) → is_some o ≡ false → o ≡ None
 none_from_is_some None h = refl
 none_from_is_some (Some x) h = absurd (true≢false h)
 
 -- an unknown id is below none
-pub below_none : (rows : List NodeRow) (a b : List ℕ) → position (λ r. bytes_eq r.id a) rows ≡ None → is_below (places rows) a b ≡ false
+pub below_none : (rows : List NodeRow) (a b : List ℕ) → position (λ r. bytes_eq r.id a) rows ≡ None → is_below (node_places rows) a b ≡ false
 below_none rows a b none =
-    ap (λ o. option_map_or (below b) o false) (none_from_is_some (place_at (places rows) a) (is_some-place_at [] rows a ∙ ap is_some (none_at_position (λ r. bytes_eq r.id a) rows none)))
+    ap (λ nodes. is_below nodes a b) (node_places-rows rows)
+    ∙ ap (λ o. option_map_or (below b) o false) (none_from_is_some (place_at (nodes_from [] rows) a) (is_some-place_at [] rows a ∙ ap is_some (none_at_position (λ r. bytes_eq r.id a) rows none)))
 
-below_unknown_at : (rows : List NodeRow) (a b : List ℕ) (o : Option ℕ) → position (λ r. bytes_eq r.id a) rows ≡ o → mem b (ids rows) ≡ false → is_below (places rows) a b ≡ false
+below_unknown_at : (rows : List NodeRow) (a b : List ℕ) (o : Option ℕ) → position (λ r. bytes_eq r.id a) rows ≡ o → mem b (node_ids rows) ≡ false → is_below (node_places rows) a b ≡ false
 below_unknown_at rows a b None e out = below_none rows a b e
 below_unknown_at rows a b (Some k) e out =
     let h = path_found [] rows a k e in
     is_below-path rows a b k h ∙ never b [] rows refl out k h.0 h.1
 
 -- nothing is below an unknown id
-pub below_unknown : (rows : List NodeRow) (a b : List ℕ) → is_some (row_of rows b) ≡ false → is_below (places rows) a b ≡ false
-below_unknown rows a b none = below_unknown_at rows a b _ refl (mem-ids rows b ∙ none)
+pub below_unknown : (rows : List NodeRow) (a b : List ℕ) → is_some (row_of rows b) ≡ false → is_below (node_places rows) a b ≡ false
+below_unknown rows a b none = below_unknown_at rows a b _ refl (mem-node_ids rows b ∙ none)
 
 -- a known id is below those whose rows bound it
-pub below_bounds : (rows : List NodeRow) (a b : List ℕ) (k from to : ℕ) → position (λ r. bytes_eq r.id a) rows ≡ Some k → BoundsNodesBelow rows b from to → is_below (places rows) a b ≡ (nat_le from k && nat_lt k to)
+pub below_bounds : (rows : List NodeRow) (a b : List ℕ) (k from to : ℕ) → position (λ r. bytes_eq r.id a) rows ≡ Some k → BoundsNodesBelow rows b from to → is_below (node_places rows) a b ≡ (nat_le from k && nat_lt k to)
 below_bounds rows a b k from to found bounds =
     let h = path_found [] rows a k found in
     is_below-path rows a b k h ∙ bounds.exact k h.0 h.1

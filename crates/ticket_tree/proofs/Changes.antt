@@ -1,91 +1,225 @@
--- A change of one row: a write at its place is the change of the row of its id, and the rows stay a ticket.
-use Rattle.std.proofs.Common.{◌≡◌, ℕ, zero, suc, Bool, true, false, not, cond, List, [], ◌∷◌, map, Option, Some, None, refl, sym, ap, ◌∙◌, set, get_or, slice_get, nat_le}
-use Rattle.std.proofs.lemmas.Bool.{and_parts, and_from, or_parts, not-true, cond_both}
-use Rattle.std.specs.List.{list_all, position}
-use Rattle.std.specs.Option.{option_map}
+-- A change of each row that keeps where it stands: the rows stay a ticket.
+use Rattle.std.proofs.Common.{◌≡◌, ℕ, zero, suc, ◌-◌, ◌&&◌, ◌||◌, Bool, true, false, not, cond, List, [], ◌∷◌, ◌++◌, map, length, drop, Option, Some, None, refl, sym, ap, ◌∙◌, set, get_or, slice_get, nat_le}
+use Rattle.std.proofs.lemmas.Bool.{true≢false, not_from_false, and_parts, and_from, or_parts, not-true, cond_both}
+use Rattle.std.specs.List.{find, flat_map, list_all, position}
+use Rattle.std.specs.Option.{option_map, option_map_or}
 use Rattle.std.specs.Str.{bytes_eq}
 use Rattle.std.proofs.lemmas.Option.{slice_get-get_or}
 use Rattle.ticket_tree.proofs.Places.{position-cons, below_length}
 use Rattle.std.proofs.lemmas.Slice.Eq.{bytes_eq-Decides}
 use Rattle.ticket_tree.specs.Attrs.{with_attr}
-use Rattle.ticket_tree.specs.Edit.{with_row}
+use Rattle.ticket_tree.specs.Edit.{with_row, with_item, with_resource}
+use Rattle.ticket_tree.proofs.Apart.{mem-append}
+use Rattle.ticket_tree.proofs.AtHome.{holds, any-map}
+use Rattle.ticket_tree.proofs.AtKey.{write_at_key, at_key-none}
+use Rattle.ticket_tree.proofs.NodePlaces.{node_ids_distinct, later_part, later_distinct}
+use Rattle.ticket_tree.specs.Homes.{homes, home_of}
 use Rattle.ticket_tree.specs.Ids.{mem, are_distinct}
 use Rattle.ticket_tree.specs.Outline.{is_outline}
-use Rattle.ticket_tree.specs.Ticket.{IsValid, ids, is_reserved, max_depth}
+use Rattle.ticket_tree.specs.Paths.{path_of}
+use Rattle.ticket_tree.specs.Ticket.{IsValid, ids, ids_of, resolves, are_resolved_from, is_reserved, max_depth}
+use Rattle.ticket_tree.specs.declared.audit.Audit.TheVariants.{Notification}
+use Rattle.ticket_tree.specs.declared.link.Link.{Link}
+use Rattle.ticket_tree.specs.declared.resource.Resource.{Resource}
 use Rattle.ticket_tree.specs.declared.node_row.NodeRow.{NodeRow}
 
--- an id that isn't there changes no row
-pub with_row-none : (x : List ℕ) (f : NodeRow → NodeRow) (rows : List NodeRow) → mem x (ids rows) ≡ false → with_row x f rows ≡ rows
-with_row-none x f [] out = refl
-with_row-none x f (r ∷ rows) out =
-    let parts = or_parts (bytes_eq r.id x) (mem x (ids rows)) out in
-    ap (λ b. cond b (f r) r ∷ with_row x f rows) parts.0 ∙ ap (λ rs. r ∷ rs) (with_row-none x f rows parts.1)
+-- ---- what a change of each row keeps
 
-set_row : (here : Bool) (later : Option ℕ) (x : List ℕ) (f : NodeRow → NodeRow) (r : NodeRow) (rows : List NodeRow) (k : ℕ) (s : NodeRow) → bytes_eq r.id x ≡ here → cond here (Some 0) (option_map suc later) ≡ Some k → slice_get (r ∷ rows) k ≡ Some s → mem r.id (ids rows) ≡ false
-    → ((j : ℕ) → later ≡ Some j → slice_get rows j ≡ Some s → set rows j (f s) ≡ with_row x f rows) → set (r ∷ rows) k (f s) ≡ with_row x f (r ∷ rows)
-set_row true later x f r rows zero s e found at out go =
-    let same : r ≡ s = cc in
-    let named : r.id ≡ x = (bytes_eq-Decides r.id x).0 e in
-    ap (λ y. f y ∷ rows) (sym same) ∙ ap (λ rs. f r ∷ rs) (sym (with_row-none x f rows (ap (λ y. mem y (ids rows)) (sym named) ∙ out))) ∙ ap (λ b. cond b (f r) r ∷ with_row x f rows) (sym e)
-set_row true later x f r rows (suc k) s e found at out go = cc
-set_row false None x f r rows k s e found at out go = cc
-set_row false (Some j) x f r rows zero s e found at out go = cc
-set_row false (Some j) x f r rows (suc k) s e found at out go =
-    let next : k ≡ j = cc in
-    let rest : set rows k (f s) ≡ with_row x f rows = ap (λ i. set rows i (f s)) next ∙ go j refl (ap (slice_get rows) (sym next) ∙ at) in
-    ap (λ rs. r ∷ rs) rest ∙ ap (λ b. cond b (f r) r ∷ with_row x f rows) (sym e)
+-- g keeps where a row stands, the ids of its pool and its links, and gives no reserved Status
+pub record KeepsTicket (g : NodeRow → NodeRow) : Type 0 where
+  pub id : (r : NodeRow) → (g r).id ≡ r.id
+  pub depth : (r : NodeRow) → (g r).depth ≡ r.depth
+  pub pool : (r : NodeRow) → map (λ x. x.id) (g r).resources ≡ map (λ x. x.id) r.resources
+  pub links : (r : NodeRow) → (g r).links ≡ r.links
+  pub status : (r : NodeRow) → not (is_reserved r.status) ≡ true → not (is_reserved (g r).status) ≡ true
 
--- a write of f at the place of an id is f of the row of that id
-pub set-with_row : (x : List ℕ) (f : NodeRow → NodeRow) (rows : List NodeRow) (k : ℕ) (s : NodeRow) → are_distinct (ids rows) ≡ true → position (λ r. bytes_eq r.id x) rows ≡ Some k → slice_get rows k ≡ Some s → set rows k (f s) ≡ with_row x f rows
-set-with_row x f [] k s apart found at = cc
-set-with_row x f (r ∷ rows) k s apart found at =
-    let parts = and_parts _ _ apart in
-    set_row (bytes_eq r.id x) (position (λ y. bytes_eq y.id x) rows) x f r rows k s refl (sym (position-cons (λ y. bytes_eq y.id x) r rows) ∙ found) at (not-true _ parts.0) (λ j e a. set-with_row x f rows j s parts.1 e a)
+cond_same : {X Y : Type 0} (h : X → Y) (b : Bool) (x y : X) → h x ≡ h y → h (cond b x y) ≡ h y
+cond_same h true x y e = e
+cond_same h false x y e = refl
 
--- ---- what a change keeps
+-- a change of the row of one id
+abbrev pub at_id : List ℕ → (NodeRow → NodeRow) → NodeRow → NodeRow
+at_id x f r = cond (bytes_eq r.id x) (f r) r
 
-cond_same : {X Y : Type 0} (g : X → Y) (b : Bool) (x y : X) → g x ≡ g y → g (cond b x y) ≡ g y
-cond_same g true x y e = e
-cond_same g false x y e = refl
+pub keeps-at_id : (x : List ℕ) (f : NodeRow → NodeRow) → KeepsTicket f → KeepsTicket (at_id x f)
+keeps-at_id x f keeps =
+    record {
+      id = λ r. cond_same (λ s. s.id) (bytes_eq r.id x) (f r) r (keeps.id r);
+      depth = λ r. cond_same (λ s. s.depth) (bytes_eq r.id x) (f r) r (keeps.depth r);
+      pool = λ r. cond_same (λ s. map (λ y. y.id) s.resources) (bytes_eq r.id x) (f r) r (keeps.pool r);
+      links = λ r. cond_same (λ s. s.links) (bytes_eq r.id x) (f r) r (keeps.links r);
+      status = λ r free. cond_both (bytes_eq r.id x) (f r) r (λ s. not (is_reserved s.status) ≡ true) (λ _. keeps.status r free) (λ _. free);
+    }
 
--- what f keeps of each row, the changed rows have
-pub map-with_row : {Y : Type 0} (g : NodeRow → Y) (x : List ℕ) (f : NodeRow → NodeRow) (rows : List NodeRow) → ((r : NodeRow) → g (f r) ≡ g r) → map g (with_row x f rows) ≡ map g rows
-map-with_row g x f [] keeps = refl
-map-with_row g x f (r ∷ rows) keeps =
-    ap (λ y. y ∷ map g (with_row x f rows)) (cond_same g (bytes_eq r.id x) (f r) r (keeps r)) ∙ ap (λ ys. g r ∷ ys) (map-with_row g x f rows keeps)
+map-kept : {Y : Type 0} (h : NodeRow → Y) (g : NodeRow → NodeRow) (rows : List NodeRow) → ((r : NodeRow) → h (g r) ≡ h r) → map h (map g rows) ≡ map h rows
+map-kept h g [] keeps = refl
+map-kept h g (r ∷ rows) keeps = ap (λ y. y ∷ map h (map g rows)) (keeps r) ∙ ap (λ ys. h r ∷ ys) (map-kept h g rows keeps)
 
--- a test that each row passes, and each changed one
-pub list_all-with_row : (p : NodeRow → Bool) (x : List ℕ) (f : NodeRow → NodeRow) (rows : List NodeRow) → ((r : NodeRow) → p r ≡ true → p (f r) ≡ true) → list_all p rows ≡ true → list_all p (with_row x f rows) ≡ true
-list_all-with_row p x f [] keeps h = refl
-list_all-with_row p x f (r ∷ rows) keeps h =
+flat-kept : {Y : Type 0} (h : NodeRow → List Y) (g : NodeRow → NodeRow) (rows : List NodeRow) → ((r : NodeRow) → h (g r) ≡ h r) → flat_map h (map g rows) ≡ flat_map h rows
+flat-kept h g [] keeps = refl
+flat-kept h g (r ∷ rows) keeps = ap (λ ys. ys ++ flat_map h (map g rows)) (keeps r) ∙ ap (λ ys. h r ++ ys) (flat-kept h g rows keeps)
+
+all-kept : (p : NodeRow → Bool) (g : NodeRow → NodeRow) (rows : List NodeRow) → ((r : NodeRow) → p r ≡ true → p (g r) ≡ true) → list_all p rows ≡ true → list_all p (map g rows) ≡ true
+all-kept p g [] keeps h = refl
+all-kept p g (r ∷ rows) keeps h =
     let parts = and_parts _ _ h in
-    and_from _ _ (cond_both (bytes_eq r.id x) (f r) r (λ y. p y ≡ true) (λ _. keeps r parts.0) (λ _. parts.0)) (list_all-with_row p x f rows keeps parts.1)
+    and_from _ _ (keeps r parts.0) (all-kept p g rows keeps parts.1)
 
--- f keeps the id and the depth, and gives no reserved Status
-pub record KeepsTicket (f : NodeRow → NodeRow) : Type 0 where
-  pub id : (r : NodeRow) → (f r).id ≡ r.id
-  pub depth : (r : NodeRow) → (f r).depth ≡ r.depth
-  pub status : (r : NodeRow) → not (is_reserved r.status) ≡ true → not (is_reserved (f r).status) ≡ true
+-- ---- homes
+
+home_at : (b : Bool) (x : List ℕ) (h : List ℕ) (y : Resource) (pool : List Resource) (rest : List (Resource × List ℕ))
+    → option_map (λ e. e.1) (find (λ e. bytes_eq e.0.id x) (map (λ z. (z, h)) pool ++ rest)) ≡ cond (mem x (map (λ z. z.id) pool)) (Some h) (option_map (λ e. e.1) (find (λ e. bytes_eq e.0.id x) rest))
+    → option_map (λ e. e.1) (cond b (Some (y, h)) (find (λ e. bytes_eq e.0.id x) (map (λ z. (z, h)) pool ++ rest))) ≡ cond (b || mem x (map (λ z. z.id) pool)) (Some h) (option_map (λ e. e.1) (find (λ e. bytes_eq e.0.id x) rest))
+home_at true x h y pool rest later = refl
+home_at false x h y pool rest later = later
+
+-- the home of an id among the resources of one node, or later
+home_in : (x : List ℕ) (h : List ℕ) (pool : List Resource) (rest : List (Resource × List ℕ)) → option_map (λ e. e.1) (find (λ e. bytes_eq e.0.id x) (map (λ y. (y, h)) pool ++ rest))
+    ≡ cond (mem x (map (λ y. y.id) pool)) (Some h) (option_map (λ e. e.1) (find (λ e. bytes_eq e.0.id x) rest))
+home_in x h [] rest = refl
+home_in x h (y ∷ pool) rest = home_at (bytes_eq y.id x) x h y pool rest (home_in x h pool rest)
+
+-- the first row whose pool has the id is its home
+pub home_of-cons : (x : List ℕ) (r : NodeRow) (rows : List NodeRow) → home_of (r ∷ rows) x ≡ cond (mem x (map (λ y. y.id) r.resources)) (Some r.id) (home_of rows x)
+home_of-cons x r rows = home_in x r.id r.resources (homes rows)
+
+home_of-kept : (g : NodeRow → NodeRow) (rows : List NodeRow) (x : List ℕ) → KeepsTicket g → home_of (map g rows) x ≡ home_of rows x
+home_of-kept g [] x keeps = refl
+home_of-kept g (r ∷ rows) x keeps =
+    home_of-cons x (g r) (map g rows)
+    ∙ ap (λ ids. cond (mem x ids) (Some (g r).id) (home_of (map g rows) x)) (keeps.pool r)
+    ∙ ap (λ h. cond (mem x (map (λ y. y.id) r.resources)) (Some h) (home_of (map g rows) x)) (keeps.id r)
+    ∙ ap (λ o. cond (mem x (map (λ y. y.id) r.resources)) (Some r.id) o) (home_of-kept g rows x keeps)
+    ∙ sym (home_of-cons x r rows)
+
+-- ---- links
+
+links-same : (old new : List NodeRow) (path : List (List ℕ)) (links : List Link) → ((x : List ℕ) → home_of new x ≡ home_of old x) → list_all (resolves new path) links ≡ list_all (resolves old path) links
+links-same old new path [] same = refl
+links-same old new path (l ∷ links) same =
+    ap (λ o. option_map_or (λ home. mem home path) o false && list_all (resolves new path) links) (same l.rref) ∙ ap (λ b. resolves old path l && b) (links-same old new path links same)
+
+path-kept : (g : NodeRow → NodeRow) (before : List (List ℕ)) (r : NodeRow) → KeepsTicket g → path_of before (g r) ≡ path_of before r
+path-kept g before r keeps =
+    ap (λ i. i ∷ drop (suc (length before) - (g r).depth) before) (keeps.id r) ∙ ap (λ d. r.id ∷ drop (suc (length before) - d) before) (keeps.depth r)
+
+resolved-kept : (g : NodeRow → NodeRow) (old new : List NodeRow) (before : List (List ℕ)) (rows : List NodeRow) → KeepsTicket g → ((x : List ℕ) → home_of new x ≡ home_of old x) → are_resolved_from new before (map g rows) ≡ are_resolved_from old before rows
+resolved-kept g old new before [] keeps same = refl
+resolved-kept g old new before (r ∷ rows) keeps same =
+    ap (λ path. list_all (resolves new path) (g r).links && are_resolved_from new path (map g rows)) (path-kept g before r keeps)
+    ∙ ap (λ links. list_all (resolves new (path_of before r)) links && are_resolved_from new (path_of before r) (map g rows)) (keeps.links r)
+    ∙ ap (λ b. b && are_resolved_from new (path_of before r) (map g rows)) (links-same old new (path_of before r) r.links same)
+    ∙ ap (λ b. list_all (resolves old (path_of before r)) r.links && b) (resolved-kept g old new (path_of before r) rows keeps same)
+
+-- ---- the whole
+
+ids_of-kept : (g : NodeRow → NodeRow) (r : NodeRow) → KeepsTicket g → ids_of (g r) ≡ ids_of r
+ids_of-kept g r keeps = ap (λ i. i ∷ map (λ x. x.id) (g r).resources) (keeps.id r) ∙ ap (λ is. r.id ∷ is) (keeps.pool r)
+
+pub IsValid-kept : (g : NodeRow → NodeRow) (rows : List NodeRow) → KeepsTicket g → IsValid rows → IsValid (map g rows)
+IsValid-kept g rows keeps valid =
+    record {
+      tree = ap is_outline (map-kept (λ r. r.depth) g rows keeps.depth) ∙ valid.tree;
+      unreserved = all-kept (λ r. not (is_reserved r.status)) g rows keeps.status valid.unreserved;
+      distinct = ap are_distinct (flat-kept ids_of g rows (λ r. ids_of-kept g r keeps)) ∙ valid.distinct;
+      shallow = all-kept (λ r. nat_le r.depth max_depth) g rows (λ r h. ap (λ d. nat_le d max_depth) (keeps.depth r) ∙ h) valid.shallow;
+      resolved = resolved-kept g rows (map g rows) [] rows keeps (λ x. home_of-kept g rows x keeps) ∙ valid.resolved;
+    }
 
 pub IsValid-with_row : (x : List ℕ) (f : NodeRow → NodeRow) (rows : List NodeRow) → KeepsTicket f → IsValid rows → IsValid (with_row x f rows)
-IsValid-with_row x f rows keeps valid =
-    record {
-      tree = ap is_outline (map-with_row (λ r. r.depth) x f rows keeps.depth) ∙ valid.tree;
-      unreserved = list_all-with_row (λ r. not (is_reserved r.status)) x f rows keeps.status valid.unreserved;
-      distinct = ap are_distinct (map-with_row (λ r. r.id) x f rows keeps.id) ∙ valid.distinct;
-      shallow = list_all-with_row (λ r. nat_le r.depth max_depth) x f rows (λ r h. ap (λ d. nat_le d max_depth) (keeps.depth r) ∙ h) valid.shallow;
-    }
+IsValid-with_row x f rows keeps valid = IsValid-kept (at_id x f) rows (keeps-at_id x f keeps) valid
 
 -- ---- the edits
 
 pub keeps-SetStatus : (status : List ℕ) → is_reserved status ≡ false → KeepsTicket (λ r. record r { status = status })
-keeps-SetStatus status free = record { id = λ r. refl; depth = λ r. refl; status = λ r _. ap not free }
+keeps-SetStatus status free = record { id = λ r. refl; depth = λ r. refl; pool = λ r. refl; links = λ r. refl; status = λ r _. ap not free }
 
 pub keeps-SetAttr : (name value : List ℕ) → KeepsTicket (λ r. record r { attrs = with_attr name value r.attrs })
-keeps-SetAttr name value = record { id = λ r. refl; depth = λ r. refl; status = λ r h. h }
+keeps-SetAttr name value = record { id = λ r. refl; depth = λ r. refl; pool = λ r. refl; links = λ r. refl; status = λ r h. h }
+
+pub keeps-Note : (at : ℕ) (text : List ℕ) → KeepsTicket (λ r. record r { audits = r.audits ++ Notification at text ∷ [] })
+keeps-Note at text = record { id = λ r. refl; depth = λ r. refl; pool = λ r. refl; links = λ r. refl; status = λ r h. h }
+
+pool-kept : (x : List ℕ) (f : Resource → Resource) (pool : List Resource) → ((y : Resource) → (f y).id ≡ y.id) → map (λ y. y.id) (with_item x f pool) ≡ map (λ y. y.id) pool
+pool-kept x f [] keeps = refl
+pool-kept x f (y ∷ pool) keeps =
+    ap (λ i. i ∷ map (λ z. z.id) (with_item x f pool)) (cond_same (λ z. z.id) (bytes_eq y.id x) (f y) y (keeps y)) ∙ ap (λ is. y.id ∷ is) (pool-kept x f pool keeps)
+
+pub keeps-resources : (x : List ℕ) (f : Resource → Resource) → ((y : Resource) → (f y).id ≡ y.id) → KeepsTicket (λ r. record r { resources = with_item x f r.resources })
+keeps-resources x f keeps = record { id = λ r. refl; depth = λ r. refl; pool = λ r. pool-kept x f r.resources keeps; links = λ r. refl; status = λ r h. h }
+
+pub IsValid-with_resource : (x : List ℕ) (f : Resource → Resource) (rows : List NodeRow) → ((y : Resource) → (f y).id ≡ y.id) → IsValid rows → IsValid (with_resource x f rows)
+IsValid-with_resource x f rows keeps valid = IsValid-kept (λ r. record r { resources = with_item x f r.resources }) rows (keeps-resources x f keeps) valid
+
+-- ---- a write at the place that was found
 
 -- a write of f at the place that was found among the rows as they were seen
 pub change_at : (x : List ℕ) (f : NodeRow → NodeRow) (rows seen : List NodeRow) (k : ℕ) (s : NodeRow) → seen ≡ rows → are_distinct (ids rows) ≡ true → position (λ r. bytes_eq r.id x) seen ≡ Some k → s ≡ get_or rows k s → set rows k (f s) ≡ with_row x f rows
-change_at x f rows seen k s same apart found is =
-    let here : position (λ r. bytes_eq r.id x) rows ≡ Some k = ap (position (λ r. bytes_eq r.id x)) (sym same) ∙ found in
-    set-with_row x f rows k s apart here (slice_get-get_or rows k s (below_length (λ r. bytes_eq r.id x) rows k here) ∙ ap Some (sym is))
+change_at x f rows seen k s same apart found is = write_at_key (λ r. r.id) x f rows seen k s same (node_ids_distinct rows apart) found is
+
+-- ---- a write in the pool that was found
+
+front_distinct : (xs ys : List (List ℕ)) → are_distinct (xs ++ ys) ≡ true → are_distinct xs ≡ true
+front_distinct [] ys h = refl
+front_distinct (x ∷ xs) ys h =
+    let parts = and_parts _ _ h in
+    let out = or_parts (mem x xs) (mem x ys) (sym (mem-append x xs ys) ∙ not-true _ parts.0) in
+    and_from _ _ (not_from_false _ out.0) (front_distinct xs ys parts.1)
+
+-- the ids of a pool are apart
+pub pool_apart : (rows : List NodeRow) (k : ℕ) (r : NodeRow) → are_distinct (ids rows) ≡ true → slice_get rows k ≡ Some r → are_distinct (map (λ y. y.id) r.resources) ≡ true
+pool_apart [] k r apart at = cc
+pool_apart (s ∷ rows) zero r apart at =
+    let same : s ≡ r = cc in
+    ap (λ t. are_distinct (map (λ y. y.id) t.resources)) (sym same) ∙ front_distinct (map (λ y. y.id) s.resources) (ids rows) (and_parts _ _ apart).1
+pool_apart (s ∷ rows) (suc k) r apart at = pool_apart rows k r (later_distinct (map (λ y. y.id) s.resources) (ids rows) (and_parts _ _ apart).1) at
+
+other_part_at : (b : Bool) (x y : List ℕ) (xs ys : List (List ℕ)) → bytes_eq y x ≡ b → not (mem y (xs ++ ys)) ≡ true → (b || mem x xs) ≡ true → (mem x xs ≡ true → mem x ys ≡ false) → mem x ys ≡ false
+other_part_at true x y xs ys e out there later = ap (λ z. mem z ys) (sym ((bytes_eq-Decides y x).0 e)) ∙ later_part y xs ys (not-true _ out)
+other_part_at false x y xs ys e out there later = later there
+
+-- what stands in the front doesn't stand behind it
+other_part : (x : List ℕ) (xs ys : List (List ℕ)) → are_distinct (xs ++ ys) ≡ true → mem x xs ≡ true → mem x ys ≡ false
+other_part x [] ys apart there = absurd (true≢false (sym there))
+other_part x (y ∷ xs) ys apart there =
+    let parts = and_parts _ _ apart in
+    other_part_at (bytes_eq y x) x y xs ys refl parts.0 there (other_part x xs ys parts.1)
+
+-- an id that isn't there changes no resource
+with_resource-none : (x : List ℕ) (f : Resource → Resource) (rows : List NodeRow) → mem x (ids rows) ≡ false → with_resource x f rows ≡ rows
+with_resource-none x f [] out = refl
+with_resource-none x f (r ∷ rows) out =
+    let parts = or_parts (bytes_eq r.id x) _ out in
+    let own = or_parts (mem x (map (λ y. y.id) r.resources)) (mem x (ids rows)) (sym (mem-append x (map (λ y. y.id) r.resources) (ids rows)) ∙ parts.1) in
+    ap (λ pool. record r { resources = pool } ∷ with_resource x f rows) (at_key-none (λ y. y.id) x f r.resources own.0) ∙ ap (λ rs. r ∷ rs) (with_resource-none x f rows own.1)
+
+abbrev with_pool : List ℕ → (Resource → Resource) → NodeRow → NodeRow
+with_pool x f r = record r { resources = with_item x f r.resources }
+
+set_pool : (here : Bool) (later : Option ℕ) (x : List ℕ) (f : Resource → Resource) (r : NodeRow) (rows : List NodeRow) (k : ℕ) (s : NodeRow) → holds x r ≡ here → cond here (Some 0) (option_map suc later) ≡ Some k → slice_get (r ∷ rows) k ≡ Some s
+    → are_distinct (map (λ y. y.id) r.resources ++ ids rows) ≡ true → ((j : ℕ) → later ≡ Some j → slice_get rows j ≡ Some s → set rows j (with_pool x f s) ≡ with_resource x f rows) → set (r ∷ rows) k (with_pool x f s) ≡ with_resource x f (r ∷ rows)
+set_pool true later x f r rows zero s e found at apart go =
+    let same : r ≡ s = cc in
+    ap (λ t. with_pool x f t ∷ rows) (sym same) ∙ ap (λ rs. with_pool x f r ∷ rs) (sym (with_resource-none x f rows (other_part x (map (λ y. y.id) r.resources) (ids rows) apart (any-map x r.resources ∙ e))))
+set_pool true later x f r rows (suc k) s e found at apart go = cc
+set_pool false None x f r rows k s e found at apart go = cc
+set_pool false (Some j) x f r rows zero s e found at apart go = cc
+set_pool false (Some j) x f r rows (suc k) s e found at apart go =
+    let next : k ≡ j = cc in
+    let rest : set rows k (with_pool x f s) ≡ with_resource x f rows = ap (λ i. set rows i (with_pool x f s)) next ∙ go j refl (ap (slice_get rows) (sym next) ∙ at) in
+    ap (λ rs. r ∷ rs) rest ∙ ap (λ pool. record r { resources = pool } ∷ with_resource x f rows) (sym (at_key-none (λ y. y.id) x f r.resources (any-map x r.resources ∙ e)))
+
+set-with_resource : (x : List ℕ) (f : Resource → Resource) (rows : List NodeRow) (k : ℕ) (s : NodeRow) → are_distinct (ids rows) ≡ true → position (holds x) rows ≡ Some k → slice_get rows k ≡ Some s → set rows k (with_pool x f s) ≡ with_resource x f rows
+set-with_resource x f [] k s apart found at = cc
+set-with_resource x f (r ∷ rows) k s apart found at =
+    let parts = and_parts _ _ apart in
+    set_pool (holds x r) (position (holds x) rows) x f r rows k s refl (sym (position-cons (holds x) r rows) ∙ found) at parts.1 (λ j e a. set-with_resource x f rows j s (later_distinct (map (λ y. y.id) r.resources) (ids rows) parts.1) e a)
+
+-- the row at the place that was found among the rows as they were seen
+pub home_at_place : (x : List ℕ) (rows seen : List NodeRow) (k : ℕ) (s : NodeRow) → seen ≡ rows → position (holds x) seen ≡ Some k → s ≡ get_or rows k s → slice_get rows k ≡ Some s
+home_at_place x rows seen k s same found is =
+    slice_get-get_or rows k s (below_length (holds x) rows k (ap (position (holds x)) (sym same) ∙ found)) ∙ ap Some (sym is)
+
+pub change_pool_at : (x : List ℕ) (f : Resource → Resource) (rows seen : List NodeRow) (k : ℕ) (s : NodeRow) → seen ≡ rows → are_distinct (ids rows) ≡ true → position (holds x) seen ≡ Some k → s ≡ get_or rows k s → set rows k (with_pool x f s) ≡ with_resource x f rows
+change_pool_at x f rows seen k s same apart found is =
+    set-with_resource x f rows k s apart (ap (position (holds x)) (sym same) ∙ found) (home_at_place x rows seen k s same found is)

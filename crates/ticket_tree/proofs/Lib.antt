@@ -1,9 +1,24 @@
 pub mod Apart
 pub mod Below
+pub mod ById
 pub mod Changes
+pub mod Growing
+pub mod NewResource
+pub mod NewNode
+pub mod NodePlaces
+pub mod OnPlaces
 pub mod Ordered
 pub mod Parents
 pub mod Places
+pub mod AtHome
+pub mod AtKey
 pub mod Preorder
 pub mod Plain
+pub mod PlainEdits
+pub mod PlainNode
+pub mod PlainPlaces
+pub mod PlainRefusal
+pub mod PlainRows
+pub mod Reasons
+pub mod Table
 mod Worked

@@ -1,35 +1,37 @@
 -- Each node but the root has one parent, and its path is itself and then its parent's path.
-use Rattle.std.proofs.Common.{◌≡◌, ◌⊎◌, inl, inr, ℕ, zero, suc, ◌-◌, ◌≤◌, ◌&&◌, ◌||◌, Bool, true, false, cond, List, [], ◌∷◌, map, length, drop, Option, Some, None, refl, sym, ap, ◌∙◌, arith, is_some, slice_get}
+use Rattle.std.proofs.Common.{◌≡◌, ◌⊎◌, inl, inr, ℕ, zero, suc, ◌-◌, ◌≤◌, ◌&&◌, ◌||◌, Bool, true, false, cond, List, [], ◌∷◌, map, length, drop, Option, Some, None, refl, sym, ap, ◌∙◌, arith, is_some, slice_get, subst}
 use Rattle.std.proofs.lemmas.Bool.{true≢false, and_parts, or_from, leb-true, eqb-true, not-true}
 use Rattle.std.proofs.lemmas.List.{length-drop}
 use Rattle.std.proofs.lemmas.Slice.Eq.{bytes_eq-Decides}
 use Rattle.std.specs.Option.{option_and_then, option_map_or}
 use Rattle.std.specs.Str.{bytes_eq}
 use Rattle.ticket_tree.proofs.Apart.{bytes_eq-same}
-use Rattle.ticket_tree.proofs.Below.{Path, mem-drop, Follows, Follows-outline, length-path_of, is_some-place_at, mem-ids}
+use Rattle.ticket_tree.proofs.Below.{Path, mem-drop, Follows, Follows-outline, length-path_of, is_some-place_at, mem-node_ids}
 use Rattle.ticket_tree.specs.Ids.{mem, are_distinct}
 use Rattle.ticket_tree.specs.Laws.{IsRootAt, HasParentAt, OneParentEach, DepthIsPathLength, BelowByParent}
 use Rattle.ticket_tree.specs.Outline.{goes_on}
-use Rattle.ticket_tree.specs.Place.{Place, path_of, place_of, places_from, places, place_at, below, is_below, parent, up}
-use Rattle.ticket_tree.specs.Ticket.{IsValid, ids, depths}
+use Rattle.ticket_tree.proofs.NodePlaces.{nodes_from, node_places-rows, node_ids_distinct}
+use Rattle.ticket_tree.specs.Paths.{path_of}
+use Rattle.ticket_tree.specs.Place.{Place, node_place, node_places, place_at, below, is_below, parent, up}
+use Rattle.ticket_tree.specs.Ticket.{IsValid, node_ids, depths}
 use Rattle.ticket_tree.specs.declared.node_row.NodeRow.{NodeRow}
 
 -- ---- depths are lengths of paths
 
-lengths : (before : Path) (rows : List NodeRow) → Follows before rows → map (λ p. length p.path) (places_from before rows) ≡ depths rows
+lengths : (before : Path) (rows : List NodeRow) → Follows before rows → map (λ p. length p.path) (nodes_from before rows) ≡ depths rows
 lengths before [] follows = refl
 lengths before (r ∷ rows) follows =
-    ap (λ n. n ∷ map (λ p. length p.path) (places_from (path_of before r) rows)) (length-path_of before r follows.0 follows.1)
+    ap (λ n. n ∷ map (λ p. length p.path) (nodes_from (path_of before r) rows)) (length-path_of before r follows.0 follows.1)
     ∙ ap (λ ns. r.depth ∷ ns) (lengths (path_of before r) rows follows.2)
 
 pub depth_is_path_length : DepthIsPathLength
-depth_is_path_length rows valid = lengths [] rows (Follows-outline rows valid.tree)
+depth_is_path_length rows valid = ap (map (λ p. length p.path)) (node_places-rows rows) ∙ lengths [] rows (Follows-outline rows valid.tree)
 
--- ---- ids of later rows
+-- ---- node_ids of later rows
 
 -- no id of the rows is on the way to them
 abbrev pub AreNew : Path → List NodeRow → Type 0
-AreNew before rows = (y : List ℕ) → mem y (ids rows) ≡ true → mem y before ≡ false
+AreNew before rows = (y : List ℕ) → mem y (node_ids rows) ≡ true → mem y before ≡ false
 
 -- an id that stands later isn't this one
 later_id : (b : Bool) (x y : List ℕ) (xs : Path) → bytes_eq x y ≡ b → mem x xs ≡ false → mem y xs ≡ true → bytes_eq x y ≡ false
@@ -38,8 +40,8 @@ later_id true x y xs e out there =
     absurd (true≢false (sym there ∙ ap (λ i. mem i xs) (sym same) ∙ out))
 later_id false x y xs e out there = e
 
-pub other_id : (r : NodeRow) (rows : List NodeRow) (y : List ℕ) → are_distinct (ids (r ∷ rows)) ≡ true → mem y (ids rows) ≡ true → bytes_eq r.id y ≡ false
-other_id r rows y apart there = later_id (bytes_eq r.id y) r.id y (ids rows) refl (not-true _ (and_parts _ _ apart).0) there
+pub other_id : (r : NodeRow) (rows : List NodeRow) (y : List ℕ) → are_distinct (node_ids (r ∷ rows)) ≡ true → mem y (node_ids rows) ≡ true → bytes_eq r.id y ≡ false
+other_id r rows y apart there = later_id (bytes_eq r.id y) r.id y (node_ids rows) refl (not-true _ (and_parts _ _ apart).0) there
 
 -- what stands later stands there
 pub there_later : (b c : Bool) → c ≡ true → (b || c) ≡ true
@@ -47,11 +49,11 @@ there_later true c h = refl
 there_later false c h = h
 
 pub here_new : (before : Path) (r : NodeRow) (rows : List NodeRow) → AreNew before (r ∷ rows) → mem r.id before ≡ false
-here_new before r rows new = new r.id (ap (λ b. b || mem r.id (ids rows)) (bytes_eq-same r.id))
+here_new before r rows new = new r.id (ap (λ b. b || mem r.id (node_ids rows)) (bytes_eq-same r.id))
 
-pub later_new : (before : Path) (r : NodeRow) (rows : List NodeRow) → are_distinct (ids (r ∷ rows)) ≡ true → AreNew before (r ∷ rows) → AreNew (path_of before r) rows
+pub later_new : (before : Path) (r : NodeRow) (rows : List NodeRow) → are_distinct (node_ids (r ∷ rows)) ≡ true → AreNew before (r ∷ rows) → AreNew (path_of before r) rows
 later_new before r rows apart new y there =
-    or_from _ _ (other_id r rows y apart there) (mem-drop y (suc (length before) - r.depth) before (new y (there_later (bytes_eq r.id y) (mem y (ids rows)) there)))
+    or_from _ _ (other_id r rows y apart there) (mem-drop y (suc (length before) - r.depth) before (new y (there_later (bytes_eq r.id y) (mem y (node_ids rows)) there)))
 
 -- ---- the way up
 
@@ -77,7 +79,7 @@ record ParentIn (tree : List Place) (x : List ℕ) (p : Place) : Type 0 where
   above : up tree x ≡ Some parent.id
   once : mem x parent.path ≡ false
 
-here_parent : (tree : List Place) (x : List ℕ) (r : NodeRow) (ys : Path) (p : Place) → 1 ≤ length ys → IsWayUp tree ys → r.id ≡ x → place_of r (r.id ∷ ys) ≡ p → place_at tree x ≡ Some p → mem x ys ≡ false → ParentIn tree x p
+here_parent : (tree : List Place) (x : List ℕ) (r : NodeRow) (ys : Path) (p : Place) → 1 ≤ length ys → IsWayUp tree ys → r.id ≡ x → node_place r (r.id ∷ ys) ≡ p → place_at tree x ≡ Some p → mem x ys ≡ false → ParentIn tree x p
 here_parent tree x r [] p long way named same found out =
     let never : ⊥ = omega arith in
     absurd never
@@ -91,20 +93,20 @@ here_parent tree x r (y ∷ ys) p long way named same found out =
       once = ap (mem x) way.2 ∙ out;
     }
 
-finds_later : (tree : List Place) (before : Path) (r : NodeRow) (rows : List NodeRow) → are_distinct (ids (r ∷ rows)) ≡ true → FindsAll tree (places_from before (r ∷ rows)) → FindsAll tree (places_from (path_of before r) rows)
+finds_later : (tree : List Place) (before : Path) (r : NodeRow) (rows : List NodeRow) → are_distinct (node_ids (r ∷ rows)) ≡ true → FindsAll tree (nodes_from before (r ∷ rows)) → FindsAll tree (nodes_from (path_of before r) rows)
 finds_later tree before r rows apart finds y p found =
-    let there : mem y (ids rows) ≡ true = mem-ids rows y ∙ sym (is_some-place_at (path_of before r) rows y) ∙ ap is_some found in
-    finds y p (ap (λ b. cond b (Some (place_of r (path_of before r))) (place_at (places_from (path_of before r) rows) y)) (other_id r rows y apart there) ∙ found)
+    let there : mem y (node_ids rows) ≡ true = mem-node_ids rows y ∙ sym (is_some-place_at (path_of before r) rows y) ∙ ap is_some found in
+    finds y p (ap (λ b. cond b (Some (node_place r (path_of before r))) (place_at (nodes_from (path_of before r) rows) y)) (other_id r rows y apart there) ∙ found)
 
-finds_here : (tree : List Place) (before : Path) (r : NodeRow) (rows : List NodeRow) → FindsAll tree (places_from before (r ∷ rows)) → place_at tree r.id ≡ Some (place_of r (path_of before r))
+finds_here : (tree : List Place) (before : Path) (r : NodeRow) (rows : List NodeRow) → FindsAll tree (nodes_from before (r ∷ rows)) → place_at tree r.id ≡ Some (node_place r (path_of before r))
 finds_here tree before r rows finds =
-    finds r.id _ (ap (λ b. cond b (Some (place_of r (path_of before r))) (place_at (places_from (path_of before r) rows) r.id)) (bytes_eq-same r.id))
+    finds r.id _ (ap (λ b. cond b (Some (node_place r (path_of before r))) (place_at (nodes_from (path_of before r) rows) r.id)) (bytes_eq-same r.id))
 
-parent_row : (here : Bool) (tree : List Place) (before : Path) (r : NodeRow) (rows : List NodeRow) (x : List ℕ) (p : Place) → bytes_eq r.id x ≡ here → 2 ≤ r.depth → r.depth ≤ suc (length before) → AreNew before (r ∷ rows) → IsWayUp tree before → FindsAll tree (places_from before (r ∷ rows))
-    → cond here (Some (place_of r (path_of before r))) (place_at (places_from (path_of before r) rows) x) ≡ Some p → (place_at (places_from (path_of before r) rows) x ≡ Some p → ParentIn tree x p) → ParentIn tree x p
+parent_row : (here : Bool) (tree : List Place) (before : Path) (r : NodeRow) (rows : List NodeRow) (x : List ℕ) (p : Place) → bytes_eq r.id x ≡ here → 2 ≤ r.depth → r.depth ≤ suc (length before) → AreNew before (r ∷ rows) → IsWayUp tree before → FindsAll tree (nodes_from before (r ∷ rows))
+    → cond here (Some (node_place r (path_of before r))) (place_at (nodes_from (path_of before r) rows) x) ≡ Some p → (place_at (nodes_from (path_of before r) rows) x ≡ Some p → ParentIn tree x p) → ParentIn tree x p
 parent_row true tree before r rows x p e low high new way finds found later =
     let n : ℕ = suc (length before) - r.depth in
-    let same : place_of r (path_of before r) ≡ p = cc in
+    let same : node_place r (path_of before r) ≡ p = cc in
     let named : r.id ≡ x = (bytes_eq-Decides r.id x).0 e in
     let long : 1 ≤ length (drop n before) = omega (arith, length-drop n before) in
     let at_x : place_at tree x ≡ Some p = ap (place_at tree) (sym named) ∙ finds_here tree before r rows finds ∙ ap Some same in
@@ -112,8 +114,8 @@ parent_row true tree before r rows x p e low high new way finds found later =
     here_parent tree x r (drop n before) p long (way_up-drop tree n before way) named same at_x out
 parent_row false tree before r rows x p e low high new way finds found later = later found
 
-parents : (tree : List Place) (before : Path) (rows : List NodeRow) → goes_on (length before) (depths rows) ≡ true → are_distinct (ids rows) ≡ true → AreNew before rows → IsWayUp tree before → FindsAll tree (places_from before rows)
-    → (x : List ℕ) (p : Place) → place_at (places_from before rows) x ≡ Some p → ParentIn tree x p
+parents : (tree : List Place) (before : Path) (rows : List NodeRow) → goes_on (length before) (depths rows) ≡ true → are_distinct (node_ids rows) ≡ true → AreNew before rows → IsWayUp tree before → FindsAll tree (nodes_from before rows)
+    → (x : List ℕ) (p : Place) → place_at (nodes_from before rows) x ≡ Some p → ParentIn tree x p
 parents tree before [] goes apart new way finds x p found = cc
 parents tree before (r ∷ rows) goes apart new way finds x p found =
     let parts = and_parts _ _ goes in
@@ -122,7 +124,7 @@ parents tree before (r ∷ rows) goes apart new way finds x p found =
     let high : r.depth ≤ suc (length before) = leb-true _ _ bounds.1 in
     let some : 1 ≤ r.depth = omega arith in
     let long : length (path_of before r) ≡ r.depth = length-path_of before r some high in
-    let way_on : IsWayUp tree (path_of before r) = (place_of r (path_of before r), refl, refl, finds_here tree before r rows finds, way_up-drop tree (suc (length before) - r.depth) before way) in
+    let way_on : IsWayUp tree (path_of before r) = (node_place r (path_of before r), refl, refl, finds_here tree before r rows finds, way_up-drop tree (suc (length before) - r.depth) before way) in
     parent_row (bytes_eq r.id x) tree before r rows x p refl low high new way finds found
     (parents tree (path_of before r) rows (ap (λ n. goes_on n (depths rows)) long ∙ parts.1) (and_parts _ _ apart).1 (later_new before r rows apart new) way_on (finds_later tree before r rows apart finds) x p)
 
@@ -132,10 +134,10 @@ drop_none : (n : ℕ) → drop {A = List ℕ} n [] ≡ []
 drop_none zero = refl
 drop_none (suc n) = refl
 
-root_row : (here : Bool) (r : NodeRow) (rows : List NodeRow) (x : List ℕ) (p : Place) → bytes_eq r.id x ≡ here → cond here (Some (place_of r (path_of [] r))) (place_at (places_from (path_of [] r) rows) x) ≡ Some p
-    → (place_at (places_from (path_of [] r) rows) x ≡ Some p → ParentIn (places (r ∷ rows)) x p) → IsRootAt (r ∷ rows) x p ⊎ HasParentAt (r ∷ rows) x p
+root_row : (here : Bool) (r : NodeRow) (rows : List NodeRow) (x : List ℕ) (p : Place) → bytes_eq r.id x ≡ here → cond here (Some (node_place r (path_of [] r))) (place_at (nodes_from (path_of [] r) rows) x) ≡ Some p
+    → (place_at (nodes_from (path_of [] r) rows) x ≡ Some p → ParentIn (nodes_from [] (r ∷ rows)) x p) → IsRootAt (nodes_from [] (r ∷ rows)) x p ⊎ HasParentAt (nodes_from [] (r ∷ rows)) x p
 root_row true r rows x p e found later =
-    let same : place_of r (path_of [] r) ≡ p = cc in
+    let same : node_place r (path_of [] r) ≡ p = cc in
     let named : r.id ≡ x = (bytes_eq-Decides r.id x).0 e in
     inl (record {
       path = ap (λ q. q.path) (sym same) ∙ ap (λ ys. r.id ∷ ys) (drop_none (1 - r.depth)) ∙ ap (λ i. i ∷ []) named;
@@ -145,50 +147,59 @@ root_row false r rows x p e found later =
     let one = later found in
     inr (record { parent = one.parent; there = one.there; path = one.path; above = one.above; once = one.once })
 
-pub one_parent_each : OneParentEach
-one_parent_each [] valid x p found = cc
-one_parent_each (r ∷ rows) valid x p found =
+-- the law, over the places of nodes
+abbrev OneParentIn : List Place → Type 0
+OneParentIn nodes = (x : List ℕ) (p : Place) → place_at nodes x ≡ Some p → IsRootAt nodes x p ⊎ HasParentAt nodes x p
+
+one_parent_in : (rows : List NodeRow) → IsValid rows → OneParentIn (nodes_from [] rows)
+one_parent_in [] valid x p found = cc
+one_parent_in (r ∷ rows) valid x p found =
+    let apart = node_ids_distinct (r ∷ rows) valid.distinct in
     let parts = and_parts _ _ valid.tree in
     let one : r.depth ≡ 1 = eqb-true _ _ parts.0 in
     let low : 1 ≤ r.depth = omega arith in
     let high : r.depth ≤ suc (length {A = List ℕ} []) = omega arith in
     let long : length (path_of [] r) ≡ 1 = length-path_of [] r low high ∙ one in
-    let tree : List Place = places (r ∷ rows) in
-    let all : FindsAll tree (places_from [] (r ∷ rows)) = λ y q h. h in
+    let tree : List Place = nodes_from [] (r ∷ rows) in
+    let all : FindsAll tree (nodes_from [] (r ∷ rows)) = λ y q h. h in
     let new : AreNew [] (r ∷ rows) = λ y h. refl in
-    let way : IsWayUp tree (path_of [] r) = (place_of r (path_of [] r), refl, refl, finds_here tree [] r rows all, way_up-drop tree (1 - r.depth) [] tt) in
+    let way : IsWayUp tree (path_of [] r) = (node_place r (path_of [] r), refl, refl, finds_here tree [] r rows all, way_up-drop tree (1 - r.depth) [] tt) in
     root_row (bytes_eq r.id x) r rows x p refl found
-    (parents tree (path_of [] r) rows (ap (λ n. goes_on n (depths rows)) long ∙ parts.1) (and_parts _ _ valid.distinct).1 (later_new [] r rows valid.distinct new) way (finds_later tree [] r rows valid.distinct all) x p)
+    (parents tree (path_of [] r) rows (ap (λ n. goes_on n (depths rows)) long ∙ parts.1) (and_parts _ _ apart).1 (later_new [] r rows apart new) way (finds_later tree [] r rows apart all) x p)
+
+pub one_parent_each : OneParentEach
+one_parent_each rows valid = subst OneParentIn (sym (node_places-rows rows)) (one_parent_in rows valid)
 
 -- ---- what is below
 
 abbrev ByParent : List Place → List ℕ → List ℕ → Bool
 ByParent tree a b = is_some (place_at tree a) && (bytes_eq a b || option_map_or (λ u. is_below tree u b) (up tree a) false)
 
-below_root : (rows : List NodeRow) (a b : List ℕ) (p : Place) → place_at (places rows) a ≡ Some p → IsRootAt rows a p → is_below (places rows) a b ≡ ByParent (places rows) a b
+below_root : (rows : List NodeRow) (a b : List ℕ) (p : Place) → place_at (nodes_from [] rows) a ≡ Some p → IsRootAt (nodes_from [] rows) a p → is_below (nodes_from [] rows) a b ≡ ByParent (nodes_from [] rows) a b
 below_root rows a b p found root =
-    let none : up (places rows) a ≡ None = ap (option_and_then parent) found ∙ ap (λ zs. slice_get zs 1) root.path in
+    let none : up (nodes_from [] rows) a ≡ None = ap (option_and_then parent) found ∙ ap (λ zs. slice_get zs 1) root.path in
     ap (λ o. option_map_or (below b) o false) found ∙ ap (mem b) root.path
-    ∙ sym (ap (λ o. is_some o && (bytes_eq a b || option_map_or (λ u. is_below (places rows) u b) (up (places rows) a) false)) found
-    ∙ ap (λ o. bytes_eq a b || option_map_or (λ u. is_below (places rows) u b) o false) none)
+    ∙ sym (ap (λ o. is_some o && (bytes_eq a b || option_map_or (λ u. is_below (nodes_from [] rows) u b) (up (nodes_from [] rows) a) false)) found
+    ∙ ap (λ o. bytes_eq a b || option_map_or (λ u. is_below (nodes_from [] rows) u b) o false) none)
 
-below_child : (rows : List NodeRow) (a b : List ℕ) (p : Place) → place_at (places rows) a ≡ Some p → HasParentAt rows a p → is_below (places rows) a b ≡ ByParent (places rows) a b
+below_child : (rows : List NodeRow) (a b : List ℕ) (p : Place) → place_at (nodes_from [] rows) a ≡ Some p → HasParentAt (nodes_from [] rows) a p → is_below (nodes_from [] rows) a b ≡ ByParent (nodes_from [] rows) a b
 below_child rows a b p found has =
-    let higher : is_below (places rows) has.parent.id b ≡ mem b has.parent.path = ap (λ o. option_map_or (below b) o false) has.there in
+    let higher : is_below (nodes_from [] rows) has.parent.id b ≡ mem b has.parent.path = ap (λ o. option_map_or (below b) o false) has.there in
     ap (λ o. option_map_or (below b) o false) found ∙ ap (mem b) has.path
-    ∙ sym (ap (λ o. is_some o && (bytes_eq a b || option_map_or (λ u. is_below (places rows) u b) (up (places rows) a) false)) found
-    ∙ ap (λ o. bytes_eq a b || option_map_or (λ u. is_below (places rows) u b) o false) has.above
+    ∙ sym (ap (λ o. is_some o && (bytes_eq a b || option_map_or (λ u. is_below (nodes_from [] rows) u b) (up (nodes_from [] rows) a) false)) found
+    ∙ ap (λ o. bytes_eq a b || option_map_or (λ u. is_below (nodes_from [] rows) u b) o false) has.above
     ∙ ap (λ c. bytes_eq a b || c) higher)
 
-below_found : (rows : List NodeRow) (a b : List ℕ) (p : Place) → place_at (places rows) a ≡ Some p → IsRootAt rows a p ⊎ HasParentAt rows a p → is_below (places rows) a b ≡ ByParent (places rows) a b
+below_found : (rows : List NodeRow) (a b : List ℕ) (p : Place) → place_at (nodes_from [] rows) a ≡ Some p → IsRootAt (nodes_from [] rows) a p ⊎ HasParentAt (nodes_from [] rows) a p → is_below (nodes_from [] rows) a b ≡ ByParent (nodes_from [] rows) a b
 below_found rows a b p found (inl root) = below_root rows a b p found root
 below_found rows a b p found (inr has) = below_child rows a b p found has
 
-below_at : (rows : List NodeRow) (a b : List ℕ) (o : Option Place) → place_at (places rows) a ≡ o → IsValid rows → is_below (places rows) a b ≡ ByParent (places rows) a b
+below_at : (rows : List NodeRow) (a b : List ℕ) (o : Option Place) → place_at (nodes_from [] rows) a ≡ o → IsValid rows → is_below (nodes_from [] rows) a b ≡ ByParent (nodes_from [] rows) a b
 below_at rows a b None e valid =
     ap (λ o. option_map_or (below b) o false) e
-    ∙ sym (ap (λ o. is_some o && (bytes_eq a b || option_map_or (λ u. is_below (places rows) u b) (up (places rows) a) false)) e)
-below_at rows a b (Some p) e valid = below_found rows a b p e (one_parent_each rows valid a p e)
+    ∙ sym (ap (λ o. is_some o && (bytes_eq a b || option_map_or (λ u. is_below (nodes_from [] rows) u b) (up (nodes_from [] rows) a) false)) e)
+below_at rows a b (Some p) e valid = below_found rows a b p e (one_parent_in rows valid a p e)
 
 pub below_by_parent : BelowByParent
-below_by_parent rows valid a b = below_at rows a b (place_at (places rows) a) refl valid
+below_by_parent rows valid a b =
+    subst (λ nodes. is_below nodes a b ≡ ByParent nodes a b) (sym (node_places-rows rows)) (below_at rows a b (place_at (nodes_from [] rows) a) refl valid)

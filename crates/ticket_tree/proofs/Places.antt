@@ -79,3 +79,7 @@ below_at false n m k e found = cc
 
 pub below_length : {X : Type 0} (p : X → Bool) (xs : List X) (k : ℕ) → position p xs ≡ Some k → k < length xs
 below_length p xs k found = below_at _ (position_or_len p xs) (length xs) k refl found
+
+-- what is found twice is the same
+pub same_found : {X : Type 0} (x y : X) (o : Option X) → o ≡ Some x → o ≡ Some y → x ≡ y
+same_found x y o a b = cc

@@ -11,18 +11,20 @@ use Rattle.ticket_tree.proofs.Parents.{AreNew, here_new, later_new, there_later}
 use Rattle.ticket_tree.specs.Ids.{mem, are_distinct}
 use Rattle.ticket_tree.specs.Laws.{RowsArePreorder}
 use Rattle.ticket_tree.specs.Outline.{goes_on}
-use Rattle.ticket_tree.specs.Place.{Place, path_of, place_of, places_from, places, is_child_of, kids, preorder}
-use Rattle.ticket_tree.specs.Ticket.{ids, depths, max_depth}
+use Rattle.ticket_tree.proofs.NodePlaces.{nodes_from, node_places-rows, node_ids_distinct}
+use Rattle.ticket_tree.specs.Paths.{path_of}
+use Rattle.ticket_tree.specs.Place.{Place, node_place, node_places, is_child_of, kids, preorder}
+use Rattle.ticket_tree.specs.Ticket.{node_ids, depths, max_depth}
 use Rattle.ticket_tree.specs.declared.node_row.NodeRow.{NodeRow}
 
 -- ---- the rows behind a node
 
--- the ids of the first rows, as long as they are deeper than this
+-- the node_ids of the first rows, as long as they are deeper than this
 abbrev pub deeper_ids : ℕ → List NodeRow → Path
 deeper_ids depth [] = []
 deeper_ids depth (r ∷ rows) = cond (leb r.depth depth) [] (r.id ∷ deeper_ids depth rows)
 
--- of these, the ids of the rows that are one deeper
+-- of these, the node_ids of the rows that are one deeper
 abbrev pub child_ids : ℕ → List NodeRow → Path
 child_ids depth [] = []
 child_ids depth (r ∷ rows) = cond (leb r.depth depth) [] (cond (leb r.depth (suc depth)) (r.id ∷ child_ids depth rows) (child_ids depth rows))
@@ -31,7 +33,7 @@ child_ids depth (r ∷ rows) = cond (leb r.depth depth) [] (cond (leb r.depth (s
 
 -- the ids of the places of which n is the parent
 abbrev pub kids_from : List ℕ → Path → List NodeRow → Path
-kids_from n before rows = map (λ p. p.id) (filter (is_child_of n) (places_from before rows))
+kids_from n before rows = map (λ p. p.id) (filter (is_child_of n) (nodes_from before rows))
 
 -- whether n comes first
 abbrev pub is_first : List ℕ → Path → Bool
@@ -44,7 +46,7 @@ cons_if false p ps = refl
 kids_from-cons : (n : List ℕ) (before : Path) (r : NodeRow) (rows : List NodeRow)
     → kids_from n before (r ∷ rows) ≡ cond (is_first n (drop (suc (length before) - r.depth) before)) (r.id ∷ kids_from n (path_of before r) rows) (kids_from n (path_of before r) rows)
 kids_from-cons n before r rows =
-    cons_if (is_child_of n (place_of r (path_of before r))) (place_of r (path_of before r)) (filter (is_child_of n) (places_from (path_of before r) rows))
+    cons_if (is_child_of n (node_place r (path_of before r))) (node_place r (path_of before r)) (filter (is_child_of n) (nodes_from (path_of before r) rows))
 
 not_first : (n : List ℕ) (path : Path) → mem n path ≡ false → is_first n path ≡ false
 not_first n [] out = refl
@@ -73,10 +75,10 @@ below_n n front up r deep =
     drop-append-le (suc (length (front ++ n ∷ up)) - r.depth) front (n ∷ up) (omega arith)
 
 -- no row is a child of an id that is neither on the way nor among the rows
-no_kids : (n : List ℕ) (before : Path) (rows : List NodeRow) → mem n before ≡ false → mem n (ids rows) ≡ false → kids_from n before rows ≡ []
+no_kids : (n : List ℕ) (before : Path) (rows : List NodeRow) → mem n before ≡ false → mem n (node_ids rows) ≡ false → kids_from n before rows ≡ []
 no_kids n before [] off out = refl
 no_kids n before (r ∷ rows) off out =
-    let parts = or_parts (bytes_eq r.id n) (mem n (ids rows)) out in
+    let parts = or_parts (bytes_eq r.id n) (mem n (node_ids rows)) out in
     let up : Path = drop (suc (length before) - r.depth) before in
     let above : mem n up ≡ false = mem-drop n (suc (length before) - r.depth) before off in
     kids_from-cons n before r rows
@@ -87,12 +89,12 @@ no_kids n before (r ∷ rows) off out =
 abbrev KidsBehind : List ℕ → Path → Path → List NodeRow → Type 0
 KidsBehind n front up rows = kids_from n (front ++ n ∷ up) rows ≡ child_ids (suc (length up)) rows
 
-kids_row : (shallow near : Bool) (n : List ℕ) (front up : Path) (r : NodeRow) (rows : List NodeRow) → leb r.depth (suc (length up)) ≡ shallow → leb r.depth (suc (suc (length up))) ≡ near → 1 ≤ r.depth → r.depth ≤ suc (length (front ++ n ∷ up)) → mem n front ≡ false → mem n up ≡ false → mem n (ids (r ∷ rows)) ≡ false
+kids_row : (shallow near : Bool) (n : List ℕ) (front up : Path) (r : NodeRow) (rows : List NodeRow) → leb r.depth (suc (length up)) ≡ shallow → leb r.depth (suc (suc (length up))) ≡ near → 1 ≤ r.depth → r.depth ≤ suc (length (front ++ n ∷ up)) → mem n front ≡ false → mem n up ≡ false → mem n (node_ids (r ∷ rows)) ≡ false
     → ((kept : Path) → path_of (front ++ n ∷ up) r ≡ (r.id ∷ kept) ++ n ∷ up → mem n kept ≡ false → KidsBehind n (r.id ∷ kept) up rows)
     → kids_from n (front ++ n ∷ up) (r ∷ rows) ≡ cond shallow [] (cond near (r.id ∷ child_ids (suc (length up)) rows) (child_ids (suc (length up)) rows))
 kids_row true near n front up r rows e f low high off_front off_up out later =
     let before : Path = front ++ n ∷ up in
-    let parts = or_parts (bytes_eq r.id n) (mem n (ids rows)) out in
+    let parts = or_parts (bytes_eq r.id n) (mem n (node_ids rows)) out in
     let above : mem n (drop (suc (length before) - r.depth) before) ≡ false = above_n n front up r (leb-true _ _ e) off_up in
     kids_from-cons n before r rows
     ∙ ap (λ b. cond b (r.id ∷ kids_from n (path_of before r) rows) (kids_from n (path_of before r) rows)) (not_first n _ above)
@@ -123,10 +125,10 @@ kids_row false false n front up r rows e f low high off_front off_up out later =
     ∙ ap (λ b. cond b (r.id ∷ kids_from n (path_of before r) rows) (kids_from n (path_of before r) rows)) (ap (is_first n) split ∙ not_first-append n kept (n ∷ up) some (mem-drop n m front off_front))
     ∙ ap (λ path. kids_from n path rows) way ∙ later kept way (mem-drop n m front off_front)
 
-kids_behind : (n : List ℕ) (front up : Path) (rows : List NodeRow) → Follows (front ++ n ∷ up) rows → mem n front ≡ false → mem n up ≡ false → mem n (ids rows) ≡ false → KidsBehind n front up rows
+kids_behind : (n : List ℕ) (front up : Path) (rows : List NodeRow) → Follows (front ++ n ∷ up) rows → mem n front ≡ false → mem n up ≡ false → mem n (node_ids rows) ≡ false → KidsBehind n front up rows
 kids_behind n front up [] follows off_front off_up out = refl
 kids_behind n front up (r ∷ rows) follows off_front off_up out =
-    let parts = or_parts (bytes_eq r.id n) (mem n (ids rows)) out in
+    let parts = or_parts (bytes_eq r.id n) (mem n (node_ids rows)) out in
     kids_row (leb r.depth (suc (length up))) (leb r.depth (suc (suc (length up)))) n front up r rows refl refl follows.0 follows.1 off_front off_up out
     (λ kept way off. kids_behind n (r.id ∷ kept) up rows (subst (λ path. Follows path rows) way follows.2) (or_from _ _ parts.0 off) off_up parts.1)
 
@@ -135,11 +137,11 @@ abbrev pub KidsAre : List Place → List NodeRow → Type 0
 KidsAre tree [] = Unit {0}
 KidsAre tree (r ∷ rows) = (kids tree r.id ≡ child_ids r.depth rows) × KidsAre tree rows
 
--- the children of the rows' ids stand among the rows
+-- the children of the rows' node_ids stand among the rows
 abbrev pub KidsWithin : List Place → Path → List NodeRow → Type 0
-KidsWithin tree before rows = (n : List ℕ) → mem n (ids rows) ≡ true → kids tree n ≡ kids_from n before rows
+KidsWithin tree before rows = (n : List ℕ) → mem n (node_ids rows) ≡ true → kids tree n ≡ kids_from n before rows
 
-kids_here : (before : Path) (r : NodeRow) (rows : List NodeRow) → Follows before (r ∷ rows) → are_distinct (ids (r ∷ rows)) ≡ true → AreNew before (r ∷ rows) → kids_from r.id before (r ∷ rows) ≡ child_ids r.depth rows
+kids_here : (before : Path) (r : NodeRow) (rows : List NodeRow) → Follows before (r ∷ rows) → are_distinct (node_ids (r ∷ rows)) ≡ true → AreNew before (r ∷ rows) → kids_from r.id before (r ∷ rows) ≡ child_ids r.depth rows
 kids_here before r rows follows apart new =
     let up : Path = drop (suc (length before) - r.depth) before in
     let off : mem r.id up ≡ false = mem-drop r.id (suc (length before) - r.depth) before (here_new before r rows new) in
@@ -149,18 +151,18 @@ kids_here before r rows follows apart new =
     ∙ kids_behind r.id [] up rows follows.2 refl off (not-true _ (and_parts _ _ apart).0)
     ∙ ap (λ d. child_ids d rows) deep
 
-kids_later : (tree : List Place) (before : Path) (r : NodeRow) (rows : List NodeRow) → are_distinct (ids (r ∷ rows)) ≡ true → AreNew before (r ∷ rows) → KidsWithin tree before (r ∷ rows) → KidsWithin tree (path_of before r) rows
+kids_later : (tree : List Place) (before : Path) (r : NodeRow) (rows : List NodeRow) → are_distinct (node_ids (r ∷ rows)) ≡ true → AreNew before (r ∷ rows) → KidsWithin tree before (r ∷ rows) → KidsWithin tree (path_of before r) rows
 kids_later tree before r rows apart new within n there =
     let up : Path = drop (suc (length before) - r.depth) before in
-    let anywhere : mem n (ids (r ∷ rows)) ≡ true = there_later (bytes_eq r.id n) (mem n (ids rows)) there in
+    let anywhere : mem n (node_ids (r ∷ rows)) ≡ true = there_later (bytes_eq r.id n) (mem n (node_ids rows)) there in
     let off : mem n up ≡ false = mem-drop n (suc (length before) - r.depth) before (new n anywhere) in
     within n anywhere ∙ kids_from-cons n before r rows
     ∙ ap (λ b. cond b (r.id ∷ kids_from n (path_of before r) rows) (kids_from n (path_of before r) rows)) (not_first n up off)
 
-kids_are : (tree : List Place) (before : Path) (rows : List NodeRow) → Follows before rows → are_distinct (ids rows) ≡ true → AreNew before rows → KidsWithin tree before rows → KidsAre tree rows
+kids_are : (tree : List Place) (before : Path) (rows : List NodeRow) → Follows before rows → are_distinct (node_ids rows) ≡ true → AreNew before rows → KidsWithin tree before rows → KidsAre tree rows
 kids_are tree before [] follows apart new within = tt
 kids_are tree before (r ∷ rows) follows apart new within =
-    let here : mem r.id (ids (r ∷ rows)) ≡ true = ap (λ b. b || mem r.id (ids rows)) (bytes_eq-same r.id) in (
+    let here : mem r.id (node_ids (r ∷ rows)) ≡ true = ap (λ b. b || mem r.id (node_ids rows)) (bytes_eq-same r.id) in (
       within r.id here ∙ kids_here before r rows follows apart new,
       kids_are tree (path_of before r) rows follows.2 (and_parts _ _ apart).1 (later_new before r rows apart new) (kids_later tree before r rows apart new within),
     )
@@ -223,7 +225,7 @@ draws (suc levels) most tree above rows goes shallow kids_are =
 -- ---- the whole
 
 -- behind the root all rows are deeper
-all_deeper : (above : ℕ) (rows : List NodeRow) → goes_on above (depths rows) ≡ true → deeper_ids 1 rows ≡ ids rows
+all_deeper : (above : ℕ) (rows : List NodeRow) → goes_on above (depths rows) ≡ true → deeper_ids 1 rows ≡ node_ids rows
 all_deeper above [] goes = refl
 all_deeper above (r ∷ rows) goes =
     let parts = and_parts _ _ goes in
@@ -231,7 +233,7 @@ all_deeper above (r ∷ rows) goes =
     ap (λ b. cond b [] (r.id ∷ deeper_ids 1 rows)) (lt-leb r.depth 1 (omega arith)) ∙ ap (λ ys. r.id ∷ ys) (all_deeper r.depth rows parts.1)
 
 draw_whole : (levels most : ℕ) (tree : List Place) (r : NodeRow) (rows : List NodeRow) → most < 2 + levels → r.depth ≡ 1 → goes_on 1 (depths rows) ≡ true → list_all (λ s. nat_le s.depth most) rows ≡ true → KidsAre tree (r ∷ rows)
-    → preorder (suc levels) tree r.id ≡ ids (r ∷ rows)
+    → preorder (suc levels) tree r.id ≡ node_ids (r ∷ rows)
 draw_whole levels most tree r rows enough one goes shallow kids_are =
     let drawn : Drawn most levels tree rows = draws levels most tree 1 rows goes shallow kids_are.1 in
     ap (λ ys. r.id ∷ flat_map (preorder levels tree) ys) (kids_are.0 ∙ ap (λ d. child_ids d rows) one)
@@ -243,6 +245,7 @@ rows_are_preorder r rows valid =
     let parts = and_parts _ _ valid.tree in
     let one : r.depth ≡ 1 = eqb-true _ _ parts.0 in
     let new : AreNew [] (r ∷ rows) = λ y h. refl in
-    let within : KidsWithin (places (r ∷ rows)) [] (r ∷ rows) = λ n h. refl in
-    let every : KidsAre (places (r ∷ rows)) (r ∷ rows) = kids_are (places (r ∷ rows)) [] (r ∷ rows) (Follows-outline (r ∷ rows) valid.tree) valid.distinct new within in
-    draw_whole 31 max_depth (places (r ∷ rows)) r rows (omega arith) one parts.1 (and_parts _ _ valid.shallow).1 every
+    let within : KidsWithin (nodes_from [] (r ∷ rows)) [] (r ∷ rows) = λ n h. refl in
+    let every : KidsAre (nodes_from [] (r ∷ rows)) (r ∷ rows) = kids_are (nodes_from [] (r ∷ rows)) [] (r ∷ rows) (Follows-outline (r ∷ rows) valid.tree) (node_ids_distinct (r ∷ rows) valid.distinct) new within in
+    ap (λ nodes. preorder max_depth nodes r.id) (node_places-rows (r ∷ rows))
+    ∙ draw_whole 31 max_depth (nodes_from [] (r ∷ rows)) r rows (omega arith) one parts.1 (and_parts _ _ valid.shallow).1 every

@@ -1,16 +1,23 @@
 -- The definitions, computed on small tickets.
-use Rattle.std.proofs.Common.{◌≡◌, ℕ, true, false, List, [], ◌∷◌, map, Some, None, refl}
+use Rattle.std.proofs.Common.{◌≡◌, ℕ, true, false, List, [], ◌∷◌, ◌++◌, map, Some, None, refl}
 use Rattle.std.specs.Prelude.{codes}
 use Rattle.ticket_tree.specs.Names.{is_name}
-use Rattle.ticket_tree.specs.Place.{places, paths, is_below, up, kids, preorder}
-use Rattle.ticket_tree.specs.Ticket.{fault_of, ids}
-use Rattle.ticket_tree.specs.Edit.{refusal_of}
-use Rattle.ticket_tree.specs.declared.edit.Edit.TheVariants.{SetStatus}
+use Rattle.ticket_tree.specs.Place.{node_places, resource_places, home, is_below, up, kids, preorder}
+use Rattle.ticket_tree.specs.Paths.{paths}
+use Rattle.ticket_tree.specs.Ticket.{fault_of, ids, node_ids}
+use Rattle.ticket_tree.specs.Edit.{refusal_of, edited_rows, bare_row}
+use Rattle.ticket_tree.specs.declared.edit.Edit.TheVariants.{SetStatus, SetResStatus, Note, AddNode, AddLink}
+use Rattle.ticket_tree.specs.Homes.{home_of}
+use Rattle.ticket_tree.specs.declared.audit.Audit.TheVariants.{Notification}
+use Rattle.ticket_tree.specs.declared.link.Link.{Link}
+use Rattle.ticket_tree.specs.declared.resource.Resource.{Resource}
+use Rattle.ticket_tree.specs.declared.usage.Usage.{Usage}
+use Rattle.ticket_tree.specs.declared.usage.Usage.TheVariants.{Input, Output}
 use Rattle.ticket_tree.specs.declared.node_row.NodeRow.{NodeRow}
-use Rattle.ticket_tree.specs.declared.refusal.Refusal.TheVariants.{UnknownNode, ReservedStatus, NotATree, DuplicateId}
+use Rattle.ticket_tree.specs.declared.refusal.Refusal.TheVariants.{UnknownNode, UnknownResource, ReservedStatus, NotATree, DuplicateId, UnresolvedLink}
 
 abbrev row : List ℕ → ℕ → NodeRow
-row id depth = record { id = id; depth = depth; kind = codes "Product"; job_part = codes "p"; status = codes "Waiting"; attrs = [] }
+row id depth = record { id = id; depth = depth; kind = codes "Product"; job_part = codes "p"; status = codes "Waiting"; attrs = []; resources = []; links = []; audits = [] }
 
 -- a (b (c) (d (e))) f
 abbrev sample : List NodeRow
@@ -22,25 +29,25 @@ valid = refl
 e_path : map (λ p. p) (paths sample) ≡ (codes "a" ∷ []) ∷ (codes "b" ∷ codes "a" ∷ []) ∷ (codes "c" ∷ codes "b" ∷ codes "a" ∷ []) ∷ (codes "d" ∷ codes "b" ∷ codes "a" ∷ []) ∷ (codes "e" ∷ codes "d" ∷ codes "b" ∷ codes "a" ∷ []) ∷ (codes "f" ∷ codes "a" ∷ []) ∷ []
 e_path = refl
 
-e_below_b : is_below (places sample) (codes "e") (codes "b") ≡ true
+e_below_b : is_below (node_places sample) (codes "e") (codes "b") ≡ true
 e_below_b = refl
 
-f_not_below_b : is_below (places sample) (codes "f") (codes "b") ≡ false
+f_not_below_b : is_below (node_places sample) (codes "f") (codes "b") ≡ false
 f_not_below_b = refl
 
-unknown_below_none : is_below (places sample) (codes "x") (codes "x") ≡ false
+unknown_below_none : is_below (node_places sample) (codes "x") (codes "x") ≡ false
 unknown_below_none = refl
 
-up_e : up (places sample) (codes "e") ≡ Some (codes "d")
+up_e : up (node_places sample) (codes "e") ≡ Some (codes "d")
 up_e = refl
 
-up_root : up (places sample) (codes "a") ≡ None
+up_root : up (node_places sample) (codes "a") ≡ None
 up_root = refl
 
-kids_b : kids (places sample) (codes "b") ≡ codes "c" ∷ codes "d" ∷ []
+kids_b : kids (node_places sample) (codes "b") ≡ codes "c" ∷ codes "d" ∷ []
 kids_b = refl
 
-drawn : preorder 32 (places sample) (codes "a") ≡ ids sample
+drawn : preorder 32 (node_places sample) (codes "a") ≡ node_ids sample
 drawn = refl
 
 two_roots : fault_of (row (codes "a") 1 ∷ row (codes "b") 1 ∷ []) ≡ Some NotATree
@@ -66,3 +73,68 @@ digits_first = refl
 
 dots : is_name (codes "_a.b-9") ≡ true
 dots = refl
+
+-- ---- resources, links and all edits, on a product with paper and sheets, its printing and its cutting
+
+abbrev item : List ℕ → List ℕ → Resource
+item id name = record { id = id; name = name; class = codes "Consumable"; status = codes "Available"; attrs = [] }
+
+abbrev use_of : List ℕ → Usage → Link
+use_of x usage = record { rref = x; usage = usage }
+
+abbrev node_with : List ℕ → ℕ → List Resource → List Link → NodeRow
+node_with id depth resources links = record { id = id; depth = depth; kind = codes "Product"; job_part = codes "p"; status = codes "Waiting"; attrs = []; resources = resources; links = links; audits = [] }
+
+abbrev product : List NodeRow
+product =
+    node_with (codes "n0") 1 (item (codes "r1") (codes "Media") ∷ item (codes "r2") (codes "Component") ∷ []) [] ∷ node_with (codes "n1") 2 [] (use_of (codes "r1") Input ∷ use_of (codes "r2") Output ∷ [])
+    ∷ node_with (codes "n2") 2 [] (use_of (codes "r2") Input ∷ []) ∷ []
+
+product_valid : fault_of product ≡ None
+product_valid = refl
+
+all_ids : ids product ≡ codes "n0" ∷ codes "r1" ∷ codes "r2" ∷ codes "n1" ∷ codes "n2" ∷ []
+all_ids = refl
+
+paper_home : home_of product (codes "r1") ≡ Some (codes "n0")
+paper_home = refl
+
+no_paper_home : home_of product (codes "n1") ≡ None
+no_paper_home = refl
+
+place_home : home (resource_places product) (codes "r2") ≡ Some (codes "n0")
+place_home = refl
+
+id_of_both : fault_of (node_with (codes "n0") 1 (item (codes "n0") (codes "Media") ∷ []) [] ∷ []) ≡ Some DuplicateId
+id_of_both = refl
+
+-- a resource of a sibling's pool is out of reach
+beside : fault_of (node_with (codes "n0") 1 [] [] ∷ node_with (codes "n1") 2 [] (use_of (codes "r3") Input ∷ []) ∷ node_with (codes "n2") 2 (item (codes "r3") (codes "Component") ∷ []) [] ∷ []) ≡ Some UnresolvedLink
+beside = refl
+
+-- the refusals of edits, in their order
+unknown_resource : refusal_of (SetResStatus (codes "r9") (codes "InUse")) product ≡ Some UnknownResource
+unknown_resource = refl
+
+node_no_resource : refusal_of (SetResStatus (codes "n1") (codes "InUse")) product ≡ Some UnknownResource
+node_no_resource = refl
+
+spawned_first : refusal_of (AddNode (codes "n0") (codes "n1") (codes "Folding") (codes "p3") (codes "Spawned")) product ≡ Some ReservedStatus
+spawned_first = refl
+
+twice_added : refusal_of (AddNode (codes "n0") (codes "r1") (codes "Folding") (codes "p3") (codes "Waiting")) product ≡ Some DuplicateId
+twice_added = refl
+
+linked_unknown : refusal_of (AddLink (codes "n1") (use_of (codes "r9") Input)) product ≡ Some UnknownResource
+linked_unknown = refl
+
+-- a new node is the third child, with nothing in it
+third_child : edited_rows (AddNode (codes "n0") (codes "n3") (codes "Folding") (codes "p3") (codes "Waiting")) 5 product ≡ product ++ bare_row (codes "n3") (codes "Folding") (codes "p3") (codes "Waiting") 2 ∷ []
+third_child = refl
+
+-- a new child of a node with others below it stands behind them
+behind_others : node_ids (edited_rows (AddNode (codes "b") (codes "g") (codes "Folding") (codes "p3") (codes "Waiting")) 5 sample) ≡ codes "a" ∷ codes "b" ∷ codes "c" ∷ codes "d" ∷ codes "e" ∷ codes "g" ∷ codes "f" ∷ []
+behind_others = refl
+
+noted : map (λ r. r.audits) (edited_rows (Note (codes "n1") (codes "washed up")) 7 product) ≡ [] ∷ (Notification 7 (codes "washed up") ∷ []) ∷ [] ∷ []
+noted = refl

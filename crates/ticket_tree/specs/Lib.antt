@@ -3,7 +3,11 @@ pub mod Refusal
 pub mod Attrs
 pub mod Ids
 pub mod Outline
+pub mod Paths
+pub mod Homes
+pub mod HomeTable
 pub mod Ticket
 pub mod Place
 pub mod Edit
+pub mod PlainEdit
 pub mod Laws

@@ -1,47 +1,70 @@
--- The plain ticket, read off the rows: where each node stands, and what of it may change, by its id.
-use Rattle.std.specs.Prelude.{◌≡◌, ℕ, zero, suc, ◌-◌, ◌≤◌, ◌&&◌, Bool, false, List, [], ◌∷◌, length, drop, map, nat_le, nat_lt, Option, Some, slice_get}
-use Rattle.std.specs.List.{find, filter, flat_map}
+-- The plain ticket, read off the rows: where each node and each resource stands, and what of it may change, by its id.
+use Rattle.std.specs.Prelude.{◌≡◌, ℕ, zero, suc, ◌≤◌, ◌&&◌, Bool, true, false, not, List, [], ◌∷◌, ◌++◌, length, map, nat_le, nat_lt, Option, Some, slice_get}
+use Rattle.std.specs.List.{find, filter, flat_map, list_all}
 use Rattle.std.specs.Option.{option_map, option_and_then, option_map_or}
 use Rattle.std.specs.Str.{bytes_eq}
 use Rattle.ticket_tree.specs.Attrs.{Pairs}
 use Rattle.ticket_tree.specs.Ids.{mem}
-use Rattle.ticket_tree.specs.Ticket.{row_of}
+use Rattle.ticket_tree.specs.Paths.{path_of, paths}
+use Rattle.ticket_tree.specs.declared.audit.Audit.{Audit}
+use Rattle.ticket_tree.specs.declared.link.Link.{Link}
 use Rattle.ticket_tree.specs.declared.node_row.NodeRow.{NodeRow}
+use Rattle.ticket_tree.specs.declared.resource.Resource.{Resource}
 
--- where a node stands, and what of it never changes. Its path leads from the node itself to the root
+-- what stands at a place, and what of it never changes but by a new link: a node's Type, job part and links, or a resource's name and Class
+pub data Thing : Type 0 where
+  node : List ℕ → List ℕ → List Link → Thing
+  resource : List ℕ → List ℕ → Thing
+
+-- where a node or a resource stands. A node's path leads from itself to the root, a resource has its home's
 pub record Place : Type 0 where
   pub id : List ℕ
   pub path : List (List ℕ)
-  pub kind : List ℕ
-  pub job_part : List ℕ
+  pub thing : Thing
 
--- what of a node may change
+-- what of a node or a resource may change. A resource has no audits
 pub record Row : Type 0 where
   pub status : List ℕ
   pub attrs : Pairs
+  pub audits : List Audit
 
--- the path of a row: itself, and what of the path of the row before it leads from its parent to the root
-abbrev pub path_of : List (List ℕ) → NodeRow → List (List ℕ)
-path_of before row = row.id ∷ drop (suc (length before) - row.depth) before
+abbrev pub node_place : NodeRow → List (List ℕ) → Place
+node_place r path = record { id = r.id; path = path; thing = node r.kind r.job_part r.links }
 
-abbrev pub paths_from : List (List ℕ) → List NodeRow → List (List (List ℕ))
-paths_from before [] = []
-paths_from before (r ∷ rs) = path_of before r ∷ paths_from (path_of before r) rs
+abbrev pub resource_place : List (List ℕ) → Resource → Place
+resource_place path x = record { id = x.id; path = path; thing = resource x.name x.class }
 
--- the path of each row
-abbrev pub paths : List NodeRow → List (List (List ℕ))
-paths rows = paths_from [] rows
-
-abbrev pub place_of : NodeRow → List (List ℕ) → Place
-place_of row path = record { id = row.id; path = path; kind = row.kind; job_part = row.job_part }
+-- a node and the resources of its pool
+abbrev pub places_of : NodeRow → List (List ℕ) → List Place
+places_of r path = node_place r path ∷ map (resource_place path) r.resources
 
 abbrev pub places_from : List (List ℕ) → List NodeRow → List Place
 places_from before [] = []
-places_from before (r ∷ rs) = place_of r (path_of before r) ∷ places_from (path_of before r) rs
+places_from before (r ∷ rows) = places_of r (path_of before r) ++ places_from (path_of before r) rows
 
 -- the places of a ticket, in ticket order
 abbrev pub places : List NodeRow → List Place
 places rows = places_from [] rows
+
+abbrev pub is_node_thing : Thing → Bool
+is_node_thing (node kind job_part links) = true
+is_node_thing (resource name class) = false
+
+abbrev pub is_node : Place → Bool
+is_node p = is_node_thing p.thing
+
+-- the places of the nodes alone, and of the resources alone
+abbrev pub nodes_in : List Place → List Place
+nodes_in tree = filter is_node tree
+
+abbrev pub resources_in : List Place → List Place
+resources_in tree = filter (λ p. not (is_node p)) tree
+
+abbrev pub node_places : List NodeRow → List Place
+node_places rows = nodes_in (places rows)
+
+abbrev pub resource_places : List NodeRow → List Place
+resource_places rows = resources_in (places rows)
 
 -- the place of an id
 abbrev pub place_at : List Place → List ℕ → Option Place
@@ -82,10 +105,39 @@ pub record BoundsNodesBelow (rows : List NodeRow) (x : List ℕ) (from to : ℕ)
   pub end : to ≤ length rows
   pub exact : (k : ℕ) (path : List (List ℕ)) → slice_get (paths rows) k ≡ Some path → mem x path ≡ (nat_le from k && nat_lt k to)
 
--- what of a row may change
-abbrev pub plain_row : NodeRow → Row
-plain_row r = record { status = r.status; attrs = r.attrs }
+-- ---- resources and links
+
+-- the node that stands at the place, or in whose pool what stands there is: the first of the path
+abbrev pub holder : Place → Option (List ℕ)
+holder p = slice_get p.path 0
+
+-- the home of a resource
+abbrev pub home : List Place → List ℕ → Option (List ℕ)
+home resources x = option_and_then holder (place_at resources x)
+
+abbrev pub links_of : Thing → List Link
+links_of (node kind job_part links) = links
+links_of (resource name class) = []
+
+-- whether each link of what stands at the place names a resource whose home it is, or is below
+abbrev pub are_links_above : List Place → Place → Bool
+are_links_above resources p = list_all (λ l. option_map_or (λ h. below h p) (home resources l.rref) false) (links_of p.thing)
+
+-- ---- what may change
+
+abbrev pub node_row : NodeRow → Row
+node_row r = record { status = r.status; attrs = r.attrs; audits = r.audits }
+
+abbrev pub resource_row : Resource → Row
+resource_row x = record { status = x.status; attrs = x.attrs; audits = [] }
+
+-- the rows of a node and of the resources of its pool, by id
+abbrev pub lines_of : NodeRow → List (List ℕ × Row)
+lines_of r = (r.id, node_row r) ∷ map (λ x. (x.id, resource_row x)) r.resources
+
+abbrev pub lines : List NodeRow → List (List ℕ × Row)
+lines rows = flat_map lines_of rows
 
 -- the row of an id
 abbrev pub row_in : List NodeRow → List ℕ → Option Row
-row_in rows x = option_map plain_row (row_of rows x)
+row_in rows x = option_map (λ l. l.1) (find (λ l. bytes_eq l.0 x) (lines rows))

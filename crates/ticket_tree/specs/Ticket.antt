@@ -1,12 +1,16 @@
 -- A ticket by its rows: a job id, and each node with its depth, in preorder.
-use Rattle.std.specs.Prelude.{◌≡◌, ℕ, Bool, true, false, not, List, [], ◌∷◌, map, codes, nat_le, Option, Some, None, is_some}
-use Rattle.std.specs.List.{find, list_all}
+use Rattle.std.specs.Prelude.{◌≡◌, ℕ, ◌&&◌, Bool, true, false, not, List, [], ◌∷◌, map, codes, nat_le, Option, Some, None, is_some}
+use Rattle.std.specs.List.{find, flat_map, list_all}
+use Rattle.std.specs.Option.{option_map_or}
 use Rattle.std.specs.Str.{bytes_eq}
-use Rattle.ticket_tree.specs.Ids.{are_distinct}
+use Rattle.ticket_tree.specs.Homes.{home_of}
+use Rattle.ticket_tree.specs.Ids.{mem, are_distinct}
 use Rattle.ticket_tree.specs.Outline.{is_outline}
+use Rattle.ticket_tree.specs.Paths.{path_of}
+use Rattle.ticket_tree.specs.declared.link.Link.{Link}
 use Rattle.ticket_tree.specs.declared.node_row.NodeRow.{NodeRow}
 use Rattle.ticket_tree.specs.declared.refusal.Refusal.{Refusal}
-use Rattle.ticket_tree.specs.declared.refusal.Refusal.TheVariants.{NotATree, ReservedStatus, DuplicateId, TooDeep}
+use Rattle.ticket_tree.specs.declared.refusal.Refusal.TheVariants.{NotATree, ReservedStatus, DuplicateId, TooDeep, UnresolvedLink}
 
 -- a job as its ticket tells it: the job's id, and the nodes in preorder
 pub record Job : Type 0 where
@@ -16,9 +20,17 @@ pub record Job : Type 0 where
 abbrev pub depths : List NodeRow → List ℕ
 depths rows = map (λ r. r.depth) rows
 
--- the ids that stand in a ticket, in ticket order
+-- the ids of the nodes
+abbrev pub node_ids : List NodeRow → List (List ℕ)
+node_ids rows = map (λ r. r.id) rows
+
+-- the id of a node, and those of the resources of its pool
+abbrev pub ids_of : NodeRow → List (List ℕ)
+ids_of r = r.id ∷ map (λ x. x.id) r.resources
+
+-- the ids that stand in a ticket, of nodes and resources, in ticket order
 abbrev pub ids : List NodeRow → List (List ℕ)
-ids rows = map (λ r. r.id) rows
+ids rows = flat_map ids_of rows
 
 -- the row of a node
 abbrev pub row_of : List NodeRow → List ℕ → Option NodeRow
@@ -41,12 +53,26 @@ are_unreserved rows = list_all (λ r. not (is_reserved r.status)) rows
 abbrev pub are_shallow : List NodeRow → Bool
 are_shallow rows = list_all (λ r. nat_le r.depth max_depth) rows
 
--- rows that are a ticket: a tree, no node's Status is `Spawned`, each id stands once, no node is deeper than 32
+-- whether the resource of a link stands in the pool of a node on the path
+abbrev pub resolves : List NodeRow → List (List ℕ) → Link → Bool
+resolves rows path link = option_map_or (λ home. mem home path) (home_of rows link.rref) false
+
+abbrev pub are_resolved_from : List NodeRow → List (List ℕ) → List NodeRow → Bool
+are_resolved_from all before [] = true
+are_resolved_from all before (r ∷ rows) = list_all (resolves all (path_of before r)) r.links && are_resolved_from all (path_of before r) rows
+
+-- whether each link of each row names a resource at home there or above (JDF 1.5, 3.9)
+abbrev pub are_resolved : List NodeRow → Bool
+are_resolved rows = are_resolved_from rows [] rows
+
+-- rows that are a ticket: a tree, no node's Status is `Spawned`, each id stands once, no node is deeper than 32, and each link's
+-- resource stands in the pool of the linking node or of one above it
 pub record IsValid (rows : List NodeRow) : Type 0 where
   pub tree : is_outline (depths rows) ≡ true
   pub unreserved : are_unreserved rows ≡ true
   pub distinct : are_distinct (ids rows) ≡ true
   pub shallow : are_shallow rows ≡ true
+  pub resolved : are_resolved rows ≡ true
 
 -- the refusal, unless the test holds
 abbrev pub unless : Bool → Refusal → Option Refusal
@@ -62,4 +88,5 @@ first_of (Some e ∷ rest) = Some e
 -- what is wrong with rows, the first in this order
 abbrev pub fault_of : List NodeRow → Option Refusal
 fault_of rows =
-    first_of (unless (is_outline (depths rows)) NotATree ∷ unless (are_unreserved rows) ReservedStatus ∷ unless (are_distinct (ids rows)) DuplicateId ∷ unless (are_shallow rows) TooDeep ∷ [])
+    first_of (unless (is_outline (depths rows)) NotATree ∷ unless (are_unreserved rows) ReservedStatus ∷ unless (are_distinct (ids rows)) DuplicateId ∷ unless (are_shallow rows) TooDeep
+    ∷ unless (are_resolved rows) UnresolvedLink ∷ [])

@@ -1,51 +1,52 @@
 //! The edits of a list of rows.
 
-ghost use Rattle.std.specs.Prelude.{◌≡◌, false, true, None, Some, OnOk, OnErr, IfErr, IfNone, IfSome, MatchResult};
-ghost use Rattle.std.specs.List.{position};
-ghost use Rattle.std.specs.Str.{bytes_eq};
+ghost use Rattle.std.specs.Prelude.{◌≡◌, None, Some, OnOk, OnErr, IfErr, IfNone, IfSome, MatchResult};
 ghost use Rattle.ticket_tree.specs.Edit.{edited_rows, refusal_of};
-ghost use Rattle.ticket_tree.specs.Ticket.{IsValid, has_node};
+ghost use Rattle.ticket_tree.specs.Ticket.{IsValid};
 
 use crate::edit::Edit;
-use crate::id::Id;
+use crate::growing_edits::{add_link, add_node, add_resource};
+use crate::known_rows::{
+    known_home, known_node, open_to_child, open_to_link, open_to_resource, open_to_status,
+};
 use crate::node_row::NodeRow;
 use crate::refusal::Refusal;
-use crate::rows::{is_reserved, place_of};
+use crate::setting_edits::{note, set_attr, set_resource_attr, set_resource_status, set_status};
+use std::alloc::Global;
 
-/// Where the row of a node stands, or `UnknownNode`.
-fn known_place(rows: &[NodeRow], node: &Id) -> Result<usize, Refusal>
-    ensures place { MatchResult result
-        (λ place. position (λ r. bytes_eq r.id node.now) rows.now ≡ Some place)
-        (λ e. (e ≡ Refusal.UnknownNode) × (has_node rows.now node.now ≡ false)) }
-    ensures known { MatchResult result (λ _. has_node rows.now node.now ≡ true) (λ _. Unit {0}) }
+/// Where the row stands that an edit changes, or why the edit is refused.
+fn changed_place(rows: &[NodeRow], edit: &Edit) -> Result<usize, Refusal>
+    requires { IsValid rows.now }
+    ensures { MatchResult result (λ _. refusal_of edit.now rows.now ≡ None) (λ e. refusal_of edit.now rows.now ≡ Some e) }
 {
-    match place_of(rows, node) {
-        Some(place) => Ok(place),
-        None => Err(Refusal::UnknownNode),
+    match edit {
+        Edit::SetStatus { node, status } => open_to_status(rows, node, status),
+        Edit::SetAttr { node, .. } => known_node(rows, node),
+        Edit::SetResStatus { resource, .. } => known_home(rows, resource),
+        Edit::SetResAttr { resource, .. } => known_home(rows, resource),
+        Edit::Note { node, .. } => known_node(rows, node),
+        Edit::AddNode {
+            node,
+            id,
+            status,
+            ..
+        } => open_to_child(rows, node, id, status),
+        Edit::AddResource { node, resource } => open_to_resource(rows, node, &resource.id),
+        Edit::AddLink { node, link } => open_to_link(rows, node, &link.rref),
     }
 }
 
 /// Why an edit is refused, if it is.
 pub fn check(rows: &[NodeRow], edit: &Edit) -> Result<(), Refusal>
+    requires { IsValid rows.now }
     ensures { MatchResult result (λ _. refusal_of edit.now rows.now ≡ None) (λ e. refusal_of edit.now rows.now ≡ Some e) }
 {
-    match edit {
-        Edit::SetStatus { node, status } => {
-            known_place(rows, node)?;
-            if is_reserved(status) {
-                return Err(Refusal::ReservedStatus);
-            }
-            Ok(())
-        }
-        Edit::SetAttr { node, .. } => {
-            known_place(rows, node)?;
-            Ok(())
-        }
-    }
+    changed_place(rows, edit)?;
+    Ok(())
 }
 
 /// Does an edit.
-pub fn apply(rows: &mut Vec<NodeRow>, edit: Edit, at: u64) -> Result<(), Refusal>
+pub fn apply(alloc: Global, rows: &mut Vec<NodeRow>, edit: Edit, at: u64) -> Result<(), Refusal>
     requires { IsValid rows.old.items }
     ensures ok { OnOk result (rows.new.items ≡ edited_rows edit at rows.old.items) }
     ensures err { OnErr result (rows.new.items ≡ rows.old.items) }
@@ -54,18 +55,23 @@ pub fn apply(rows: &mut Vec<NodeRow>, edit: Edit, at: u64) -> Result<(), Refusal
     ensures valid { IsValid rows.new.items }
 {
     match edit {
-        Edit::SetStatus { node, status } => {
-            let place = known_place(rows.as_slice(), &node)?;
-            if is_reserved(&status) {
-                return Err(Refusal::ReservedStatus);
-            }
-            rows[place].status = status;
-            Ok(())
-        }
-        Edit::SetAttr { node, name, value } => {
-            let place = known_place(rows.as_slice(), &node)?;
-            rows[place].attrs.set(name, value)?;
-            Ok(())
-        }
+        Edit::SetStatus { node, status } => set_status(rows, &node, status),
+        Edit::SetAttr { node, name, value } => set_attr(rows, &node, name, value),
+        Edit::SetResStatus { resource, status } => set_resource_status(rows, &resource, status),
+        Edit::SetResAttr {
+            resource,
+            name,
+            value,
+        } => set_resource_attr(rows, &resource, name, value),
+        Edit::Note { node, text } => note(rows, &node, text, at),
+        Edit::AddNode {
+            node,
+            id,
+            kind,
+            job_part,
+            status,
+        } => add_node(alloc, rows, &node, id, kind, job_part, status),
+        Edit::AddResource { node, resource } => add_resource(rows, &node, resource),
+        Edit::AddLink { node, link } => add_link(rows, &node, link),
     }
 }

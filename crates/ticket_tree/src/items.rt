@@ -20,7 +20,7 @@ pub type Audits = Items<Audit>;
 /// A list, which contracts see as that list alone.
 #[derive(Debug, Drop)]
 pub struct Items<T> {
-    items: Vec<T>,
+    pub(crate) items: Vec<T>,
 }
 
 impl<T> Model for Items<T> {

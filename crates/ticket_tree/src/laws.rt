@@ -31,10 +31,16 @@ pub fn rows_are_the_preorder_of_children()
     ensures { law.RowsArePreorder }
 {}
 
-/// An edit of the rows is the edit of the plain ticket: it is refused for the same, it moves no
-/// node, and it changes the row of its own node alone.
+/// Each link of valid rows names a resource whose home is the linking node or stands above it.
+pub fn links_are_above()
+    ensures { law.LinksAreAbove }
+{}
+
+/// An edit of the rows is the edit of the plain ticket: it is refused for the same; it makes of the
+/// places what the plain edit makes of them, which is to move nothing, to add one place, or to add a
+/// link to one; and of the rows by id, which is to change one, to add one, or none.
 pub fn edit_of_the_rows_is_the_plain_edit()
     ensures refused { law.RefusalIsPlain }
-    ensures stays { law.EditKeepsPlaces }
-    ensures touched { law.EditTouchesOneRow }
+    ensures places { law.EditOfPlaces }
+    ensures rows { law.EditOfRows }
 {}

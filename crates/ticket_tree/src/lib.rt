@@ -1,21 +1,27 @@
-//! Job tickets: a tree of nodes with attributes, and the edits of one.
+//! Job tickets: a tree of nodes with their resources, links and audits, and the edits of one.
 #![tactic(auto)]
 
 mod attrs;
 mod audit;
+mod distinct;
 mod edit;
 mod edits;
+mod growing_edits;
 mod id;
 mod items;
+mod known_rows;
 pub mod laws;
 mod link;
 mod name;
 mod node_row;
+mod pools;
 mod refusal;
+mod resolved;
 mod resource;
 mod rows;
 mod rows_iter;
 mod rules;
+mod setting_edits;
 mod spawn_status;
 #[cfg(test)]
 mod tests;

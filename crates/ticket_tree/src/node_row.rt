@@ -1,5 +1,6 @@
 use crate::attrs::Attrs;
 use crate::id::Id;
+use crate::items::{Audits, Links, Resources};
 use crate::name::Name;
 use std::alloc::{AllocError, Global};
 
@@ -15,6 +16,12 @@ pub struct NodeRow {
     pub job_part: Name,
     pub status: Name,
     pub attrs: Attrs,
+    /// The node's ResourcePool.
+    pub resources: Resources,
+    /// The node's ResourceLinkPool.
+    pub links: Links,
+    /// The node's AuditPool.
+    pub audits: Audits,
 }
 
 impl NodeRow {
@@ -31,6 +38,9 @@ impl NodeRow {
             job_part: self.job_part.copy(alloc)?,
             status: self.status.copy(alloc)?,
             attrs: self.attrs.copy(alloc)?,
+            resources: self.resources.copy(alloc)?,
+            links: self.links.copy(alloc)?,
+            audits: self.audits.copy(alloc)?,
         })
     }
 }

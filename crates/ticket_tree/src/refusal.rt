@@ -9,9 +9,12 @@ pub enum Refusal {
     BadId,
     /// An id stands twice in a ticket (JDF 1.5, 3.1: an ID is unique within its document).
     DuplicateId,
+    /// A link names no resource in the pool of its node or of one above it (JDF 1.5, 3.9).
+    UnresolvedLink,
     /// A node stands deeper than 32.
     TooDeep,
-    /// A node shows the Status `Spawned`, which only a spawn gives (JDF 1.5, 4.4).
+    /// A node shows the Status `Spawned`, or a resource marks of spawns, which only a spawn gives
+    /// (JDF 1.5, 4.4).
     ReservedStatus,
     /// A text has more than 1,024 bytes.
     BadText,
@@ -19,6 +22,8 @@ pub enum Refusal {
     NotATree,
     /// No node has the id.
     UnknownNode,
+    /// No resource has the id.
+    UnknownResource,
     /// The bytes are no JSON.
     NotJson,
     /// The JSON isn't of our profile's form.
@@ -38,11 +43,13 @@ impl Refusal {
         match self {
             Refusal::BadId => 1,
             Refusal::DuplicateId => 2,
+            Refusal::UnresolvedLink => 3,
             Refusal::TooDeep => 4,
             Refusal::ReservedStatus => 5,
             Refusal::BadText => 6,
             Refusal::NotATree => 7,
             Refusal::UnknownNode => 10,
+            Refusal::UnknownResource => 11,
             Refusal::NotJson => 40,
             Refusal::NotProfile => 41,
             Refusal::Memory => 90,
@@ -56,11 +63,13 @@ impl Refusal {
         match self {
             Refusal::BadId => "BadId",
             Refusal::DuplicateId => "DuplicateId",
+            Refusal::UnresolvedLink => "UnresolvedLink",
             Refusal::TooDeep => "TooDeep",
             Refusal::ReservedStatus => "ReservedStatus",
             Refusal::BadText => "BadText",
             Refusal::NotATree => "NotATree",
             Refusal::UnknownNode => "UnknownNode",
+            Refusal::UnknownResource => "UnknownResource",
             Refusal::NotJson => "NotJson",
             Refusal::NotProfile => "NotProfile",
             Refusal::Memory => "Memory",

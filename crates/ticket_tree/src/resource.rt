@@ -2,6 +2,8 @@ use crate::attrs::Attrs;
 use crate::id::Id;
 use crate::items::Items;
 use crate::name::Name;
+use crate::pools::place_in;
+use crate::text::Text;
 use std::alloc::{AllocError, Global};
 
 /// A resource of a node's pool (JDF 1.5, 3.8): what a node needs or makes, such as paper, plates or
@@ -34,7 +36,32 @@ impl Resource {
 }
 
 impl Items<Resource> {
-    ghost use Rattle.std.specs.Prelude.{◌≡◌, IfOk};
+    ghost use Rattle.std.specs.Prelude.{◌≡◌, true, map, IfOk, OnOk, OnErr};
+    ghost use Rattle.ticket_tree.specs.Attrs.{with_attr};
+    ghost use Rattle.ticket_tree.specs.Edit.{with_item};
+    ghost use Rattle.ticket_tree.specs.Ids.{are_distinct};
+
+    /// Gives the resource of an id another Status.
+    pub(crate) fn set_status(&mut self, id: &Id, status: Name)
+        requires { are_distinct (map (λ x. x.id) self.old) ≡ true }
+        ensures { self.new ≡ with_item id.now (λ x. record x { status = status }) self.old }
+    {
+        if let Some(place) = place_in(self.items.as_slice(), id) {
+            self.items[place].status = status;
+        }
+    }
+
+    /// Gives the resource of an id an attribute.
+    pub(crate) fn set_attr(&mut self, id: &Id, name: Name, value: Text) -> Result<(), AllocError>
+        requires { are_distinct (map (λ x. x.id) self.old) ≡ true }
+        ensures ok { OnOk result (self.new ≡ with_item id.now (λ x. record x { attrs = with_attr name value x.attrs }) self.old) }
+        ensures err { OnErr result (self.new ≡ self.old) }
+    {
+        if let Some(place) = place_in(self.items.as_slice(), id) {
+            self.items[place].attrs.set(name, value)?;
+        }
+        Ok(())
+    }
 
     /// An equal list.
     pub fn copy(&self, alloc: Global) -> Result<Items<Resource>, AllocError>

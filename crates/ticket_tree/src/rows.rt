@@ -1,22 +1,21 @@
 //! The nodes of a ticket in preorder, and what is found among them.
 
 ghost use Rattle.std.specs.Prelude.{◌≡◌, ◌+◌, ◌<◌, ◌≤◌, ◌&&◌, ◌==◌, false, true, length, nat_le, suc, IfOk, IfSome};
-ghost use Rattle.std.specs.List.{find, position, position_or_len};
+ghost use Rattle.std.specs.List.{position, position_or_len};
 ghost use Rattle.std.specs.Option.{option_copied};
-ghost use Rattle.std.specs.Prelude.{is_some};
+ghost use Rattle.std.specs.Prelude.{Some, drop, is_some, slice_get};
 ghost use Rattle.std.specs.Str.{bytes_eq};
-ghost use Rattle.ticket_tree.specs.Ids as id_lists;
 ghost use Rattle.ticket_tree.specs.Outline as outline;
-ghost use Rattle.ticket_tree.specs.Place.{BoundsNodesBelow, places};
+ghost use Rattle.ticket_tree.specs.Place.{BoundsNodesBelow, node_places};
 ghost use Rattle.ticket_tree.specs.Place as tree;
-ghost use Rattle.ticket_tree.specs.Ticket.{IsValid, depths, has_node, ids, row_of};
+ghost use Rattle.ticket_tree.specs.Ticket.{IsValid, depths, has_node, row_of};
 ghost use Rattle.ticket_tree.specs.Ticket as valid;
+ghost use Rattle.ticket_tree.specs.declared.node_row.NodeRow.{NodeRow};
 
 use crate::id::Id;
 use crate::name::Name;
 use crate::node_row::NodeRow;
 use std::alloc::{AllocError, Global};
-use std::collections::BTreeSet;
 
 /// The Status that only a spawned node shows (JDF 1.5, 4.4).
 pub const SPAWNED: &str = "Spawned";
@@ -75,19 +74,6 @@ pub fn are_shallow(rows: &[NodeRow]) -> bool
     rows.iter().all(|row| row.depth <= MAX_DEPTH)
 }
 
-/// Whether no id stands twice.
-pub fn are_distinct(alloc: Global, rows: &[NodeRow]) -> Result<bool, AllocError>
-    ensures { IfOk result (λ distinct. distinct ≡ id_lists.are_distinct (ids rows.now)) }
-{
-    let mut seen = BTreeSet::new(alloc);
-    for row in rows {
-        if !seen.insert(row.id.as_str())? {
-            return Ok(false);
-        }
-    }
-    Ok(true)
-}
-
 /// Equal rows.
 pub fn copy(alloc: Global, rows: &[NodeRow]) -> Result<Vec<NodeRow>, AllocError>
     ensures { IfOk result (λ copied. copied.items ≡ rows.now) }
@@ -129,6 +115,15 @@ fn deeper_count(rows: &[NodeRow], depth: u32) -> usize
     shallow_place(rows, depth).unwrap_or(rows.len())
 }
 
+/// Where the rows end that stand deeper behind a place.
+pub fn run_end(rows: &[NodeRow], place: usize) -> usize
+    requires { place < length rows.now }
+    ensures end { (r : NodeRow) → slice_get rows.now place ≡ Some r → result ≡ place + 1 + position_or_len (λ s. nat_le s.depth r.depth) (drop (place + 1) rows.now) }
+    ensures within { result ≤ length rows.now }
+{
+    place + 1 + deeper_count(&rows[place + 1..], rows[place].depth)
+}
+
 /// Where the nodes below a node stand, itself among them: the first row, and the end.
 pub fn subtree(rows: &[NodeRow], id: &Id) -> Option<(usize, usize)>
     requires { IsValid rows.now }
@@ -147,7 +142,7 @@ pub fn subtree(rows: &[NodeRow], id: &Id) -> Option<(usize, usize)>
 /// Whether the node `lower` is `upper` or below it.
 pub fn is_below(rows: &[NodeRow], lower: &Id, upper: &Id) -> bool
     requires { IsValid rows.now }
-    ensures { result ≡ tree.is_below (places rows.now) lower.now upper.now }
+    ensures { result ≡ tree.is_below (node_places rows.now) lower.now upper.now }
 {
     match subtree(rows, upper) {
         None => false,

@@ -1,7 +1,8 @@
 mod copies;
+mod pools;
 
 use crate::{
-    Attrs, Edit, Id, MAX_TEXT_BYTES, Name, NodeRow, Refusal, Text, Ticket, is_name, is_text,
+    Attrs, Edit, Id, Items, MAX_TEXT_BYTES, Name, NodeRow, Refusal, Text, Ticket, is_name, is_text,
 };
 use std::alloc::{AllocError, Global};
 use std::collections::{HashMap, HashSet};
@@ -16,6 +17,9 @@ fn row(alloc: Global, id: &str, depth: u32, status: &str) -> Result<NodeRow, Ref
         job_part: Name::new(alloc, "part")?,
         status: Name::new(alloc, status)?,
         attrs: Attrs::new(alloc),
+        resources: Items::new(Vec::new(alloc)),
+        links: Items::new(Vec::new(alloc)),
+        audits: Items::new(Vec::new(alloc)),
     })
 }
 
@@ -345,11 +349,13 @@ fn refusals(rt: HostRuntime) -> Result<(), Fail> {
     for (refusal, number, name) in [
         (Refusal::BadId, 1, "BadId"),
         (Refusal::DuplicateId, 2, "DuplicateId"),
+        (Refusal::UnresolvedLink, 3, "UnresolvedLink"),
         (Refusal::TooDeep, 4, "TooDeep"),
         (Refusal::ReservedStatus, 5, "ReservedStatus"),
         (Refusal::BadText, 6, "BadText"),
         (Refusal::NotATree, 7, "NotATree"),
         (Refusal::UnknownNode, 10, "UnknownNode"),
+        (Refusal::UnknownResource, 11, "UnknownResource"),
         (Refusal::NotJson, 40, "NotJson"),
         (Refusal::NotProfile, 41, "NotProfile"),
         (Refusal::Memory, 90, "Memory"),

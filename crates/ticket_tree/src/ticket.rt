@@ -1,15 +1,19 @@
+use crate::distinct::are_distinct;
 use crate::edit::Edit;
 use crate::id::Id;
 use crate::name::Name;
 use crate::node_row::NodeRow;
 use crate::refusal::Refusal;
+use crate::resolved::are_resolved;
+use crate::resource::Resource;
 use crate::rows_iter::Rows;
-use crate::{edits, rows};
+use crate::{edits, pools, rows};
 use std::alloc::{AllocError, Global};
 use std::marker::Model;
 
 /// A job's ticket (JDF 1.5, 3.1): the job's id, and its nodes in preorder. Its rows are always a
-/// tree, no node's Status is `Spawned`, each id stands once, and no node is deeper than 32.
+/// tree, no node's Status is `Spawned`, each id stands once among nodes and resources, no node is
+/// deeper than 32, and each link names a resource in the pool of its node or of one above it.
 #[derive(Debug, Drop)]
 pub struct Ticket {
     job: Name,
@@ -30,14 +34,16 @@ impl Ticket {
     ghost use Rattle.std.specs.Prelude.{◌≡◌, ◌⊎◌, None, Some, OnOk, OnErr, IfOk, IfErr, IfNone, IfSome, MatchResult, is_some};
     ghost use Rattle.std.specs.Option.{option_copied};
     ghost use Rattle.ticket_tree.specs.Edit.{edited, refusal_of};
-    ghost use Rattle.ticket_tree.specs.Place.{BoundsNodesBelow, places};
+    ghost use Rattle.ticket_tree.specs.Homes as homes;
+    ghost use Rattle.ticket_tree.specs.Homes.{resource_of};
+    ghost use Rattle.ticket_tree.specs.Place.{BoundsNodesBelow, node_places};
     ghost use Rattle.ticket_tree.specs.Place as tree;
     ghost use Rattle.ticket_tree.specs.Ticket.{IsValid, fault_of, has_node, row_of};
 
     /// The ticket of a job with these nodes, in preorder with their depths. Refuses the first of
     /// `NotATree` (no row, a first depth other than 1, a later one under 2 or more than one above
-    /// the row before), `ReservedStatus`, `DuplicateId` and `TooDeep` that the rows have. The first
-    /// two need no memory.
+    /// the row before), `ReservedStatus`, `DuplicateId`, `TooDeep` and `UnresolvedLink` that the rows
+    /// have. The first two need no memory.
     pub fn from_rows(alloc: Global, job: Name, rows: Vec<NodeRow>) -> Result<Ticket, Refusal>
         ensures ok { IfOk result (λ t. t ≡ record { job_id = job; rows = rows.items }) }
         ensures valid { OnOk result (IsValid rows.items) }
@@ -51,11 +57,14 @@ impl Ticket {
         if !rows::are_unreserved(rows.as_slice()) {
             return Err(Refusal::ReservedStatus);
         }
-        if !rows::are_distinct(alloc, rows.as_slice())? {
+        if !are_distinct(alloc, rows.as_slice())? {
             return Err(Refusal::DuplicateId);
         }
         if !rows::are_shallow(rows.as_slice()) {
             return Err(Refusal::TooDeep);
+        }
+        if !are_resolved(alloc, rows.as_slice())? {
+            return Err(Refusal::UnresolvedLink);
         }
         Ok(Ticket { job, rows })
     }
@@ -91,6 +100,20 @@ impl Ticket {
         rows::node(self.rows.as_slice(), id)
     }
 
+    /// The resource of an id.
+    pub fn resource(&self, id: &Id) -> Option<&Resource>
+        ensures { option_copied result ≡ resource_of self.now.rows id.now }
+    {
+        pools::resource(self.rows.as_slice(), id)
+    }
+
+    /// The node in whose pool the resource of an id is.
+    pub fn home_of(&self, id: &Id) -> Option<&Id>
+        ensures { option_copied result ≡ homes.home_of self.now.rows id.now }
+    {
+        pools::home_of(self.rows.as_slice(), id)
+    }
+
     /// Where the nodes below a node stand among the rows, itself the first of them: from where, and
     /// up to where. `None` where no node has the id.
     pub fn subtree(&self, id: &Id) -> Option<(usize, usize)>
@@ -102,13 +125,16 @@ impl Ticket {
 
     /// Whether `lower` is `upper` or stands below it; false where either is unknown.
     pub fn is_below(&self, lower: &Id, upper: &Id) -> bool
-        ensures { result ≡ tree.is_below (places self.now.rows) lower.now upper.now }
+        ensures { result ≡ tree.is_below (node_places self.now.rows) lower.now upper.now }
     {
         rows::is_below(self.rows.as_slice(), lower, upper)
     }
 
-    /// Why `apply` would refuse an edit, want of memory aside: `UnknownNode`, and at `SetStatus`
-    /// then `ReservedStatus`. Needs no memory.
+    /// Why `apply` would refuse an edit, want of memory aside: the first of these. `SetStatus`:
+    /// `UnknownNode`, `ReservedStatus`; `SetAttr`, `Note`: `UnknownNode`; `SetResStatus`, `SetResAttr`:
+    /// `UnknownResource`; `AddNode`: `UnknownNode`, `ReservedStatus`, `DuplicateId`, `TooDeep`;
+    /// `AddResource`: `UnknownNode`, `DuplicateId`; `AddLink`: `UnknownNode`, `UnknownResource`,
+    /// `UnresolvedLink`. Needs no memory.
     pub fn check(&self, edit: &Edit) -> Result<(), Refusal>
         ensures { MatchResult result
             (λ _. refusal_of edit.now self.now.rows ≡ None)
@@ -125,6 +151,6 @@ impl Ticket {
         ensures refused { IfSome (refusal_of edit self.old.rows) (λ e. result ≡ Err e) }
         ensures memory { IfNone (refusal_of edit self.old.rows) (IfErr result (λ e. e ≡ Refusal.Memory)) }
     {
-        edits::apply(&mut self.rows, edit, at)
+        edits::apply(alloc, &mut self.rows, edit, at)
     }
 }

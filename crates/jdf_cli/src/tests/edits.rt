@@ -1,33 +1,8 @@
+use super::{chain, document, run_on};
 use crate::edit_command::run_edit;
 use crate::words::is_edit;
-use std::alloc::{AllocError, Global};
 use std::io::{self, ErrorKind, Read, Write};
 use std::test::Fail;
-
-/// What a run of `edit` answered and wrote, and what it told.
-#[derive(Drop)]
-struct Ended {
-    status: u8,
-    written: Vec<u8>,
-    told: Vec<u8>,
-}
-
-fn run_on(alloc: Global, input: &[u8]) -> Ended {
-    let mut reader = input;
-    let mut written = Vec::new(alloc);
-    let mut told = Vec::new(alloc);
-    let status = run_edit(alloc, &mut reader, &mut written, &mut told);
-    Ended {
-        status,
-        written,
-        told,
-    }
-}
-
-/// A document with these edits, and the ticket of one node without its closing brace replaced.
-fn document(alloc: Global, edits: &str, ticket: &str) -> Result<String, AllocError> {
-    format!(in alloc; "{{\"At\":5,\"Edits\":[{edits}],\"Ticket\":{ticket}}}")
-}
 
 const TICKET: &str =
     "{\"ID\":\"n0\",\"JobID\":\"J0\",\"JobPartID\":\"p0\",\"Status\":\"Waiting\",\"Type\":\"Product\"}";
@@ -112,11 +87,7 @@ fn refuses_what_is_no_document(rt: HostRuntime) -> Result<(), Fail> {
             "Refused 1 BadId\n",
         ),
         (
-            document(
-                alloc,
-                "{\"Edit\":\"Note\",\"Node\":\"n0\",\"Text\":\"\"}",
-                bad_id,
-            )?,
+            document(alloc, "{\"Edit\":\"Remove\",\"Node\":\"n0\"}", bad_id)?,
             "Refused 41 NotProfile\n",
         ),
         (document(alloc, "", "{")?, "Refused 40 NotJson\n"),
@@ -144,25 +115,6 @@ fn takes_the_greatest_time(rt: HostRuntime) -> Result<(), Fail> {
     assert_eq!(rt; ended.status, 0);
     assert_eq!(rt; ended.written.as_slice(), PLAIN.as_bytes());
     Ok(())
-}
-
-/// A chain of nodes, each the child of the one before.
-fn chain(alloc: Global, nodes: u32) -> Result<String, AllocError> {
-    let mut text = String::from_str(
-        alloc,
-        "{\"JobID\":\"J0\",\"JobPartID\":\"p0\",\"Status\":\"Waiting\",\"Type\":\"Product\",\"ID\":\"n0\"",
-    )?;
-    for k in 1..nodes {
-        let node = format!(in alloc;
-            ",\"JDF\":[{{\"JobPartID\":\"p\",\"Status\":\"Waiting\",\"Type\":\"Cutting\",\"ID\":\"n{k}\""
-        )?;
-        text.push_str(node.as_str())?;
-    }
-    for _ in 1..nodes {
-        text.push_str("}]")?;
-    }
-    text.push_str("}")?;
-    Ok(text)
 }
 
 #[test]

@@ -45,85 +45,120 @@ fn keeps_a_list_in_order(rt: HostRuntime) -> Result<(), Fail> {
     Ok(())
 }
 
+/// Whether it is the attribute of that name with that text.
+fn is_attr(attr: Option<(&Name, &Text)>, name: &str, value: &str) -> bool {
+    attr.is_some_and(|(found, text)| found.as_str() == name && text.as_str() == value)
+}
+
+/// Whether this is the paper, with that Status and that weight.
+fn is_paper(resource: &Resource, status: &str, weight: &str) -> bool {
+    let [brand, weighed] = [resource.attrs.iter().next(), resource.attrs.iter().nth(1)];
+    resource.id.as_str() == "r1"
+        && resource.name.as_str() == "Media"
+        && resource.class.as_str() == "Consumable"
+        && resource.status.as_str() == status
+        && resource.attrs.len() == 2
+        && is_attr(brand, "Brand", "Silk")
+        && is_attr(weighed, "Weight", weight)
+}
+
+/// The paper in use, at another weight.
+fn used_paper(alloc: Global) -> Result<Resource, Refusal> {
+    let mut resource = paper(alloc)?;
+    resource.status = Name::new(alloc, "InUse")?;
+    resource
+        .attrs
+        .set(Name::new(alloc, "Weight")?, Text::new(alloc, "90")?)?;
+    Ok(resource)
+}
+
 #[test]
 fn copies_a_resource(rt: HostRuntime) -> Result<(), Fail> {
     let alloc = rt.alloc();
-    let mut resource = paper(alloc)?;
-    let copy = resource.copy(alloc)?;
-    resource.status = Name::new(alloc, "InUse")?;
-    let weight = Name::new(alloc, "Weight")?;
-    resource
-        .attrs
-        .set(weight.copy(alloc)?, Text::new(alloc, "90")?)?;
-    assert_eq!(rt; copy.id.as_str(), "r1");
-    assert_eq!(rt; copy.name.as_str(), "Media");
-    assert_eq!(rt; copy.class.as_str(), "Consumable");
-    assert_eq!(rt; copy.status.as_str(), "Available");
-    assert_eq!(rt; copy.attrs.len(), 2);
-    assert_eq!(rt;
-        copy.attrs.get(&weight).map(|text| text.as_str()),
-        Some("135")
-    );
-    let resources = Items::new(vec![in alloc; resource, copy]?);
-    let both = resources.copy(alloc)?;
-    assert_eq!(rt; both.as_slice().len(), 2);
-    assert_eq!(rt; both.as_slice()[0].status.as_str(), "InUse");
-    assert_eq!(rt; both.as_slice()[1].status.as_str(), "Available");
+    let copy = paper(alloc)?.copy(alloc)?;
+    assert!(rt; is_paper(&copy, "Available", "135"));
     Ok(())
+}
+
+#[test]
+fn copies_resources(rt: HostRuntime) -> Result<(), Fail> {
+    let alloc = rt.alloc();
+    let mut resources = Vec::new(alloc);
+    resources.push(used_paper(alloc)?)?;
+    resources.push(paper(alloc)?)?;
+    let copy = Items::new(resources).copy(alloc)?;
+    assert!(rt;
+        copy.as_slice().len() == 2
+            && is_paper(&copy.as_slice()[0], "InUse", "90")
+            && is_paper(&copy.as_slice()[1], "Available", "135")
+    );
+    Ok(())
+}
+
+fn link(alloc: Global, rref: &str, usage: Usage) -> Result<Link, Refusal> {
+    Ok(Link {
+        rref: Id::new(alloc, rref)?,
+        usage,
+    })
+}
+
+fn is_link(link: &Link, rref: &str, usage: Usage) -> bool {
+    link.rref.as_str() == rref && link.usage == usage
 }
 
 #[test]
 fn copies_links(rt: HostRuntime) -> Result<(), Fail> {
     let alloc = rt.alloc();
-    let first = Link {
-        rref: Id::new(alloc, "r1")?,
-        usage: Usage::Input,
-    };
-    let second = Link {
-        rref: Id::new(alloc, "r2")?,
-        usage: Usage::Output,
-    };
-    let copy = first.copy(alloc)?;
-    assert_eq!(rt; copy.rref.as_str(), "r1");
-    assert_eq!(rt; copy.usage, Usage::Input);
-    let links = Items::new(vec![in alloc; first, second]?).copy(alloc)?;
-    assert_eq!(rt; links.as_slice()[0].rref.as_str(), "r1");
-    assert_eq!(rt; links.as_slice()[1].usage, Usage::Output);
+    let copy = link(alloc, "r1", Usage::Input)?.copy(alloc)?;
+    assert!(rt; is_link(&copy, "r1", Usage::Input));
+    let mut links = Vec::new(alloc);
+    links.push(link(alloc, "r1", Usage::Input)?)?;
+    links.push(link(alloc, "r2", Usage::Output)?)?;
+    let copy = Items::new(links).copy(alloc)?;
+    assert!(rt;
+        copy.as_slice().len() == 2
+            && is_link(&copy.as_slice()[0], "r1", Usage::Input)
+            && is_link(&copy.as_slice()[1], "r2", Usage::Output)
+    );
     Ok(())
 }
 
-#[test]
-fn copies_audits(rt: HostRuntime) -> Result<(), Fail> {
-    let alloc = rt.alloc();
-    let mut audits = Items::new(Vec::new(alloc));
-    audits.push(Audit::Notification {
+fn note(alloc: Global) -> Result<Audit, Refusal> {
+    Ok(Audit::Notification {
         at: 5,
         text: Text::new(alloc, "washed up")?,
-    })?;
-    audits.push(Audit::Spawned {
+    })
+}
+
+fn spawned(alloc: Global) -> Result<Audit, Refusal> {
+    Ok(Audit::Spawned {
         at: 100,
         jref: Id::new(alloc, "n1")?,
         spawn_id: Id::new(alloc, "S1")?,
         ro: ids(alloc, &["r1"])?,
         rw: ids(alloc, &["r2", "r3"])?,
         status: Name::new(alloc, "Waiting")?,
-    })?;
-    audits.push(Audit::Merged {
+    })
+}
+
+fn merged(alloc: Global) -> Result<Audit, Refusal> {
+    Ok(Audit::Merged {
         at: 300,
         jref: Id::new(alloc, "n1")?,
         merge_id: Id::new(alloc, "S1")?,
         overwritten: ids(alloc, &["r2"])?,
-    })?;
-    let copy = audits.copy(alloc)?;
-    assert_eq!(rt; copy.as_slice().len(), 3);
-    match &copy.as_slice()[0] {
-        Audit::Notification { at, text } => {
-            assert_eq!(rt; *at, 5);
-            assert_eq!(rt; text.as_str(), "washed up");
-        }
-        _ => assert!(rt; false, "a note"),
+    })
+}
+
+fn is_note(audit: &Audit) -> bool {
+    match audit {
+        Audit::Notification { at, text } => *at == 5 && text.as_str() == "washed up",
+        _ => false,
     }
-    match &copy.as_slice()[1] {
+}
+
+fn is_spawned(audit: &Audit) -> bool {
+    match audit {
         Audit::Spawned {
             at,
             jref,
@@ -132,49 +167,73 @@ fn copies_audits(rt: HostRuntime) -> Result<(), Fail> {
             rw,
             status,
         } => {
-            assert_eq!(rt; *at, 100);
-            assert_eq!(rt; jref.as_str(), "n1");
-            assert_eq!(rt; spawn_id.as_str(), "S1");
-            assert!(rt; are_ids(ro, &["r1"]));
-            assert!(rt; are_ids(rw, &["r2", "r3"]));
-            assert_eq!(rt; status.as_str(), "Waiting");
+            *at == 100
+                && jref.as_str() == "n1"
+                && spawn_id.as_str() == "S1"
+                && are_ids(ro, &["r1"])
+                && are_ids(rw, &["r2", "r3"])
+                && status.as_str() == "Waiting"
         }
-        _ => assert!(rt; false, "a spawn"),
+        _ => false,
     }
-    match &copy.as_slice()[2] {
+}
+
+fn is_merged(audit: &Audit) -> bool {
+    match audit {
         Audit::Merged {
             at,
             jref,
             merge_id,
             overwritten,
         } => {
-            assert_eq!(rt; *at, 300);
-            assert_eq!(rt; jref.as_str(), "n1");
-            assert_eq!(rt; merge_id.as_str(), "S1");
-            assert!(rt; are_ids(overwritten, &["r2"]));
+            *at == 300
+                && jref.as_str() == "n1"
+                && merge_id.as_str() == "S1"
+                && are_ids(overwritten, &["r2"])
         }
-        _ => assert!(rt; false, "a merge"),
+        _ => false,
     }
+}
+
+#[test]
+fn copies_audits(rt: HostRuntime) -> Result<(), Fail> {
+    let alloc = rt.alloc();
+    let mut audits = Vec::new(alloc);
+    audits.push(note(alloc)?)?;
+    audits.push(spawned(alloc)?)?;
+    audits.push(merged(alloc)?)?;
+    let copy = Items::new(audits).copy(alloc)?;
+    assert!(rt;
+        copy.as_slice().len() == 3
+            && is_note(&copy.as_slice()[0])
+            && is_spawned(&copy.as_slice()[1])
+            && is_merged(&copy.as_slice()[2])
+    );
     Ok(())
+}
+
+fn set_name(alloc: Global) -> Result<Edit, Refusal> {
+    Ok(Edit::SetAttr {
+        node: Id::new(alloc, "n1")?,
+        name: Name::new(alloc, "DescriptiveName")?,
+        value: Text::new(alloc, "Cover")?,
+    })
+}
+
+fn sets_name(edit: &Edit) -> bool {
+    match edit {
+        Edit::SetAttr { node, name, value } => {
+            node.as_str() == "n1" && name.as_str() == "DescriptiveName" && value.as_str() == "Cover"
+        }
+        _ => false,
+    }
 }
 
 #[test]
 fn copies_an_edit(rt: HostRuntime) -> Result<(), Fail> {
     let alloc = rt.alloc();
-    let edit = Edit::SetAttr {
-        node: Id::new(alloc, "n1")?,
-        name: Name::new(alloc, "DescriptiveName")?,
-        value: Text::new(alloc, "Cover")?,
-    };
-    let copy = edit.copy(alloc)?;
-    match &copy {
-        Edit::SetAttr { node, name, value } => {
-            assert_eq!(rt; node.as_str(), "n1");
-            assert_eq!(rt; name.as_str(), "DescriptiveName");
-            assert_eq!(rt; value.as_str(), "Cover");
-        }
-        _ => assert!(rt; false, "an attribute"),
-    }
+    let copy = set_name(alloc)?.copy(alloc)?;
+    assert!(rt; sets_name(&copy));
     Ok(())
 }
 

@@ -1,11 +1,9 @@
-use Rattle.std.proofs.Common.{◌≡◌, ◌++◌, drop, map}
-use Rattle.std.specs.Option.{option_map}
-use Rattle.serde_json.specs.View.{items_view}
+use Rattle.std.proofs.Common.{◌≡◌, map, take, Some}
+use Rattle.serde_json.specs.View.{view}
 use Rattle.json_profile.specs.DraftedEdit.{drafted_edit}
-use Rattle.jdf_cli.specs.Document.{edit_drafts}
+use Rattle.json_profile.specs.EditDraft.{edit_draft}
 use Rattle.jdf_cli.proofs.document.edit_drafts.Given as goal
 
--- the edits so far, and those of what is left
+-- the edits so far
 abbrev pub invariant-loop-item : goal.invariant-loop-item
-invariant-loop-item l =
-    option_map (λ more. map drafted_edit l.edits.items ++ more) (edit_drafts (items_view (drop l.item-index l.items))) ≡ edit_drafts (items_view l.items)
+invariant-loop-item l = map (λ v. edit_draft (view v)) (take l.item-index l.items) ≡ map (λ e. Some (drafted_edit e)) l.edits.items

@@ -1,4 +1,4 @@
-use Rattle.std.proofs.Common.{◌≡◌, ℕ, Bool, true, false, List, Option, Some, None, IfSome, refl, ◌∙◌, sym, subst, ap}
+use Rattle.std.proofs.Common.{◌≡◌, ℕ, Bool, true, false, List, Option, Some, None, IfSome, refl, ◌∙◌, subst}
 use mir.Val.{bool_byte}
 use Rattle.std.specs.Io.KnownBytes.{Appends}
 use Rattle.jdf_cli.specs.EndsAs.{done_status}

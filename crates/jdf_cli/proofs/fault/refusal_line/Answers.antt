@@ -41,3 +41,11 @@ returns-in-NotProfile c = rw c.in-NotProfile.is refl
 pub returns-in-Memory : goal.returns-in-Memory
 unfolding digits
 returns-in-Memory c = rw c.in-Memory.is refl
+
+pub returns-in-UnresolvedLink : goal.returns-in-UnresolvedLink
+unfolding digits
+returns-in-UnresolvedLink c = rw c.in-UnresolvedLink.is refl
+
+pub returns-in-UnknownResource : goal.returns-in-UnknownResource
+unfolding digits
+returns-in-UnknownResource c = rw c.in-UnknownResource.is refl

@@ -2,7 +2,7 @@ use Rattle.std.proofs.Common.{◌∙◌, ◌∷◌, [], map, sym, ap, Some, None
 use Rattle.std.specs.Option.{option_map}
 use Rattle.serde_json.specs.View.{view}
 use Rattle.json_profile.specs.Draft.{list_rows}
-use Rattle.json_profile.specs.Drafted.{drafted_row}
+use Rattle.json_profile.specs.Drafted.{drafted_raw}
 use Rattle.json_profile.proofs.Nodes.{Fails-weaker, so_far_more, so_far_none, so_far_all, list_rows-array, node_rows-object, found_children, drafted_rows-push, pushed_children}
 use Rattle.json_profile.proofs.node_reader.+nodes.Goals as goal
 
@@ -28,13 +28,13 @@ push_node-returns-in-Err t c =
     let under = found_children c.in-Object.members (Some c.in-Some.children) c.in-Some.ensures.value in
     Fails-weaker c.in-Err.refusal _ _
     (λ none. node_rows-object (map (λ n. n.now) c.args.names.now) c.args.depth c.args.value.now c.in-Object.members _ _ c.in-Object.is c.in_ok-row.ensures under
-    ∙ ap (option_map (λ rows. drafted_row c.in_ok-row.row ∷ rows)) (ap (λ d. list_rows d (view c.in-Some.children.now)) (sym c.next_depth.ensures) ∙ none))
+    ∙ ap (option_map (λ rows. drafted_raw c.in_ok-row.row ∷ rows)) (ap (λ d. list_rows d (view c.in-Some.children.now)) (sym c.next_depth.ensures) ∙ none))
     c.in-Err.ensures
 
 pub push_node-returns-in-None : goal.push_node-returns-in-None
 push_node-returns-in-None t c =
     let under = found_children c.in-Object.members None c.in-None.ensures.value in (
-      drafted_row c.in_ok-row.row ∷ [],
+      drafted_raw c.in_ok-row.row ∷ [],
       node_rows-object (map (λ n. n.now) c.args.names.now) c.args.depth c.args.value.now c.in-Object.members _ _ c.in-Object.is c.in_ok-row.ensures under,
       drafted_rows-push _ _ c.in_ok-row.row c.in_ok-push.ensures.items,
     )
@@ -43,8 +43,8 @@ pub push_node-returns-in_default-push_children : goal.push_node-returns-in_defau
 push_node-returns-in_default-push_children t c =
     let under = found_children c.in-Object.members (Some c.in-Some.children) c.in-Some.ensures.value in
     let below = c.in_default-push_children.ensures in (
-      drafted_row c.in_ok-row.row ∷ below.0,
+      drafted_raw c.in_ok-row.row ∷ below.0,
       node_rows-object (map (λ n. n.now) c.args.names.now) c.args.depth c.args.value.now c.in-Object.members _ _ c.in-Object.is c.in_ok-row.ensures under
-          ∙ ap (option_map (λ rows. drafted_row c.in_ok-row.row ∷ rows)) (ap (λ d. list_rows d (view c.in-Some.children.now)) (sym c.next_depth.ensures) ∙ below.1),
+          ∙ ap (option_map (λ rows. drafted_raw c.in_ok-row.row ∷ rows)) (ap (λ d. list_rows d (view c.in-Some.children.now)) (sym c.next_depth.ensures) ∙ below.1),
       pushed_children _ _ _ c.in_ok-row.row below.0 c.in_ok-push.ensures.items below.2,
     )

@@ -4,7 +4,7 @@ use Rattle.std.specs.List.{list_all}
 use Rattle.serde_json.specs.Data.{depth}
 use Rattle.serde_json.specs.Written.{has_float}
 use Rattle.ticket_tree.specs.Names.{is_name}
-use Rattle.json_profile.specs.Form.{ticket_read, has_names, has_texts, row_has_names, row_has_texts}
+use Rattle.json_profile.specs.Form.{ticket_read, job_has_names, job_has_texts, row_has_names, row_has_texts}
 use Rattle.json_profile.specs.Written.{job_data}
 use Rattle.json_profile.proofs.RoundTrip.{ticket_again}
 use Rattle.json_profile.proofs.Shape.{job_data_plain, job_data_nests}
@@ -16,8 +16,8 @@ returns c =
     let rows = ap (map (λ r. r.now)) c.as_slice.ensures.value ∙ c.in_ok-rows.ensures.rows in
     let seen = c.in_ok-value.ensures.value ∙ ap (λ job. job_data job (map (λ r. r.now) c.as_slice.result.now)) c.job.ensures ∙ ap (job_data t.job_id) rows in
     let job : is_name t.job_id ≡ true = ap is_name (sym c.job.ensures) ∙ c.in_ok-value.ensures.job in
-    let names : has_names t ≡ true = and_from _ _ job (ap (list_all row_has_names) (sym rows) ∙ c.in_ok-value.ensures.names) in
-    let texts : has_texts t ≡ true = ap (list_all row_has_texts) (sym rows) ∙ c.in_ok-value.ensures.texts in
+    let names : job_has_names t ≡ true = and_from _ _ job (ap (list_all row_has_names) (sym rows) ∙ c.in_ok-value.ensures.names) in
+    let texts : job_has_texts t ≡ true = ap (list_all row_has_texts) (sym rows) ∙ c.in_ok-value.ensures.texts in
     record {
       value = seen;
       again = ap ticket_read seen ∙ ticket_again t c.rows_of.ensures.valid names texts;

@@ -1,4 +1,4 @@
-use Rattle.std.proofs.Common.{◌≡◌, ◌∙◌, ◌&&◌, map, sym, ap}
+use Rattle.std.proofs.Common.{◌∙◌, ◌&&◌, sym, ap}
 use Rattle.std.specs.List.{list_all}
 use Rattle.json_profile.specs.DraftedEdit.{drafted_edit}
 use Rattle.json_profile.specs.Form.{edit_has_names, has_names}

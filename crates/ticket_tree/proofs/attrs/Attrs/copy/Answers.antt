@@ -1,4 +1,4 @@
-use Rattle.std.proofs.Common.{◌≡◌, ◌∙◌, ap}
+use Rattle.std.proofs.Common.{◌∙◌, ap}
 use Rattle.ticket_tree.specs.Attrs.{with_attr}
 use Rattle.ticket_tree.proofs.Ordered.{copy_more}
 use Rattle.ticket_tree.proofs.attrs.Attrs.copy.Goals as goal

@@ -1,0 +1,96 @@
+-- The edits of the plain ticket: of its places, and of its rows by id.
+use Rattle.std.specs.Prelude.{ℕ, ◌&&◌, ◌++◌, Bool, false, not, List, [], ◌∷◌, length, map, nat_lt, if◌then◌else◌, Option, Some, is_some}
+use Rattle.std.specs.List.{list_any}
+use Rattle.std.specs.Option.{option_map, option_map_or}
+use Rattle.std.specs.Str.{bytes_eq}
+use Rattle.ticket_tree.specs.Attrs.{with_attr}
+use Rattle.ticket_tree.specs.Edit.{target}
+use Rattle.ticket_tree.specs.Place.{Place, Thing, node, resource, Row, place_at, nodes_in, resources_in, below, is_below, home, holder, resource_place, resource_row}
+use Rattle.ticket_tree.specs.Ticket.{is_reserved, max_depth, unless, first_of}
+use Rattle.ticket_tree.specs.declared.audit.Audit.TheVariants.{Notification}
+use Rattle.ticket_tree.specs.declared.edit.Edit.{Edit}
+use Rattle.ticket_tree.specs.declared.edit.Edit.TheVariants.{SetStatus, SetAttr, SetResStatus, SetResAttr, Note, AddNode, AddResource, AddLink}
+use Rattle.ticket_tree.specs.declared.link.Link.{Link}
+use Rattle.ticket_tree.specs.declared.refusal.Refusal.{Refusal}
+use Rattle.ticket_tree.specs.declared.refusal.Refusal.TheVariants.{UnknownNode, UnknownResource, ReservedStatus, DuplicateId, TooDeep, UnresolvedLink}
+
+-- ---- what an edit is refused for
+
+-- whether an id stands at a place
+abbrev pub stands : List Place → List ℕ → Bool
+stands tree x = is_some (place_at tree x)
+
+-- whether the path of a child of the node is no longer than 32
+abbrev pub has_room_below : List Place → List ℕ → Bool
+has_room_below tree n = option_map_or (λ p. nat_lt (length p.path) max_depth) (place_at (nodes_in tree) n) false
+
+-- whether the home of a resource is the node or above it
+abbrev pub is_home_above : List Place → List ℕ → List ℕ → Bool
+is_home_above tree n x = option_map_or (is_below (nodes_in tree) n) (home (resources_in tree) x) false
+
+abbrev pub plain_refusal : Edit → List Place → Option Refusal
+plain_refusal (SetStatus n status) tree = first_of (unless (stands (nodes_in tree) n) UnknownNode ∷ unless (not (is_reserved status)) ReservedStatus ∷ [])
+plain_refusal (SetAttr n name value) tree = first_of (unless (stands (nodes_in tree) n) UnknownNode ∷ [])
+plain_refusal (SetResStatus x status) tree = first_of (unless (stands (resources_in tree) x) UnknownResource ∷ [])
+plain_refusal (SetResAttr x name value) tree = first_of (unless (stands (resources_in tree) x) UnknownResource ∷ [])
+plain_refusal (Note n text) tree = first_of (unless (stands (nodes_in tree) n) UnknownNode ∷ [])
+plain_refusal (AddNode n id kind job_part status) tree =
+    first_of (unless (stands (nodes_in tree) n) UnknownNode ∷ unless (not (is_reserved status)) ReservedStatus ∷ unless (not (stands tree id)) DuplicateId ∷ unless (has_room_below tree n) TooDeep ∷ [])
+plain_refusal (AddResource n x) tree = first_of (unless (stands (nodes_in tree) n) UnknownNode ∷ unless (not (stands tree x.id)) DuplicateId ∷ [])
+plain_refusal (AddLink n link) tree =
+    first_of (unless (stands (nodes_in tree) n) UnknownNode ∷ unless (stands (resources_in tree) link.rref) UnknownResource ∷ unless (is_home_above tree n link.rref) UnresolvedLink ∷ [])
+
+-- ---- what it makes of the places
+
+-- the places, with a new one behind the last that passes
+abbrev pub behind_last : (Place → Bool) → Place → List Place → List Place
+behind_last p new [] = []
+behind_last p new (q ∷ tree) = if p q && not (list_any p tree) then q ∷ new ∷ tree else q ∷ behind_last p new tree
+
+-- the path of a node
+abbrev pub path_at : List Place → List ℕ → List (List ℕ)
+path_at tree n = option_map_or (λ p. p.path) (place_at (nodes_in tree) n) []
+
+-- whether the node stands at the place, or in its pool what stands there
+abbrev pub is_at : List ℕ → Place → Bool
+is_at n p = option_map_or (λ h. bytes_eq h n) (holder p) false
+
+abbrev pub linked : Link → Thing → Thing
+linked link (node kind job_part links) = node kind job_part (links ++ link ∷ [])
+linked link (resource name class) = resource name class
+
+abbrev pub plain_places : Edit → List Place → List Place
+plain_places (SetStatus n status) tree = tree
+plain_places (SetAttr n name value) tree = tree
+plain_places (SetResStatus x status) tree = tree
+plain_places (SetResAttr x name value) tree = tree
+plain_places (Note n text) tree = tree
+plain_places (AddNode n id kind job_part status) tree = behind_last (below n) (record { id = id; path = id ∷ path_at tree n; thing = node kind job_part [] }) tree
+plain_places (AddResource n x) tree = behind_last (is_at n) (resource_place (path_at tree n) x) tree
+plain_places (AddLink n link) tree = map (λ (p : Place). if bytes_eq p.id n then record p { thing = linked link p.thing } else p) tree
+
+-- ---- what it makes of the rows by id
+
+-- what an edit at a time makes of the row that it changes
+abbrev pub plain_changed : Edit → ℕ → Row → Row
+plain_changed (SetStatus n status) at r = record r { status = status }
+plain_changed (SetAttr n name value) at r = record r { attrs = with_attr name value r.attrs }
+plain_changed (SetResStatus x status) at r = record r { status = status }
+plain_changed (SetResAttr x name value) at r = record r { attrs = with_attr name value r.attrs }
+plain_changed (Note n text) at r = record r { audits = r.audits ++ Notification at text ∷ [] }
+plain_changed (AddNode n id kind job_part status) at r = r
+plain_changed (AddResource n x) at r = r
+plain_changed (AddLink n link) at r = r
+
+-- the rows by id, with f of the row of one id
+abbrev pub touch : List ℕ → (Row → Row) → (List ℕ → Option Row) → List ℕ → Option Row
+touch x f rows y = if bytes_eq x y then option_map f (rows y) else rows y
+
+-- the rows by id, with one more
+abbrev pub with_line : List ℕ → Row → (List ℕ → Option Row) → List ℕ → Option Row
+with_line x row rows y = if bytes_eq x y then Some row else rows y
+
+abbrev pub plain_rows : Edit → ℕ → (List ℕ → Option Row) → List ℕ → Option Row
+plain_rows (AddNode n id kind job_part status) at rows = with_line id (record { status = status; attrs = []; audits = [] }) rows
+plain_rows (AddResource n x) at rows = with_line x.id (resource_row x) rows
+plain_rows e at rows = touch (target e) (plain_changed e at) rows
