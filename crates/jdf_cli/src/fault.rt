@@ -33,6 +33,7 @@ pub fn refusal_line(refusal: Refusal) -> &'static str
         Refusal::NotATree => "Refused 7 NotATree\n",
         Refusal::UnknownNode => "Refused 10 UnknownNode\n",
         Refusal::UnknownResource => "Refused 11 UnknownResource\n",
+        Refusal::TooManySpawns => "Refused 17 TooManySpawns\n",
         Refusal::NotJson => "Refused 40 NotJson\n",
         Refusal::NotProfile => "Refused 41 NotProfile\n",
         Refusal::Memory => "Refused 90 Memory\n",

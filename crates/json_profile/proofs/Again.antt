@@ -1,31 +1,33 @@
 -- What was written is read again.
-use Rattle.std.proofs.Common.{◌≡◌, ℕ, suc, ◌≤◌, Bool, true, false, cond, List, [], ◌∷◌, ◌++◌, map, Option, Some, None, refl, sym, ap, ◌∙◌, subst, arith, nat_lt, append_assoc, append-nil}
-use Rattle.std.proofs.lemmas.Bool.{true≢false, and_parts, ltb-true, ltb-false, leb-true, lt-ltb, eqb-true}
+use Rattle.std.proofs.Common.{◌≡◌, ℕ, suc, ◌≤◌, ◌&&◌, Bool, true, false, cond, List, [], ◌∷◌, ◌++◌, map, Option, Some, None, refl, sym, ap, ◌∙◌, subst, arith, nat_le, nat_lt, append_assoc, append-nil}
+use Rattle.std.proofs.lemmas.Bool.{true≢false, and_from, and_parts, ltb-true, ltb-false, leb-true, lt-ltb, eqb-true}
+use Rattle.std.specs.List.{list_all}
 use Rattle.std.specs.Option.{option_map}
 use Rattle.serde_json.specs.Data.{Items, no_items, item, array}
 use Rattle.ticket_tree.specs.Attrs.{Pairs}
 use Rattle.ticket_tree.specs.Outline.{goes_on}
 use Rattle.ticket_tree.specs.Ticket.{IsValid, depths, are_shallow}
+use Rattle.ticket_tree.specs.declared.ancestor.Ancestor.{Ancestor}
 use Rattle.ticket_tree.specs.declared.audit.Audit.{Audit}
 use Rattle.ticket_tree.specs.declared.link.Link.{Link}
+use Rattle.ticket_tree.specs.declared.marks.Marks.{Marks}
 use Rattle.ticket_tree.specs.declared.node_row.NodeRow.{NodeRow}
 use Rattle.ticket_tree.specs.declared.resource.Resource.{Resource}
-use Rattle.json_profile.proofs.PoolAgain.{text_pairs-attr_members, resources-again, bare_resources, all_show_nothing, links-again, audits-again}
+use Rattle.json_profile.proofs.PoolAgain.{text_pairs-attr_members, raw_resources-again, links-again, audits-again}
 use Rattle.json_profile.specs.AuditDraft.{audit_draft}
+use Rattle.json_profile.specs.Draft.{RawRow, RawTicket, resources_of, are_bare, raw_ticket, own_row, node_rows, item_rows, next_depth, node_members, root_members, ticket_draft}
 use Rattle.json_profile.specs.Listed.{pool_draft, data_items}
+use Rattle.json_profile.specs.Marked.{no_marks, marked_pool, marked_row, marked_rows}
+use Rattle.json_profile.specs.PartDraft.{part_members}
+use Rattle.json_profile.specs.PartWritten.{part_root_data}
 use Rattle.json_profile.specs.PoolDraft.{RawResource, resource_draft, link_draft}
-use Rattle.json_profile.specs.PoolForm.{nothing_shown}
-use Rattle.json_profile.specs.PoolWritten.{attr_members, resource_data, link_data, audit_data}
-use Rattle.json_profile.specs.Draft.{RawRow, resources_of, are_bare, raw_ticket, own_row, node_rows, item_rows, next_depth, node_members, root_members, ticket_draft}
+use Rattle.json_profile.specs.PoolWritten.{attr_members, link_data, audit_data}
 use Rattle.json_profile.specs.Read.{◌>>=◌, text_pairs}
-use Rattle.json_profile.specs.Written.{node_data, root_data, Tree, children, others, trees, job_data}
+use Rattle.json_profile.specs.Written.{pool_data, node_data, root_data, Tree, children, others, trees, job_data}
 
--- the row of a node as it is read: its resources show nothing
-abbrev pub bare_row : NodeRow → RawRow
-bare_row r = record { row = r; bare = true }
-
-abbrev pub bare_rows : List NodeRow → List RawRow
-bare_rows rows = map bare_row rows
+-- the resources of a row are those of its pool
+abbrev pub IsWhole : RawRow → Type 0
+IsWhole raw = resources_of raw.pool ≡ raw.row.resources
 
 -- what the parts of a row make
 abbrev made_row : NodeRow → Option Pairs → Option (List RawResource) → Option (List Link) → Option (List Audit) → Option RawRow
@@ -36,41 +38,88 @@ made_row r attrs resources links audits = do
   us ← audits
   Some (record {
     row = record { id = r.id; depth = r.depth; kind = r.kind; job_part = r.job_part; status = r.status; attrs = a; resources = resources_of xs; links = ls; audits = us };
-    bare = are_bare xs;
+    pool = xs;
   })
 
-abbrev bare_raws : List Resource → List RawResource
-bare_raws rs = map (λ r. record { resource = r; shown = nothing_shown }) rs
-
-row_made : (r : NodeRow) (attrs : Option Pairs) (resources : Option (List RawResource)) (links : Option (List Link)) (audits : Option (List Audit)) → attrs ≡ Some r.attrs → resources ≡ Some (bare_raws r.resources) → links ≡ Some r.links
-    → audits ≡ Some r.audits → made_row r attrs resources links audits ≡ Some (bare_row r)
-row_made r attrs resources links audits a x l u =
-    ap (λ o. made_row r o resources links audits) a ∙ ap (λ o. made_row r (Some r.attrs) o links audits) x ∙ ap (λ o. made_row r (Some r.attrs) (Some (bare_raws r.resources)) o audits) l
-    ∙ ap (made_row r (Some r.attrs) (Some (bare_raws r.resources)) (Some r.links)) u
+row_made : (raw : RawRow) (attrs : Option Pairs) (resources : Option (List RawResource)) (links : Option (List Link)) (audits : Option (List Audit)) → IsWhole raw → attrs ≡ Some raw.row.attrs → resources ≡ Some raw.pool → links ≡ Some raw.row.links
+    → audits ≡ Some raw.row.audits → made_row raw.row attrs resources links audits ≡ Some raw
+row_made raw attrs resources links audits whole a x l u =
+    let r = raw.row in
+    ap (λ o. made_row r o resources links audits) a ∙ ap (λ o. made_row r (Some r.attrs) o links audits) x ∙ ap (λ o. made_row r (Some r.attrs) (Some raw.pool) o audits) l
+    ∙ ap (made_row r (Some r.attrs) (Some raw.pool) (Some r.links)) u
     ∙ ap (λ xs. Some (record {
       row = record { id = r.id; depth = r.depth; kind = r.kind; job_part = r.job_part; status = r.status; attrs = r.attrs; resources = xs; links = r.links; audits = r.audits };
-      bare = are_bare (bare_raws r.resources);
-    })) (bare_resources nothing_shown r.resources)
-    ∙ ap (λ b. Some (record { row = r; bare = b })) (all_show_nothing r.resources)
+      pool = raw.pool;
+    })) whole
 
-row_again : (r : NodeRow) → made_row r (text_pairs (attr_members r.attrs)) (pool_draft resource_draft (Some (array (data_items (resource_data nothing_shown) r.resources)))) (pool_draft link_draft (Some (array (data_items link_data r.links)))) (pool_draft audit_draft (Some (array (data_items audit_data r.audits)))) ≡ Some (bare_row r)
-row_again r = row_made r _ _ _ _ (text_pairs-attr_members r.attrs) (resources-again nothing_shown r.resources) (links-again r.links) (audits-again r.audits)
+row_again : (raw : RawRow) → IsWhole raw → made_row raw.row (text_pairs (attr_members raw.row.attrs)) (pool_draft resource_draft (Some (array (pool_data raw.pool)))) (pool_draft link_draft (Some (array (data_items link_data raw.row.links)))) (pool_draft audit_draft (Some (array (data_items audit_data raw.row.audits)))) ≡ Some raw
+row_again raw whole = row_made raw _ _ _ _ whole (text_pairs-attr_members raw.row.attrs) (raw_resources-again raw.pool) (links-again raw.row.links) (audits-again raw.row.audits)
 
 -- a node's own members
-pub own_row-node_data : (r : NodeRow) (kids : Items) → own_row node_members r.depth (node_data r kids) ≡ Some (bare_row r)
+pub own_row-node_data : (raw : RawRow) (kids : Items) → IsWhole raw → own_row node_members raw.row.depth (node_data raw kids) ≡ Some raw
 unfolding own_row
-own_row-node_data r kids = row_again r
+own_row-node_data raw kids whole = row_again raw whole
 
-pub own_row-root_data : (job : List ℕ) (r : NodeRow) (kids : Items) → own_row root_members r.depth (root_data job r kids) ≡ Some (bare_row r)
+pub own_row-root_data : (job : List ℕ) (raw : RawRow) (kids : Items) → IsWhole raw → own_row root_members raw.row.depth (root_data job raw kids) ≡ Some raw
 unfolding own_row
-own_row-root_data job r kids = row_again r
+own_row-root_data job raw kids whole = row_again raw whole
+
+pub own_row-part_root_data : (job spawn : List ℕ) (ancestors : List Ancestor) (raw : RawRow) (kids : Items) → IsWhole raw → own_row part_members raw.row.depth (part_root_data job spawn ancestors raw kids) ≡ Some raw
+unfolding own_row
+own_row-part_root_data job spawn ancestors raw kids whole = row_again raw whole
 
 -- the rows of a node: its own, and its children's
-pub node_rows-node_data : (r : NodeRow) (kids : Items) → node_rows node_members r.depth (node_data r kids) ≡ option_map (λ rows. bare_row r ∷ rows) (item_rows (next_depth r.depth) kids)
-node_rows-node_data r kids = ap (λ o. o >>= λ row. option_map (λ rows. row ∷ rows) (item_rows (next_depth r.depth) kids)) (own_row-node_data r kids)
+pub node_rows-node_data : (raw : RawRow) (kids : Items) → IsWhole raw → node_rows node_members raw.row.depth (node_data raw kids) ≡ option_map (λ rows. raw ∷ rows) (item_rows (next_depth raw.row.depth) kids)
+node_rows-node_data raw kids whole = ap (λ o. o >>= λ row. option_map (λ rows. row ∷ rows) (item_rows (next_depth raw.row.depth) kids)) (own_row-node_data raw kids whole)
 
-pub node_rows-root_data : (job : List ℕ) (r : NodeRow) (kids : Items) → node_rows root_members r.depth (root_data job r kids) ≡ option_map (λ rows. bare_row r ∷ rows) (item_rows (next_depth r.depth) kids)
-node_rows-root_data job r kids = ap (λ o. o >>= λ row. option_map (λ rows. row ∷ rows) (item_rows (next_depth r.depth) kids)) (own_row-root_data job r kids)
+pub node_rows-root_data : (job : List ℕ) (raw : RawRow) (kids : Items) → IsWhole raw → node_rows root_members raw.row.depth (root_data job raw kids) ≡ option_map (λ rows. raw ∷ rows) (item_rows (next_depth raw.row.depth) kids)
+node_rows-root_data job raw kids whole = ap (λ o. o >>= λ row. option_map (λ rows. row ∷ rows) (item_rows (next_depth raw.row.depth) kids)) (own_row-root_data job raw kids whole)
+
+pub node_rows-part_root_data : (job spawn : List ℕ) (ancestors : List Ancestor) (raw : RawRow) (kids : Items) → IsWhole raw
+    → node_rows part_members raw.row.depth (part_root_data job spawn ancestors raw kids) ≡ option_map (λ rows. raw ∷ rows) (item_rows (next_depth raw.row.depth) kids)
+node_rows-part_root_data job spawn ancestors raw kids whole =
+    ap (λ o. o >>= λ row. option_map (λ rows. row ∷ rows) (item_rows (next_depth raw.row.depth) kids)) (own_row-part_root_data job spawn ancestors raw kids whole)
+
+-- ---- rows that show marks
+
+abbrev pub raw_depths : List RawRow → List ℕ
+raw_depths raws = map (λ r. r.row.depth) raws
+
+abbrev pub raws_are_shallow : List RawRow → Bool
+raws_are_shallow raws = list_all (λ r. nat_le r.row.depth 32) raws
+
+abbrev pub AllWhole : List RawRow → Type 0
+AllWhole [] = Unit {0}
+AllWhole (r ∷ raws) = IsWhole r × AllWhole raws
+
+pub raw_depths-marked : (marks : Marks) (rows : List NodeRow) → raw_depths (marked_rows marks rows) ≡ depths rows
+raw_depths-marked marks [] = refl
+raw_depths-marked marks (r ∷ rows) = ap (λ ds. r.depth ∷ ds) (raw_depths-marked marks rows)
+
+pub shallow-marked : (marks : Marks) (rows : List NodeRow) → raws_are_shallow (marked_rows marks rows) ≡ are_shallow rows
+shallow-marked marks [] = refl
+shallow-marked marks (r ∷ rows) = ap (λ b. nat_le r.depth 32 && b) (shallow-marked marks rows)
+
+marked_whole : (marks : Marks) (rs : List Resource) → resources_of (marked_pool marks rs) ≡ rs
+marked_whole marks [] = refl
+marked_whole marks (r ∷ rs) = ap (λ more. r ∷ more) (marked_whole marks rs)
+
+pub AllWhole-marked : (marks : Marks) (rows : List NodeRow) → AllWhole (marked_rows marks rows)
+AllWhole-marked marks [] = tt
+AllWhole-marked marks (r ∷ rows) = (marked_whole marks r.resources, AllWhole-marked marks rows)
+
+-- rows with no marks are those rows
+pub unmarked_rows : (rows : List NodeRow) → map (λ r. r.row) (marked_rows no_marks rows) ≡ rows
+unmarked_rows [] = refl
+unmarked_rows (r ∷ rows) = ap (λ more. r ∷ more) (unmarked_rows rows)
+
+unmarked_pool : (rs : List Resource) → are_bare (marked_pool no_marks rs) ≡ true
+unmarked_pool [] = refl
+unmarked_pool (r ∷ rs) = unmarked_pool rs
+
+pub unmarked_bare : (rows : List NodeRow) → list_all (λ r. are_bare r.pool) (marked_rows no_marks rows) ≡ true
+unmarked_bare [] = refl
+unmarked_bare (r ∷ rows) = and_from _ _ (unmarked_pool r.resources) (unmarked_bare rows)
 
 -- ---- trees of rows
 
@@ -89,12 +138,12 @@ Falls-others : (depth : ℕ) (ts : List Tree) → Falls (suc depth) ts → Falls
 Falls-others depth [] h = tt
 Falls-others depth (t ∷ ts) h = falls_at (nat_lt depth t.depth) depth t ts refl h.0 h.1 (Falls-others depth ts)
 
-pub Falls-trees : (above : ℕ) (rows : List NodeRow) → goes_on above (depths rows) ≡ true → Falls (suc above) (trees rows)
+pub Falls-trees : (above : ℕ) (rows : List RawRow) → goes_on above (raw_depths rows) ≡ true → Falls (suc above) (trees rows)
 Falls-trees above [] h = tt
 Falls-trees above (r ∷ rows) h =
     let parts = and_parts _ _ h in
     let bounds = and_parts _ _ parts.0 in
-    (leb-true _ _ bounds.1, Falls-others r.depth (trees rows) (Falls-trees r.depth rows parts.1))
+    (leb-true _ _ bounds.1, Falls-others r.row.depth (trees rows) (Falls-trees r.row.depth rows parts.1))
 
 -- the rows of trees, each read at its depth
 abbrev pub tree_rows : List Tree → Option (List RawRow)
@@ -142,16 +191,17 @@ tree_rows-split depth (t ∷ ts) h = split_at (nat_lt depth t.depth) depth t ts 
 next_within : (depth : ℕ) → depth ≤ 32 → next_depth depth ≡ suc depth
 next_within depth h = omega arith
 
-pub tree_rows-trees : (above : ℕ) (rows : List NodeRow) → goes_on above (depths rows) ≡ true → are_shallow rows ≡ true → tree_rows (trees rows) ≡ Some (bare_rows rows)
-tree_rows-trees above [] outline shallow = refl
-tree_rows-trees above (r ∷ rows) outline shallow =
+pub tree_rows-trees : (above : ℕ) (rows : List RawRow) → goes_on above (raw_depths rows) ≡ true → raws_are_shallow rows ≡ true → AllWhole rows → tree_rows (trees rows) ≡ Some rows
+tree_rows-trees above [] outline shallow whole = refl
+tree_rows-trees above (r ∷ rows) outline shallow whole =
+    let d = r.row.depth in
     let parts = and_parts _ _ outline in
     let within = and_parts _ _ shallow in
-    let next : next_depth r.depth ≡ suc r.depth = next_within r.depth (leb-true _ _ within.0) in
-    let kids = children r.depth (trees rows) in
-    ap (λ o. o >>= λ first. option_map (λ rest. first ++ rest) (tree_rows (others r.depth (trees rows)))) (node_rows-node_data r kids ∙ ap (λ d. option_map (λ more. bare_row r ∷ more) (item_rows d kids)) next)
-    ∙ first_before (bare_row r) (item_rows (suc r.depth) kids) (tree_rows (others r.depth (trees rows)))
-    ∙ ap (option_map (λ more. bare_row r ∷ more)) (sym (tree_rows-split r.depth (trees rows) (Falls-trees r.depth rows parts.1)) ∙ tree_rows-trees r.depth rows parts.1 within.1)
+    let next : next_depth d ≡ suc d = next_within d (leb-true _ _ within.0) in
+    let kids = children d (trees rows) in
+    ap (λ o. o >>= λ first. option_map (λ rest. first ++ rest) (tree_rows (others d (trees rows)))) (node_rows-node_data r kids whole.0 ∙ ap (λ n. option_map (λ more. r ∷ more) (item_rows n kids)) next)
+    ∙ first_before r (item_rows (suc d) kids) (tree_rows (others d (trees rows)))
+    ∙ ap (option_map (λ more. r ∷ more)) (sym (tree_rows-split d (trees rows) (Falls-trees d rows parts.1)) ∙ tree_rows-trees d rows parts.1 within.1 whole.1)
 
 -- ---- the root's trees are its children
 
@@ -167,38 +217,50 @@ AllDeep-others : (depth : ℕ) (ts : List Tree) → AllDeep ts → AllDeep (othe
 AllDeep-others depth [] h = tt
 AllDeep-others depth (t ∷ ts) h = deep_at (nat_lt depth t.depth) depth t ts h.0 h.1 (AllDeep-others depth ts h.1)
 
-AllDeep-trees : (above : ℕ) (rows : List NodeRow) → goes_on above (depths rows) ≡ true → AllDeep (trees rows)
+AllDeep-trees : (above : ℕ) (rows : List RawRow) → goes_on above (raw_depths rows) ≡ true → AllDeep (trees rows)
 AllDeep-trees above [] h = tt
 AllDeep-trees above (r ∷ rows) h =
     let parts = and_parts _ _ h in
     let bounds = and_parts _ _ parts.0 in
-    (leb-true _ _ bounds.0, AllDeep-others r.depth (trees rows) (AllDeep-trees r.depth rows parts.1))
+    (leb-true _ _ bounds.0, AllDeep-others r.row.depth (trees rows) (AllDeep-trees r.row.depth rows parts.1))
 
 others-none : (ts : List Tree) → AllDeep ts → others 1 ts ≡ []
 others-none [] h = refl
 others-none (t ∷ ts) h = ap (λ b. cond b (others 1 ts) (t ∷ ts)) (lt-ltb 1 t.depth h.0) ∙ others-none ts h.1
 
+-- the trees behind a root are its children, and are read as their rows
+pub item_rows-trees : (rows : List RawRow) → goes_on 1 (raw_depths rows) ≡ true → raws_are_shallow rows ≡ true → AllWhole rows → item_rows 2 (children 1 (trees rows)) ≡ Some rows
+item_rows-trees rows outline shallow whole =
+    sym (none_behind (item_rows 2 (children 1 (trees rows)))) ∙ ap (λ ts. item_rows 2 (children 1 (trees rows)) >>= λ kids. option_map (λ rest. kids ++ rest) (tree_rows ts)) (sym (others-none (trees rows) (AllDeep-trees 1 rows outline)))
+    ∙ sym (tree_rows-split 1 (trees rows) (Falls-trees 1 rows outline)) ∙ tree_rows-trees 1 rows outline shallow whole
+
+-- the same of rows that show marks
+pub item_rows-marked : (marks : Marks) (rows : List NodeRow) → goes_on 1 (depths rows) ≡ true → are_shallow rows ≡ true → item_rows 2 (children 1 (trees (marked_rows marks rows))) ≡ Some (marked_rows marks rows)
+item_rows-marked marks rows outline shallow =
+    item_rows-trees (marked_rows marks rows) (ap (goes_on 1) (raw_depths-marked marks rows) ∙ outline) (shallow-marked marks rows ∙ shallow) (AllWhole-marked marks rows)
+
 -- ---- tickets
 
-bare_ticket : (job : List ℕ) (rows : List NodeRow) → raw_ticket job (bare_rows rows) ≡ record { job = record { job_id = job; rows = rows }; bare = true }
-bare_ticket job [] = refl
-bare_ticket job (r ∷ rows) = ap (λ t. record { job = record { job_id = job; rows = r ∷ t.job.rows }; bare = t.bare }) (bare_ticket job rows)
+abbrev bare_ticket : List ℕ → List NodeRow → RawTicket
+bare_ticket job rows = record { job = record { job_id = job; rows = rows }; bare = true }
 
-root_again : (job : List ℕ) (r : NodeRow) (kids : Items) (rows : List NodeRow) → r.depth ≡ 1 → item_rows 2 kids ≡ Some (bare_rows rows)
-    → ticket_draft (root_data job r kids) ≡ Some (record { job = record { job_id = job; rows = r ∷ rows }; bare = true })
+unmarked_ticket : (job : List ℕ) (rows : List NodeRow) → raw_ticket job (marked_rows no_marks rows) ≡ bare_ticket job rows
+unmarked_ticket job rows =
+    ap (λ rs. record { job = record { job_id = job; rows = rs }; bare = list_all (λ r. are_bare r.pool) (marked_rows no_marks rows) }) (unmarked_rows rows) ∙ ap (λ b. record { job = record { job_id = job; rows = rows }; bare = b }) (unmarked_bare rows)
+
+root_again : (job : List ℕ) (raw : RawRow) (kids : Items) (raws : List RawRow) → IsWhole raw → raw.row.depth ≡ 1 → item_rows 2 kids ≡ Some raws → ticket_draft (root_data job raw kids) ≡ Some (raw_ticket job (raw ∷ raws))
 unfolding ticket_draft
-root_again job r kids rows one read =
-    let whole : node_rows root_members 1 (root_data job r kids) ≡ Some (bare_rows (r ∷ rows)) =
-    ap (λ d. node_rows root_members d (root_data job r kids)) (sym one) ∙ node_rows-root_data job r kids ∙ ap (λ d. option_map (λ more. bare_row r ∷ more) (item_rows (next_depth d) kids)) one ∙ ap (option_map (λ more. bare_row r ∷ more)) read in
-    ap (λ o. o >>= λ all. Some (raw_ticket job all)) whole ∙ ap Some (bare_ticket job (r ∷ rows))
+root_again job raw kids raws whole one read =
+    let all : node_rows root_members 1 (root_data job raw kids) ≡ Some (raw ∷ raws) =
+    ap (λ d. node_rows root_members d (root_data job raw kids)) (sym one) ∙ node_rows-root_data job raw kids whole ∙ ap (λ d. option_map (λ more. raw ∷ more) (item_rows (next_depth d) kids)) one ∙ ap (option_map (λ more. raw ∷ more)) read in
+    ap (λ o. o >>= λ rows. Some (raw_ticket job rows)) all
 
-pub ticket_draft-job_data : (job : List ℕ) (rows : List NodeRow) → IsValid rows → ticket_draft (job_data job rows) ≡ Some (record { job = record { job_id = job; rows = rows }; bare = true })
-ticket_draft-job_data job [] valid = absurd (true≢false (sym valid.tree))
-ticket_draft-job_data job (r ∷ rows) valid =
+pub ticket_draft-ticket_data : (job : List ℕ) (rows : List NodeRow) → IsValid rows → ticket_draft (job_data job (marked_rows no_marks rows)) ≡ Some (bare_ticket job rows)
+ticket_draft-ticket_data job [] valid = absurd (true≢false (sym valid.tree))
+ticket_draft-ticket_data job (r ∷ rows) valid =
     let parts = and_parts _ _ valid.tree in
     let one : r.depth ≡ 1 = eqb-true _ _ parts.0 in
     let within = and_parts _ _ valid.shallow in
-    let all : item_rows 2 (children 1 (trees rows)) ≡ Some (bare_rows rows) =
-    sym (none_behind (item_rows 2 (children 1 (trees rows)))) ∙ ap (λ ts. item_rows 2 (children 1 (trees rows)) >>= λ kids. option_map (λ rest. kids ++ rest) (tree_rows ts)) (sym (others-none (trees rows) (AllDeep-trees 1 rows parts.1)))
-    ∙ sym (tree_rows-split 1 (trees rows) (Falls-trees 1 rows parts.1)) ∙ tree_rows-trees 1 rows parts.1 within.1 in
-    root_again job r (children r.depth (trees rows)) rows one (ap (λ d. item_rows 2 (children d (trees rows))) one ∙ all)
+    let raws = marked_rows no_marks rows in
+    let all : item_rows 2 (children 1 (trees raws)) ≡ Some raws = item_rows-marked no_marks rows parts.1 within.1 in
+    root_again job (marked_row no_marks r) (children r.depth (trees raws)) raws (marked_whole no_marks r.resources) one (ap (λ d. item_rows 2 (children d (trees raws))) one ∙ all) ∙ ap Some (unmarked_ticket job (r ∷ rows))

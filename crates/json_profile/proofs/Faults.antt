@@ -60,9 +60,9 @@ pub list_all-drafted : (p : NodeRow → Bool) (drafts : List NodeDraft) → list
 list_all-drafted p [] = refl
 list_all-drafted p (d ∷ drafts) = ap (λ b. p (drafted_row d) && b) (list_all-drafted p drafts)
 
-pub bare-drafted : (drafts : List NodeDraft) → list_all (λ d. (drafted_raw d).bare) drafts ≡ list_all (λ r. r.bare) (drafted_rows drafts)
+pub bare-drafted : (drafts : List NodeDraft) → list_all (λ d. are_bare (drafted_raw d).pool) drafts ≡ list_all (λ r. are_bare r.pool) (drafted_rows drafts)
 bare-drafted [] = refl
-bare-drafted (d ∷ drafts) = ap (λ b. (drafted_raw d).bare && b) (bare-drafted drafts)
+bare-drafted (d ∷ drafts) = ap (λ b. are_bare (drafted_raw d).pool && b) (bare-drafted drafts)
 
 -- ---- tests of the drafts in a pool are tests of what they are
 

@@ -8,6 +8,11 @@ pub mod Nodes
 pub mod Objects
 pub mod Outlines
 pub mod Pairs
+pub mod PartAgain
+pub mod PartFaults
+pub mod PartOutlines
+pub mod PartPools
+pub mod PartRoots
 pub mod PoolAgain
 pub mod PoolShape
 pub mod Pools
@@ -15,3 +20,4 @@ pub mod RoundTrip
 pub mod Shape
 pub mod Taken
 mod Worked
+mod WorkedParts

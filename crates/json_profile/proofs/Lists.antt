@@ -46,10 +46,6 @@ Gives-failed seen (Err f) e o same fails = subst (λ g. Fails g o) (sym same) fa
 
 -- ---- written is read again
 
-pub each-data_items : {X Y : Type 0} (form : Data → Option Y) (data' : X → Data) (seen : X → Y) → ((x : X) → form (data' x) ≡ Some (seen x)) → (xs : List X) → each form (data_items data' xs) ≡ Some (map seen xs)
-each-data_items form data' seen again [] = refl
-each-data_items form data' seen again (x ∷ xs) = more_at (form (data' x)) (seen x) _ _ (again x) (each-data_items form data' seen again xs)
-
 pub each-again : {X : Type 0} (form : Data → Option X) (data' : X → Data) → ((x : X) → form (data' x) ≡ Some x) → (xs : List X) → each form (data_items data' xs) ≡ Some xs
 each-again form data' again [] = refl
 each-again form data' again (x ∷ xs) = more_at (form (data' x)) x _ _ (again x) (each-again form data' again xs)
@@ -57,6 +53,3 @@ each-again form data' again (x ∷ xs) = more_at (form (data' x)) x _ _ (again x
 -- a pool of what was written
 pub pool-again : {X : Type 0} (form : Data → Option X) (data' : X → Data) → ((x : X) → form (data' x) ≡ Some x) → (xs : List X) → pool_draft form (Some (array (data_items data' xs))) ≡ Some xs
 pool-again form data' again xs = each-again form data' again xs
-
-pub pool-seen : {X Y : Type 0} (form : Data → Option Y) (data' : X → Data) (seen : X → Y) → ((x : X) → form (data' x) ≡ Some (seen x)) → (xs : List X) → pool_draft form (Some (array (data_items data' xs))) ≡ Some (map seen xs)
-pool-seen form data' seen again xs = each-data_items form data' seen again xs

@@ -15,10 +15,11 @@ use Rattle.ticket_tree.specs.Ticket.{Job, depths}
 use Rattle.ticket_tree.specs.declared.audit.Audit.{Audit}
 use Rattle.ticket_tree.specs.declared.link.Link.{Link}
 use Rattle.ticket_tree.specs.declared.node_row.NodeRow.{NodeRow}
+use Rattle.json_profile.proofs.Again.{raw_depths}
 use Rattle.json_profile.specs.AuditDraft.{audit_draft}
 use Rattle.json_profile.specs.Listed.{pool_draft}
 use Rattle.json_profile.specs.PoolDraft.{RawResource, resource_draft, link_draft}
-use Rattle.json_profile.specs.Draft.{RawRow, RawTicket, resources_of, are_bare, raw_ticket, own_row, node_rows, child_rows, list_rows, item_rows, next_depth, node_members, root_members, ticket_draft}
+use Rattle.json_profile.specs.Draft.{RawRow, RawTicket, resources_of, raw_ticket, own_row, node_rows, child_rows, list_rows, item_rows, next_depth, node_members, root_members, ticket_draft}
 use Rattle.ticket_tree.specs.Ids.{are_distinct}
 use Rattle.ticket_tree.specs.Ticket.{ids, are_unreserved, are_shallow, are_resolved, unless, first_of, fault_of}
 use Rattle.ticket_tree.specs.declared.refusal.Refusal.{Refusal}
@@ -33,7 +34,7 @@ abbrev StandsAt : ℕ → RawRow → Type 0
 StandsAt depth r = r.row.depth ≡ depth
 
 pools_made : (depth : ℕ) (i j k s : List ℕ) (a : Pairs) (resources : Option (List RawResource)) (links : Option (List Link)) (audits : Option (List Audit))
-    → IfSome {T = RawRow} (resources >>= λ xs. links >>= λ ls. audits >>= λ us. Some (record { row = record { id = i; depth = depth; kind = k; job_part = j; status = s; attrs = a; resources = resources_of xs; links = ls; audits = us }; bare = are_bare xs })) (StandsAt depth)
+    → IfSome {T = RawRow} (resources >>= λ xs. links >>= λ ls. audits >>= λ us. Some (record { row = record { id = i; depth = depth; kind = k; job_part = j; status = s; attrs = a; resources = resources_of xs; links = ls; audits = us }; pool = xs })) (StandsAt depth)
 pools_made depth i j k s a None links audits = tt
 pools_made depth i j k s a (Some xs) None audits = tt
 pools_made depth i j k s a (Some xs) (Some ls) None = tt
@@ -41,7 +42,7 @@ pools_made depth i j k s a (Some xs) (Some ls) (Some us) = refl
 
 own_made : (depth : ℕ) (fits : Option ⊤) (id job_part kind status : Option (List ℕ)) (attrs : Option Pairs) (resources : Option (List RawResource)) (links : Option (List Link)) (audits : Option (List Audit))
     → IfSome {T = RawRow} (fits >>= λ _. id >>= λ i. job_part >>= λ j. kind >>= λ k. status >>= λ s. attrs >>= λ a. resources >>= λ xs. links >>= λ ls. audits >>= λ us.
-    Some (record { row = record { id = i; depth = depth; kind = k; job_part = j; status = s; attrs = a; resources = resources_of xs; links = ls; audits = us }; bare = are_bare xs })) (StandsAt depth)
+    Some (record { row = record { id = i; depth = depth; kind = k; job_part = j; status = s; attrs = a; resources = resources_of xs; links = ls; audits = us }; pool = xs })) (StandsAt depth)
 own_made depth None id job_part kind status attrs resources links audits = tt
 own_made depth (Some u) None job_part kind status attrs resources links audits = tt
 own_made depth (Some u) (Some i) None kind status attrs resources links audits = tt
@@ -57,9 +58,6 @@ own_depth names depth d =
     (pool_draft resource_draft (get (codes "ResourcePool") d)) (pool_draft link_draft (get (codes "ResourceLinkPool") d)) (pool_draft audit_draft (get (codes "AuditPool") d))
 
 -- ---- nodes below the root
-
-abbrev raw_depths : List RawRow → List ℕ
-raw_depths raws = map (λ r. r.row.depth) raws
 
 -- rows of nodes at this depth may follow any row that may have such a child, if what comes behind them may
 abbrev Continues : ℕ → List RawRow → Type 0
@@ -147,15 +145,15 @@ root_outline None kids at below = tt
 root_outline (Some row) None at below = tt
 root_outline (Some row) (Some kids) at below = and_from _ _ (ap (λ n. n == 1) at) (ap (goes_on 1) (sym (append-nil (raw_depths kids))) ∙ below 1 [] (next_low 1 (omega arith)) (λ b later. refl))
 
-root_is_tree : (d : Data) → IfSome (node_rows root_members 1 d) (λ rows. is_outline (raw_depths rows) ≡ true)
-root_is_tree null = tt
-root_is_tree (boolean b) = tt
-root_is_tree (number n) = tt
-root_is_tree (string s) = tt
-root_is_tree (array ds) = tt
-root_is_tree (object ms) = root_outline (own_row root_members 1 (object ms)) (child_rows 2 ms) (own_depth root_members 1 (object ms)) (children_continue 2 ms (omega arith) (omega arith))
+pub root_is_tree : (names : List (List ℕ)) (d : Data) → IfSome (node_rows names 1 d) (λ rows. is_outline (raw_depths rows) ≡ true)
+root_is_tree names null = tt
+root_is_tree names (boolean b) = tt
+root_is_tree names (number n) = tt
+root_is_tree names (string s) = tt
+root_is_tree names (array ds) = tt
+root_is_tree names (object ms) = root_outline (own_row names 1 (object ms)) (child_rows 2 ms) (own_depth names 1 (object ms)) (children_continue 2 ms (omega arith) (omega arith))
 
-depths-raw : (raws : List RawRow) → depths (map (λ r. r.row) raws) ≡ raw_depths raws
+pub depths-raw : (raws : List RawRow) → depths (map (λ r. r.row) raws) ≡ raw_depths raws
 depths-raw [] = refl
 depths-raw (r ∷ raws) = ap (λ ds. r.row.depth ∷ ds) (depths-raw raws)
 
@@ -168,12 +166,12 @@ job_made (Some j) (Some rs) h = ap is_outline (depths-raw rs) ∙ h
 -- the rows of a ticket's draft are an outline
 pub draft_is_outline : (d : Data) → IfSome (ticket_draft d) (λ t. is_outline (depths t.job.rows) ≡ true)
 unfolding ticket_draft
-draft_is_outline d = job_made (text_under (codes "JobID") d) (node_rows root_members 1 d) (root_is_tree d)
+draft_is_outline d = job_made (text_under (codes "JobID") d) (node_rows root_members 1 d) (root_is_tree root_members d)
 
 -- ---- what is wrong with a draft
 
 -- any refusal but that of rows that are no tree
-abbrev IsOther : Refusal → Type 0
+abbrev pub IsOther : Refusal → Type 0
 IsOther NotATree = ⊥
 IsOther e = Unit {0}
 
@@ -185,7 +183,7 @@ rows_fault true true false resolved = tt
 rows_fault true true true false = tt
 rows_fault true true true true = tt
 
-fault_of-outline : (rows : List NodeRow) → is_outline (depths rows) ≡ true → IfSome (fault_of rows) IsOther
+pub fault_of-outline : (rows : List NodeRow) → is_outline (depths rows) ≡ true → IfSome (fault_of rows) IsOther
 fault_of-outline rows h =
     subst (λ b. IfSome (first_of (unless b NotATree ∷ unless (are_unreserved rows) ReservedStatus ∷ unless (are_distinct (ids rows)) DuplicateId ∷ unless (are_shallow rows) TooDeep ∷ unless (are_resolved rows) UnresolvedLink ∷ [])) IsOther) (sym h)
     (rows_fault (are_unreserved rows) (are_distinct (ids rows)) (are_shallow rows) (are_resolved rows))
@@ -195,20 +193,20 @@ made_fault false f h = tt
 made_fault true None h = tt
 made_fault true (Some e) h = h
 
-draft_fault : (names texts : Bool) (f : Option Refusal) → IfSome f IsOther → IfSome (first_of (unless names BadId ∷ unless texts BadText ∷ f ∷ [])) IsOther
+pub draft_fault : (names texts : Bool) (f : Option Refusal) → IfSome f IsOther → IfSome (first_of (unless names BadId ∷ unless texts BadText ∷ f ∷ [])) IsOther
 draft_fault false texts f h = tt
 draft_fault true false f h = tt
 draft_fault true true None h = tt
 draft_fault true true (Some e) h = h
 
-judged_other : {X : Type 0} (f : Option Refusal) (x : X) → IfSome f IsOther → IfErr (sound f x) IsOther
+pub judged_other : {X : Type 0} (f : Option Refusal) (x : X) → IfSome f IsOther → IfErr (sound f x) IsOther
 judged_other None x h = tt
 judged_other (Some e) x h = h
 
 ticket_other : (t : RawTicket) → is_outline (depths t.job.rows) ≡ true → IfErr (sound (ticket_fault t) t.job) IsOther
 ticket_other t h = judged_other (ticket_fault t) t.job (draft_fault (has_names t) (has_texts t) (built_fault t) (made_fault t.bare (fault_of t.job.rows) (fault_of-outline t.job.rows h)))
 
-memory_or : {X : Type 0} (e : Refusal) (read : Result X Refusal) → IfErr read IsOther → (e ≡ Memory) ⊎ (read ≡ Err e) → IsOther e
+pub memory_or : {X : Type 0} (e : Refusal) (read : Result X Refusal) → IfErr read IsOther → (e ≡ Memory) ⊎ (read ≡ Err e) → IsOther e
 memory_or e read h (inl m) = subst IsOther (sym m) tt
 memory_or e read h (inr r) = subst (λ x. IfErr x IsOther) r h
 

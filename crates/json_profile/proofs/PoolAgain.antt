@@ -1,6 +1,5 @@
 -- Resources, links and audits that were written are read again.
 use Rattle.std.proofs.Common.{◌≡◌, ℕ, ◌&&◌, Bool, true, false, not, List, [], ◌∷◌, map, Some, refl, ap, ◌∙◌}
-use Rattle.std.specs.List.{list_all}
 use Rattle.std.specs.Option.{option_map}
 use Rattle.ticket_tree.specs.Attrs.{Pairs}
 use Rattle.serde_json.specs.Data.{string, array}
@@ -13,13 +12,14 @@ use Rattle.ticket_tree.specs.declared.spawn_status.SpawnStatus.{SpawnStatus}
 use Rattle.ticket_tree.specs.declared.spawn_status.SpawnStatus.TheVariants.{NotSpawned, SpawnedRO, SpawnedRW}
 use Rattle.ticket_tree.specs.declared.usage.Usage.{Usage}
 use Rattle.ticket_tree.specs.declared.usage.Usage.TheVariants.{Input, Output}
-use Rattle.json_profile.proofs.Lists.{each-again, pool-again, pool-seen}
+use Rattle.json_profile.proofs.Lists.{each-again, pool-again}
 use Rattle.json_profile.specs.AuditDraft.{notification_draft, spawned_draft, merged_draft, audit_draft}
+use Rattle.json_profile.specs.Draft.{resources_of}
 use Rattle.json_profile.specs.DraftedPool.{own_resource, drafted_resource}
 use Rattle.json_profile.specs.Listed.{pool_draft, data_items}
 use Rattle.json_profile.specs.PoolDraft.{RawResource, spawn_status_named, usage_named, shown_draft, resource_draft, link_draft}
 use Rattle.json_profile.specs.PoolForm.{nothing_shown, shows_nothing, is_empty, is_not_spawned}
-use Rattle.json_profile.specs.PoolWritten.{attr_members, spawn_status_word, usage_word, resource_data, link_data, audit_data}
+use Rattle.json_profile.specs.PoolWritten.{attr_members, spawn_status_word, usage_word, resource_data, raw_data, all_showing, link_data, audit_data}
 use Rattle.json_profile.specs.Read.{◌>>=◌, text_pairs}
 use Rattle.json_profile.specs.declared.resource_draft.ResourceDraft.{ResourceDraft}
 use Rattle.json_profile.specs.declared.shown.Shown.{Shown}
@@ -52,18 +52,14 @@ resource_draft-resource_data shown r =
     ap (λ o. o >>= λ attrs. shown_draft (resource_data shown r) >>= λ s. Some (record { resource = record { id = r.id; name = r.name; class = r.class; status = r.status; attrs = attrs }; shown = s })) (text_pairs-attr_members r.attrs)
     ∙ ap (λ o. o >>= λ s. Some (record { resource = r; shown = s })) (shown_draft-resource_data shown r)
 
--- a pool whose resources all show the same
-pub resources-again : (shown : Shown) (rs : List Resource) → pool_draft resource_draft (Some (array (data_items (resource_data shown) rs))) ≡ Some (map (λ r. record { resource = r; shown = shown }) rs)
-resources-again shown rs = pool-seen resource_draft (resource_data shown) (λ r. record { resource = r; shown = shown }) (resource_draft-resource_data shown) rs
-
 -- a pool whose resources show something each
-pub raw_resources-again : (raws : List RawResource) → pool_draft resource_draft (Some (array (data_items (λ r. resource_data r.shown r.resource) raws))) ≡ Some raws
-raw_resources-again raws = pool-again resource_draft (λ r. resource_data r.shown r.resource) (λ r. resource_draft-resource_data r.shown r.resource) raws
+pub raw_resources-again : (raws : List RawResource) → pool_draft resource_draft (Some (array (data_items raw_data raws))) ≡ Some raws
+raw_resources-again raws = pool-again resource_draft raw_data (λ r. resource_draft-resource_data r.shown r.resource) raws
 
--- the resources that resources shown as nothing are
-pub bare_resources : (shown : Shown) (rs : List Resource) → map (λ r. r.resource) (map {B = RawResource} (λ r. record { resource = r; shown = shown }) rs) ≡ rs
-bare_resources shown [] = refl
-bare_resources shown (r ∷ rs) = ap (λ more. r ∷ more) (bare_resources shown rs)
+-- the resources that are shown so
+pub resources_of-all_showing : (shown : Shown) (rs : List Resource) → resources_of (all_showing shown rs) ≡ rs
+resources_of-all_showing shown [] = refl
+resources_of-all_showing shown (r ∷ rs) = ap (λ more. r ∷ more) (resources_of-all_showing shown rs)
 
 pub own_resources : (drafts : List ResourceDraft) → map (λ r. r.resource) (map drafted_resource drafts) ≡ map own_resource drafts
 own_resources [] = refl
@@ -83,10 +79,6 @@ shows_nothing-exact shown h =
     ap (λ b. record { locked = b; spawn_ids = shown.spawn_ids; spawn_status = shown.spawn_status }) parts.0
     ∙ ap (λ ids. record { locked = false; spawn_ids = ids; spawn_status = shown.spawn_status }) parts.1
     ∙ ap (λ s. record { locked = false; spawn_ids = []; spawn_status = s }) parts.2
-
-pub all_show_nothing : (rs : List Resource) → list_all (λ r. shows_nothing r.shown) (map {B = RawResource} (λ r. record { resource = r; shown = nothing_shown }) rs) ≡ true
-all_show_nothing [] = refl
-all_show_nothing (r ∷ rs) = all_show_nothing rs
 
 -- ---- links
 

@@ -4,12 +4,16 @@ use Rattle.std.proofs.lemmas.Bool.{or_from}
 use Rattle.serde_json.specs.Data.{Data, string, depth, items_depth, members_depth}
 use Rattle.serde_json.specs.Written.{has_float, items_have_float, members_have_float}
 use Rattle.ticket_tree.specs.Attrs.{Pairs}
+use Rattle.ticket_tree.specs.declared.ancestor.Ancestor.{Ancestor}
 use Rattle.ticket_tree.specs.declared.audit.Audit.{Audit}
 use Rattle.ticket_tree.specs.declared.audit.Audit.TheVariants.{Notification, Spawned, Merged}
 use Rattle.ticket_tree.specs.declared.link.Link.{Link}
 use Rattle.ticket_tree.specs.declared.resource.Resource.{Resource}
 use Rattle.json_profile.specs.Listed.{data_items}
-use Rattle.json_profile.specs.PoolWritten.{attr_members, resource_data, link_data, audit_data}
+use Rattle.json_profile.specs.PartWritten.{ancestor_data}
+use Rattle.json_profile.specs.PoolDraft.{RawResource}
+use Rattle.json_profile.specs.PoolWritten.{attr_members, resource_data, raw_data, link_data, audit_data}
+use Rattle.json_profile.specs.Written.{pool_data}
 use Rattle.json_profile.specs.declared.shown.Shown.{Shown}
 
 -- ---- no float
@@ -36,8 +40,11 @@ audit_plain (Notification time text) = refl
 audit_plain (Spawned time jref spawn_id ro changed status) = or_from _ _ (texts_plain ro) (ap (λ b. b || false) (texts_plain changed))
 audit_plain (Merged time jref merge_id overwritten) = ap (λ b. b || false) (texts_plain overwritten)
 
-pub resources_plain : (shown : Shown) (rs : List Resource) → items_have_float (data_items (resource_data shown) rs) ≡ false
-resources_plain shown rs = items_plain (resource_data shown) (resource_plain shown) rs
+pub pool_plain : (raws : List RawResource) → items_have_float (pool_data raws) ≡ false
+pool_plain raws = items_plain raw_data (λ r. resource_plain r.shown r.resource) raws
+
+pub ancestors_plain : (ancestors : List Ancestor) → items_have_float (data_items ancestor_data ancestors) ≡ false
+ancestors_plain ancestors = items_plain ancestor_data (λ a. refl) ancestors
 
 pub links_plain : (ls : List Link) → items_have_float (data_items link_data ls) ≡ false
 links_plain ls = items_plain link_data link_plain ls
@@ -70,8 +77,11 @@ audit_nests (Notification time text) = omega arith
 audit_nests (Spawned time jref spawn_id ro changed status) = omega (arith, texts_flat ro, texts_flat changed)
 audit_nests (Merged time jref merge_id overwritten) = omega (arith, texts_flat overwritten)
 
-pub resources_low : (shown : Shown) (rs : List Resource) → items_depth (data_items (resource_data shown) rs) ≤ 2
-resources_low shown rs = items_low (resource_data shown) 2 (λ r. omega (arith, resource_nests shown r)) rs
+pub pool_low : (raws : List RawResource) → items_depth (pool_data raws) ≤ 2
+pool_low raws = items_low raw_data 2 (λ r. omega (arith, resource_nests r.shown r.resource)) raws
+
+pub ancestors_low : (ancestors : List Ancestor) → items_depth (data_items ancestor_data ancestors) ≤ 1
+ancestors_low ancestors = items_low ancestor_data 1 (λ a. omega arith) ancestors
 
 pub links_low : (ls : List Link) → items_depth (data_items link_data ls) ≤ 1
 links_low ls = items_low link_data 1 (λ l. omega arith) ls

@@ -13,7 +13,7 @@ use Rattle.ticket_tree.specs.declared.refusal.Refusal.TheVariants.{NotATree, Not
 use Rattle.json_profile.specs.EditDraft.{edit_draft, adding_draft, setting_draft, set_status_draft, set_attr_draft, set_resource_status_draft, set_resource_attr_draft, note_draft, add_node_draft, add_resource_draft, add_link_draft}
 use Rattle.json_profile.specs.Form.{job_has_names, job_has_texts, ticket_fault, ticket_read, edit_has_names, edit_has_texts, edit_fault, edit_read, judged, sound}
 use Rattle.json_profile.specs.Written.{ticket_data, edit_data}
-use Rattle.json_profile.proofs.Again.{ticket_draft-job_data}
+use Rattle.json_profile.proofs.Again.{ticket_draft-ticket_data}
 use Rattle.json_profile.proofs.PoolAgain.{text_pairs-attr_members, usage-again}
 use Rattle.json_profile.proofs.PoolShape.{attrs_plain, attrs_flat}
 use Rattle.json_profile.specs.Read.{◌>>=◌}
@@ -37,7 +37,7 @@ no_built_fault true None p q = refl
 no_built_fault true (Some e) p q = cc
 no_built_fault false o p q = cc
 
-three : (a b : Bool) (o : Option Refusal) → a ≡ true → b ≡ true → o ≡ None → first_of (unless a BadId ∷ unless b BadText ∷ o ∷ []) ≡ None
+pub three : (a b : Bool) (o : Option Refusal) → a ≡ true → b ≡ true → o ≡ None → first_of (unless a BadId ∷ unless b BadText ∷ o ∷ []) ≡ None
 three true true None p q r = refl
 three true true (Some e) p q r = cc
 three false b o p q r = cc
@@ -45,7 +45,7 @@ three true false o p q r = cc
 
 pub ticket_again : (t : Job) → IsValid t.rows → job_has_names t ≡ true → job_has_texts t ≡ true → ticket_read (ticket_data t) ≡ Ok t
 ticket_again t valid names texts =
-    ap (λ o. option_map_or (λ raw. sound (ticket_fault raw) raw.job) o (Err NotProfile)) (ticket_draft-job_data t.job_id t.rows valid)
+    ap (λ o. option_map_or (λ raw. sound (ticket_fault raw) raw.job) o (Err NotProfile)) (ticket_draft-ticket_data t.job_id t.rows valid)
     ∙ ap (λ f. sound f t) (three _ _ _ names texts (no_built_fault true (fault_of t.rows) refl (no_fault t.rows valid)))
 
 two : (a b : Bool) → a ≡ true → b ≡ true → first_of (unless a BadId ∷ unless b BadText ∷ []) ≡ None

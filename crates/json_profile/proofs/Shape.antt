@@ -1,13 +1,21 @@
 -- What is written has no float, and nests little.
-use Rattle.std.proofs.Common.{◌≡◌, ℕ, max, ◌+◌, ◌*◌, ◌<◌, ◌≤◌, ◌||◌, Bool, true, false, cond, List, [], ◌∷◌, refl, arith, nat_lt}
+use Rattle.std.proofs.Common.{◌≡◌, ℕ, max, ◌+◌, ◌*◌, ◌<◌, ◌≤◌, ◌||◌, Bool, true, false, cond, List, [], ◌∷◌, refl, sym, ◌∙◌, arith, nat_lt}
 use Rattle.std.proofs.lemmas.Bool.{and_parts, ltb-true, leb-true, or_from}
-use Rattle.serde_json.specs.Data.{Items, no_items, item, depth, items_depth}
+use Rattle.serde_json.specs.Data.{Data, Items, no_items, item, depth, items_depth}
 use Rattle.serde_json.specs.Written.{has_float, items_have_float}
-use Rattle.ticket_tree.specs.Ticket.{are_shallow}
+use Rattle.ticket_tree.specs.Part.{Copied, with_copies}
+use Rattle.ticket_tree.specs.SpawnId.{spawn_text}
+use Rattle.ticket_tree.specs.Ticket.{Job, are_shallow}
+use Rattle.ticket_tree.specs.declared.ancestor.Ancestor.{Ancestor}
+use Rattle.ticket_tree.specs.declared.marks.Marks.{Marks}
 use Rattle.ticket_tree.specs.declared.node_row.NodeRow.{NodeRow}
-use Rattle.json_profile.proofs.PoolShape.{attrs_plain, audits_plain, links_plain, resources_plain, attrs_flat, audits_low, links_low, resources_low}
-use Rattle.json_profile.specs.PoolForm.{nothing_shown}
-use Rattle.json_profile.specs.Written.{node_data, root_data, Tree, children, others, trees, job_data}
+use Rattle.ticket_tree.specs.declared.resource.Resource.{Resource}
+use Rattle.json_profile.proofs.Again.{raws_are_shallow, shallow-marked}
+use Rattle.json_profile.proofs.PoolShape.{attrs_plain, audits_plain, links_plain, pool_plain, ancestors_plain, attrs_flat, audits_low, links_low, pool_low, ancestors_low}
+use Rattle.json_profile.specs.Draft.{RawRow}
+use Rattle.json_profile.specs.Marked.{no_marks, marked_rows}
+use Rattle.json_profile.specs.PartWritten.{part_root_data, copied_root, rows_data, part_data}
+use Rattle.json_profile.specs.Written.{node_data, root_data, Tree, children, others, trees, job_data, shown_data}
 
 -- ---- no float
 
@@ -20,11 +28,15 @@ parts_plain false false true d e p q r s t = cc
 parts_plain false false false true e p q r s t = cc
 parts_plain false false false false true p q r s t = cc
 
-node_plain : (r : NodeRow) (kids : Items) → items_have_float kids ≡ false → has_float (node_data r kids) ≡ false
-node_plain r kids h = parts_plain _ _ _ _ _ (attrs_plain r.attrs) (audits_plain r.audits) h (links_plain r.links) (resources_plain nothing_shown r.resources)
+node_plain : (r : RawRow) (kids : Items) → items_have_float kids ≡ false → has_float (node_data r kids) ≡ false
+node_plain r kids h = parts_plain _ _ _ _ _ (attrs_plain r.row.attrs) (audits_plain r.row.audits) h (links_plain r.row.links) (pool_plain r.pool)
 
-root_plain : (job : List ℕ) (r : NodeRow) (kids : Items) → items_have_float kids ≡ false → has_float (root_data job r kids) ≡ false
-root_plain job r kids h = parts_plain _ _ _ _ _ (attrs_plain r.attrs) (audits_plain r.audits) h (links_plain r.links) (resources_plain nothing_shown r.resources)
+root_plain : (job : List ℕ) (r : RawRow) (kids : Items) → items_have_float kids ≡ false → has_float (root_data job r kids) ≡ false
+root_plain job r kids h = parts_plain _ _ _ _ _ (attrs_plain r.row.attrs) (audits_plain r.row.audits) h (links_plain r.row.links) (pool_plain r.pool)
+
+part_root_plain : (job spawn : List ℕ) (ancestors : List Ancestor) (r : RawRow) (kids : Items) → items_have_float kids ≡ false → has_float (part_root_data job spawn ancestors r kids) ≡ false
+part_root_plain job spawn ancestors r kids h =
+    or_from _ _ (ancestors_plain ancestors) (parts_plain _ _ _ _ _ (attrs_plain r.row.attrs) (audits_plain r.row.audits) h (links_plain r.row.links) (pool_plain r.pool))
 
 abbrev ArePlain : List Tree → Type 0
 ArePlain [] = Unit {0}
@@ -46,21 +58,33 @@ others_plain : (d : ℕ) (ts : List Tree) → ArePlain ts → ArePlain (others d
 others_plain d [] h = tt
 others_plain d (t ∷ ts) h = others_plain_at (nat_lt d t.depth) d t ts h (others_plain d ts h.1)
 
-trees_plain : (rows : List NodeRow) → ArePlain (trees rows)
+trees_plain : (rows : List RawRow) → ArePlain (trees rows)
 trees_plain [] = tt
-trees_plain (r ∷ rows) = (node_plain r (children r.depth (trees rows)) (children_plain r.depth (trees rows) (trees_plain rows)), others_plain r.depth (trees rows) (trees_plain rows))
+trees_plain (r ∷ rows) = (node_plain r (children r.row.depth (trees rows)) (children_plain r.row.depth (trees rows) (trees_plain rows)), others_plain r.row.depth (trees rows) (trees_plain rows))
 
-pub job_data_plain : (job : List ℕ) (rows : List NodeRow) → has_float (job_data job rows) ≡ false
+pub job_data_plain : (job : List ℕ) (rows : List RawRow) → has_float (job_data job rows) ≡ false
 job_data_plain job [] = refl
-job_data_plain job (r ∷ rows) = root_plain job r (children r.depth (trees rows)) (children_plain r.depth (trees rows) (trees_plain rows))
+job_data_plain job (r ∷ rows) = root_plain job r (children r.row.depth (trees rows)) (children_plain r.row.depth (trees rows) (trees_plain rows))
+
+rows_data_plain : (job spawn : List ℕ) (ancestors : List Ancestor) (rows : List NodeRow) (changes reads : List Resource) → has_float (rows_data job spawn ancestors rows changes reads) ≡ false
+rows_data_plain job spawn ancestors [] changes reads = refl
+rows_data_plain job spawn ancestors (r ∷ rows) changes reads =
+    let raws = marked_rows no_marks rows in
+    part_root_plain job spawn ancestors (copied_root spawn changes reads r) (children r.depth (trees raws)) (children_plain r.depth (trees raws) (trees_plain raws))
+
+pub part_data_plain : (p : Copied) → has_float (part_data p) ≡ false
+part_data_plain p = rows_data_plain p.job_id (spawn_text p.spawn_id) p.ancestors p.rows p.rw p.ro
 
 -- ---- nesting
 
-node_nests : (r : NodeRow) (kids : Items) → depth (node_data r kids) ≤ max 4 (2 + items_depth kids)
-node_nests r kids = omega (arith, attrs_flat r.attrs, audits_low r.audits, links_low r.links, resources_low nothing_shown r.resources)
+node_nests : (r : RawRow) (kids : Items) → depth (node_data r kids) ≤ max 4 (2 + items_depth kids)
+node_nests r kids = omega (arith, attrs_flat r.row.attrs, audits_low r.row.audits, links_low r.row.links, pool_low r.pool)
 
-root_nests : (job : List ℕ) (r : NodeRow) (kids : Items) → depth (root_data job r kids) ≤ max 4 (2 + items_depth kids)
-root_nests job r kids = omega (arith, attrs_flat r.attrs, audits_low r.audits, links_low r.links, resources_low nothing_shown r.resources)
+root_nests : (job : List ℕ) (r : RawRow) (kids : Items) → depth (root_data job r kids) ≤ max 4 (2 + items_depth kids)
+root_nests job r kids = omega (arith, attrs_flat r.row.attrs, audits_low r.row.audits, links_low r.row.links, pool_low r.pool)
+
+part_root_nests : (job spawn : List ℕ) (ancestors : List Ancestor) (r : RawRow) (kids : Items) → depth (part_root_data job spawn ancestors r kids) ≤ max 4 (2 + items_depth kids)
+part_root_nests job spawn ancestors r kids = omega (arith, ancestors_low ancestors, attrs_flat r.row.attrs, audits_low r.row.audits, links_low r.row.links, pool_low r.pool)
 
 low_from : (n k d : ℕ) → n ≤ max 4 (2 + k) → d ≤ 32 → k + 2 * d ≤ 66 → n + 2 * d ≤ 68
 low_from n k d nests within low = omega arith
@@ -91,18 +115,41 @@ others_low : (d : ℕ) (ts : List Tree) → AreLow ts → AreLow (others d ts)
 others_low d [] h = tt
 others_low d (t ∷ ts) h = others_low_at (nat_lt d t.depth) d t ts h (others_low d ts h.1)
 
-trees_low : (rows : List NodeRow) → are_shallow rows ≡ true → AreLow (trees rows)
+trees_low : (rows : List RawRow) → raws_are_shallow rows ≡ true → AreLow (trees rows)
 trees_low [] shallow = tt
 trees_low (r ∷ rows) shallow =
+    let d = r.row.depth in
     let parts = and_parts _ _ shallow in
     let rest : AreLow (trees rows) = trees_low rows parts.1 in
-    let kids : items_depth (children r.depth (trees rows)) + 2 * r.depth ≤ 66 = children_low r.depth (trees rows) (leb-true _ _ parts.0) rest in
-    (low_from _ (items_depth (children r.depth (trees rows))) r.depth (node_nests r (children r.depth (trees rows))) (leb-true _ _ parts.0) kids, others_low r.depth (trees rows) rest)
+    let kids : items_depth (children d (trees rows)) + 2 * d ≤ 66 = children_low d (trees rows) (leb-true _ _ parts.0) rest in
+    (low_from _ (items_depth (children d (trees rows))) d (node_nests r (children d (trees rows))) (leb-true _ _ parts.0) kids, others_low d (trees rows) rest)
 
-pub job_data_nests : (job : List ℕ) (rows : List NodeRow) → are_shallow rows ≡ true → depth (job_data job rows) ≤ 127
+-- a root of any form above such trees
+nests_within : (root : Data) (d : ℕ) (rows : List RawRow) → raws_are_shallow rows ≡ true → d ≤ 32 → depth root ≤ max 4 (2 + items_depth (children d (trees rows))) → depth root ≤ 127
+nests_within root d rows shallow within nests =
+    let kids : items_depth (children d (trees rows)) + 2 * d ≤ 66 = children_low d (trees rows) within (trees_low rows shallow) in
+    root_within _ d (low_from _ (items_depth (children d (trees rows))) d nests within kids)
+
+job_data_nests : (job : List ℕ) (rows : List RawRow) → raws_are_shallow rows ≡ true → depth (job_data job rows) ≤ 127
 job_data_nests job [] shallow = omega arith
 job_data_nests job (r ∷ rows) shallow =
     let parts = and_parts _ _ shallow in
-    let kids : items_depth (children r.depth (trees rows)) + 2 * r.depth ≤ 66 = children_low r.depth (trees rows) (leb-true _ _ parts.0) (trees_low rows parts.1) in
-    let low = low_from _ (items_depth (children r.depth (trees rows))) r.depth (root_nests job r (children r.depth (trees rows))) (leb-true _ _ parts.0) kids in
-    root_within _ r.depth low
+    nests_within (job_data job (r ∷ rows)) r.row.depth rows parts.1 (leb-true _ _ parts.0) (root_nests job r (children r.row.depth (trees rows)))
+
+pub shown_data_nests : (marks : Marks) (t : Job) → are_shallow t.rows ≡ true → depth (shown_data marks t) ≤ 127
+shown_data_nests marks t shallow = job_data_nests t.job_id (marked_rows marks t.rows) (shallow-marked marks t.rows ∙ shallow)
+
+rows_data_nests : (job spawn : List ℕ) (ancestors : List Ancestor) (rows : List NodeRow) (changes reads : List Resource) → are_shallow rows ≡ true → depth (rows_data job spawn ancestors rows changes reads) ≤ 127
+rows_data_nests job spawn ancestors [] changes reads shallow = omega arith
+rows_data_nests job spawn ancestors (r ∷ rows) changes reads shallow =
+    let parts = and_parts _ _ shallow in
+    let raws = marked_rows no_marks rows in
+    let root = copied_root spawn changes reads r in
+    nests_within (part_root_data job spawn ancestors root (children r.depth (trees raws))) r.depth raws (shallow-marked no_marks rows ∙ parts.1) (leb-true _ _ parts.0) (part_root_nests job spawn ancestors root (children r.depth (trees raws)))
+
+shallow_copies : (rows : List NodeRow) (changes reads : List Resource) → are_shallow (with_copies rows changes reads) ≡ are_shallow rows
+shallow_copies [] changes reads = refl
+shallow_copies (r ∷ rows) changes reads = refl
+
+pub part_data_nests : (p : Copied) → are_shallow (with_copies p.rows p.rw p.ro) ≡ true → depth (part_data p) ≤ 127
+part_data_nests p shallow = rows_data_nests p.job_id (spawn_text p.spawn_id) p.ancestors p.rows p.rw p.ro (sym (shallow_copies p.rows p.rw p.ro) ∙ shallow)

@@ -182,14 +182,14 @@ locked_media =
     object (member (codes "Class") (string (codes "Consumable")) (member (codes "ID") (string (codes "r1")) (member (codes "Locked") (boolean true) (member (codes "Name") (string (codes "Media")) with_status))))
 
 absent_pools : own_row node_members 1 (node_with waiting)
-    ≡ Some (record { row = record { id = codes "n0"; depth = 1; kind = codes "Product"; job_part = codes "p0"; status = codes "Waiting"; attrs = []; resources = []; links = []; audits = [] }; bare = true })
+    ≡ Some (record { row = record { id = codes "n0"; depth = 1; kind = codes "Product"; job_part = codes "p0"; status = codes "Waiting"; attrs = []; resources = []; links = []; audits = [] }; pool = [] })
 unfolding own_row
 absent_pools = refl
 
 one_locked : own_row node_members 1 (node_with (member (codes "ResourceLinkPool") (array (item r2_input no_items)) (member (codes "ResourcePool") (array (item (media_with with_status) (item locked_media no_items))) waiting)))
     ≡ Some (record {
       row = record { id = codes "n0"; depth = 1; kind = codes "Product"; job_part = codes "p0"; status = codes "Waiting"; attrs = []; resources = media ∷ media ∷ []; links = record { rref = codes "r2"; usage = Input } ∷ []; audits = [] };
-      bare = false;
+      pool = record { resource = media; shown = nothing_shown } ∷ record { resource = media; shown = record { locked = true; spawn_ids = []; spawn_status = NotSpawned } } ∷ [];
     })
 unfolding own_row resource_draft shown_draft link_draft
 one_locked = refl

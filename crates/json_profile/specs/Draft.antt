@@ -31,10 +31,10 @@ root_members = codes "JobID" ∷ node_members
 abbrev pub next_depth : ℕ → ℕ
 next_depth depth = min (depth + 1) 33
 
--- a node's row, and whether its resources show nothing of spawns
+-- a node's row, and its resources with what they show of spawns
 pub record RawRow : Type 0 where
   pub row : NodeRow
-  pub bare : Bool
+  pub pool : List RawResource
 
 -- the resources, without what they show
 abbrev pub resources_of : List RawResource → List Resource
@@ -58,7 +58,7 @@ own_row names depth d = do
   audits ← pool_draft audit_draft (get (codes "AuditPool") d)
   Some (record {
     row = record { id = id; depth = depth; kind = kind; job_part = job_part; status = status; attrs = attrs; resources = resources_of resources; links = links; audits = audits };
-    bare = are_bare resources;
+    pool = resources;
   })
 
 -- a node with the nodes below it, in preorder
@@ -97,7 +97,7 @@ pub record RawTicket : Type 0 where
 
 -- the ticket of a job with these nodes
 abbrev pub raw_ticket : List ℕ → List RawRow → RawTicket
-raw_ticket job raws = record { job = record { job_id = job; rows = map (λ r. r.row) raws }; bare = list_all (λ r. r.bare) raws }
+raw_ticket job raws = record { job = record { job_id = job; rows = map (λ r. r.row) raws }; bare = list_all (λ r. are_bare r.pool) raws }
 
 unfoldable pub ticket_draft : Data → Option RawTicket
 ticket_draft d = do

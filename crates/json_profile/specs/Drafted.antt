@@ -1,7 +1,7 @@
 -- What drafts are as values.
 use Rattle.std.specs.Prelude.{List, map}
 use Rattle.ticket_tree.specs.declared.node_row.NodeRow.{NodeRow}
-use Rattle.json_profile.specs.Draft.{RawRow, resources_of, are_bare}
+use Rattle.json_profile.specs.Draft.{RawRow, resources_of}
 use Rattle.json_profile.specs.DraftedPool.{drafted_resource, drafted_link, drafted_audit}
 use Rattle.json_profile.specs.PoolDraft.{RawResource}
 use Rattle.json_profile.specs.declared.node_draft.NodeDraft.{NodeDraft}
@@ -25,9 +25,9 @@ drafted_row d =
       audits = map drafted_audit d.audits.items;
     }
 
--- and with what its resources show
+-- and its resources with what they show
 abbrev pub drafted_raw : NodeDraft → RawRow
-drafted_raw d = record { row = drafted_row d; bare = are_bare (drafted_resources d.resources.items) }
+drafted_raw d = record { row = drafted_row d; pool = drafted_resources d.resources.items }
 
 abbrev pub drafted_rows : List NodeDraft → List RawRow
 drafted_rows ds = map drafted_raw ds

@@ -13,3 +13,8 @@ pub mod AuditDraft
 pub mod PoolForm
 pub mod PoolWritten
 pub mod DraftedPool
+pub mod Marked
+pub mod PartDraft
+pub mod PartForm
+pub mod PartWritten
+pub mod DraftedPart

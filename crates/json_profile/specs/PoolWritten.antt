@@ -1,5 +1,5 @@
 -- What is written for resources, links and audits: each member of a form, in the byte order of the names.
-use Rattle.std.specs.Prelude.{ℕ, List, [], ◌∷◌, codes}
+use Rattle.std.specs.Prelude.{ℕ, List, [], ◌∷◌, map, codes}
 use Rattle.serde_json.specs.Data.{Data, Members, no_members, member, unsigned, boolean, number, string, array, object}
 use Rattle.ticket_tree.specs.Attrs.{Pairs}
 use Rattle.ticket_tree.specs.declared.audit.Audit.{Audit}
@@ -11,6 +11,7 @@ use Rattle.ticket_tree.specs.declared.spawn_status.SpawnStatus.TheVariants.{NotS
 use Rattle.ticket_tree.specs.declared.usage.Usage.{Usage}
 use Rattle.ticket_tree.specs.declared.usage.Usage.TheVariants.{Input, Output}
 use Rattle.json_profile.specs.Listed.{data_items}
+use Rattle.json_profile.specs.PoolDraft.{RawResource}
 use Rattle.json_profile.specs.declared.shown.Shown.{Shown}
 
 -- attributes, a text each
@@ -35,6 +36,14 @@ resource_data shown r =
     object (member (codes "Attr") (object (attr_members r.attrs)) (member (codes "Class") (string r.class) (member (codes "ID") (string r.id) (member (codes "Locked") (boolean shown.locked)
     (member (codes "Name") (string r.name) (member (codes "SpawnIDs") (texts_data shown.spawn_ids) (member (codes "SpawnStatus") (string (spawn_status_word shown.spawn_status))
     (member (codes "Status") (string r.status) no_members))))))))
+
+-- resources that all show the same
+abbrev pub all_showing : Shown → List Resource → List RawResource
+all_showing shown rs = map (λ r. record { resource = r; shown = shown }) rs
+
+-- a resource with what it shows
+abbrev pub raw_data : RawResource → Data
+raw_data r = resource_data r.shown r.resource
 
 -- the part of a resource that is its own, without what it shows of spawns
 abbrev pub own_members : Resource → Members

@@ -5,29 +5,41 @@ use Rattle.ticket_tree.specs.Ticket.{Job}
 use Rattle.ticket_tree.specs.declared.node_row.NodeRow.{NodeRow}
 use Rattle.ticket_tree.specs.declared.edit.Edit.{Edit}
 use Rattle.ticket_tree.specs.declared.edit.Edit.TheVariants.{SetStatus, SetAttr, SetResStatus, SetResAttr, Note, AddNode, AddResource, AddLink}
+use Rattle.ticket_tree.specs.declared.marks.Marks.{Marks}
+use Rattle.json_profile.specs.Draft.{RawRow}
 use Rattle.json_profile.specs.Listed.{data_items}
-use Rattle.json_profile.specs.PoolForm.{nothing_shown}
-use Rattle.json_profile.specs.PoolWritten.{attr_members, resource_data, link_data, audit_data, usage_word}
+use Rattle.json_profile.specs.Marked.{no_marks, marked_rows}
+use Rattle.json_profile.specs.PoolDraft.{RawResource}
+use Rattle.json_profile.specs.PoolWritten.{attr_members, raw_data, link_data, audit_data, usage_word}
 
 -- ---- nodes
 
--- from a node's part in its job on: what stands behind its children. Its resources show nothing of spawns.
-abbrev pub last_members : NodeRow → Members
-last_members r =
-    member (codes "JobPartID") (string r.job_part) (member (codes "ResourceLinkPool") (array (data_items link_data r.links)) (member (codes "ResourcePool") (array (data_items (resource_data nothing_shown) r.resources))
+-- resources, each with what it shows of spawns
+abbrev pub pool_data : List RawResource → Items
+pool_data raws = data_items raw_data raws
+
+-- from a node's part in its job on: what stands behind its children. These are its resources.
+abbrev pub last_members : NodeRow → Items → Members
+last_members r pool =
+    member (codes "JobPartID") (string r.job_part) (member (codes "ResourceLinkPool") (array (data_items link_data r.links)) (member (codes "ResourcePool") (array pool)
     (member (codes "Status") (string r.status) (member (codes "Type") (string r.kind) no_members))))
 
--- a node with its children, the members in front of `last`
-abbrev pub with_first_members : NodeRow → Items → Members → Data
-with_first_members r children last =
-    object (member (codes "Attr") (object (attr_members r.attrs)) (member (codes "AuditPool") (array (data_items audit_data r.audits)) (member (codes "ID") (string r.id) (member (codes "JDF") (array children) last))))
+-- a node's members up to its children, in front of `last`
+abbrev pub first_members : NodeRow → Items → Members → Members
+first_members r children last =
+    member (codes "Attr") (object (attr_members r.attrs)) (member (codes "AuditPool") (array (data_items audit_data r.audits)) (member (codes "ID") (string r.id) (member (codes "JDF") (array children) last)))
 
-abbrev pub node_data : NodeRow → Items → Data
-node_data r children = with_first_members r children (last_members r)
+-- a node with these resources and these children
+abbrev pub node_object : NodeRow → Items → Items → Data
+node_object r pool children = object (first_members r children (last_members r pool))
+
+-- a node with its children
+abbrev pub node_data : RawRow → Items → Data
+node_data r children = node_object r.row (pool_data r.pool) children
 
 -- a ticket's root, which also has the job's id
-abbrev pub root_data : List ℕ → NodeRow → Items → Data
-root_data job r children = with_first_members r children (member (codes "JobID") (string job) (last_members r))
+abbrev pub root_data : List ℕ → RawRow → Items → Data
+root_data job r children = object (first_members r.row children (member (codes "JobID") (string job) (last_members r.row (pool_data r.pool))))
 
 -- the part of a node that is of its own kind: attributes and names
 abbrev pub own_members : NodeRow → Members
@@ -57,21 +69,25 @@ others depth [] = []
 others depth (t ∷ trees) = if nat_lt depth t.depth then others depth trees else t ∷ trees
 
 -- a row in front of trees: those that stand deeper are its children
-abbrev pub with_tree : NodeRow → List Tree → List Tree
-with_tree r ts = record { depth = r.depth; value = node_data r (children r.depth ts) } ∷ others r.depth ts
+abbrev pub with_tree : RawRow → List Tree → List Tree
+with_tree r ts = record { depth = r.row.depth; value = node_data r (children r.row.depth ts) } ∷ others r.row.depth ts
 
 -- the trees that rows in preorder are
-abbrev pub trees : List NodeRow → List Tree
+abbrev pub trees : List RawRow → List Tree
 trees [] = []
 trees (r ∷ rows) = with_tree r (trees rows)
 
-abbrev pub job_data : List ℕ → List NodeRow → Data
+abbrev pub job_data : List ℕ → List RawRow → Data
 job_data job [] = null
-job_data job (r ∷ rows) = root_data job r (children r.depth (trees rows))
+job_data job (r ∷ rows) = root_data job r (children r.row.depth (trees rows))
 
--- a ticket: its root with all below it
+-- a ticket that shows marks: its root with all below it
+abbrev pub shown_data : Marks → Job → Data
+shown_data marks t = job_data t.job_id (marked_rows marks t.rows)
+
+-- a ticket, which shows none
 abbrev pub ticket_data : Job → Data
-ticket_data t = job_data t.job_id t.rows
+ticket_data t = shown_data no_marks t
 
 -- ---- edits
 

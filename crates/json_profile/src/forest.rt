@@ -5,15 +5,16 @@ ghost use Rattle.std.specs.Prelude.{◌≡◌, true, map, IfOk, OnOk};
 ghost use Rattle.std.specs.List.{list_all};
 ghost use Rattle.serde_json.specs.View.{items_view};
 ghost use Rattle.json_profile.specs.Form.{row_has_names, row_has_texts};
+ghost use Rattle.json_profile.specs.Marked.{marked_row, marked_rows};
 ghost use Rattle.json_profile.specs.Trees.{trees_of};
 ghost use Rattle.json_profile.specs.Written as written;
 
-use crate::node_writer::node_map;
+use crate::node_writer::marked_map;
 use crate::tree::TreeValue;
 use serde_json::{Map, Value};
 use std::alloc::{AllocError, Global};
 use std::collections::VecDeque;
-use ticket_tree::NodeRow;
+use ticket_tree::{Marks, NodeRow};
 
 /// Whether a tree stands in front that is deeper than `depth`.
 fn has_deeper_front(trees: &VecDeque<TreeValue>, depth: u32) -> bool
@@ -48,13 +49,14 @@ fn push_tree(
     alloc: Global,
     trees: &mut VecDeque<TreeValue>,
     row: &NodeRow,
+    marks: &Marks,
 ) -> Result<(), AllocError>
-    ensures trees { OnOk result (trees_of trees.new.items ≡ written.with_tree row.now (trees_of trees.old.items)) }
+    ensures trees { OnOk result (trees_of trees.new.items ≡ written.with_tree (marked_row marks.now row.now) (trees_of trees.old.items)) }
     ensures names { OnOk result (row_has_names row.now ≡ true) }
     ensures texts { OnOk result (row_has_texts row.now ≡ true) }
 {
     let children = take_children(alloc, trees, row.depth)?;
-    let members = node_map(alloc, row, children)?;
+    let members = marked_map(alloc, row, marks, children)?;
     trees.push_front(TreeValue {
         depth: row.depth,
         value: Value::Object(members),
@@ -62,9 +64,13 @@ fn push_tree(
     Ok(())
 }
 
-/// The trees that the rows are.
-pub fn forest(alloc: Global, rows: &[&NodeRow]) -> Result<VecDeque<TreeValue>, AllocError>
-    ensures trees { IfOk result (λ ts. trees_of ts.items ≡ written.trees (map (λ r. r.now) rows.now)) }
+/// The trees that the rows are, of a ticket that shows these marks.
+pub fn forest(
+    alloc: Global,
+    rows: &[&NodeRow],
+    marks: &Marks,
+) -> Result<VecDeque<TreeValue>, AllocError>
+    ensures trees { IfOk result (λ ts. trees_of ts.items ≡ written.trees (marked_rows marks.now (map (λ r. r.now) rows.now))) }
     ensures names { OnOk result (list_all row_has_names (map (λ r. r.now) rows.now) ≡ true) }
     ensures texts { OnOk result (list_all row_has_texts (map (λ r. r.now) rows.now) ≡ true) }
 {
@@ -72,7 +78,7 @@ pub fn forest(alloc: Global, rows: &[&NodeRow]) -> Result<VecDeque<TreeValue>, A
     let mut left = rows.len();
     while left > 0 {
         left -= 1;
-        push_tree(alloc, &mut trees, rows[left])?;
+        push_tree(alloc, &mut trees, rows[left], marks)?;
     }
     Ok(trees)
 }

@@ -1,12 +1,14 @@
 //! Lists of texts that are lent.
 
-ghost use Rattle.std.specs.Prelude.{◌≡◌, true, map, IfOk, IfErr};
+ghost use Rattle.std.specs.Prelude.{◌≡◌, ◌==◌, ◌&&◌, true, [], ◌∷◌, length, map, IfOk, IfErr};
 ghost use Rattle.std.specs.List.{list_all};
+ghost use Rattle.std.specs.Str.{bytes_eq};
 ghost use Rattle.serde_json.specs.Data.{string};
 ghost use Rattle.serde_json.specs.Find.{as_str, get};
 ghost use Rattle.serde_json.specs.View.{items_view, view};
 ghost use Rattle.ticket_tree.specs.Names as names;
 ghost use Rattle.json_profile.specs.Listed.{data_items, each, pool_draft, texts_under};
+ghost use Rattle.json_profile.specs.PartDraft as draft;
 ghost use Rattle.json_profile.specs.PoolForm as form;
 ghost use Rattle.json_profile.specs.Read.{Gives};
 
@@ -16,7 +18,7 @@ use crate::object::text_value;
 use serde_json::Value;
 use std::alloc::{AllocError, Global};
 use std::marker::Model;
-use ticket_tree::{Ids, Items, Refusal, is_name};
+use ticket_tree::{Id, Ids, Items, Refusal, is_name};
 
 /// Texts in order, which are lent: the ids of a draft before they are looked at.
 #[derive(Drop)]
@@ -38,6 +40,23 @@ impl<'a> LentTexts<'a> {
         ensures { result ≡ map (λ s. s.now) texts.entry.items }
     {
         LentTexts { texts }
+    }
+
+    /// This text alone.
+    pub fn one(alloc: Global, text: &'a str) -> Result<LentTexts<'a>, AllocError>
+        ensures { IfOk result (λ t. t ≡ text.now ∷ []) }
+    {
+        let mut texts = Vec::with_capacity(alloc, 1)?;
+        texts.push(text)?;
+        Ok(LentTexts { texts })
+    }
+
+    /// The texts of ids.
+    pub fn of_ids(alloc: Global, ids: &'a [Id]) -> Result<LentTexts<'a>, AllocError>
+        ensures { IfOk result (λ t. t ≡ ids.now) }
+    {
+        let texts = id_texts(alloc, ids)?;
+        Ok(LentTexts { texts })
     }
 
     /// The texts that the items are. Refuses `NotProfile` where one is no text, and `Memory`.
@@ -72,6 +91,14 @@ impl<'a> LentTexts<'a> {
         ensures { result ≡ form.is_empty self.now }
     {
         self.texts.is_empty()
+    }
+
+    /// Whether they are this text once, and nothing else.
+    #[tactic(auto, using(crate::proofs::PartPools::only_lent))]
+    pub fn are_only(&self, text: &str) -> bool
+        ensures { result ≡ draft.are_only text.now self.now }
+    {
+        are_only(self.texts.as_slice(), text)
     }
 
     /// Whether all can be ids.
@@ -110,6 +137,31 @@ fn texts_of<'a>(alloc: Global, items: &'a [Value]) -> Result<Vec<&'a str>, Refus
         texts.push(text)?;
     }
     Ok(texts)
+}
+
+/// The text of each id.
+fn id_texts<'a>(alloc: Global, ids: &'a [Id]) -> Result<Vec<&'a str>, AllocError>
+    ensures { IfOk result (λ v. map (λ s. s.now) v.items ≡ ids.now) }
+{
+    let mut texts = Vec::with_capacity(alloc, ids.len())?;
+    for id in ids {
+        texts.push(id.as_str())?;
+    }
+    Ok(texts)
+}
+
+/// Whether the texts are this one alone.
+fn are_only(texts: &[&str], text: &str) -> bool
+    ensures { result ≡ ((length texts.now == 1) && list_all (λ s. bytes_eq s.now text.now) texts.now) }
+{
+    texts.len() == 1 && are_all(texts, text)
+}
+
+/// Whether each text is this one.
+fn are_all(texts: &[&str], text: &str) -> bool
+    ensures { result ≡ list_all (λ s. bytes_eq s.now text.now) texts.now }
+{
+    texts.iter().all(|other| *other == text)
 }
 
 /// Whether each text can be an id.

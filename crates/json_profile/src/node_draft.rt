@@ -26,6 +26,7 @@ pub struct NodeDraft<'a> {
 
 impl<'a> NodeDraft<'a> {
     ghost use Rattle.std.specs.Prelude.{◌≡◌, true, IfOk, IfErr};
+    ghost use Rattle.json_profile.specs.Draft.{are_bare};
     ghost use Rattle.json_profile.specs.Drafted.{drafted_raw, drafted_row};
     ghost use Rattle.json_profile.specs.Form.{node_has_names, pools_have_names, row_has_names, row_has_texts};
 
@@ -71,7 +72,7 @@ impl<'a> NodeDraft<'a> {
     /// Whether its resources show nothing of spawns.
     #[tactic(auto, using(crate::proofs::Faults::bare_drafts))]
     pub fn is_bare(&self) -> bool
-        ensures { result ≡ (drafted_raw self.now).bare }
+        ensures { result ≡ are_bare (drafted_raw self.now).pool }
     {
         show_nothing(self.resources.as_slice())
     }

@@ -1,28 +1,47 @@
-//! The nodes of a ticket's draft.
+//! The nodes of the draft of a ticket or a part.
 
 ghost use Rattle.std.specs.Prelude.{◌≡◌, true, map, IfOk, IfErr};
 ghost use Rattle.std.specs.List.{list_all};
 ghost use Rattle.serde_json.specs.View.{view};
-ghost use Rattle.json_profile.specs.Draft.{node_rows, root_members};
+ghost use Rattle.json_profile.specs.Draft.{are_bare, node_rows, root_members};
+ghost use Rattle.json_profile.specs.PartDraft.{part_members};
 ghost use Rattle.json_profile.specs.Drafted.{drafted_raw, drafted_row, drafted_rows};
 ghost use Rattle.json_profile.specs.Form.{row_has_names, row_has_texts};
 ghost use Rattle.json_profile.specs.Read.{Gives};
 
 use crate::node_draft::NodeDraft;
-use crate::node_reader::{ROOT_MEMBERS, push_node};
+use crate::node_reader::{PART_MEMBERS, ROOT_MEMBERS, push_node};
 use serde_json::Value;
 use std::alloc::Global;
 use ticket_tree::{NodeRow, Refusal};
 
-/// The nodes of a ticket, in preorder.
-pub fn node_drafts<'a>(alloc: Global, value: &'a Value) -> Result<Vec<NodeDraft<'a>>, Refusal>
-    ensures { Gives (λ v. drafted_rows v.items) result (node_rows root_members 1 (view value.now)) }
+/// The nodes of a ticket or a part, in preorder. The root's object has no other members than `names`.
+fn node_drafts<'a>(
+    alloc: Global,
+    value: &'a Value,
+    names: &[&str],
+) -> Result<Vec<NodeDraft<'a>>, Refusal>
+    ensures { Gives (λ v. drafted_rows v.items) result (node_rows (map (λ n. n.now) names.now) 1 (view value.now)) }
 {
     let mut rows = Vec::new(alloc);
-    match push_node(alloc, &mut rows, ROOT_MEMBERS, 1, value) {
+    match push_node(alloc, &mut rows, names, 1, value) {
         Ok(()) => Ok(rows),
         Err(refusal) => Err(refusal),
     }
+}
+
+/// The nodes of a ticket, in preorder.
+pub fn ticket_nodes<'a>(alloc: Global, value: &'a Value) -> Result<Vec<NodeDraft<'a>>, Refusal>
+    ensures { Gives (λ v. drafted_rows v.items) result (node_rows root_members 1 (view value.now)) }
+{
+    node_drafts(alloc, value, ROOT_MEMBERS)
+}
+
+/// The nodes of a part, in preorder.
+pub fn part_nodes<'a>(alloc: Global, value: &'a Value) -> Result<Vec<NodeDraft<'a>>, Refusal>
+    ensures { Gives (λ v. drafted_rows v.items) result (node_rows part_members 1 (view value.now)) }
+{
+    node_drafts(alloc, value, PART_MEMBERS)
 }
 
 /// Whether the ids and names of all nodes are such.
@@ -41,7 +60,7 @@ pub fn have_texts(drafts: &[NodeDraft<'_>]) -> bool
 
 /// Whether no node's resources show anything of spawns.
 pub fn are_bare(drafts: &[NodeDraft<'_>]) -> bool
-    ensures { result ≡ list_all (λ d. (drafted_raw d).bare) drafts.now }
+    ensures { result ≡ list_all (λ d. are_bare (drafted_raw d).pool) drafts.now }
 {
     drafts.iter().all(|draft| draft.is_bare())
 }

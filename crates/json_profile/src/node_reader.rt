@@ -44,6 +44,22 @@ pub const ROOT_MEMBERS: &[&str] = &[
     "Type",
 ];
 
+/// The members of a part's root.
+pub const PART_MEMBERS: &[&str] = &[
+    "AncestorPool",
+    "SpawnID",
+    "JobID",
+    "Attr",
+    "AuditPool",
+    "ID",
+    "JDF",
+    "JobPartID",
+    "ResourceLinkPool",
+    "ResourcePool",
+    "Status",
+    "Type",
+];
+
 /// How far depths are counted: one more than a ticket may have.
 const DEEPEST_READ: u32 = 33;
 

@@ -6,23 +6,29 @@ ghost use Rattle.serde_json.specs.Data.{object};
 ghost use Rattle.serde_json.specs.View.{items_view, members_view};
 ghost use Rattle.ticket_tree.specs.Names.{is_text};
 ghost use Rattle.json_profile.specs.Form.{node_has_names, row_has_names, row_has_texts};
+ghost use Rattle.json_profile.specs.Marked.{marked_node, marked_row};
+ghost use Rattle.json_profile.specs.PoolForm.{link_has_names, audit_has_names, audit_has_texts};
 ghost use Rattle.json_profile.specs.Written as written;
 
 use crate::attrs_writer::attr_map;
 use crate::audit_writer::audit_values;
 use crate::link_writer::link_values;
+use crate::marked::shown_status;
 use crate::object::{put_list, put_text, put_value};
-use crate::resource_writer::resource_values;
-use crate::shown::Shown;
+use crate::resource_writer::marked_values;
 use serde_json::{Map, Value};
 use std::alloc::{AllocError, Global};
-use ticket_tree::NodeRow;
+use ticket_tree::{Marks, NodeRow};
 
-/// What a node has of its own, without its children and pools: its id and names are such, its texts
-/// too.
+/// What a node of a ticket that shows these marks has of its own, without its children and pools: its
+/// id and names are such, its texts too.
 #[tactic(auto, unfolding(crate::specs::Form::node_has_names))]
-fn own_members(alloc: Global, row: &NodeRow) -> Result<Map<String, Value>, AllocError>
-    ensures members { IfOk result (λ m. members_view m.entries ≡ written.own_members row.now) }
+fn own_members(
+    alloc: Global,
+    row: &NodeRow,
+    marks: &Marks,
+) -> Result<Map<String, Value>, AllocError>
+    ensures members { IfOk result (λ m. members_view m.entries ≡ written.own_members (marked_node marks.now row.now)) }
     ensures names { OnOk result (node_has_names row.now ≡ true) }
     ensures texts { OnOk result (list_all (λ p. is_text p.1) row.now.attrs ≡ true) }
 {
@@ -31,29 +37,49 @@ fn own_members(alloc: Global, row: &NodeRow) -> Result<Map<String, Value>, Alloc
     put_value(alloc, &mut members, "Attr", Value::Object(attrs))?;
     put_text(alloc, &mut members, "ID", row.id.as_str())?;
     put_text(alloc, &mut members, "JobPartID", row.job_part.as_str())?;
-    put_text(alloc, &mut members, "Status", row.status.as_str())?;
+    put_text(alloc, &mut members, "Status", shown_status(marks, row))?;
     put_text(alloc, &mut members, "Type", row.kind.as_str())?;
     Ok(members)
 }
 
-/// A node as members of an object. Its resources show nothing of spawns.
-#[tactic(auto, unfolding(crate::specs::Form::pools_have_names, crate::specs::Form::row_has_texts))]
+/// A node of a ticket that shows these marks, with these resources, as members of an object.
 pub fn node_map(
     alloc: Global,
     row: &NodeRow,
+    marks: &Marks,
+    resources: Vec<Value>,
     children: Vec<Value>,
 ) -> Result<Map<String, Value>, AllocError>
-    ensures members { IfOk result (λ m. object (members_view m.entries) ≡ written.node_data row.now (items_view children.items)) }
-    ensures names { OnOk result (row_has_names row.now ≡ true) }
-    ensures texts { OnOk result (row_has_texts row.now ≡ true) }
+    ensures members { IfOk result (λ m. object (members_view m.entries)
+        ≡ written.node_object (marked_node marks.now row.now) (items_view resources.items) (items_view children.items)) }
+    ensures own_names { OnOk result (node_has_names row.now ≡ true) }
+    ensures link_names { OnOk result (list_all link_has_names row.now.links ≡ true) }
+    ensures audit_names { OnOk result (list_all audit_has_names row.now.audits ≡ true) }
+    ensures own_texts { OnOk result (list_all (λ p. is_text p.1) row.now.attrs ≡ true) }
+    ensures audit_texts { OnOk result (list_all audit_has_texts row.now.audits ≡ true) }
 {
-    let mut members = own_members(alloc, row)?;
+    let mut members = own_members(alloc, row, marks)?;
     let audits = audit_values(alloc, row.audits.as_slice())?;
     let links = link_values(alloc, row.links.as_slice())?;
-    let resources = resource_values(alloc, row.resources.as_slice(), &Shown::nothing(alloc))?;
     put_list(alloc, &mut members, "AuditPool", audits)?;
     put_list(alloc, &mut members, "JDF", children)?;
     put_list(alloc, &mut members, "ResourceLinkPool", links)?;
     put_list(alloc, &mut members, "ResourcePool", resources)?;
     Ok(members)
+}
+
+/// A node of a ticket that shows these marks, as members of an object.
+#[tactic(auto, unfolding(crate::specs::Form::pools_have_names, crate::specs::Form::row_has_texts))]
+pub fn marked_map(
+    alloc: Global,
+    row: &NodeRow,
+    marks: &Marks,
+    children: Vec<Value>,
+) -> Result<Map<String, Value>, AllocError>
+    ensures members { IfOk result (λ m. object (members_view m.entries) ≡ written.node_data (marked_row marks.now row.now) (items_view children.items)) }
+    ensures names { OnOk result (row_has_names row.now ≡ true) }
+    ensures texts { OnOk result (row_has_texts row.now ≡ true) }
+{
+    let resources = marked_values(alloc, row.resources.as_slice(), marks)?;
+    node_map(alloc, row, marks, resources, children)
 }

@@ -1,20 +1,22 @@
 //! Writing resources.
 
-ghost use Rattle.std.specs.Prelude.{◌≡◌, true, IfOk, OnOk};
+ghost use Rattle.std.specs.Prelude.{◌≡◌, true, map, IfOk, OnOk};
 ghost use Rattle.std.specs.List.{list_all};
 ghost use Rattle.serde_json.specs.Data.{object};
-ghost use Rattle.serde_json.specs.View.{items_view, members_view, view};
-ghost use Rattle.json_profile.specs.Listed.{data_items};
+ghost use Rattle.serde_json.specs.View.{members_view, view};
+ghost use Rattle.json_profile.specs.Marked as marked;
 ghost use Rattle.json_profile.specs.PoolForm.{resource_has_names, resource_has_texts};
 ghost use Rattle.json_profile.specs.PoolWritten as written;
 
 use crate::attrs_writer::attr_map;
+use crate::lent_texts::LentTexts;
+use crate::marked::{mark_of, spawn_texts};
 use crate::object::{put_list, put_text, put_value};
 use crate::shown::Shown;
 use crate::words::spawn_status_word;
 use serde_json::{Map, Value};
 use std::alloc::{AllocError, Global};
-use ticket_tree::Resource;
+use ticket_tree::{Marks, ResMark, Resource};
 
 /// What a resource has of its own, without what it shows of spawns: its id and names are such, its
 /// texts too.
@@ -67,13 +69,57 @@ pub fn resource_value(
     Ok(Value::Object(members))
 }
 
+/// What a resource shows by its mark, as a value.
+fn marked_by(alloc: Global, resource: &Resource, mark: &ResMark) -> Result<Value, AllocError>
+    ensures value { IfOk result (λ v. view v ≡ written.resource_data (marked.shown_by mark.now) resource.now) }
+    ensures names { OnOk result (resource_has_names resource.now ≡ true) }
+    ensures texts { OnOk result (resource_has_texts resource.now ≡ true) }
+{
+    let texts = spawn_texts(alloc, mark.spawn_ids.as_slice())?;
+    let shown = Shown {
+        locked: false,
+        spawn_ids: LentTexts::of_ids(alloc, texts.as_slice())?,
+        spawn_status: mark.status,
+    };
+    resource_value(alloc, resource, &shown)
+}
+
+/// A resource of a ticket that shows these marks, as a value.
+fn marked_value(alloc: Global, resource: &Resource, marks: &Marks) -> Result<Value, AllocError>
+    ensures value { IfOk result (λ v. view v ≡ written.resource_data (marked.shown_of marks.now resource.now) resource.now) }
+    ensures names { OnOk result (resource_has_names resource.now ≡ true) }
+    ensures texts { OnOk result (resource_has_texts resource.now ≡ true) }
+{
+    match mark_of(marks, &resource.id) {
+        None => resource_value(alloc, resource, &Shown::nothing(alloc)),
+        Some(mark) => marked_by(alloc, resource, mark),
+    }
+}
+
+/// The resources of a node of a ticket that shows these marks, a value each.
+pub fn marked_values(
+    alloc: Global,
+    resources: &[Resource],
+    marks: &Marks,
+) -> Result<Vec<Value>, AllocError>
+    ensures values { IfOk result (λ vs. map view vs.items ≡ map written.raw_data (marked.marked_pool marks.now resources.now)) }
+    ensures names { OnOk result (list_all resource_has_names resources.now ≡ true) }
+    ensures texts { OnOk result (list_all resource_has_texts resources.now ≡ true) }
+{
+    let mut values = Vec::with_capacity(alloc, resources.len())?;
+    for resource in resources {
+        values.push(marked_value(alloc, resource, marks)?)?;
+    }
+    Ok(values)
+}
+
 /// Resources that all show this of spawns, a value each.
 pub fn resource_values(
     alloc: Global,
     resources: &[Resource],
     shown: &Shown<'_>,
 ) -> Result<Vec<Value>, AllocError>
-    ensures values { IfOk result (λ vs. items_view vs.items ≡ data_items (written.resource_data shown.now) resources.now) }
+    ensures values { IfOk result (λ vs. map view vs.items ≡ map written.raw_data (written.all_showing shown.now resources.now)) }
     ensures names { OnOk result (list_all resource_has_names resources.now ≡ true) }
     ensures texts { OnOk result (list_all resource_has_texts resources.now ≡ true) }
 {

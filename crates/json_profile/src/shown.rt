@@ -1,8 +1,9 @@
 //! What resources show of spawns.
 
-ghost use Rattle.std.specs.Prelude.{◌≡◌, codes};
+ghost use Rattle.std.specs.Prelude.{◌≡◌, codes, IfOk};
 ghost use Rattle.serde_json.specs.Find.{get};
 ghost use Rattle.serde_json.specs.View.{view};
+ghost use Rattle.json_profile.specs.PartDraft as part;
 ghost use Rattle.json_profile.specs.PoolDraft as draft;
 ghost use Rattle.json_profile.specs.PoolForm as form;
 ghost use Rattle.json_profile.specs.Read.{Gives};
@@ -10,7 +11,7 @@ ghost use Rattle.json_profile.specs.Read.{Gives};
 use crate::lent_texts::LentTexts;
 use crate::words::spawn_status_named;
 use serde_json::Value;
-use std::alloc::Global;
+use std::alloc::{AllocError, Global};
 use ticket_tree::{Refusal, SpawnStatus};
 
 /// What a resource shows of the spawns that copied it (JDF 1.5, 3.8).
@@ -35,6 +36,28 @@ impl<'a> Shown<'a> {
         }
     }
 
+    /// What a copy shows that may be changed, of the spawn of this text.
+    pub fn to_change(alloc: Global, spawn: &'a str) -> Result<Shown<'a>, AllocError>
+        ensures { IfOk result (λ s. s ≡ part.to_change spawn.now) }
+    {
+        Ok(Shown {
+            locked: false,
+            spawn_ids: LentTexts::one(alloc, spawn)?,
+            spawn_status: SpawnStatus::SpawnedRW,
+        })
+    }
+
+    /// What a copy shows that may be read alone, of the spawn of this text.
+    pub fn to_read(alloc: Global, spawn: &'a str) -> Result<Shown<'a>, AllocError>
+        ensures { IfOk result (λ s. s ≡ part.to_read spawn.now) }
+    {
+        Ok(Shown {
+            locked: true,
+            spawn_ids: LentTexts::one(alloc, spawn)?,
+            spawn_status: SpawnStatus::SpawnedRO,
+        })
+    }
+
     /// What a resource's value shows. Refuses `NotProfile`, and `Memory`.
     #[tactic(auto, unfolding(crate::specs::PoolDraft::shown_draft))]
     pub fn of(alloc: Global, value: &'a Value) -> Result<Shown<'a>, Refusal>
@@ -55,6 +78,20 @@ impl<'a> Shown<'a> {
         ensures { result ≡ form.shows_nothing self.now }
     {
         !self.locked && self.spawn_ids.is_empty() && is_not_spawned(self.spawn_status)
+    }
+
+    /// Whether it is what a copy shows that may be changed, of the spawn of this text.
+    pub fn is_change(&self, spawn: &str) -> bool
+        ensures { result ≡ part.shows_change spawn.now self.now }
+    {
+        !self.locked && self.spawn_ids.are_only(spawn) && is_spawned_rw(self.spawn_status)
+    }
+
+    /// Whether it is what a copy shows that may be read alone, of the spawn of this text.
+    pub fn is_read(&self, spawn: &str) -> bool
+        ensures { result ≡ part.shows_read spawn.now self.now }
+    {
+        self.locked && self.spawn_ids.are_only(spawn) && is_spawned_ro(self.spawn_status)
     }
 }
 
@@ -85,5 +122,25 @@ fn is_not_spawned(status: SpawnStatus) -> bool
     match status {
         SpawnStatus::NotSpawned => true,
         SpawnStatus::SpawnedRO | SpawnStatus::SpawnedRW => false,
+    }
+}
+
+/// Whether a copy is out that may be changed.
+fn is_spawned_rw(status: SpawnStatus) -> bool
+    ensures { result ≡ part.is_spawned_rw status }
+{
+    match status {
+        SpawnStatus::SpawnedRW => true,
+        SpawnStatus::NotSpawned | SpawnStatus::SpawnedRO => false,
+    }
+}
+
+/// Whether copies are out that may be read alone.
+fn is_spawned_ro(status: SpawnStatus) -> bool
+    ensures { result ≡ part.is_spawned_ro status }
+{
+    match status {
+        SpawnStatus::SpawnedRO => true,
+        SpawnStatus::NotSpawned | SpawnStatus::SpawnedRW => false,
     }
 }

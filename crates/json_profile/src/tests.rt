@@ -2,7 +2,9 @@
 
 mod edits;
 mod nodes_with_pools;
+mod parts;
 mod pools;
+mod shown;
 
 use crate::{
     edit_of, edit_value, has_only, number_under, text_of, text_under, ticket_of, ticket_value,

@@ -1,7 +1,7 @@
 use crate::known::known_name;
 use crate::member::text_under;
 use crate::node_draft::NodeDraft;
-use crate::node_drafts::{are_bare, build_rows, have_names, have_texts, node_drafts};
+use crate::node_drafts::{are_bare, build_rows, have_names, have_texts, ticket_nodes};
 use serde_json::Value;
 use std::alloc::Global;
 use std::marker::Model;
@@ -39,7 +39,7 @@ impl<'a> TicketDraft<'a> {
         ensures { Gives (λ t. t) result (ticket_draft (view value.now)) }
     {
         let job = text_under(value, "JobID").ok_or(Refusal::NotProfile)?;
-        let rows = node_drafts(alloc, value)?;
+        let rows = ticket_nodes(alloc, value)?;
         Ok(TicketDraft { job, rows })
     }
 

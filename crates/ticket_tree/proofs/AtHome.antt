@@ -28,7 +28,7 @@ pool_row : (b : Bool) (x h : List ℕ) (y : Resource) (pool : List Resource) (re
 pool_row true x h y pool rest later = refl
 pool_row false x h y pool rest later = later
 
-in_pool_or_later : (x h : List ℕ) (pool : List Resource) (rest : List (Resource × List ℕ))
+pub in_pool_or_later : (x h : List ℕ) (pool : List Resource) (rest : List (Resource × List ℕ))
     → find (λ e. bytes_eq e.0.id x) (map (λ z. (z, h)) pool ++ rest) ≡ cond (list_any (λ z. bytes_eq z.id x) pool) (option_map (λ z. (z, h)) (in_pool x pool)) (find (λ e. bytes_eq e.0.id x) rest)
 in_pool_or_later x h [] rest = refl
 in_pool_or_later x h (y ∷ pool) rest = pool_row (bytes_eq y.id x) x h y pool rest (in_pool_or_later x h pool rest)

@@ -159,7 +159,7 @@ change_at x f rows seen k s same apart found is = write_at_key (λ r. r.id) x f 
 
 -- ---- a write in the pool that was found
 
-front_distinct : (xs ys : List (List ℕ)) → are_distinct (xs ++ ys) ≡ true → are_distinct xs ≡ true
+pub front_distinct : (xs ys : List (List ℕ)) → are_distinct (xs ++ ys) ≡ true → are_distinct xs ≡ true
 front_distinct [] ys h = refl
 front_distinct (x ∷ xs) ys h =
     let parts = and_parts _ _ h in
@@ -179,14 +179,14 @@ other_part_at true x y xs ys e out there later = ap (λ z. mem z ys) (sym ((byte
 other_part_at false x y xs ys e out there later = later there
 
 -- what stands in the front doesn't stand behind it
-other_part : (x : List ℕ) (xs ys : List (List ℕ)) → are_distinct (xs ++ ys) ≡ true → mem x xs ≡ true → mem x ys ≡ false
+pub other_part : (x : List ℕ) (xs ys : List (List ℕ)) → are_distinct (xs ++ ys) ≡ true → mem x xs ≡ true → mem x ys ≡ false
 other_part x [] ys apart there = absurd (true≢false (sym there))
 other_part x (y ∷ xs) ys apart there =
     let parts = and_parts _ _ apart in
     other_part_at (bytes_eq y x) x y xs ys refl parts.0 there (other_part x xs ys parts.1)
 
 -- an id that isn't there changes no resource
-with_resource-none : (x : List ℕ) (f : Resource → Resource) (rows : List NodeRow) → mem x (ids rows) ≡ false → with_resource x f rows ≡ rows
+pub with_resource-none : (x : List ℕ) (f : Resource → Resource) (rows : List NodeRow) → mem x (ids rows) ≡ false → with_resource x f rows ≡ rows
 with_resource-none x f [] out = refl
 with_resource-none x f (r ∷ rows) out =
     let parts = or_parts (bytes_eq r.id x) _ out in

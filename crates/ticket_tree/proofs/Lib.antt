@@ -2,11 +2,13 @@ pub mod Apart
 pub mod Below
 pub mod ById
 pub mod Changes
+pub mod Copies
 pub mod Growing
 pub mod NewResource
 pub mod NewNode
 pub mod NodePlaces
 pub mod OnPlaces
+pub mod OneRows
 pub mod Ordered
 pub mod Parents
 pub mod Places
@@ -16,9 +18,12 @@ pub mod Preorder
 pub mod Plain
 pub mod PlainEdits
 pub mod PlainNode
+pub mod PlainOneRow
 pub mod PlainPlaces
 pub mod PlainRefusal
 pub mod PlainRows
 pub mod Reasons
+pub mod SpawnTexts
+pub mod Sound
 pub mod Table
 mod Worked

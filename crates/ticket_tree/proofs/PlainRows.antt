@@ -126,7 +126,7 @@ mem-resource_ids x (r ∷ rows) =
 pub apart_node : (rows : List NodeRow) (x : List ℕ) → IsValid rows → has_node rows x ≡ true → mem x (resource_ids rows) ≡ false
 apart_node rows x valid known = node_no_resource x rows valid.distinct (node_among rows x known)
 
-apart_resource : (rows : List NodeRow) (x : List ℕ) → IsValid rows → has_resource rows x ≡ true → mem x (node_ids rows) ≡ false
+pub apart_resource : (rows : List NodeRow) (x : List ℕ) → IsValid rows → has_resource rows x ≡ true → mem x (node_ids rows) ≡ false
 apart_resource rows x valid known = resource_no_node x rows valid.distinct (mem-resource_ids x rows ∙ has_resource-any rows x ∙ known)
 
 known_of_three : (a b c : Bool) → first_of (unless a UnknownNode ∷ unless b UnknownResource ∷ unless c UnresolvedLink ∷ []) ≡ None → a ≡ true
@@ -138,10 +138,10 @@ link_known rows node x none = known_of_three (has_node rows node) (has_resource 
 
 -- ---- the law
 
-changed_node : (x : List ℕ) (f : NodeRow → NodeRow) (g : Row → Row) (rows : List NodeRow) (y : List ℕ) → ChangesAs f g → mem x (resource_ids rows) ≡ false → row_in (with_row x f rows) y ≡ touch x g (row_in rows) y
+pub changed_node : (x : List ℕ) (f : NodeRow → NodeRow) (g : Row → Row) (rows : List NodeRow) (y : List ℕ) → ChangesAs f g → mem x (resource_ids rows) ≡ false → row_in (with_row x f rows) y ≡ touch x g (row_in rows) y
 changed_node x f g rows y alike out = ap (λ ls. row_at ls y) (lines-with_row x f g rows alike out) ∙ row_at-touched x g (lines rows) y
 
-changed_resource : (x : List ℕ) (f : Resource → Resource) (g : Row → Row) (rows : List NodeRow) (y : List ℕ) → ((z : Resource) → (f z).id ≡ z.id) → ((z : Resource) → resource_row (f z) ≡ g (resource_row z)) → mem x (node_ids rows) ≡ false
+pub changed_resource : (x : List ℕ) (f : Resource → Resource) (g : Row → Row) (rows : List NodeRow) (y : List ℕ) → ((z : Resource) → (f z).id ≡ z.id) → ((z : Resource) → resource_row (f z) ≡ g (resource_row z)) → mem x (node_ids rows) ≡ false
     → row_in (with_resource x f rows) y ≡ touch x g (row_in rows) y
 changed_resource x f g rows y id row out = ap (λ ls. row_at ls y) (lines-with_resource x f g rows id row out) ∙ row_at-touched x g (lines rows) y
 

@@ -4,9 +4,10 @@ use Rattle.std.proofs.lemmas.Bool.{true≢false}
 use Rattle.std.proofs.lemmas.List.{take_more, map_push, drop_more, drop_all, drop_at, take-append-drop, length-drop, reverse-append, length-reverse}
 use Rattle.std.proofs.lemmas.Map.Text.{is_eq-slice_cmp}
 use Rattle.std.proofs.lemmas.Slice.Eq.{bytes_eq-Decides}
-use Rattle.std.specs.BTreeMap.{BTreeMap, Updates, get_by}
+use Rattle.std.specs.BTreeMap.{BTreeMap, IsEmpty, Updates, get_by, is_at}
 use Rattle.std.specs.Cmp.Lexicographic.{slice_cmp}
 use Rattle.std.specs.List.{list_all, list_any}
+use Rattle.std.specs.Map.{lookup}
 use Rattle.std.specs.Option.{option_map, option_map_or}
 use Rattle.std.specs.Str.{bytes_eq}
 use Rattle.ticket_tree.proofs.Apart.{mem-append, texts_of, or_none}
@@ -28,6 +29,9 @@ lent x = record { ref_ptr = (0, 0); now = x }
 
 abbrev pub under : List ℕ → Homes → Option (Bor (List ℕ))
 under x homes = get_by (λ k. slice_cmp nat_cmp x k.now) homes
+
+pub empty_home : (homes : Homes) (x : List ℕ) → IsEmpty homes → home_in homes x ≡ None
+empty_home homes x empty = ap (λ es. option_map (λ h. h.now) (lookup (is_at (λ k. slice_cmp nat_cmp x k.now)) es)) empty
 
 -- ---- one home more
 
@@ -79,18 +83,12 @@ row_at : (b here : Bool) (h home : List ℕ) (o : Option (List ℕ)) → cond b 
 row_at true here h home o = refl
 row_at false here h home o = refl
 
-home_of-push : (x : List ℕ) (rows : List NodeRow) (r : NodeRow) → home_of (rows ++ r ∷ []) x ≡ or_here (mem x (map (λ y. y.id) r.resources)) r.id (home_of rows x)
+pub home_of-push : (x : List ℕ) (rows : List NodeRow) (r : NodeRow) → home_of (rows ++ r ∷ []) x ≡ or_here (mem x (map (λ y. y.id) r.resources)) r.id (home_of rows x)
 home_of-push x [] r = home_of-cons x r []
 home_of-push x (s ∷ rows) r =
     home_of-cons x s (rows ++ r ∷ []) ∙ ap (λ o. cond (mem x (map (λ y. y.id) s.resources)) (Some s.id) o) (home_of-push x rows r)
     ∙ row_at (mem x (map (λ y. y.id) s.resources)) (mem x (map (λ y. y.id) r.resources)) s.id r.id (home_of rows x)
     ∙ ap (or_here (mem x (map (λ y. y.id) r.resources)) r.id) (sym (home_of-cons x s rows))
-
-pub row_more : (rows : List NodeRow) (i : ℕ) (d : NodeRow) (old new : Homes) → i < length rows → ((x : List ℕ) → home_in old x ≡ home_of (take i rows) x)
-    → ((x : List ℕ) → home_in new x ≡ or_here (mem x (map (λ y. y.id) (get_or rows i d).resources)) (get_or rows i d).id (home_in old x)) → (x : List ℕ) → home_in new x ≡ home_of (take (i + 1) rows) x
-row_more rows i d old new within before put x =
-    let r : NodeRow = get_or rows i d in
-    put x ∙ ap (or_here (mem x (map (λ y. y.id) r.resources)) r.id) (before x) ∙ sym (home_of-push x (take i rows) r) ∙ ap (λ rs. home_of rs x) (sym (take_more rows i d within))
 
 -- ---- one link
 
@@ -144,13 +142,13 @@ links_are rows homes ts (l ∷ links) same =
     ∙ ap (λ b. resolves rows (reverse ts) l && b) (links_are rows homes ts links same)
 
 -- what is left resolves if the row does, and what is behind it
-pub resolved_more : (rows : List NodeRow) (i : ℕ) (d : NodeRow) (homes : Homes) (old new : List (Bor (List ℕ))) (b : Bool) → i < length rows → ((x : List ℕ) → home_in homes x ≡ home_of rows x)
+pub resolved_more : (all rows : List NodeRow) (i : ℕ) (d : NodeRow) (homes : Homes) (old new : List (Bor (List ℕ))) (b : Bool) → i < length rows → ((x : List ℕ) → home_in homes x ≡ home_of all x)
     → texts_of new ≡ take ((get_or rows i d).depth - 1) (texts_of old) ++ (get_or rows i d).id ∷ []
     → b ≡ list_all (λ l. option_map_or (λ home. mem home (texts_of new)) (home_in homes l.rref) false) (get_or rows i d).links
-    → are_resolved_from rows (reverse (texts_of old)) (drop i rows) ≡ (b && are_resolved_from rows (reverse (texts_of new)) (drop (i + 1) rows))
-resolved_more rows i d homes old new b within same path links =
+    → are_resolved_from all (reverse (texts_of old)) (drop i rows) ≡ (b && are_resolved_from all (reverse (texts_of new)) (drop (i + 1) rows))
+resolved_more all rows i d homes old new b within same path links =
     let r : NodeRow = get_or rows i d in
     let back : path_of (reverse (texts_of old)) r ≡ reverse (texts_of new) = sym (ap reverse path ∙ path_back (texts_of old) r) in
-    ap (are_resolved_from rows (reverse (texts_of old))) (drop_more rows i d within)
-    ∙ ap (λ p. list_all (resolves rows p) r.links && are_resolved_from rows p (drop (i + 1) rows)) back
-    ∙ ap (λ c. c && are_resolved_from rows (reverse (texts_of new)) (drop (i + 1) rows)) (sym (links ∙ links_are rows homes (texts_of new) r.links same))
+    ap (are_resolved_from all (reverse (texts_of old))) (drop_more rows i d within)
+    ∙ ap (λ p. list_all (resolves all p) r.links && are_resolved_from all p (drop (i + 1) rows)) back
+    ∙ ap (λ c. c && are_resolved_from all (reverse (texts_of new)) (drop (i + 1) rows)) (sym (links ∙ links_are all homes (texts_of new) r.links same))

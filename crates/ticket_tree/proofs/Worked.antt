@@ -8,6 +8,10 @@ use Rattle.ticket_tree.specs.Ticket.{fault_of, ids, node_ids}
 use Rattle.ticket_tree.specs.Edit.{refusal_of, edited_rows, bare_row}
 use Rattle.ticket_tree.specs.declared.edit.Edit.TheVariants.{SetStatus, SetResStatus, Note, AddNode, AddLink}
 use Rattle.ticket_tree.specs.Homes.{home_of}
+use Rattle.ticket_tree.specs.OneRow.{appended, replaced_node, replaced_resource}
+use Rattle.ticket_tree.specs.Part.{copied, is_sound, with_copies}
+use Rattle.ticket_tree.specs.SpawnId.{spawn_of}
+use Rattle.ticket_tree.specs.declared.ancestor.Ancestor.{Ancestor}
 use Rattle.ticket_tree.specs.declared.audit.Audit.TheVariants.{Notification}
 use Rattle.ticket_tree.specs.declared.link.Link.{Link}
 use Rattle.ticket_tree.specs.declared.resource.Resource.{Resource}
@@ -138,3 +142,77 @@ behind_others = refl
 
 noted : map (λ r. r.audits) (edited_rows (Note (codes "n1") (codes "washed up")) 7 product) ≡ [] ∷ (Notification 7 (codes "washed up") ∷ []) ∷ [] ∷ []
 noted = refl
+
+-- ---- a part: the printing, with its sheets to change and its paper to read
+
+abbrev above : List Ancestor
+above = record { node_id = codes "n0"; job_part = codes "p0" } ∷ []
+
+abbrev printing : NodeRow
+printing = node_with (codes "n1") 1 [] (use_of (codes "r1") Input ∷ use_of (codes "r2") Output ∷ [])
+
+abbrev sheets : List Resource
+sheets = item (codes "r2") (codes "Component") ∷ []
+
+abbrev paper : List Resource
+paper = item (codes "r1") (codes "Media") ∷ []
+
+part_valid : fault_of (with_copies (printing ∷ []) sheets paper) ≡ None
+part_valid = refl
+
+part_sound : is_sound (copied (codes "J1") 1 above (printing ∷ []) sheets paper) ≡ true
+part_sound = refl
+
+-- its row once more, below itself
+row_twice : fault_of (with_copies (printing ∷ record printing { depth = 2 } ∷ []) sheets paper) ≡ Some DuplicateId
+row_twice = refl
+
+-- without the paper
+no_paper : fault_of (with_copies (printing ∷ []) sheets []) ≡ Some UnresolvedLink
+no_paper = refl
+
+from_nowhere : is_sound (copied (codes "J1") 1 [] (printing ∷ []) sheets paper) ≡ false
+from_nowhere = refl
+
+below_itself : is_sound (copied (codes "J1") 1 (record { node_id = codes "n1"; job_part = codes "p0" } ∷ []) (printing ∷ []) sheets paper) ≡ false
+below_itself = refl
+
+unlinked : is_sound (copied (codes "J1") 1 above (printing ∷ []) (sheets ++ item (codes "r3") (codes "Ink") ∷ []) paper) ≡ false
+unlinked = refl
+
+-- ---- spawn ids by their texts
+
+spawn_one : spawn_of (codes "S1") ≡ Some 1
+spawn_one = refl
+
+spawn_last : spawn_of (codes "S999999999") ≡ Some 999999999
+spawn_last = refl
+
+spawn_zero : spawn_of (codes "S0") ≡ None
+spawn_zero = refl
+
+spawn_leading : spawn_of (codes "S01") ≡ None
+spawn_leading = refl
+
+spawn_many : spawn_of (codes "S1000000000") ≡ None
+spawn_many = refl
+
+spawn_bare : spawn_of (codes "S") ≡ None
+spawn_bare = refl
+
+spawn_small : spawn_of (codes "s1") ≡ None
+spawn_small = refl
+
+-- ---- the calls that change one row
+
+-- the audit stands last
+audited : map (λ r. r.audits) (appended (codes "n1") (Notification 8 (codes "dried")) (edited_rows (Note (codes "n1") (codes "washed up")) 7 product))
+    ≡ [] ∷ (Notification 7 (codes "washed up") ∷ Notification 8 (codes "dried") ∷ []) ∷ [] ∷ []
+audited = refl
+
+-- the depth stays
+put_back : replaced_node (record printing { status = codes "Completed" }) product ≡ edited_rows (SetStatus (codes "n1") (codes "Completed")) 5 product
+put_back = refl
+
+used : replaced_resource (record (item (codes "r2") (codes "Component")) { status = codes "InUse" }) product ≡ edited_rows (SetResStatus (codes "r2") (codes "InUse")) 5 product
+used = refl

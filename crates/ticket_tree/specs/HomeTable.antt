@@ -13,3 +13,7 @@ home_in homes x = option_map (λ h. h.now) (get_by (λ k. slice_cmp nat_cmp x k.
 -- the home that is known, or else this one where the test holds
 abbrev pub or_here : Bool → List ℕ → Option (List ℕ) → Option (List ℕ)
 or_here here home known = option_map_or Some known (if here then Some home else None)
+
+-- the home that is known, or else the later one
+abbrev pub or_known : Option (List ℕ) → Option (List ℕ) → Option (List ℕ)
+or_known known later = option_map_or Some known later

@@ -10,4 +10,7 @@ pub mod Ticket
 pub mod Place
 pub mod Edit
 pub mod PlainEdit
+pub mod SpawnId
+pub mod Part
+pub mod OneRow
 pub mod Laws

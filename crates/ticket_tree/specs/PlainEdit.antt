@@ -90,6 +90,10 @@ touch x f rows y = if bytes_eq x y then option_map f (rows y) else rows y
 abbrev pub with_line : List ℕ → Row → (List ℕ → Option Row) → List ℕ → Option Row
 with_line x row rows y = if bytes_eq x y then Some row else rows y
 
+-- the row that is known, or else the other
+abbrev pub or_row : Option Row → Option Row → Option Row
+or_row known other = option_map_or Some known other
+
 abbrev pub plain_rows : Edit → ℕ → (List ℕ → Option Row) → List ℕ → Option Row
 plain_rows (AddNode n id kind job_part status) at rows = with_line id (record { status = status; attrs = []; audits = [] }) rows
 plain_rows (AddResource n x) at rows = with_line x.id (resource_row x) rows

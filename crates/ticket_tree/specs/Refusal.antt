@@ -1,7 +1,7 @@
 -- The number and the name of each refusal.
 use Rattle.std.specs.Prelude.{ℕ, List, codes}
 use Rattle.ticket_tree.specs.declared.refusal.Refusal.{Refusal}
-use Rattle.ticket_tree.specs.declared.refusal.Refusal.TheVariants.{BadId, DuplicateId, UnresolvedLink, TooDeep, ReservedStatus, BadText, NotATree, UnknownNode, UnknownResource, NotJson, NotProfile, Memory}
+use Rattle.ticket_tree.specs.declared.refusal.Refusal.TheVariants.{BadId, DuplicateId, UnresolvedLink, TooDeep, ReservedStatus, BadText, NotATree, UnknownNode, UnknownResource, TooManySpawns, NotJson, NotProfile, Memory}
 
 abbrev pub number_of : Refusal → ℕ
 number_of BadId = 1
@@ -13,6 +13,7 @@ number_of BadText = 6
 number_of NotATree = 7
 number_of UnknownNode = 10
 number_of UnknownResource = 11
+number_of TooManySpawns = 17
 number_of NotJson = 40
 number_of NotProfile = 41
 number_of Memory = 90
@@ -27,6 +28,7 @@ name_of BadText = codes "BadText"
 name_of NotATree = codes "NotATree"
 name_of UnknownNode = codes "UnknownNode"
 name_of UnknownResource = codes "UnknownResource"
+name_of TooManySpawns = codes "TooManySpawns"
 name_of NotJson = codes "NotJson"
 name_of NotProfile = codes "NotProfile"
 name_of Memory = codes "Memory"

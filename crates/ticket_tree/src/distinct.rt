@@ -2,31 +2,60 @@
 
 ghost use Rattle.std.specs.Prelude.{◌≡◌, ◌++◌, map, IfOk, OnOk};
 ghost use Rattle.ticket_tree.specs.Ids as id_lists;
-ghost use Rattle.ticket_tree.specs.Ticket.{ids, ids_of};
+ghost use Rattle.ticket_tree.specs.Part.{resource_ids, with_copies};
+ghost use Rattle.ticket_tree.specs.Ticket.{ids_of};
+ghost use Rattle.ticket_tree.specs.Ticket as valid;
 
 use crate::node_row::NodeRow;
+use crate::resource::Resource;
 use std::alloc::{AllocError, Global};
 use std::collections::BTreeSet;
+
+/// Appends the ids of the resources of a pool.
+fn push_pool<'a>(ids: &mut Vec<&'a str>, pool: &'a [Resource]) -> Result<(), AllocError>
+    ensures { OnOk result (map (λ s. s.now) ids.new.items ≡ map (λ s. s.now) ids.old.items ++ resource_ids pool.now) }
+{
+    for resource in pool {
+        ids.push(resource.id.as_str())?;
+    }
+    Ok(())
+}
 
 /// Appends the id of a node, and those of the resources of its pool.
 fn push_ids<'a>(ids: &mut Vec<&'a str>, row: &'a NodeRow) -> Result<(), AllocError>
     ensures { OnOk result (map (λ s. s.now) ids.new.items ≡ map (λ s. s.now) ids.old.items ++ ids_of row.now) }
 {
     ids.push(row.id.as_str())?;
-    for resource in row.resources.as_slice() {
-        ids.push(resource.id.as_str())?;
+    push_pool(ids, row.resources.as_slice())
+}
+
+/// Appends the ids of nodes and of the resources of their pools.
+fn push_rows<'a>(ids: &mut Vec<&'a str>, rows: &'a [NodeRow]) -> Result<(), AllocError>
+    ensures { OnOk result (map (λ s. s.now) ids.new.items ≡ map (λ s. s.now) ids.old.items ++ valid.ids rows.now) }
+{
+    for row in rows {
+        push_ids(ids, row)?;
     }
     Ok(())
 }
 
-/// The ids of all nodes and resources, in ticket order.
-fn all_ids<'a>(alloc: Global, rows: &'a [NodeRow]) -> Result<Vec<&'a str>, AllocError>
-    ensures { IfOk result (λ all. map (λ s. s.now) all.items ≡ ids rows.now) }
+/// The ids of all nodes and resources, in ticket order, with copies as resources of the root.
+fn all_ids<'a>(
+    alloc: Global,
+    rows: &'a [NodeRow],
+    to_change: &'a [Resource],
+    to_read: &'a [Resource],
+) -> Result<Vec<&'a str>, AllocError>
+    ensures { IfOk result (λ all. map (λ s. s.now) all.items ≡ valid.ids (with_copies rows.now to_change.now to_read.now)) }
 {
     let mut all = Vec::with_capacity(alloc, rows.len())?;
-    for row in rows {
-        push_ids(&mut all, row)?;
-    }
+    let Some((root, later)) = rows.split_first() else {
+        return Ok(all);
+    };
+    push_ids(&mut all, root)?;
+    push_pool(&mut all, to_change)?;
+    push_pool(&mut all, to_read)?;
+    push_rows(&mut all, later)?;
     Ok(all)
 }
 
@@ -43,10 +72,22 @@ fn are_apart(alloc: Global, texts: &[&str]) -> Result<bool, AllocError>
     Ok(true)
 }
 
+/// Whether no id stands twice, with copies as resources of the root.
+pub fn are_distinct_with(
+    alloc: Global,
+    rows: &[NodeRow],
+    to_change: &[Resource],
+    to_read: &[Resource],
+) -> Result<bool, AllocError>
+    ensures { IfOk result (λ distinct. distinct ≡ id_lists.are_distinct (valid.ids (with_copies rows.now to_change.now to_read.now))) }
+{
+    let all = all_ids(alloc, rows, to_change, to_read)?;
+    are_apart(alloc, all.as_slice())
+}
+
 /// Whether no id stands twice.
 pub fn are_distinct(alloc: Global, rows: &[NodeRow]) -> Result<bool, AllocError>
-    ensures { IfOk result (λ distinct. distinct ≡ id_lists.are_distinct (ids rows.now)) }
+    ensures { IfOk result (λ distinct. distinct ≡ id_lists.are_distinct (valid.ids rows.now)) }
 {
-    let all = all_ids(alloc, rows)?;
-    are_apart(alloc, all.as_slice())
+    are_distinct_with(alloc, rows, &[], &[])
 }

@@ -24,7 +24,7 @@ impl Model for Id {
 }
 
 impl Id {
-    ghost use Rattle.std.specs.Prelude.{◌≡◌, true, false, IfOk, IfErr};
+    ghost use Rattle.std.specs.Prelude.{◌≡◌, true, false, string_bytes, IfOk, IfErr};
     ghost use Rattle.ticket_tree.specs.Names as names;
 
     /// The id that the text is. Refuses `BadId` where it is none, and then needs no memory.
@@ -38,6 +38,14 @@ impl Id {
         }
         let text = String::from_str(alloc, text)?;
         Ok(Id { text })
+    }
+
+    /// The id of a text that is one.
+    pub(crate) fn from_text(text: String) -> Id
+        requires { names.is_name (string_bytes text) ≡ true }
+        ensures { result ≡ string_bytes text }
+    {
+        Id { text }
     }
 
     /// Its characters.

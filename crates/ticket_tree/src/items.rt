@@ -1,7 +1,10 @@
+use crate::ancestor::Ancestor;
 use crate::audit::Audit;
 use crate::id::Id;
 use crate::link::Link;
+use crate::res_mark::ResMark;
 use crate::resource::Resource;
+use crate::spawn_id::SpawnId;
 use std::alloc::AllocError;
 use std::marker::Model;
 
@@ -16,6 +19,15 @@ pub type Resources = Items<Resource>;
 
 /// The audits of a node's pool (JDF 1.5, 3.11), in order.
 pub type Audits = Items<Audit>;
+
+/// The nodes above the root of a part, from the root of the ticket to the parent.
+pub type Ancestors = Items<Ancestor>;
+
+/// Spawns, such as those that copied a resource, in order.
+pub type SpawnIds = Items<SpawnId>;
+
+/// What resources show of spawns, in order.
+pub type ResMarks = Items<ResMark>;
 
 /// A list, which contracts see as that list alone.
 #[derive(Debug, Drop)]

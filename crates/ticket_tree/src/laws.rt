@@ -44,3 +44,22 @@ pub fn edit_of_the_rows_is_the_plain_edit()
     ensures places { law.EditOfPlaces }
     ensures rows { law.EditOfRows }
 {}
+
+/// An audit put at a node moves nothing, and changes the row of that node alone.
+pub fn append_changes_one_row()
+    ensures places { law.AppendOfPlaces }
+    ensures rows { law.AppendOfRows }
+{}
+
+/// A node put in the place of another moves nothing, where the resources of its pool have the names
+/// and Classes that they had; and changes the rows of the node and of these resources alone.
+pub fn replaced_node_changes_its_rows()
+    ensures places { law.ReplacedNodeOfPlaces }
+    ensures rows { law.ReplacedNodeOfRows }
+{}
+
+/// A resource put in the place of another moves nothing, and changes its row alone.
+pub fn replaced_resource_changes_one_row()
+    ensures places { law.ReplacedResourceOfPlaces }
+    ensures rows { law.ReplacedResourceOfRows }
+{}

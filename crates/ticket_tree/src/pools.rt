@@ -13,7 +13,7 @@ use crate::node_row::NodeRow;
 use crate::resource::Resource;
 
 /// Whether a resource of the pool has the id.
-fn holds(pool: &[Resource], id: &Id) -> bool
+pub fn holds(pool: &[Resource], id: &Id) -> bool
     ensures { result ≡ list_any (λ x. bytes_eq x.id id.now) pool.now }
 {
     pool.iter().any(|resource| resource.id == *id)

@@ -24,6 +24,8 @@ pub enum Refusal {
     UnknownNode,
     /// No resource has the id.
     UnknownResource,
+    /// A spawn's number isn't one of 1 to 999,999,999.
+    TooManySpawns,
     /// The bytes are no JSON.
     NotJson,
     /// The JSON isn't of our profile's form.
@@ -50,6 +52,7 @@ impl Refusal {
             Refusal::NotATree => 7,
             Refusal::UnknownNode => 10,
             Refusal::UnknownResource => 11,
+            Refusal::TooManySpawns => 17,
             Refusal::NotJson => 40,
             Refusal::NotProfile => 41,
             Refusal::Memory => 90,
@@ -70,6 +73,7 @@ impl Refusal {
             Refusal::NotATree => "NotATree",
             Refusal::UnknownNode => "UnknownNode",
             Refusal::UnknownResource => "UnknownResource",
+            Refusal::TooManySpawns => "TooManySpawns",
             Refusal::NotJson => "NotJson",
             Refusal::NotProfile => "NotProfile",
             Refusal::Memory => "Memory",

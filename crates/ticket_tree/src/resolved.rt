@@ -5,12 +5,14 @@ ghost use Rattle.std.specs.List.{list_all, list_any};
 ghost use Rattle.std.specs.Option.{option_map_or};
 ghost use Rattle.std.specs.Str.{bytes_eq};
 ghost use Rattle.ticket_tree.specs.Homes.{home_of};
-ghost use Rattle.ticket_tree.specs.HomeTable.{home_in, or_here};
+ghost use Rattle.ticket_tree.specs.HomeTable.{home_in, or_here, or_known};
 ghost use Rattle.ticket_tree.specs.Ids.{mem};
+ghost use Rattle.ticket_tree.specs.Part.{resource_ids, with_copies};
 ghost use Rattle.ticket_tree.specs.Ticket as valid;
 
 use crate::link::Link;
 use crate::node_row::NodeRow;
+use crate::resource::Resource;
 use std::alloc::{AllocError, Global};
 use std::collections::BTreeMap;
 
@@ -28,25 +30,48 @@ fn add_home<'a>(homes: &mut HomeTable<'a>, id: &'a str, home: &'a str) -> Result
     Ok(())
 }
 
-/// Adds the resources of a node's pool, but for those whose id is there.
-fn add_pool<'a>(homes: &mut HomeTable<'a>, row: &'a NodeRow) -> Result<(), AllocError>
-    ensures { OnOk result ((x : List ℕ) → home_in homes.new x ≡ or_here (mem x (map (λ y. y.id) row.now.resources)) row.now.id (home_in homes.old x)) }
+/// Adds the resources of a pool as those of a node, but for those whose id is there.
+fn add_pool<'a>(
+    homes: &mut HomeTable<'a>,
+    home: &'a str,
+    pool: &'a [Resource],
+) -> Result<(), AllocError>
+    ensures { OnOk result ((x : List ℕ) → home_in homes.new x ≡ or_here (mem x (resource_ids pool.now)) home.now (home_in homes.old x)) }
 {
-    let home = row.id.as_str();
-    for resource in row.resources.as_slice() {
+    for resource in pool {
         add_home(homes, resource.id.as_str(), home)?;
     }
     Ok(())
 }
 
-/// The homes of all resources.
-fn home_table<'a>(alloc: Global, rows: &'a [NodeRow]) -> Result<HomeTable<'a>, AllocError>
-    ensures { IfOk result (λ homes. (x : List ℕ) → home_in homes x ≡ home_of rows.now x) }
+/// Adds the resources of the pools of rows, but for those whose id is there.
+fn add_rows<'a>(homes: &mut HomeTable<'a>, rows: &'a [NodeRow]) -> Result<(), AllocError>
+    ensures { OnOk result ((x : List ℕ) → home_in homes.new x ≡ or_known (home_in homes.old x) (home_of rows.now x)) }
+{
+    for row in rows {
+        add_pool(homes, row.id.as_str(), row.resources.as_slice())?;
+    }
+    Ok(())
+}
+
+/// The homes of all resources, with copies as resources of the root.
+fn home_table<'a>(
+    alloc: Global,
+    rows: &'a [NodeRow],
+    to_change: &'a [Resource],
+    to_read: &'a [Resource],
+) -> Result<HomeTable<'a>, AllocError>
+    ensures { IfOk result (λ homes. (x : List ℕ) → home_in homes x ≡ home_of (with_copies rows.now to_change.now to_read.now) x) }
 {
     let mut homes = BTreeMap::new(alloc);
-    for row in rows {
-        add_pool(&mut homes, row)?;
-    }
+    let Some((root, later)) = rows.split_first() else {
+        return Ok(homes);
+    };
+    let home = root.id.as_str();
+    add_pool(&mut homes, home, root.resources.as_slice())?;
+    add_pool(&mut homes, home, to_change)?;
+    add_pool(&mut homes, home, to_read)?;
+    add_rows(&mut homes, later)?;
     Ok(homes)
 }
 
@@ -88,11 +113,17 @@ fn go_to<'a>(path: &mut Vec<&'a str>, row: &'a NodeRow) -> Result<(), AllocError
     Ok(())
 }
 
-/// Whether each link names a resource that is at home at its node or above it.
-pub fn are_resolved(alloc: Global, rows: &[NodeRow]) -> Result<bool, AllocError>
-    ensures { IfOk result (λ resolved. resolved ≡ valid.are_resolved rows.now) }
+/// Whether each link names a resource that is at home at its node or above it, with copies as
+/// resources of the root.
+pub fn are_resolved_with(
+    alloc: Global,
+    rows: &[NodeRow],
+    to_change: &[Resource],
+    to_read: &[Resource],
+) -> Result<bool, AllocError>
+    ensures { IfOk result (λ resolved. resolved ≡ valid.are_resolved (with_copies rows.now to_change.now to_read.now)) }
 {
-    let homes = home_table(alloc, rows)?;
+    let homes = home_table(alloc, rows, to_change, to_read)?;
     let mut path = Vec::new(alloc);
     for row in rows {
         go_to(&mut path, row)?;
@@ -101,4 +132,11 @@ pub fn are_resolved(alloc: Global, rows: &[NodeRow]) -> Result<bool, AllocError>
         }
     }
     Ok(true)
+}
+
+/// Whether each link names a resource that is at home at its node or above it.
+pub fn are_resolved(alloc: Global, rows: &[NodeRow]) -> Result<bool, AllocError>
+    ensures { IfOk result (λ resolved. resolved ≡ valid.are_resolved rows.now) }
+{
+    are_resolved_with(alloc, rows, &[], &[])
 }

@@ -63,6 +63,16 @@ impl Items<Resource> {
         Ok(())
     }
 
+    /// Puts a resource in the place of the one of its id.
+    pub(crate) fn replace(&mut self, resource: Resource)
+        requires { are_distinct (map (λ x. x.id) self.old) ≡ true }
+        ensures { self.new ≡ with_item resource.id (λ _. resource) self.old }
+    {
+        if let Some(place) = place_in(self.items.as_slice(), &resource.id) {
+            self.items[place] = resource;
+        }
+    }
+
     /// An equal list.
     pub fn copy(&self, alloc: Global) -> Result<Items<Resource>, AllocError>
         ensures { IfOk result (λ all. all ≡ self.now) }

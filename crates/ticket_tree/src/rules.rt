@@ -16,6 +16,13 @@ fn is_name_part(byte: u8) -> bool
     byte.is_ascii_alphanumeric() || byte == b'_' || byte == b'.' || byte == b'-'
 }
 
+/// Whether a byte is a decimal digit.
+pub fn is_digit(byte: u8) -> bool
+    ensures { result ≡ names.is_digit byte }
+{
+    byte.is_ascii_digit()
+}
+
 fn are_name_parts(bytes: &[u8]) -> bool
     ensures { result ≡ list_all names.is_name_part bytes.now }
 {

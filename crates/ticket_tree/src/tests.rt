@@ -1,5 +1,8 @@
 mod copies;
+mod one_row;
+mod parts;
 mod pools;
+mod spawn_ids;
 
 use crate::{
     Attrs, Edit, Id, Items, MAX_TEXT_BYTES, Name, NodeRow, Refusal, Text, Ticket, is_name, is_text,
@@ -356,6 +359,7 @@ fn refusals(rt: HostRuntime) -> Result<(), Fail> {
         (Refusal::NotATree, 7, "NotATree"),
         (Refusal::UnknownNode, 10, "UnknownNode"),
         (Refusal::UnknownResource, 11, "UnknownResource"),
+        (Refusal::TooManySpawns, 17, "TooManySpawns"),
         (Refusal::NotJson, 40, "NotJson"),
         (Refusal::NotProfile, 41, "NotProfile"),
         (Refusal::Memory, 90, "Memory"),

@@ -1,3 +1,4 @@
+use crate::audit::Audit;
 use crate::distinct::are_distinct;
 use crate::edit::Edit;
 use crate::id::Id;
@@ -7,7 +8,7 @@ use crate::refusal::Refusal;
 use crate::resolved::are_resolved;
 use crate::resource::Resource;
 use crate::rows_iter::Rows;
-use crate::{edits, pools, rows};
+use crate::{edits, one_row, pools, rows};
 use std::alloc::{AllocError, Global};
 use std::marker::Model;
 
@@ -33,9 +34,10 @@ impl Model for Ticket {
 impl Ticket {
     ghost use Rattle.std.specs.Prelude.{◌≡◌, ◌⊎◌, None, Some, OnOk, OnErr, IfOk, IfErr, IfNone, IfSome, MatchResult, is_some};
     ghost use Rattle.std.specs.Option.{option_copied};
-    ghost use Rattle.ticket_tree.specs.Edit.{edited, refusal_of};
+    ghost use Rattle.ticket_tree.specs.Edit.{edited, node_refusal, refusal_of};
     ghost use Rattle.ticket_tree.specs.Homes as homes;
     ghost use Rattle.ticket_tree.specs.Homes.{resource_of};
+    ghost use Rattle.ticket_tree.specs.OneRow.{MayReplaceNode, MayReplaceResource, appended, replaced_node, replaced_resource};
     ghost use Rattle.ticket_tree.specs.Place.{BoundsNodesBelow, node_places};
     ghost use Rattle.ticket_tree.specs.Place as tree;
     ghost use Rattle.ticket_tree.specs.Ticket.{IsValid, fault_of, has_node, row_of};
@@ -152,5 +154,34 @@ impl Ticket {
         ensures memory { IfNone (refusal_of edit self.old.rows) (IfErr result (λ e. e ≡ Refusal.Memory)) }
     {
         edits::apply(alloc, &mut self.rows, edit, at)
+    }
+
+    /// Puts an audit last at a node. Refuses `UnknownNode`, which needs no memory, and then `Memory`.
+    /// A refusal changes nothing.
+    pub fn append(&mut self, _alloc: Global, node: &Id, audit: Audit) -> Result<(), Refusal>
+        ensures ok { OnOk result (self.new ≡ record self.old { rows = appended node.now audit self.old.rows }) }
+        ensures err { OnErr result (self.new ≡ self.old) }
+        ensures refused { IfSome (node_refusal node.now self.old.rows) (λ e. result ≡ Err e) }
+        ensures memory { IfNone (node_refusal node.now self.old.rows) (IfErr result (λ e. e ≡ Refusal.Memory)) }
+    {
+        one_row::append(&mut self.rows, node, audit)
+    }
+
+    /// Puts a node in the place of the one of its id, which keeps its depth. That one has the same
+    /// Type, job part, links and ids of resources, and the new Status isn't `Spawned`. Needs no memory.
+    pub fn replace_node(&mut self, row: NodeRow)
+        requires { MayReplaceNode self.old.rows row }
+        ensures { self.new ≡ record self.old { rows = replaced_node row self.old.rows } }
+    {
+        one_row::replace_node(&mut self.rows, row);
+    }
+
+    /// Puts a resource in the place of the one of its id, which has the same name and Class. Needs no
+    /// memory.
+    pub fn replace_resource(&mut self, resource: Resource)
+        requires { MayReplaceResource self.old.rows resource }
+        ensures { self.new ≡ record self.old { rows = replaced_resource resource self.old.rows } }
+    {
+        one_row::replace_resource(&mut self.rows, resource);
     }
 }

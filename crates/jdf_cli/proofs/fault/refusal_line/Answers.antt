@@ -49,3 +49,7 @@ returns-in-UnresolvedLink c = rw c.in-UnresolvedLink.is refl
 pub returns-in-UnknownResource : goal.returns-in-UnknownResource
 unfolding digits
 returns-in-UnknownResource c = rw c.in-UnknownResource.is refl
+
+pub returns-in-TooManySpawns : goal.returns-in-TooManySpawns
+unfolding digits
+returns-in-TooManySpawns c = rw c.in-TooManySpawns.is refl

@@ -1,11 +1,23 @@
-use Rattle.std.proofs.Common.{◌∙◌, ap, map}
-use Rattle.ticket_tree.proofs.Table.{row_more}
-use Rattle.ticket_tree.specs.HomeTable.{home_in, or_here}
+use Rattle.std.proofs.Common.{◌∙◌, ap, sym}
+use Rattle.ticket_tree.proofs.Copies.{home-copies, homes_put}
+use Rattle.ticket_tree.proofs.Table.{empty_home}
+use Rattle.ticket_tree.specs.HomeTable.{home_in, or_here, or_known}
+use Rattle.ticket_tree.specs.Homes.{home_of}
 use Rattle.ticket_tree.specs.Ids.{mem}
+use Rattle.ticket_tree.specs.Part.{resource_ids, with_copies}
 use Rattle.ticket_tree.proofs.resolved.home_table.Goals as goal
 
-pub loop-row-preserved : goal.loop-row-preserved
-loop-row-preserved c =
-    let old = c.loop-row.homes in
-    row_more c.args.rows.now c.loop-row.row-index c.row-item.result old c.add_pool.new.homes c.loop-row-test.true c.loop-row.invariant
-    (λ x. c.in_ok-add_pool.ensures x ∙ ap (λ r. or_here (mem x (map (λ y. y.id) r.resources)) r.id (home_in old x)) c.row-item.is)
+pub returns : goal.returns
+returns c x =
+    let root = c.in-Some.root.now in
+    let later = c.in-Some.later.now in
+    let to_change = c.args.to_change.now in
+    let to_read = c.args.to_read.now in
+    let home = c.as_str-home.ensures.value in
+    homes_put root later to_change to_read x (home_in c.new-homes.result x) (home_in c.add_pool.new.homes x) (home_in c.add_pool-2.new.homes x) (home_in c.add_pool-3.new.homes x) (home_in c.add_rows.new.homes x)
+    (empty_home c.new-homes.result x c.new-homes.ensures.empty)
+    (c.in_ok-add_pool.ensures x ∙ ap (λ h. or_here (mem x (resource_ids c.as_slice.result.now)) h (home_in c.new-homes.result x)) home ∙ ap (λ pool. or_here (mem x (resource_ids pool)) root.id (home_in c.new-homes.result x)) c.as_slice.ensures)
+    (c.in_ok-add_pool-2.ensures x ∙ ap (λ h. or_here (mem x (resource_ids to_change)) h (home_in c.add_pool.new.homes x)) home)
+    (c.in_ok-add_pool-3.ensures x ∙ ap (λ h. or_here (mem x (resource_ids to_read)) h (home_in c.add_pool-2.new.homes x)) home)
+    (c.in_ok-add_rows.ensures x)
+    ∙ ap (λ rows. home_of (with_copies rows to_change to_read) x) (sym c.in-Some.ensures.cases.0)

@@ -1,0 +1,58 @@
+-- The rows of a part's draft are an outline, so that a part is never refused for rows that are no tree.
+use Rattle.std.proofs.Common.{◌≡◌, ℕ, true, List, [], ◌∷◌, Option, Some, None, Result, Ok, Err, IfErr, ap, ◌∙◌, subst, codes}
+use Rattle.std.specs.Bool.{⊤}
+use Rattle.std.specs.List.{list_all}
+use Rattle.std.specs.Option.{IfSome}
+use Rattle.serde_json.specs.Data.{Data}
+use Rattle.ticket_tree.specs.Outline.{is_outline}
+use Rattle.ticket_tree.specs.Part.{Copied, with_copies}
+use Rattle.ticket_tree.specs.Ticket.{depths}
+use Rattle.ticket_tree.specs.declared.ancestor.Ancestor.{Ancestor}
+use Rattle.ticket_tree.specs.declared.refusal.Refusal.{Refusal}
+use Rattle.ticket_tree.specs.declared.refusal.Refusal.TheVariants.{NotATree}
+use Rattle.json_profile.proofs.Again.{raw_depths}
+use Rattle.json_profile.proofs.Outlines.{root_is_tree, depths-raw, IsOther, fault_of-outline, draft_fault, judged_other, memory_or}
+use Rattle.json_profile.specs.Draft.{RawRow, are_bare, node_rows}
+use Rattle.json_profile.specs.Form.{Answers, sound}
+use Rattle.json_profile.specs.PartDraft.{Groups, RawPart, Taken, grouped, taken, taken_groups, ancestors_under, part_members, part_draft, raw_part}
+use Rattle.json_profile.specs.PartForm.{has_names, has_texts, built_fault, part_fault, copied}
+use Rattle.json_profile.specs.Read.{◌>>=◌, provided, text_under}
+
+abbrev IsTree : Taken → Type 0
+IsTree t = is_outline (depths (with_copies t.rows t.rw t.ro)) ≡ true
+
+groups_tree : (root : RawRow) (raws : List RawRow) (bare : Option ⊤) (groups : Option Groups) → is_outline (raw_depths (root ∷ raws)) ≡ true
+    → IfSome {T = Taken} (bare >>= λ _. groups >>= λ g. Some (taken_groups root.row raws g)) IsTree
+groups_tree root raws None groups h = tt
+groups_tree root raws (Some u) None h = tt
+groups_tree root raws (Some u) (Some g) h = ap is_outline (ap (λ ds. root.row.depth ∷ ds) (depths-raw raws)) ∙ h
+
+taken_tree : (spawn : List ℕ) (raws : List RawRow) → is_outline (raw_depths raws) ≡ true → IfSome (taken spawn raws) IsTree
+taken_tree spawn [] h = tt
+taken_tree spawn (root ∷ raws) h = groups_tree root raws (provided (list_all (λ r. are_bare r.pool) raws)) (grouped spawn root.pool) h
+
+rows_tree : (job spawn : List ℕ) (ancestors : List Ancestor) (t : Option Taken) → IfSome t IsTree → IfSome {T = RawPart} (t >>= λ x. Some (raw_part job spawn ancestors x)) (λ p. is_outline (depths (with_copies p.rows p.rw p.ro)) ≡ true)
+rows_tree job spawn ancestors None h = tt
+rows_tree job spawn ancestors (Some t) h = h
+
+part_made : (job spawn : Option (List ℕ)) (ancestors : Option (List Ancestor)) (rows : Option (List RawRow)) → IfSome rows (λ raws. is_outline (raw_depths raws) ≡ true)
+    → IfSome {T = RawPart} (job >>= λ j. spawn >>= λ s. ancestors >>= λ a. rows >>= λ raws. taken s raws >>= λ t. Some (raw_part j s a t)) (λ p. is_outline (depths (with_copies p.rows p.rw p.ro)) ≡ true)
+part_made None spawn ancestors rows h = tt
+part_made (Some j) None ancestors rows h = tt
+part_made (Some j) (Some s) None rows h = tt
+part_made (Some j) (Some s) (Some a) None h = tt
+part_made (Some j) (Some s) (Some a) (Some raws) h = rows_tree j s a (taken s raws) (taken_tree s raws h)
+
+part_is_outline : (d : Data) → IfSome (part_draft d) (λ p. is_outline (depths (with_copies p.rows p.rw p.ro)) ≡ true)
+unfolding part_draft
+part_is_outline d =
+    part_made (text_under (codes "JobID") d) (text_under (codes "SpawnID") d) (ancestors_under (codes "AncestorPool") d) (node_rows part_members 1 d) (root_is_tree part_members d)
+
+part_other : (p : RawPart) → is_outline (depths (with_copies p.rows p.rw p.ro)) ≡ true → IfErr (sound (part_fault p) (copied p)) IsOther
+part_other p h = judged_other (part_fault p) (copied p) (draft_fault (has_names p) (has_texts p) (built_fault p) (fault_of-outline (with_copies p.rows p.rw p.ro) h))
+
+-- the part of a draft is never refused for rows that are no tree
+pub never_no_part_tree : (d : Data) (p : RawPart) (result : Result Copied Refusal) → part_draft d ≡ Some p → Answers result (sound (part_fault p) (copied p)) → IfErr result (λ e. e ≡ NotATree → ⊥)
+never_no_part_tree d p (Ok x) is h = tt
+never_no_part_tree d p (Err e) is h =
+    λ same. subst IsOther same (memory_or e (sound (part_fault p) (copied p)) (part_other p (subst (λ o. IfSome o (λ q. is_outline (depths (with_copies q.rows q.rw q.ro)) ≡ true)) is (part_is_outline d))) h)

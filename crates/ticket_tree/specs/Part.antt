@@ -1,0 +1,68 @@
+-- A part: a node of a ticket with all below it, taken out as a ticket of its own, with copies of the resources that it links from above.
+use Rattle.std.specs.Prelude.{ℕ, ◌+◌, ◌&&◌, Bool, not, List, [], ◌∷◌, ◌++◌, length, map, nat_le, nat_lt}
+use Rattle.std.specs.List.{list_all, list_any}
+use Rattle.std.specs.Str.{bytes_eq}
+use Rattle.ticket_tree.specs.Ids.{mem, are_distinct}
+use Rattle.ticket_tree.specs.Ticket.{ids, max_depth}
+use Rattle.ticket_tree.specs.declared.ancestor.Ancestor.{Ancestor}
+use Rattle.ticket_tree.specs.declared.node_row.NodeRow.{NodeRow}
+use Rattle.ticket_tree.specs.declared.resource.Resource.{Resource}
+
+-- what was copied out of a ticket: for which job and spawn, from under which nodes, the rows in preorder, and the resources
+-- that may be changed and those that may be read alone
+pub record Copied : Type 0 where
+  pub job_id : List ℕ
+  pub spawn_id : ℕ
+  pub ancestors : List Ancestor
+  pub rows : List NodeRow
+  pub rw : List Resource
+  pub ro : List Resource
+
+abbrev pub copied : List ℕ → ℕ → List Ancestor → List NodeRow → List Resource → List Resource → Copied
+copied job_id spawn_id ancestors rows to_change to_read = record { job_id = job_id; spawn_id = spawn_id; ancestors = ancestors; rows = rows; rw = to_change; ro = to_read }
+
+-- the rows, with copies behind the resources of the root's pool: first those to change, then those to read
+abbrev pub with_copies : List NodeRow → List Resource → List Resource → List NodeRow
+with_copies [] to_change to_read = []
+with_copies (r ∷ rows) to_change to_read = record r { resources = r.resources ++ to_change ++ to_read } ∷ rows
+
+-- ---- what makes a part sound
+
+abbrev pub ancestor_ids : List Ancestor → List (List ℕ)
+ancestor_ids ancestors = map (λ a. a.node_id) ancestors
+
+abbrev pub resource_ids : List Resource → List (List ℕ)
+resource_ids pool = map (λ x. x.id) pool
+
+-- the ids of a part: of its nodes, of the resources of their pools, and of the copies
+abbrev pub part_ids : List NodeRow → List Resource → List Resource → List (List ℕ)
+part_ids rows to_change to_read = ids rows ++ resource_ids to_change ++ resource_ids to_read
+
+-- whether the part came from under some node
+abbrev pub has_ancestors : List Ancestor → Bool
+has_ancestors ancestors = nat_lt 0 (length ancestors)
+
+-- whether no id stands in both lists
+abbrev pub are_apart : List (List ℕ) → List (List ℕ) → Bool
+are_apart xs ys = list_all (λ x. not (mem x ys)) xs
+
+-- whether the ancestors' ids differ from each other and from all ids of the part
+abbrev pub are_ancestors_new : List Ancestor → List (List ℕ) → Bool
+are_ancestors_new ancestors others = are_distinct (ancestor_ids ancestors) && are_apart (ancestor_ids ancestors) others
+
+-- whether no node would be deeper than 32 below this many ancestors
+abbrev pub are_shallow_below : ℕ → List NodeRow → Bool
+are_shallow_below above rows = list_all (λ r. nat_le (r.depth + above) max_depth) rows
+
+-- whether some row links the resource
+abbrev pub is_linked : List NodeRow → List ℕ → Bool
+is_linked rows x = list_any (λ r. list_any (λ l. bytes_eq l.rref x) r.links) rows
+
+-- whether each of the resources is linked by some row
+abbrev pub are_linked : List NodeRow → List Resource → Bool
+are_linked rows pool = list_all (λ x. is_linked rows x.id) pool
+
+-- whether a part can have come from a ticket: it has ancestors, its nodes aren't too deep below them, their ids are new, and each copy is linked
+abbrev pub is_sound : Copied → Bool
+is_sound p =
+    has_ancestors p.ancestors && are_shallow_below (length p.ancestors) p.rows && are_ancestors_new p.ancestors (part_ids p.rows p.rw p.ro) && are_linked p.rows p.rw && are_linked p.rows p.ro
