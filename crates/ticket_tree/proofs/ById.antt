@@ -6,16 +6,16 @@ use Rattle.std.proofs.lemmas.Slice.Eq.{bytes_eq-Decides}
 use Rattle.std.specs.List.{find, flat_map}
 use Rattle.std.specs.Option.{option_map}
 use Rattle.std.specs.Str.{bytes_eq}
-use Rattle.ticket_tree.proofs.Apart.{mem-append, bytes_eq-symm, or_true}
-use Rattle.ticket_tree.proofs.AtKey.{at_key, at_key-none}
-use Rattle.ticket_tree.proofs.NodePlaces.{later_part, later_distinct}
-use Rattle.ticket_tree.specs.Edit.{with_row, with_item, with_resource}
-use Rattle.ticket_tree.specs.Ids.{mem, are_distinct}
-use Rattle.ticket_tree.specs.Place.{Row, node_row, resource_row, lines_of, lines}
+use Rattle.ticket_items.proofs.Apart.{mem-append, bytes_eq-symm, or_true, later_part, later_distinct}
+use Rattle.ticket_items.proofs.AtKey.{at_key, at_key-none}
+use Rattle.ticket_rows.specs.Edit.{with_row, with_resource}
+use Rattle.ticket_items.specs.Resource.{with_item}
+use Rattle.ticket_items.specs.Ids.{mem, are_distinct}
+use Rattle.ticket_rows.specs.Place.{Row, node_row, resource_row, lines_of, lines}
 use Rattle.ticket_tree.specs.PlainEdit.{touch}
-use Rattle.ticket_tree.specs.Ticket.{ids, node_ids}
-use Rattle.ticket_tree.specs.declared.node_row.NodeRow.{NodeRow}
-use Rattle.ticket_tree.specs.declared.resource.Resource.{Resource}
+use Rattle.ticket_rows.specs.Ticket.{ids, node_ids}
+use Rattle.ticket_items.specs.declared.node_row.NodeRow.{NodeRow}
+use Rattle.ticket_items.specs.declared.resource.Resource.{Resource}
 
 abbrev pub Line : Type 0
 Line = List ℕ × Row
@@ -80,7 +80,7 @@ among_at : (b : Bool) (x : List ℕ) (own rest : List (List ℕ)) (c : Bool) →
 among_at true x own rest c there later = refl
 among_at false x own rest c there later = mem-append x own rest ∙ ap (λ b. mem x own || b) (later there) ∙ or_true (mem x own)
 
-among_ids : (x : List ℕ) (rows : List NodeRow) → mem x (node_ids rows) ≡ true → mem x (ids rows) ≡ true
+pub among_ids : (x : List ℕ) (rows : List NodeRow) → mem x (node_ids rows) ≡ true → mem x (ids rows) ≡ true
 among_ids x [] there = there
 among_ids x (r ∷ rows) there = among_at (bytes_eq r.id x) x (pool_ids r) (ids rows) (mem x (node_ids rows)) there (among_ids x rows)
 
@@ -89,7 +89,7 @@ first_other true x y xs ys e out there =
     absurd (true≢false (sym there ∙ ap (λ z. mem z ys) (sym ((bytes_eq-Decides y x).0 e)) ∙ later_part y xs ys out))
 first_other false x y xs ys e out there = refl
 
-first_out : (x : List ℕ) (xs ys : List (List ℕ)) → are_distinct (xs ++ ys) ≡ true → mem x ys ≡ true → mem x xs ≡ false
+pub first_out : (x : List ℕ) (xs ys : List (List ℕ)) → are_distinct (xs ++ ys) ≡ true → mem x ys ≡ true → mem x xs ≡ false
 first_out x [] ys apart there = refl
 first_out x (y ∷ xs) ys apart there =
     let parts = and_parts _ _ apart in

@@ -1,20 +1,9 @@
-pub mod Apart
-pub mod Below
 pub mod ById
-pub mod Changes
-pub mod Copies
-pub mod Growing
-pub mod NewResource
-pub mod NewNode
-pub mod NodePlaces
+pub mod ByKind
+pub mod LookUps
 pub mod OnPlaces
-pub mod OneRows
-pub mod Ordered
 pub mod Parents
-pub mod Places
-pub mod AtHome
-pub mod AtKey
-pub mod Preorder
+pub mod Pieces
 pub mod Plain
 pub mod PlainEdits
 pub mod PlainNode
@@ -22,8 +11,7 @@ pub mod PlainOneRow
 pub mod PlainPlaces
 pub mod PlainRefusal
 pub mod PlainRows
-pub mod Reasons
-pub mod SpawnTexts
+pub mod Preorder
 pub mod Sound
-pub mod Table
+pub mod StaysValid
 mod Worked

@@ -1,46 +1,25 @@
--- Nodes, resources and homes, found on the places as among the rows.
-use Rattle.std.proofs.Common.{◌≡◌, ℕ, ◌||◌, Bool, true, false, not, cond, List, [], ◌∷◌, ◌++◌, length, map, Option, Some, None, is_some, refl, sym, ap, ◌∙◌, nat_lt, slice_get}
+-- Ids, nodes, resources and room, found on the places as among the rows.
+use Rattle.std.proofs.Common.{◌≡◌, ℕ, ◌||◌, Bool, true, false, cond, List, [], ◌∷◌, ◌++◌, length, map, Option, Some, None, is_some, refl, sym, ap, ◌∙◌, nat_lt}
 use Rattle.std.proofs.lemmas.List.{map-append}
-use Rattle.std.specs.List.{filter, find, list_any}
+use Rattle.std.specs.List.{find, list_any}
 use Rattle.std.specs.Option.{option_map, option_map_or, option_and_then}
 use Rattle.std.specs.Str.{bytes_eq}
-use Rattle.ticket_tree.proofs.AtHome.{is_some-find, entry-found, in_pool, holds}
-use Rattle.ticket_tree.proofs.Below.{Follows, Follows-outline, length-path_of, is_some-place_at}
-use Rattle.ticket_tree.proofs.Changes.{home_of-cons}
-use Rattle.ticket_tree.proofs.NodePlaces.{nodes_from, node_places-rows}
-use Rattle.ticket_tree.specs.Edit.{has_room, reaches}
-use Rattle.ticket_tree.specs.Homes.{home_of, has_resource}
-use Rattle.ticket_tree.specs.Ids.{mem}
-use Rattle.ticket_tree.specs.Paths.{path_of}
-use Rattle.ticket_tree.specs.Place.{Place, node_place, resource_place, places_from, places, is_node, node_places, resource_places, place_at, is_below, home, holder}
+use Rattle.ticket_items.proofs.AtKey.{any_key}
+use Rattle.ticket_items.proofs.Places.{is_some-find}
+use Rattle.ticket_rows.proofs.AtHome.{entry-found, in_pool, holds}
+use Rattle.ticket_rows.proofs.Below.{Follows, Follows-outline, length-path_of, is_some-place_at}
+use Rattle.ticket_rows.proofs.NodePlaces.{nodes_from, node_places-rows}
+use Rattle.ticket_rows.proofs.ResourcePlaces.{resources_from, resource_places-rows, home_is}
+use Rattle.ticket_rows.specs.Edit.{has_room, reaches}
+use Rattle.ticket_rows.specs.Homes.{has_resource}
+use Rattle.ticket_items.specs.Ids.{mem}
+use Rattle.ticket_rows.specs.Place.{Place, node_place, resource_place, places_from, places, node_places, resource_places, place_at, is_below, path_of}
 use Rattle.ticket_tree.specs.PlainEdit.{stands, has_room_below, is_home_above}
-use Rattle.ticket_tree.specs.Ticket.{IsValid, ids, has_node, row_of, max_depth}
-use Rattle.ticket_tree.specs.declared.node_row.NodeRow.{NodeRow}
-use Rattle.ticket_tree.specs.declared.resource.Resource.{Resource}
-
--- ---- the places of resources, row by row
-
-abbrev pub resources_from : List (List ℕ) → List NodeRow → List Place
-resources_from before [] = []
-resources_from before (r ∷ rows) = map (resource_place (path_of before r)) r.resources ++ resources_from (path_of before r) rows
-
-all_resources : (path : List (List ℕ)) (xs : List Resource) (rest : List Place) → filter (λ p. not (is_node p)) (map (resource_place path) xs ++ rest) ≡ map (resource_place path) xs ++ filter (λ p. not (is_node p)) rest
-all_resources path [] rest = refl
-all_resources path (x ∷ xs) rest = ap (λ ps. resource_place path x ∷ ps) (all_resources path xs rest)
-
-resources_among : (before : List (List ℕ)) (rows : List NodeRow) → filter (λ p. not (is_node p)) (places_from before rows) ≡ resources_from before rows
-resources_among before [] = refl
-resources_among before (r ∷ rows) =
-    all_resources (path_of before r) r.resources (places_from (path_of before r) rows) ∙ ap (λ ps. map (resource_place (path_of before r)) r.resources ++ ps) (resources_among (path_of before r) rows)
-
-pub resource_places-rows : (rows : List NodeRow) → resource_places rows ≡ resources_from [] rows
-resource_places-rows rows = resources_among [] rows
+use Rattle.ticket_rows.specs.Ticket.{IsValid, ids, has_node, row_of, max_depth}
+use Rattle.ticket_items.specs.declared.node_row.NodeRow.{NodeRow}
+use Rattle.ticket_items.specs.declared.resource.Resource.{Resource}
 
 -- ---- what stands at a place
-
-pub any_key : {X : Type 0} (key : X → List ℕ) (x : List ℕ) (xs : List X) → list_any (λ y. bytes_eq (key y) x) xs ≡ mem x (map key xs)
-any_key key x [] = refl
-any_key key x (y ∷ xs) = ap (λ b. bytes_eq (key y) x || b) (any_key key x xs)
 
 pub stands_among : (tree : List Place) (x : List ℕ) → stands tree x ≡ mem x (map (λ p. p.id) tree)
 stands_among tree x = is_some-find (λ p. bytes_eq p.id x) tree ∙ any_key (λ p. p.id) x tree
@@ -62,28 +41,6 @@ stands_somewhere rows x = stands_among (places rows) x ∙ ap (mem x) (ids_of_pl
 
 pub stands_node : (rows : List NodeRow) (x : List ℕ) → stands (node_places rows) x ≡ has_node rows x
 stands_node rows x = ap (λ nodes. stands nodes x) (node_places-rows rows) ∙ is_some-place_at [] rows x
-
--- ---- homes on the places
-
-home_at : (b : Bool) (path : List (List ℕ)) (y : Resource) (x : List ℕ) (pool : List Resource) (rest : List Place)
-    → option_and_then holder (place_at (map (resource_place path) pool ++ rest) x) ≡ cond (mem x (map (λ z. z.id) pool)) (slice_get path 0) (option_and_then holder (place_at rest x))
-    → option_and_then holder (cond b (Some (resource_place path y)) (place_at (map (resource_place path) pool ++ rest) x)) ≡ cond (b || mem x (map (λ z. z.id) pool)) (slice_get path 0) (option_and_then holder (place_at rest x))
-home_at true path y x pool rest later = refl
-home_at false path y x pool rest later = later
-
-home_in_pool : (path : List (List ℕ)) (x : List ℕ) (pool : List Resource) (rest : List Place)
-    → option_and_then holder (place_at (map (resource_place path) pool ++ rest) x) ≡ cond (mem x (map (λ z. z.id) pool)) (slice_get path 0) (option_and_then holder (place_at rest x))
-home_in_pool path x [] rest = refl
-home_in_pool path x (y ∷ pool) rest = home_at (bytes_eq y.id x) path y x pool rest (home_in_pool path x pool rest)
-
-home_from : (before : List (List ℕ)) (rows : List NodeRow) (x : List ℕ) → home (resources_from before rows) x ≡ home_of rows x
-home_from before [] x = refl
-home_from before (r ∷ rows) x =
-    home_in_pool (path_of before r) x r.resources (resources_from (path_of before r) rows)
-    ∙ ap (λ o. cond (mem x (map (λ z. z.id) r.resources)) (Some r.id) o) (home_from (path_of before r) rows x) ∙ sym (home_of-cons x r rows)
-
-pub home_is : (rows : List NodeRow) (x : List ℕ) → home (resource_places rows) x ≡ home_of rows x
-home_is rows x = ap (λ ps. home ps x) (resource_places-rows rows) ∙ home_from [] rows x
 
 -- ---- resources on the places
 

@@ -5,16 +5,15 @@ use Rattle.std.proofs.lemmas.List.{length-drop}
 use Rattle.std.proofs.lemmas.Slice.Eq.{bytes_eq-Decides}
 use Rattle.std.specs.Option.{option_and_then, option_map_or}
 use Rattle.std.specs.Str.{bytes_eq}
-use Rattle.ticket_tree.proofs.Apart.{bytes_eq-same}
-use Rattle.ticket_tree.proofs.Below.{Path, mem-drop, Follows, Follows-outline, length-path_of, is_some-place_at, mem-node_ids}
-use Rattle.ticket_tree.specs.Ids.{mem, are_distinct}
+use Rattle.ticket_items.proofs.Apart.{bytes_eq-same}
+use Rattle.ticket_rows.proofs.Below.{Path, mem-drop, Follows, Follows-outline, length-path_of, is_some-place_at, mem-node_ids}
+use Rattle.ticket_items.specs.Ids.{mem, are_distinct}
 use Rattle.ticket_tree.specs.Laws.{IsRootAt, HasParentAt, OneParentEach, DepthIsPathLength, BelowByParent}
-use Rattle.ticket_tree.specs.Outline.{goes_on}
-use Rattle.ticket_tree.proofs.NodePlaces.{nodes_from, node_places-rows, node_ids_distinct}
-use Rattle.ticket_tree.specs.Paths.{path_of}
-use Rattle.ticket_tree.specs.Place.{Place, node_place, node_places, place_at, below, is_below, parent, up}
-use Rattle.ticket_tree.specs.Ticket.{IsValid, node_ids, depths}
-use Rattle.ticket_tree.specs.declared.node_row.NodeRow.{NodeRow}
+use Rattle.ticket_rows.specs.Outline.{goes_on}
+use Rattle.ticket_rows.proofs.NodePlaces.{nodes_from, node_places-rows, node_ids_distinct}
+use Rattle.ticket_rows.specs.Place.{Place, node_place, node_places, place_at, below, is_below, parent, up, path_of}
+use Rattle.ticket_rows.specs.Ticket.{IsValid, node_ids, depths}
+use Rattle.ticket_items.specs.declared.node_row.NodeRow.{NodeRow}
 
 -- ---- depths are lengths of paths
 
@@ -53,7 +52,7 @@ here_new before r rows new = new r.id (ap (λ b. b || mem r.id (node_ids rows)) 
 
 pub later_new : (before : Path) (r : NodeRow) (rows : List NodeRow) → are_distinct (node_ids (r ∷ rows)) ≡ true → AreNew before (r ∷ rows) → AreNew (path_of before r) rows
 later_new before r rows apart new y there =
-    or_from _ _ (other_id r rows y apart there) (mem-drop y (suc (length before) - r.depth) before (new y (there_later (bytes_eq r.id y) (mem y (node_ids rows)) there)))
+    or_from _ _ (other_id r rows y apart there) (mem-drop y (length before - (r.depth - 1)) before (new y (there_later (bytes_eq r.id y) (mem y (node_ids rows)) there)))
 
 -- ---- the way up
 
@@ -105,7 +104,7 @@ finds_here tree before r rows finds =
 parent_row : (here : Bool) (tree : List Place) (before : Path) (r : NodeRow) (rows : List NodeRow) (x : List ℕ) (p : Place) → bytes_eq r.id x ≡ here → 2 ≤ r.depth → r.depth ≤ suc (length before) → AreNew before (r ∷ rows) → IsWayUp tree before → FindsAll tree (nodes_from before (r ∷ rows))
     → cond here (Some (node_place r (path_of before r))) (place_at (nodes_from (path_of before r) rows) x) ≡ Some p → (place_at (nodes_from (path_of before r) rows) x ≡ Some p → ParentIn tree x p) → ParentIn tree x p
 parent_row true tree before r rows x p e low high new way finds found later =
-    let n : ℕ = suc (length before) - r.depth in
+    let n : ℕ = length before - (r.depth - 1) in
     let same : node_place r (path_of before r) ≡ p = cc in
     let named : r.id ≡ x = (bytes_eq-Decides r.id x).0 e in
     let long : 1 ≤ length (drop n before) = omega (arith, length-drop n before) in
@@ -124,7 +123,7 @@ parents tree before (r ∷ rows) goes apart new way finds x p found =
     let high : r.depth ≤ suc (length before) = leb-true _ _ bounds.1 in
     let some : 1 ≤ r.depth = omega arith in
     let long : length (path_of before r) ≡ r.depth = length-path_of before r some high in
-    let way_on : IsWayUp tree (path_of before r) = (node_place r (path_of before r), refl, refl, finds_here tree before r rows finds, way_up-drop tree (suc (length before) - r.depth) before way) in
+    let way_on : IsWayUp tree (path_of before r) = (node_place r (path_of before r), refl, refl, finds_here tree before r rows finds, way_up-drop tree (length before - (r.depth - 1)) before way) in
     parent_row (bytes_eq r.id x) tree before r rows x p refl low high new way finds found
     (parents tree (path_of before r) rows (ap (λ n. goes_on n (depths rows)) long ∙ parts.1) (and_parts _ _ apart).1 (later_new before r rows apart new) way_on (finds_later tree before r rows apart finds) x p)
 
@@ -140,7 +139,7 @@ root_row true r rows x p e found later =
     let same : node_place r (path_of [] r) ≡ p = cc in
     let named : r.id ≡ x = (bytes_eq-Decides r.id x).0 e in
     inl (record {
-      path = ap (λ q. q.path) (sym same) ∙ ap (λ ys. r.id ∷ ys) (drop_none (1 - r.depth)) ∙ ap (λ i. i ∷ []) named;
+      path = ap (λ q. q.path) (sym same) ∙ ap (λ ys. r.id ∷ ys) (drop_none (0 - (r.depth - 1))) ∙ ap (λ i. i ∷ []) named;
       first = ap Some same;
     })
 root_row false r rows x p e found later =
@@ -163,7 +162,7 @@ one_parent_in (r ∷ rows) valid x p found =
     let tree : List Place = nodes_from [] (r ∷ rows) in
     let all : FindsAll tree (nodes_from [] (r ∷ rows)) = λ y q h. h in
     let new : AreNew [] (r ∷ rows) = λ y h. refl in
-    let way : IsWayUp tree (path_of [] r) = (node_place r (path_of [] r), refl, refl, finds_here tree [] r rows all, way_up-drop tree (1 - r.depth) [] tt) in
+    let way : IsWayUp tree (path_of [] r) = (node_place r (path_of [] r), refl, refl, finds_here tree [] r rows all, way_up-drop tree (0 - (r.depth - 1)) [] tt) in
     root_row (bytes_eq r.id x) r rows x p refl found
     (parents tree (path_of [] r) rows (ap (λ n. goes_on n (depths rows)) long ∙ parts.1) (and_parts _ _ apart).1 (later_new [] r rows apart new) way (finds_later tree [] r rows apart all) x p)
 

@@ -1,12 +1,12 @@
 -- Validity as the absence of a fault.
 use Rattle.std.proofs.Common.{◌≡◌, Bool, true, false, List, [], ◌∷◌, Option, None, refl}
-use Rattle.ticket_tree.specs.Ids.{are_distinct}
+use Rattle.ticket_items.specs.Ids.{are_distinct}
 use Rattle.ticket_tree.specs.Laws.{NoFaultIsValid}
-use Rattle.ticket_tree.specs.Outline.{is_outline}
-use Rattle.ticket_tree.specs.Ticket.{IsValid, fault_of, ids, depths, are_unreserved, are_shallow, are_resolved, unless, first_of}
-use Rattle.ticket_tree.specs.declared.node_row.NodeRow.{NodeRow}
-use Rattle.ticket_tree.specs.declared.refusal.Refusal.{Refusal}
-use Rattle.ticket_tree.specs.declared.refusal.Refusal.TheVariants.{NotATree, ReservedStatus, DuplicateId, TooDeep, UnresolvedLink}
+use Rattle.ticket_rows.specs.Outline.{is_outline}
+use Rattle.ticket_rows.specs.Ticket.{IsValid, fault_of, ids, depths, are_unreserved, are_shallow, are_resolved, unless, first_of}
+use Rattle.ticket_items.specs.declared.node_row.NodeRow.{NodeRow}
+use Rattle.ticket_items.specs.declared.refusal.Refusal.{Refusal}
+use Rattle.ticket_items.specs.declared.refusal.Refusal.TheVariants.{NotATree, ReservedStatus, DuplicateId, TooDeep, UnresolvedLink}
 
 -- none of five tests fails
 abbrev FiveTests : Bool → Bool → Bool → Bool → Bool → Option Refusal

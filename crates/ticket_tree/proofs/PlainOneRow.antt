@@ -6,25 +6,26 @@ use Rattle.std.proofs.lemmas.Slice.Eq.{bytes_eq-Decides}
 use Rattle.std.specs.List.{find, list_any}
 use Rattle.std.specs.Option.{option_map}
 use Rattle.std.specs.Str.{bytes_eq}
-use Rattle.ticket_tree.proofs.Apart.{mem-append, or_true}
-use Rattle.ticket_tree.proofs.AtHome.{in_pool, in_pool_or_later, any-map, find-passes}
-use Rattle.ticket_tree.proofs.AtKey.{at_key, at_key-none}
+use Rattle.ticket_items.proofs.Apart.{mem-append, or_true, front_distinct, other_part, later_distinct}
+use Rattle.ticket_rows.proofs.AtHome.{in_pool, in_pool_or_later, any-map, find-passes}
+use Rattle.ticket_items.proofs.AtKey.{at_key, at_key-none}
 use Rattle.ticket_tree.proofs.ById.{Line, row_at, line_cond, pool_ids, keys_of_pool}
-use Rattle.ticket_tree.proofs.Changes.{front_distinct, other_part, with_resource-none}
-use Rattle.ticket_tree.proofs.NodePlaces.{node_ids_distinct, later_distinct}
-use Rattle.ticket_tree.proofs.OneRows.{at_key-same, with_resource-same}
+use Rattle.ticket_rows.proofs.Changes.{with_resource-none}
+use Rattle.ticket_rows.proofs.NodePlaces.{node_ids_distinct}
+use Rattle.ticket_rows.proofs.OneRows.{at_key-same, with_resource-same}
 use Rattle.ticket_tree.proofs.PlainPlaces.{places-with_row, places-with_resource}
 use Rattle.ticket_tree.proofs.PlainRows.{apart_node, apart_resource, changed_node, changed_resource}
-use Rattle.ticket_tree.specs.Edit.{with_row, with_item, with_resource}
-use Rattle.ticket_tree.specs.Homes.{homes, entry_of, resource_of}
-use Rattle.ticket_tree.specs.Ids.{mem, are_distinct}
+use Rattle.ticket_rows.specs.Edit.{with_row, with_resource}
+use Rattle.ticket_items.specs.Resource.{with_item}
+use Rattle.ticket_rows.specs.Homes.{homes, entry_of, resource_of}
+use Rattle.ticket_items.specs.Ids.{mem, are_distinct}
 use Rattle.ticket_tree.specs.Laws.{AppendOfPlaces, AppendOfRows, ReplacedNodeOfPlaces, ReplacedNodeOfRows, ReplacedResourceOfPlaces, ReplacedResourceOfRows, names_of}
-use Rattle.ticket_tree.specs.OneRow.{MayReplaceNode, MayReplaceResource}
-use Rattle.ticket_tree.specs.Place.{Place, Row, node_place, resource_place, resource_row, places, lines_of, lines, row_in}
+use Rattle.ticket_rows.specs.OneRow.{MayReplaceNode, MayReplaceResource}
+use Rattle.ticket_rows.specs.Place.{Place, Thing, node, resource, links_of, Row, node_place, resource_place, resource_row, places, lines_of, lines, row_in}
 use Rattle.ticket_tree.specs.PlainEdit.{or_row}
-use Rattle.ticket_tree.specs.Ticket.{IsValid, ids, ids_of, row_of}
-use Rattle.ticket_tree.specs.declared.node_row.NodeRow.{NodeRow}
-use Rattle.ticket_tree.specs.declared.resource.Resource.{Resource}
+use Rattle.ticket_rows.specs.Ticket.{IsValid, ids, ids_of, row_of}
+use Rattle.ticket_items.specs.declared.node_row.NodeRow.{NodeRow}
+use Rattle.ticket_items.specs.declared.resource.Resource.{Resource}
 
 -- ---- an audit more
 
@@ -47,7 +48,7 @@ first_of_pair true h (Some z) e = refl
 first_of_pair false h o e = refl
 
 -- the resource of an id stands in the first pool that has it, or later
-resource_of-cons : (x : List ℕ) (r : NodeRow) (rows : List NodeRow) → resource_of (r ∷ rows) x ≡ cond (list_any (λ z. bytes_eq z.id x) r.resources) (in_pool x r.resources) (resource_of rows x)
+pub resource_of-cons : (x : List ℕ) (r : NodeRow) (rows : List NodeRow) → resource_of (r ∷ rows) x ≡ cond (list_any (λ z. bytes_eq z.id x) r.resources) (in_pool x r.resources) (resource_of rows x)
 resource_of-cons x r rows =
     ap (option_map (λ p. p.0)) (in_pool_or_later x r.id r.resources (homes rows)) ∙ first_of_pair (list_any (λ z. bytes_eq z.id x) r.resources) r.id (in_pool x r.resources) (entry_of rows x)
 
@@ -79,6 +80,15 @@ with_resource-found x f g (r ∷ rows) old found apart same =
     found_here (list_any (λ z. bytes_eq z.id x) r.resources) x f g r rows old refl (sym (resource_of-cons x r rows) ∙ found) parts.1 same
     (λ there. with_resource-found x f g rows old there (later_distinct (pool_ids r) (ids rows) parts.1) same)
 
+-- the texts that tell what stands at a place: a Type or a name, a part of the job or a Class
+abbrev pub name_in : Thing → List ℕ
+name_in (node kind job_part links) = kind
+name_in (resource name class) = name
+
+abbrev pub class_in : Thing → List ℕ
+class_in (node kind job_part links) = job_part
+class_in (resource name class) = class
+
 placed_as : (x old : Resource) → x.id ≡ old.id → x.name ≡ old.name → x.class ≡ old.class → x ≡ record old { status = x.status; attrs = x.attrs }
 placed_as x old id name class = ap (λ i. record x { id = i }) id ∙ ap (λ n. record x { id = old.id; name = n }) name ∙ ap (λ c. record x { id = old.id; name = old.name; class = c }) class
 
@@ -86,7 +96,7 @@ pub replaced_resource_of_places : ReplacedResourceOfPlaces
 replaced_resource_of_places x rows valid may =
     ap places
     (with_resource-found x.id (λ _. x) (λ z. record z { status = x.status; attrs = x.attrs }) rows may.old may.there valid.distinct
-    (λ named. placed_as x may.old (sym ((bytes_eq-Decides may.old.id x.id).0 named)) may.name may.class))
+    (λ named. placed_as x may.old (sym ((bytes_eq-Decides may.old.id x.id).0 named)) (ap name_in may.thing) (ap class_in may.thing)))
     ∙ places-with_resource x.id (λ z. record z { status = x.status; attrs = x.attrs }) [] rows (λ path z. refl)
 
 -- ---- a node in the place of another: places
@@ -130,7 +140,7 @@ pub replaced_node_of_places : ReplacedNodeOfPlaces
 replaced_node_of_places row rows valid may names =
     ap places
     (at_key-same (λ r. r.id) row.id (λ r. record row { depth = r.depth }) (in_place row) rows may.old may.there (node_ids_distinct rows valid.distinct)
-    (λ named. in_place-same row may.old (sym ((bytes_eq-Decides may.old.id row.id).0 named)) may.kind may.job_part may.links (beside-same row.resources may.old.resources may.resources names)))
+    (λ named. in_place-same row may.old (sym ((bytes_eq-Decides may.old.id row.id).0 named)) (ap name_in may.thing) (ap class_in may.thing) (ap links_of may.thing) (beside-same row.resources may.old.resources may.resources names)))
     ∙ places-with_row row.id (in_place row) [] rows (record { path = λ before r. refl; places = λ path r. ap (λ ps. node_place r path ∷ ps) (places-beside path row.resources r.resources) })
 
 -- ---- a node in the place of another: rows by id

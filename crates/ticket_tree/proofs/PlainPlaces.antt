@@ -1,4 +1,4 @@
--- Each edit of the rows but a new node, seen on the places; and the links of valid rows.
+-- Each edit of the rows but a new node, seen on the places.
 use Rattle.std.proofs.Common.{◌≡◌, ℕ, ◌-◌, ◌&&◌, ◌||◌, Bool, true, false, not, cond, List, [], ◌∷◌, ◌++◌, map, Some, refl, sym, ap, ◌∙◌, append_assoc}
 use Rattle.std.proofs.lemmas.Bool.{and_parts, and_from, or_parts, not-true, or_from}
 use Rattle.std.proofs.lemmas.List.{map-append}
@@ -7,23 +7,22 @@ use Rattle.std.proofs.lemmas.Slice.Eq.{bytes_eq-Decides}
 use Rattle.std.specs.List.{list_all, list_any}
 use Rattle.std.specs.Option.{option_map_or}
 use Rattle.std.specs.Str.{bytes_eq}
-use Rattle.ticket_tree.proofs.Apart.{mem-append}
-use Rattle.ticket_tree.proofs.AtKey.{at_key, at_key-none}
+use Rattle.ticket_items.proofs.Apart.{mem-append}
+use Rattle.ticket_items.proofs.AtKey.{at_key, at_key-none}
 use Rattle.ticket_tree.proofs.ById.{pool_ids, resource_ids}
-use Rattle.ticket_tree.proofs.Growing.{add_link}
-use Rattle.ticket_tree.proofs.NewResource.{add_resource}
-use Rattle.ticket_tree.proofs.NodePlaces.{nodes_from}
 use Rattle.ticket_tree.proofs.OnPlaces as on
-use Rattle.ticket_tree.specs.Edit.{with_row, with_item, with_resource}
-use Rattle.ticket_tree.specs.Ids.{mem, are_distinct}
-use Rattle.ticket_tree.specs.Laws.{LinksAreAbove}
-use Rattle.ticket_tree.specs.Paths.{path_of}
-use Rattle.ticket_tree.specs.Place.{Place, node_place, resource_place, places_of, places_from, places, resource_places, place_at, home, are_links_above}
-use Rattle.ticket_tree.specs.PlainEdit.{behind_last, is_at, linked}
-use Rattle.ticket_tree.specs.Ticket.{node_ids, resolves, are_resolved_from}
-use Rattle.ticket_tree.specs.declared.link.Link.{Link}
-use Rattle.ticket_tree.specs.declared.node_row.NodeRow.{NodeRow}
-use Rattle.ticket_tree.specs.declared.resource.Resource.{Resource}
+use Rattle.ticket_rows.proofs.Growing.{add_link}
+use Rattle.ticket_rows.proofs.NewResource.{add_resource}
+use Rattle.ticket_rows.proofs.NodePlaces.{nodes_from}
+use Rattle.ticket_rows.specs.Edit.{with_row, with_resource, behind_last}
+use Rattle.ticket_items.specs.Resource.{with_item}
+use Rattle.ticket_items.specs.Ids.{mem, are_distinct}
+use Rattle.ticket_rows.specs.Place.{Place, node_place, resource_place, places_of, places_from, place_at, path_of}
+use Rattle.ticket_tree.specs.PlainEdit.{is_at, with_link}
+use Rattle.ticket_rows.specs.Ticket.{node_ids}
+use Rattle.ticket_items.specs.declared.link.Link.{Link}
+use Rattle.ticket_items.specs.declared.node_row.NodeRow.{NodeRow}
+use Rattle.ticket_items.specs.declared.resource.Resource.{Resource}
 
 -- ---- changes that move nothing
 
@@ -65,7 +64,7 @@ places-with_resource x f before (r ∷ rows) keeps =
 -- ---- a new link
 
 abbrev pub link_place : Link → Place → Place
-link_place l p = record p { thing = linked l p.thing }
+link_place l p = record p { thing = with_link l p.thing }
 
 linked_node : (b : Bool) (l : Link) (before : List (List ℕ)) (r : NodeRow) → places_of (cond b (add_link l r) r) (path_of before (cond b (add_link l r) r)) ≡ cond b (link_place l (node_place r (path_of before r))) (node_place r (path_of before r)) ∷ map (resource_place (path_of before r)) r.resources
 linked_node true l before r = refl
@@ -167,26 +166,3 @@ places-add_resource n x p before [] apart found = cc
 places-add_resource n x p before (r ∷ rows) apart found =
     let parts = and_parts _ _ apart in
     resource_row (bytes_eq r.id n) n x p before r rows refl (not-true _ parts.0) found (λ later. places-add_resource n x p (path_of before r) rows parts.1 later)
-
--- ---- links of valid rows
-
-links_above : (rows : List NodeRow) (r : NodeRow) (path : List (List ℕ)) (links : List Link) → list_all (resolves rows path) links ≡ true → list_all (λ l. option_map_or (λ h. mem h path) (home (resource_places rows) l.rref) false) links ≡ true
-links_above rows r path [] all = refl
-links_above rows r path (l ∷ links) all =
-    let parts = and_parts _ _ all in
-    and_from _ _ (ap (λ o. option_map_or (λ h. mem h path) o false) (on.home_is rows l.rref) ∙ parts.0) (links_above rows r path links parts.1)
-
-no_links : (resources : List Place) (path : List (List ℕ)) (xs : List Resource) → list_all (are_links_above resources) (map (resource_place path) xs) ≡ true
-no_links resources path [] = refl
-no_links resources path (x ∷ xs) = and_from _ _ refl (no_links resources path xs)
-
-all_above : (all : List NodeRow) (before : List (List ℕ)) (rows : List NodeRow) → are_resolved_from all before rows ≡ true → list_all (are_links_above (resource_places all)) (places_from before rows) ≡ true
-all_above all before [] h = refl
-all_above all before (r ∷ rows) h =
-    let parts = and_parts _ _ h in
-    and_from _ _ (links_above all r (path_of before r) r.links parts.0)
-    (list_all-append (are_links_above (resource_places all)) (map (resource_place (path_of before r)) r.resources) (places_from (path_of before r) rows)
-    ∙ and_from _ _ (no_links (resource_places all) (path_of before r) r.resources) (all_above all (path_of before r) rows parts.1))
-
-pub links_are_above : LinksAreAbove
-links_are_above rows valid = all_above rows [] rows valid.resolved

@@ -7,29 +7,30 @@ use Rattle.std.proofs.lemmas.Slice.Eq.{bytes_eq-Decides}
 use Rattle.std.specs.List.{find, flat_map, list_any}
 use Rattle.std.specs.Option.{option_map}
 use Rattle.std.specs.Str.{bytes_eq}
-use Rattle.ticket_tree.proofs.Apart.{mem-append, bytes_eq-symm}
-use Rattle.ticket_tree.proofs.AtHome.{holds, any-map}
-use Rattle.ticket_tree.proofs.AtKey.{at_key, at_key-none}
+use Rattle.ticket_items.proofs.Apart.{mem-append, bytes_eq-symm}
+use Rattle.ticket_rows.proofs.AtHome.{holds, any-map}
+use Rattle.ticket_items.proofs.AtKey.{at_key, at_key-none}
 use Rattle.ticket_tree.proofs.ById.{Line, row_at, line_cond, keys_of_pool, row_at-touched, pool_ids, resource_ids, node_no_resource, resource_no_node, ChangesAs, lines-with_row, lines-with_resource}
-use Rattle.ticket_tree.proofs.Growing.{add_link, kept_here}
-use Rattle.ticket_tree.proofs.NewNode.{has_child}
-use Rattle.ticket_tree.proofs.NewResource.{add_resource}
-use Rattle.ticket_tree.proofs.NodePlaces.{node_ids_distinct}
+use Rattle.ticket_rows.proofs.Growing.{add_link, kept_here}
+use Rattle.ticket_rows.proofs.NewNode.{has_child, child_walk, walked_child}
+use Rattle.ticket_rows.proofs.NewResource.{add_resource}
+use Rattle.ticket_rows.proofs.NodePlaces.{node_ids_distinct}
 use Rattle.ticket_tree.proofs.OnPlaces.{has_resource-any}
-use Rattle.ticket_tree.proofs.Reasons.{node_among, resource_known, resource_new, child_new}
-use Rattle.ticket_tree.specs.Attrs.{with_attr}
-use Rattle.ticket_tree.specs.Edit.{with_row, with_resource, with_child, bare_row, link_refusal, reaches}
-use Rattle.ticket_tree.specs.Homes.{has_resource}
-use Rattle.ticket_tree.specs.Ids.{mem, are_distinct}
+use Rattle.ticket_rows.proofs.Reasons.{node_among, resource_known, resource_new, child_new}
+use Rattle.ticket_items.specs.Attrs.{with_attr}
+use Rattle.ticket_rows.specs.Edit.{with_row, with_resource, bare_row, refusal_of, reaches}
+use Rattle.ticket_rows.specs.Homes.{has_resource}
+use Rattle.ticket_items.specs.Ids.{mem, are_distinct}
 use Rattle.ticket_tree.specs.Laws.{EditOfRows}
-use Rattle.ticket_tree.specs.Place.{Row, node_row, resource_row, lines_of, lines, row_in}
+use Rattle.ticket_rows.specs.Place.{Row, node_row, resource_row, lines_of, lines, row_in}
 use Rattle.ticket_tree.specs.PlainEdit.{touch, with_line}
-use Rattle.ticket_tree.specs.Ticket.{IsValid, has_node, ids, ids_of, node_ids, is_reserved, unless, first_of}
-use Rattle.ticket_tree.specs.declared.audit.Audit.TheVariants.{Notification}
-use Rattle.ticket_tree.specs.declared.edit.Edit.TheVariants.{SetStatus, SetAttr, SetResStatus, SetResAttr, Note, AddNode, AddResource, AddLink}
-use Rattle.ticket_tree.specs.declared.node_row.NodeRow.{NodeRow}
-use Rattle.ticket_tree.specs.declared.refusal.Refusal.TheVariants.{UnknownNode, UnknownResource, ReservedStatus, UnresolvedLink}
-use Rattle.ticket_tree.specs.declared.resource.Resource.{Resource}
+use Rattle.ticket_rows.specs.Ticket.{IsValid, has_node, ids, ids_of, node_ids, is_reserved, unless, first_of}
+use Rattle.ticket_items.specs.declared.audit.Audit.TheVariants.{Notification}
+use Rattle.ticket_items.specs.declared.edit.Edit.TheVariants.{SetStatus, SetAttr, SetResStatus, SetResAttr, Note, AddNode, AddResource, AddLink}
+use Rattle.ticket_items.specs.declared.link.Link.{Link}
+use Rattle.ticket_items.specs.declared.node_row.NodeRow.{NodeRow}
+use Rattle.ticket_items.specs.declared.refusal.Refusal.TheVariants.{UnknownNode, UnknownResource, ReservedStatus, UnresolvedLink}
+use Rattle.ticket_items.specs.declared.resource.Resource.{Resource}
 
 -- ---- one line more
 
@@ -48,7 +49,7 @@ row_at-grown (m ∷ front) l back y out =
     ∙ ap (λ o. cond (bytes_eq l.0 y) (Some l.1) o) (sym (line_cond (bytes_eq m.0 y) m (find (λ k. bytes_eq k.0 y) (front ++ back))))
 
 -- the lines have the ids of the rows
-keys_of_lines : (rows : List NodeRow) → map (λ l. l.0) (lines rows) ≡ ids rows
+pub keys_of_lines : (rows : List NodeRow) → map (λ l. l.0) (lines rows) ≡ ids rows
 keys_of_lines [] = refl
 keys_of_lines (r ∷ rows) =
     map-append (λ l. l.0) (lines_of r) (lines rows) ∙ ap (λ is. (r.id ∷ is) ++ map (λ l. l.0) (lines rows)) (keys_of_pool r.resources) ∙ ap (λ is. ids_of r ++ is) (keys_of_lines rows)
@@ -87,7 +88,7 @@ resource_grows n x (r ∷ rows) apart there =
 -- ---- a new node
 
 node_grows : (x id kind job_part status : List ℕ) (rows : List NodeRow) → has_node rows x ≡ true
-    → LinesGrow (id, record { status = status; attrs = []; audits = [] }) (lines rows) (lines (with_child x (bare_row id kind job_part status) rows))
+    → LinesGrow (id, record { status = status; attrs = []; audits = [] }) (lines rows) (lines (child_walk x (bare_row id kind job_part status) rows))
 node_grows x id kind job_part status rows there =
     let h = has_child x (bare_row id kind job_part status) rows there in
     let n : NodeRow = bare_row id kind job_part status (suc h.0.depth) in
@@ -110,15 +111,15 @@ known_first : (a r : Bool) → first_of (unless a UnknownNode ∷ unless (not r)
 known_first true r e = refl
 known_first false r e = cc
 
-known_only : (a : Bool) → first_of (unless a UnknownNode ∷ []) ≡ None → a ≡ true
+known_only : (a : Bool) → first_of (unless a UnknownNode ∷ None ∷ []) ≡ None → a ≡ true
 known_only true e = refl
 known_only false e = cc
 
-held_only : (a : Bool) → first_of (unless a UnknownResource ∷ []) ≡ None → a ≡ true
+held_only : (a : Bool) → first_of (unless a UnknownResource ∷ None ∷ []) ≡ None → a ≡ true
 held_only true e = refl
 held_only false e = cc
 
-mem-resource_ids : (x : List ℕ) (rows : List NodeRow) → mem x (resource_ids rows) ≡ list_any (holds x) rows
+pub mem-resource_ids : (x : List ℕ) (rows : List NodeRow) → mem x (resource_ids rows) ≡ list_any (holds x) rows
 mem-resource_ids x [] = refl
 mem-resource_ids x (r ∷ rows) =
     mem-append x (pool_ids r) (resource_ids rows) ∙ ap (λ b. b || mem x (resource_ids rows)) (any-map x r.resources) ∙ ap (λ b. holds x r || b) (mem-resource_ids x rows)
@@ -129,12 +130,12 @@ apart_node rows x valid known = node_no_resource x rows valid.distinct (node_amo
 pub apart_resource : (rows : List NodeRow) (x : List ℕ) → IsValid rows → has_resource rows x ≡ true → mem x (node_ids rows) ≡ false
 apart_resource rows x valid known = resource_no_node x rows valid.distinct (mem-resource_ids x rows ∙ has_resource-any rows x ∙ known)
 
-known_of_three : (a b c : Bool) → first_of (unless a UnknownNode ∷ unless b UnknownResource ∷ unless c UnresolvedLink ∷ []) ≡ None → a ≡ true
+known_of_three : (a b c : Bool) → first_of (first_of (unless a UnknownNode ∷ unless b UnknownResource ∷ []) ∷ unless c UnresolvedLink ∷ []) ≡ None → a ≡ true
 known_of_three true b c e = refl
 known_of_three false b c e = cc
 
-pub link_known : (rows : List NodeRow) (node x : List ℕ) → link_refusal node x rows ≡ None → has_node rows node ≡ true
-link_known rows node x none = known_of_three (has_node rows node) (has_resource rows x) (reaches rows node x) none
+pub link_known : (rows : List NodeRow) (node : List ℕ) (link : Link) → refusal_of (AddLink node link) rows ≡ None → has_node rows node ≡ true
+link_known rows node link none = known_of_three (has_node rows node) (has_resource rows link.rref) (reaches rows node link.rref) none
 
 -- ---- the law
 
@@ -161,9 +162,10 @@ edit_of_rows (Note n text) at rows valid free y =
 edit_of_rows (AddNode n id kind job_part status) at rows valid free y =
     let fit = child_new rows n id status free in
     let h = node_grows n id kind job_part status rows fit.0 in
-    grown (lines rows) (lines (with_child n (bare_row id kind job_part status) rows)) (id, record { status = status; attrs = []; audits = [] }) h.0 h.1 y h.2 h.3 (ap (mem id) (keys_of_lines rows) ∙ fit.2)
+    ap (λ rs. row_in rs y) (walked_child n (bare_row id kind job_part status) rows valid fit.0)
+    ∙ grown (lines rows) (lines (child_walk n (bare_row id kind job_part status) rows)) (id, record { status = status; attrs = []; audits = [] }) h.0 h.1 y h.2 h.3 (ap (mem id) (keys_of_lines rows) ∙ fit.2)
 edit_of_rows (AddResource n x) at rows valid free y =
-    let h = resource_grows n x rows (node_ids_distinct rows valid.distinct) (node_among rows n (resource_known rows n x.id free)) in
-    grown (lines rows) (lines (with_row n (add_resource x) rows)) (x.id, resource_row x) h.0 h.1 y h.2 h.3 (ap (mem x.id) (keys_of_lines rows) ∙ resource_new rows n x.id free)
+    let h = resource_grows n x rows (node_ids_distinct rows valid.distinct) (node_among rows n (resource_known rows n x free)) in
+    grown (lines rows) (lines (with_row n (add_resource x) rows)) (x.id, resource_row x) h.0 h.1 y h.2 h.3 (ap (mem x.id) (keys_of_lines rows) ∙ resource_new rows n x free)
 edit_of_rows (AddLink n link) at rows valid free y =
     ap (λ ls. row_at ls y) (link_lines n rows (add_link link) (λ r. refl)) ∙ touch_nothing (bytes_eq n y) (row_in rows y)

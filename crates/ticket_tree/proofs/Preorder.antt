@@ -5,17 +5,16 @@ use Rattle.std.proofs.lemmas.List.{length-append, length-drop, append_assoc, dro
 use Rattle.std.specs.List.{filter, flat_map, list_all}
 use Rattle.std.specs.Option.{option_map_or}
 use Rattle.std.specs.Str.{bytes_eq}
-use Rattle.ticket_tree.proofs.Apart.{bytes_eq-same}
-use Rattle.ticket_tree.proofs.Below.{Path, mem-drop, Follows, Follows-outline, length-path_of}
+use Rattle.ticket_items.proofs.Apart.{bytes_eq-same}
+use Rattle.ticket_rows.proofs.Below.{Path, mem-drop, Follows, Follows-outline, length-path_of}
 use Rattle.ticket_tree.proofs.Parents.{AreNew, here_new, later_new, there_later}
-use Rattle.ticket_tree.specs.Ids.{mem, are_distinct}
+use Rattle.ticket_items.specs.Ids.{mem, are_distinct}
 use Rattle.ticket_tree.specs.Laws.{RowsArePreorder}
-use Rattle.ticket_tree.specs.Outline.{goes_on}
-use Rattle.ticket_tree.proofs.NodePlaces.{nodes_from, node_places-rows, node_ids_distinct}
-use Rattle.ticket_tree.specs.Paths.{path_of}
-use Rattle.ticket_tree.specs.Place.{Place, node_place, node_places, is_child_of, kids, preorder}
-use Rattle.ticket_tree.specs.Ticket.{node_ids, depths, max_depth}
-use Rattle.ticket_tree.specs.declared.node_row.NodeRow.{NodeRow}
+use Rattle.ticket_rows.specs.Outline.{goes_on}
+use Rattle.ticket_rows.proofs.NodePlaces.{nodes_from, node_places-rows, node_ids_distinct}
+use Rattle.ticket_rows.specs.Place.{Place, node_place, node_places, is_child_of, kids, preorder, path_of}
+use Rattle.ticket_rows.specs.Ticket.{node_ids, depths, max_depth}
+use Rattle.ticket_items.specs.declared.node_row.NodeRow.{NodeRow}
 
 -- ---- the rows behind a node
 
@@ -44,7 +43,7 @@ cons_if true p ps = refl
 cons_if false p ps = refl
 
 kids_from-cons : (n : List ℕ) (before : Path) (r : NodeRow) (rows : List NodeRow)
-    → kids_from n before (r ∷ rows) ≡ cond (is_first n (drop (suc (length before) - r.depth) before)) (r.id ∷ kids_from n (path_of before r) rows) (kids_from n (path_of before r) rows)
+    → kids_from n before (r ∷ rows) ≡ cond (is_first n (drop (length before - (r.depth - 1)) before)) (r.id ∷ kids_from n (path_of before r) rows) (kids_from n (path_of before r) rows)
 kids_from-cons n before r rows =
     cons_if (is_child_of n (node_place r (path_of before r))) (node_place r (path_of before r)) (filter (is_child_of n) (nodes_from (path_of before r) rows))
 
@@ -59,28 +58,28 @@ not_first-append n [] path long out =
 not_first-append n (y ∷ front) path long out = (or_parts (bytes_eq y n) (mem n front) out).0
 
 -- a row no deeper than n hangs on what is above n
-above_n : (n : List ℕ) (front up : Path) (r : NodeRow) → r.depth ≤ suc (length up) → mem n up ≡ false → mem n (drop (suc (length (front ++ n ∷ up)) - r.depth) (front ++ n ∷ up)) ≡ false
+above_n : (n : List ℕ) (front up : Path) (r : NodeRow) → r.depth ≤ suc (length up) → mem n up ≡ false → mem n (drop (length (front ++ n ∷ up) - (r.depth - 1)) (front ++ n ∷ up)) ≡ false
 above_n n front up r shallow out =
     let long : length (front ++ n ∷ up) ≡ length front + suc (length up) = length-append front (n ∷ up) in
-    let more : ℕ = suc (length up) - r.depth in
-    let cut : suc (length (front ++ n ∷ up)) - r.depth ≡ suc (length front) + more = omega arith in
+    let more : ℕ = length up - (r.depth - 1) in
+    let cut : length (front ++ n ∷ up) - (r.depth - 1) ≡ suc (length front) + more = omega arith in
     let past : drop (suc (length front)) (front ++ n ∷ up) ≡ up = ap (drop (suc (length front))) (sym (append_assoc front (n ∷ []) up)) ∙ drop_at (front ++ n ∷ []) up (suc (length front)) (length-append front (n ∷ []) ∙ add-one (length front)) in
     ap (λ m. mem n (drop m (front ++ n ∷ up))) cut ∙ ap (mem n) (sym (drop-drop more (suc (length front)) (front ++ n ∷ up)) ∙ ap (drop more) past) ∙ mem-drop n more up out
 
 -- a deeper row hangs on n, or on what is between
 below_n : (n : List ℕ) (front up : Path) (r : NodeRow) → suc (length up) < r.depth
-    → drop (suc (length (front ++ n ∷ up)) - r.depth) (front ++ n ∷ up) ≡ drop (suc (length (front ++ n ∷ up)) - r.depth) front ++ n ∷ up
+    → drop (length (front ++ n ∷ up) - (r.depth - 1)) (front ++ n ∷ up) ≡ drop (length (front ++ n ∷ up) - (r.depth - 1)) front ++ n ∷ up
 below_n n front up r deep =
     let long : length (front ++ n ∷ up) ≡ length front + suc (length up) = length-append front (n ∷ up) in
-    drop-append-le (suc (length (front ++ n ∷ up)) - r.depth) front (n ∷ up) (omega arith)
+    drop-append-le (length (front ++ n ∷ up) - (r.depth - 1)) front (n ∷ up) (omega arith)
 
 -- no row is a child of an id that is neither on the way nor among the rows
 no_kids : (n : List ℕ) (before : Path) (rows : List NodeRow) → mem n before ≡ false → mem n (node_ids rows) ≡ false → kids_from n before rows ≡ []
 no_kids n before [] off out = refl
 no_kids n before (r ∷ rows) off out =
     let parts = or_parts (bytes_eq r.id n) (mem n (node_ids rows)) out in
-    let up : Path = drop (suc (length before) - r.depth) before in
-    let above : mem n up ≡ false = mem-drop n (suc (length before) - r.depth) before off in
+    let up : Path = drop (length before - (r.depth - 1)) before in
+    let above : mem n up ≡ false = mem-drop n (length before - (r.depth - 1)) before off in
     kids_from-cons n before r rows
     ∙ ap (λ b. cond b (r.id ∷ kids_from n (path_of before r) rows) (kids_from n (path_of before r) rows)) (not_first n up above)
     ∙ no_kids n (path_of before r) rows (or_from _ _ parts.0 above) parts.1
@@ -95,13 +94,13 @@ kids_row : (shallow near : Bool) (n : List ℕ) (front up : Path) (r : NodeRow) 
 kids_row true near n front up r rows e f low high off_front off_up out later =
     let before : Path = front ++ n ∷ up in
     let parts = or_parts (bytes_eq r.id n) (mem n (node_ids rows)) out in
-    let above : mem n (drop (suc (length before) - r.depth) before) ≡ false = above_n n front up r (leb-true _ _ e) off_up in
+    let above : mem n (drop (length before - (r.depth - 1)) before) ≡ false = above_n n front up r (leb-true _ _ e) off_up in
     kids_from-cons n before r rows
     ∙ ap (λ b. cond b (r.id ∷ kids_from n (path_of before r) rows) (kids_from n (path_of before r) rows)) (not_first n _ above)
     ∙ no_kids n (path_of before r) rows (or_from _ _ parts.0 above) parts.1
 kids_row false true n front up r rows e f low high off_front off_up out later =
     let before : Path = front ++ n ∷ up in
-    let m : ℕ = suc (length before) - r.depth in
+    let m : ℕ = length before - (r.depth - 1) in
     let long : length before ≡ length front + suc (length up) = length-append front (n ∷ up) in
     let kept : Path = drop m front in
     let deep : suc (length up) < r.depth = leb-false _ _ e in
@@ -114,7 +113,7 @@ kids_row false true n front up r rows e f low high off_front off_up out later =
     ∙ ap (λ ys. r.id ∷ ys) (ap (λ path. kids_from n path rows) way ∙ later kept way (mem-drop n m front off_front))
 kids_row false false n front up r rows e f low high off_front off_up out later =
     let before : Path = front ++ n ∷ up in
-    let m : ℕ = suc (length before) - r.depth in
+    let m : ℕ = length before - (r.depth - 1) in
     let long : length before ≡ length front + suc (length up) = length-append front (n ∷ up) in
     let kept : Path = drop m front in
     let deep : suc (length up) < r.depth = leb-false _ _ e in
@@ -143,8 +142,8 @@ KidsWithin tree before rows = (n : List ℕ) → mem n (node_ids rows) ≡ true 
 
 kids_here : (before : Path) (r : NodeRow) (rows : List NodeRow) → Follows before (r ∷ rows) → are_distinct (node_ids (r ∷ rows)) ≡ true → AreNew before (r ∷ rows) → kids_from r.id before (r ∷ rows) ≡ child_ids r.depth rows
 kids_here before r rows follows apart new =
-    let up : Path = drop (suc (length before) - r.depth) before in
-    let off : mem r.id up ≡ false = mem-drop r.id (suc (length before) - r.depth) before (here_new before r rows new) in
+    let up : Path = drop (length before - (r.depth - 1)) before in
+    let off : mem r.id up ≡ false = mem-drop r.id (length before - (r.depth - 1)) before (here_new before r rows new) in
     let deep : suc (length up) ≡ r.depth = length-path_of before r follows.0 follows.1 in
     kids_from-cons r.id before r rows
     ∙ ap (λ b. cond b (r.id ∷ kids_from r.id (path_of before r) rows) (kids_from r.id (path_of before r) rows)) (not_first r.id up off)
@@ -153,9 +152,9 @@ kids_here before r rows follows apart new =
 
 kids_later : (tree : List Place) (before : Path) (r : NodeRow) (rows : List NodeRow) → are_distinct (node_ids (r ∷ rows)) ≡ true → AreNew before (r ∷ rows) → KidsWithin tree before (r ∷ rows) → KidsWithin tree (path_of before r) rows
 kids_later tree before r rows apart new within n there =
-    let up : Path = drop (suc (length before) - r.depth) before in
+    let up : Path = drop (length before - (r.depth - 1)) before in
     let anywhere : mem n (node_ids (r ∷ rows)) ≡ true = there_later (bytes_eq r.id n) (mem n (node_ids rows)) there in
-    let off : mem n up ≡ false = mem-drop n (suc (length before) - r.depth) before (new n anywhere) in
+    let off : mem n up ≡ false = mem-drop n (length before - (r.depth - 1)) before (new n anywhere) in
     within n anywhere ∙ kids_from-cons n before r rows
     ∙ ap (λ b. cond b (r.id ∷ kids_from n (path_of before r) rows) (kids_from n (path_of before r) rows)) (not_first n up off)
 

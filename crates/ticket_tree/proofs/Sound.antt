@@ -3,22 +3,23 @@ use Rattle.std.proofs.Common.{◌≡◌, ℕ, ◌||◌, ◌&&◌, ◌<◌, ◌+�
 use Rattle.std.proofs.lemmas.List.{drop_more}
 use Rattle.std.specs.List.{list_any, list_all}
 use Rattle.std.specs.Str.{bytes_eq}
-use Rattle.ticket_tree.proofs.Apart.{mem-append}
-use Rattle.ticket_tree.proofs.AtHome.{any-map}
-use Rattle.ticket_tree.specs.Ids.{mem, are_distinct}
-use Rattle.ticket_tree.specs.Part.{ancestor_ids, resource_ids, part_ids, are_apart}
-use Rattle.ticket_tree.specs.Ticket.{ids}
-use Rattle.ticket_tree.specs.declared.ancestor.Ancestor.{Ancestor}
-use Rattle.ticket_tree.specs.declared.node_row.NodeRow.{NodeRow}
-use Rattle.ticket_tree.specs.declared.resource.Resource.{Resource}
+use Rattle.ticket_items.proofs.Apart.{mem-append}
+use Rattle.ticket_rows.proofs.AtHome.{any-map}
+use Rattle.ticket_items.specs.Ids.{mem, are_distinct}
+use Rattle.ticket_tree.specs.Part.{ancestor_ids, part_ids, are_apart}
+use Rattle.ticket_items.specs.Resource.{resource_ids}
+use Rattle.ticket_rows.specs.Ticket.{ids}
+use Rattle.ticket_items.specs.declared.ancestor.Ancestor.{Ancestor}
+use Rattle.ticket_items.specs.declared.node_row.NodeRow.{NodeRow}
+use Rattle.ticket_items.specs.declared.resource.Resource.{Resource}
 
 -- whether an id stands in a part: among its rows, or among the copies
-pub mem-part_ids : (x : List ℕ) (rows : List NodeRow) (to_change to_read : List Resource)
-    → ((mem x (ids rows) || list_any (λ y. bytes_eq y.id x) to_change) || list_any (λ y. bytes_eq y.id x) to_read) ≡ mem x (part_ids rows to_change to_read)
-mem-part_ids x rows to_change to_read =
+pub mem-part_ids : (x : List ℕ) (rows : List NodeRow) (rw ro : List Resource)
+    → ((mem x (ids rows) || list_any (λ y. bytes_eq y.id x) rw) || list_any (λ y. bytes_eq y.id x) ro) ≡ mem x (part_ids rows rw ro)
+mem-part_ids x rows rw ro =
     sym
-    (mem-append x (ids rows ++ resource_ids to_change) (resource_ids to_read) ∙ ap (λ b. b || mem x (resource_ids to_read)) (mem-append x (ids rows) (resource_ids to_change))
-    ∙ ap (λ b. (mem x (ids rows) || b) || mem x (resource_ids to_read)) (any-map x to_change) ∙ ap (λ b. (mem x (ids rows) || list_any (λ y. bytes_eq y.id x) to_change) || b) (any-map x to_read))
+    (mem-append x (ids rows ++ resource_ids rw) (resource_ids ro) ∙ ap (λ b. b || mem x (resource_ids ro)) (mem-append x (ids rows) (resource_ids rw))
+    ∙ ap (λ b. (mem x (ids rows) || b) || mem x (resource_ids ro)) (any-map x rw) ∙ ap (λ b. (mem x (ids rows) || list_any (λ y. bytes_eq y.id x) rw) || b) (any-map x ro))
 
 names-ids : (x : List ℕ) (ancestors : List Ancestor) → list_any (λ a. bytes_eq a.node_id x) ancestors ≡ mem x (ancestor_ids ancestors)
 names-ids x [] = refl

@@ -1,24 +1,24 @@
 -- The definitions, computed on small tickets.
 use Rattle.std.proofs.Common.{◌≡◌, ℕ, true, false, List, [], ◌∷◌, ◌++◌, map, Some, None, refl}
 use Rattle.std.specs.Prelude.{codes}
-use Rattle.ticket_tree.specs.Names.{is_name}
-use Rattle.ticket_tree.specs.Place.{node_places, resource_places, home, is_below, up, kids, preorder}
-use Rattle.ticket_tree.specs.Paths.{paths}
-use Rattle.ticket_tree.specs.Ticket.{fault_of, ids, node_ids}
-use Rattle.ticket_tree.specs.Edit.{refusal_of, edited_rows, bare_row}
-use Rattle.ticket_tree.specs.declared.edit.Edit.TheVariants.{SetStatus, SetResStatus, Note, AddNode, AddLink}
-use Rattle.ticket_tree.specs.Homes.{home_of}
-use Rattle.ticket_tree.specs.OneRow.{appended, replaced_node, replaced_resource}
-use Rattle.ticket_tree.specs.Part.{copied, is_sound, with_copies}
-use Rattle.ticket_tree.specs.SpawnId.{spawn_of}
-use Rattle.ticket_tree.specs.declared.ancestor.Ancestor.{Ancestor}
-use Rattle.ticket_tree.specs.declared.audit.Audit.TheVariants.{Notification}
-use Rattle.ticket_tree.specs.declared.link.Link.{Link}
-use Rattle.ticket_tree.specs.declared.resource.Resource.{Resource}
-use Rattle.ticket_tree.specs.declared.usage.Usage.{Usage}
-use Rattle.ticket_tree.specs.declared.usage.Usage.TheVariants.{Input, Output}
-use Rattle.ticket_tree.specs.declared.node_row.NodeRow.{NodeRow}
-use Rattle.ticket_tree.specs.declared.refusal.Refusal.TheVariants.{UnknownNode, UnknownResource, ReservedStatus, NotATree, DuplicateId, UnresolvedLink}
+use Rattle.ticket_items.specs.Names.{is_name}
+use Rattle.ticket_rows.specs.Place.{node_places, resource_places, home, is_below, up, kids, preorder}
+use Rattle.ticket_rows.specs.Ticket.{fault_of, ids, node_ids}
+use Rattle.ticket_rows.specs.Edit.{refusal_of, edited_rows, bare_row}
+use Rattle.ticket_items.specs.declared.edit.Edit.TheVariants.{SetStatus, SetResStatus, Note, AddNode, AddLink}
+use Rattle.ticket_rows.specs.Homes.{home_of}
+use Rattle.ticket_rows.specs.OneRow.{appended, replaced_node, replaced_resource}
+use Rattle.ticket_tree.specs.Part.{copied, is_sound}
+use Rattle.ticket_rows.specs.Copies.{with_copies}
+use Rattle.ticket_items.specs.SpawnId.{spawn_of}
+use Rattle.ticket_items.specs.declared.ancestor.Ancestor.{Ancestor}
+use Rattle.ticket_items.specs.declared.audit.Audit.TheVariants.{Notification}
+use Rattle.ticket_items.specs.declared.link.Link.{Link}
+use Rattle.ticket_items.specs.declared.resource.Resource.{Resource}
+use Rattle.ticket_items.specs.declared.usage.Usage.{Usage}
+use Rattle.ticket_items.specs.declared.usage.Usage.TheVariants.{Input, Output}
+use Rattle.ticket_items.specs.declared.node_row.NodeRow.{NodeRow}
+use Rattle.ticket_items.specs.declared.refusal.Refusal.TheVariants.{UnknownNode, UnknownResource, ReservedStatus, NotATree, DuplicateId, UnresolvedLink}
 
 abbrev row : List ℕ → ℕ → NodeRow
 row id depth = record { id = id; depth = depth; kind = codes "Product"; job_part = codes "p"; status = codes "Waiting"; attrs = []; resources = []; links = []; audits = [] }
@@ -30,7 +30,7 @@ sample = row (codes "a") 1 ∷ row (codes "b") 2 ∷ row (codes "c") 3 ∷ row (
 valid : fault_of sample ≡ None
 valid = refl
 
-e_path : map (λ p. p) (paths sample) ≡ (codes "a" ∷ []) ∷ (codes "b" ∷ codes "a" ∷ []) ∷ (codes "c" ∷ codes "b" ∷ codes "a" ∷ []) ∷ (codes "d" ∷ codes "b" ∷ codes "a" ∷ []) ∷ (codes "e" ∷ codes "d" ∷ codes "b" ∷ codes "a" ∷ []) ∷ (codes "f" ∷ codes "a" ∷ []) ∷ []
+e_path : map (λ p. p.path) (node_places sample) ≡ (codes "a" ∷ []) ∷ (codes "b" ∷ codes "a" ∷ []) ∷ (codes "c" ∷ codes "b" ∷ codes "a" ∷ []) ∷ (codes "d" ∷ codes "b" ∷ codes "a" ∷ []) ∷ (codes "e" ∷ codes "d" ∷ codes "b" ∷ codes "a" ∷ []) ∷ (codes "f" ∷ codes "a" ∷ []) ∷ []
 e_path = refl
 
 e_below_b : is_below (node_places sample) (codes "e") (codes "b") ≡ true

@@ -1,20 +1,19 @@
 -- Laws of the definitions: what valid rows are, what their places are, and what an edit makes of both.
 use Rattle.std.specs.Prelude.{◌≡◌, ◌↔◌, ◌⊎◌, ℕ, ◌&&◌, ◌||◌, true, false, List, [], ◌∷◌, ◌++◌, length, map, Some, None, is_some, slice_get}
-use Rattle.std.specs.List.{list_all}
-use Rattle.std.specs.Option.{option_map_or}
+use Rattle.std.specs.Option.{option_map, option_map_or}
 use Rattle.std.specs.Str.{bytes_eq}
-use Rattle.ticket_tree.specs.Homes.{has_resource}
-use Rattle.ticket_tree.specs.Ids.{mem}
-use Rattle.ticket_tree.specs.OneRow.{MayReplaceNode, MayReplaceResource, appended, replaced_node, replaced_resource}
-use Rattle.ticket_tree.specs.Place.{Place, places, node_places, resource_places, resource_row, place_at, is_below, preorder, are_links_above, row_in}
-use Rattle.ticket_tree.specs.Edit.{refusal_of, edited_rows}
+use Rattle.ticket_rows.specs.Homes.{has_resource, home_of, resource_of}
+use Rattle.ticket_items.specs.Ids.{mem}
+use Rattle.ticket_rows.specs.OneRow.{MayReplaceNode, MayReplaceResource, appended, replaced_node, replaced_resource}
+use Rattle.ticket_rows.specs.Place.{Place, is_node, node_place, node_places, node_row, resource_place, resource_places, resource_row, places, place_at, home, home_at, is_below, preorder, row_in}
+use Rattle.ticket_rows.specs.Edit.{refusal_of, edited_rows}
 use Rattle.ticket_tree.specs.PlainEdit.{plain_refusal, plain_places, plain_rows, touch, or_row}
-use Rattle.ticket_tree.specs.declared.audit.Audit.{Audit}
-use Rattle.ticket_tree.specs.declared.edit.Edit.{Edit}
-use Rattle.ticket_tree.specs.Place as tree
-use Rattle.ticket_tree.specs.Ticket.{IsValid, fault_of, has_node, node_ids, depths, max_depth}
-use Rattle.ticket_tree.specs.declared.node_row.NodeRow.{NodeRow}
-use Rattle.ticket_tree.specs.declared.resource.Resource.{Resource}
+use Rattle.ticket_items.specs.declared.audit.Audit.{Audit}
+use Rattle.ticket_items.specs.declared.edit.Edit.{Edit}
+use Rattle.ticket_rows.specs.Place as tree
+use Rattle.ticket_rows.specs.Ticket.{IsValid, fault_of, has_node, row_of, node_ids, depths, max_depth}
+use Rattle.ticket_items.specs.declared.node_row.NodeRow.{NodeRow}
+use Rattle.ticket_items.specs.declared.resource.Resource.{Resource}
 
 -- rows have no fault exactly if they are valid
 abbrev pub NoFaultIsValid : Type 0
@@ -68,10 +67,6 @@ EditOfPlaces = (e : Edit) (at : ℕ) (rows : List NodeRow) → IsValid rows → 
 abbrev pub EditOfRows : Type 0
 EditOfRows = (e : Edit) (at : ℕ) (rows : List NodeRow) → IsValid rows → refusal_of e rows ≡ None → (y : List ℕ) → row_in (edited_rows e at rows) y ≡ plain_rows e at (row_in rows) y
 
--- the links of valid rows name resources whose homes are above, on the places
-abbrev pub LinksAreAbove : Type 0
-LinksAreAbove = (rows : List NodeRow) → IsValid rows → list_all (are_links_above (resource_places rows)) (places rows) ≡ true
-
 -- an audit more at a node moves nothing
 abbrev pub AppendOfPlaces : Type 0
 AppendOfPlaces = (n : List ℕ) (audit : Audit) (rows : List NodeRow) → places (appended n audit rows) ≡ places rows
@@ -107,3 +102,76 @@ abbrev pub ReplacedResourceOfRows : Type 0
 ReplacedResourceOfRows =
     (x : Resource) (rows : List NodeRow) → IsValid rows → has_resource rows x.id ≡ true → (y : List ℕ)
     → row_in (replaced_resource x rows) y ≡ touch x.id (λ _. resource_row x) (row_in rows) y
+
+-- ---- changes leave a ticket
+
+-- an edit that isn't refused leaves valid rows
+abbrev pub EditIsValid : Type 0
+EditIsValid = (e : Edit) (at : ℕ) (rows : List NodeRow) → IsValid rows → refusal_of e rows ≡ None → IsValid (edited_rows e at rows)
+
+-- and so does an audit more at a node
+abbrev pub AppendIsValid : Type 0
+AppendIsValid = (n : List ℕ) (audit : Audit) (rows : List NodeRow) → IsValid rows → IsValid (appended n audit rows)
+
+-- and a node, or a resource, in the place of another
+abbrev pub ReplacedNodeIsValid : Type 0
+ReplacedNodeIsValid = (row : NodeRow) (rows : List NodeRow) → IsValid rows → MayReplaceNode rows row → IsValid (replaced_node row rows)
+
+abbrev pub ReplacedResourceIsValid : Type 0
+ReplacedResourceIsValid = (x : Resource) (rows : List NodeRow) → IsValid rows → MayReplaceResource rows x → IsValid (replaced_resource x rows)
+
+-- ---- look-ups
+
+-- under x stand the place of the node and what of it may change
+pub record IsNodeAt (rows : List NodeRow) (x : List ℕ) (r : NodeRow) : Type 0 where
+  pub path : List (List ℕ)
+  pub place : place_at (node_places rows) x ≡ Some (node_place r path)
+  pub row : row_in rows x ≡ Some (node_row r)
+
+-- the same of a resource
+pub record IsResourceAt (rows : List NodeRow) (x : List ℕ) (y : Resource) : Type 0 where
+  pub path : List (List ℕ)
+  pub place : place_at (resource_places rows) x ≡ Some (resource_place path y)
+  pub row : row_in rows x ≡ Some (resource_row y)
+
+-- a node that is found among valid rows is found on the places and on the rows by id
+abbrev pub NodeIsAtPlace : Type 0
+NodeIsAtPlace = (rows : List NodeRow) → IsValid rows → (x : List ℕ) (r : NodeRow) → row_of rows x ≡ Some r → IsNodeAt rows x r
+
+abbrev pub ResourceIsAtPlace : Type 0
+ResourceIsAtPlace = (rows : List NodeRow) → IsValid rows → (x : List ℕ) (y : Resource) → resource_of rows x ≡ Some y → IsResourceAt rows x y
+
+-- the home of a resource is that of its place
+abbrev pub HomeIsAtPlace : Type 0
+HomeIsAtPlace = (rows : List NodeRow) (x : List ℕ) → home_of rows x ≡ home (resource_places rows) x
+
+-- a place of a node is there just if the node is, and is the place of that id
+abbrev pub NodesAmongPlaces : Type 0
+NodesAmongPlaces =
+    (rows : List NodeRow) → IsValid rows → (x : List ℕ)
+    → (is_some (place_at (node_places rows) x) ≡ has_node rows x) × ((p : Place) → place_at (node_places rows) x ≡ Some p → place_at (places rows) x ≡ Some p)
+
+abbrev pub ResourcesAmongPlaces : Type 0
+ResourcesAmongPlaces =
+    (rows : List NodeRow) → IsValid rows → (x : List ℕ)
+    → (is_some (place_at (resource_places rows) x) ≡ has_resource rows x) × ((p : Place) → place_at (resource_places rows) x ≡ Some p → place_at (places rows) x ≡ Some p)
+
+-- the place of an id is found among those of its kind
+abbrev pub PlacesByKind : Type 0
+PlacesByKind =
+    (rows : List NodeRow) (x : List ℕ) (p : Place) → place_at (places rows) x ≡ Some p
+    → (is_node p ≡ true → place_at (node_places rows) x ≡ Some p) × (is_node p ≡ false → place_at (resource_places rows) x ≡ Some p)
+
+-- an id stands at a place just if it has a row
+abbrev pub StandsWithRow : Type 0
+StandsWithRow = (rows : List NodeRow) (x : List ℕ) → is_some (place_at (places rows) x) ≡ is_some (row_in rows x)
+
+-- a resource has the path of its home
+abbrev pub PathIsHomes : Type 0
+PathIsHomes =
+    (rows : List NodeRow) → IsValid rows → (x : List ℕ) (p : Place) (h : List ℕ) → place_at (resource_places rows) x ≡ Some p → home_at p ≡ Some h
+    → option_map (λ q. q.path) (place_at (node_places rows) h) ≡ Some p.path
+
+-- valid rows that have the same places and the same rows by id are the same
+abbrev pub PlacesAndRowsDetermine : Type 0
+PlacesAndRowsDetermine = (a b : List NodeRow) → IsValid a → IsValid b → places a ≡ places b → ((x : List ℕ) → row_in a x ≡ row_in b x) → a ≡ b

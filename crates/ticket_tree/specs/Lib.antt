@@ -1,16 +1,4 @@
-pub mod Names
-pub mod Refusal
-pub mod Attrs
-pub mod Ids
-pub mod Outline
-pub mod Paths
-pub mod Homes
-pub mod HomeTable
-pub mod Ticket
-pub mod Place
-pub mod Edit
 pub mod PlainEdit
-pub mod SpawnId
 pub mod Part
-pub mod OneRow
+pub mod PartView
 pub mod Laws

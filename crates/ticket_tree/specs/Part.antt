@@ -1,12 +1,13 @@
 -- A part: a node of a ticket with all below it, taken out as a ticket of its own, with copies of the resources that it links from above.
-use Rattle.std.specs.Prelude.{ℕ, ◌+◌, ◌&&◌, Bool, not, List, [], ◌∷◌, ◌++◌, length, map, nat_le, nat_lt}
+use Rattle.std.specs.Prelude.{ℕ, ◌+◌, ◌&&◌, Bool, not, List, ◌++◌, length, map, nat_le, nat_lt}
 use Rattle.std.specs.List.{list_all, list_any}
 use Rattle.std.specs.Str.{bytes_eq}
-use Rattle.ticket_tree.specs.Ids.{mem, are_distinct}
-use Rattle.ticket_tree.specs.Ticket.{ids, max_depth}
-use Rattle.ticket_tree.specs.declared.ancestor.Ancestor.{Ancestor}
-use Rattle.ticket_tree.specs.declared.node_row.NodeRow.{NodeRow}
-use Rattle.ticket_tree.specs.declared.resource.Resource.{Resource}
+use Rattle.ticket_items.specs.Ids.{mem, are_distinct}
+use Rattle.ticket_items.specs.Resource.{resource_ids}
+use Rattle.ticket_rows.specs.Ticket.{ids, max_depth}
+use Rattle.ticket_items.specs.declared.ancestor.Ancestor.{Ancestor}
+use Rattle.ticket_items.specs.declared.node_row.NodeRow.{NodeRow}
+use Rattle.ticket_items.specs.declared.resource.Resource.{Resource}
 
 -- what was copied out of a ticket: for which job and spawn, from under which nodes, the rows in preorder, and the resources
 -- that may be changed and those that may be read alone
@@ -19,24 +20,16 @@ pub record Copied : Type 0 where
   pub ro : List Resource
 
 abbrev pub copied : List ℕ → ℕ → List Ancestor → List NodeRow → List Resource → List Resource → Copied
-copied job_id spawn_id ancestors rows to_change to_read = record { job_id = job_id; spawn_id = spawn_id; ancestors = ancestors; rows = rows; rw = to_change; ro = to_read }
-
--- the rows, with copies behind the resources of the root's pool: first those to change, then those to read
-abbrev pub with_copies : List NodeRow → List Resource → List Resource → List NodeRow
-with_copies [] to_change to_read = []
-with_copies (r ∷ rows) to_change to_read = record r { resources = r.resources ++ to_change ++ to_read } ∷ rows
+copied job_id spawn_id ancestors rows rw ro = record { job_id = job_id; spawn_id = spawn_id; ancestors = ancestors; rows = rows; rw = rw; ro = ro }
 
 -- ---- what makes a part sound
 
 abbrev pub ancestor_ids : List Ancestor → List (List ℕ)
 ancestor_ids ancestors = map (λ a. a.node_id) ancestors
 
-abbrev pub resource_ids : List Resource → List (List ℕ)
-resource_ids pool = map (λ x. x.id) pool
-
 -- the ids of a part: of its nodes, of the resources of their pools, and of the copies
 abbrev pub part_ids : List NodeRow → List Resource → List Resource → List (List ℕ)
-part_ids rows to_change to_read = ids rows ++ resource_ids to_change ++ resource_ids to_read
+part_ids rows rw ro = ids rows ++ resource_ids rw ++ resource_ids ro
 
 -- whether the part came from under some node
 abbrev pub has_ancestors : List Ancestor → Bool

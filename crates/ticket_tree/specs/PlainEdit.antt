@@ -1,18 +1,17 @@
 -- The edits of the plain ticket: of its places, and of its rows by id.
-use Rattle.std.specs.Prelude.{ℕ, ◌&&◌, ◌++◌, Bool, false, not, List, [], ◌∷◌, length, map, nat_lt, if◌then◌else◌, Option, Some, is_some}
-use Rattle.std.specs.List.{list_any}
+use Rattle.std.specs.Prelude.{ℕ, ◌++◌, Bool, false, List, [], ◌∷◌, length, map, nat_lt, if◌then◌else◌, Option, Some, is_some}
 use Rattle.std.specs.Option.{option_map, option_map_or}
 use Rattle.std.specs.Str.{bytes_eq}
-use Rattle.ticket_tree.specs.Attrs.{with_attr}
-use Rattle.ticket_tree.specs.Edit.{target}
-use Rattle.ticket_tree.specs.Place.{Place, Thing, node, resource, Row, place_at, nodes_in, resources_in, below, is_below, home, holder, resource_place, resource_row}
-use Rattle.ticket_tree.specs.Ticket.{is_reserved, max_depth, unless, first_of}
-use Rattle.ticket_tree.specs.declared.audit.Audit.TheVariants.{Notification}
-use Rattle.ticket_tree.specs.declared.edit.Edit.{Edit}
-use Rattle.ticket_tree.specs.declared.edit.Edit.TheVariants.{SetStatus, SetAttr, SetResStatus, SetResAttr, Note, AddNode, AddResource, AddLink}
-use Rattle.ticket_tree.specs.declared.link.Link.{Link}
-use Rattle.ticket_tree.specs.declared.refusal.Refusal.{Refusal}
-use Rattle.ticket_tree.specs.declared.refusal.Refusal.TheVariants.{UnknownNode, UnknownResource, ReservedStatus, DuplicateId, TooDeep, UnresolvedLink}
+use Rattle.ticket_items.specs.Attrs.{with_attr}
+use Rattle.ticket_rows.specs.Edit.{target, behind_last}
+use Rattle.ticket_rows.specs.EditRefusal.{Lookups, edit_refusal}
+use Rattle.ticket_rows.specs.Place.{Place, Thing, node, resource, Row, place_at, nodes_in, resources_in, below, is_below, home, home_at, resource_place, resource_row}
+use Rattle.ticket_rows.specs.Ticket.{max_depth}
+use Rattle.ticket_items.specs.declared.audit.Audit.TheVariants.{Notification}
+use Rattle.ticket_items.specs.declared.edit.Edit.{Edit}
+use Rattle.ticket_items.specs.declared.edit.Edit.TheVariants.{SetStatus, SetAttr, SetResStatus, SetResAttr, Note, AddNode, AddResource, AddLink}
+use Rattle.ticket_items.specs.declared.link.Link.{Link}
+use Rattle.ticket_items.specs.declared.refusal.Refusal.{Refusal}
 
 -- ---- what an edit is refused for
 
@@ -28,24 +27,15 @@ has_room_below tree n = option_map_or (λ p. nat_lt (length p.path) max_depth) (
 abbrev pub is_home_above : List Place → List ℕ → List ℕ → Bool
 is_home_above tree n x = option_map_or (is_below (nodes_in tree) n) (home (resources_in tree) x) false
 
+-- what places are asked before an edit
+abbrev pub plain_lookups : List Place → Lookups
+plain_lookups tree = record { has_node = stands (nodes_in tree); has_resource = stands (resources_in tree); has_id = stands tree; has_room = has_room_below tree; reaches = is_home_above tree }
+
+-- why an edit is refused, if it is
 abbrev pub plain_refusal : Edit → List Place → Option Refusal
-plain_refusal (SetStatus n status) tree = first_of (unless (stands (nodes_in tree) n) UnknownNode ∷ unless (not (is_reserved status)) ReservedStatus ∷ [])
-plain_refusal (SetAttr n name value) tree = first_of (unless (stands (nodes_in tree) n) UnknownNode ∷ [])
-plain_refusal (SetResStatus x status) tree = first_of (unless (stands (resources_in tree) x) UnknownResource ∷ [])
-plain_refusal (SetResAttr x name value) tree = first_of (unless (stands (resources_in tree) x) UnknownResource ∷ [])
-plain_refusal (Note n text) tree = first_of (unless (stands (nodes_in tree) n) UnknownNode ∷ [])
-plain_refusal (AddNode n id kind job_part status) tree =
-    first_of (unless (stands (nodes_in tree) n) UnknownNode ∷ unless (not (is_reserved status)) ReservedStatus ∷ unless (not (stands tree id)) DuplicateId ∷ unless (has_room_below tree n) TooDeep ∷ [])
-plain_refusal (AddResource n x) tree = first_of (unless (stands (nodes_in tree) n) UnknownNode ∷ unless (not (stands tree x.id)) DuplicateId ∷ [])
-plain_refusal (AddLink n link) tree =
-    first_of (unless (stands (nodes_in tree) n) UnknownNode ∷ unless (stands (resources_in tree) link.rref) UnknownResource ∷ unless (is_home_above tree n link.rref) UnresolvedLink ∷ [])
+plain_refusal e tree = edit_refusal e (plain_lookups tree)
 
 -- ---- what it makes of the places
-
--- the places, with a new one behind the last that passes
-abbrev pub behind_last : (Place → Bool) → Place → List Place → List Place
-behind_last p new [] = []
-behind_last p new (q ∷ tree) = if p q && not (list_any p tree) then q ∷ new ∷ tree else q ∷ behind_last p new tree
 
 -- the path of a node
 abbrev pub path_at : List Place → List ℕ → List (List ℕ)
@@ -53,11 +43,12 @@ path_at tree n = option_map_or (λ p. p.path) (place_at (nodes_in tree) n) []
 
 -- whether the node stands at the place, or in its pool what stands there
 abbrev pub is_at : List ℕ → Place → Bool
-is_at n p = option_map_or (λ h. bytes_eq h n) (holder p) false
+is_at n p = option_map_or (λ h. bytes_eq h n) (home_at p) false
 
-abbrev pub linked : Link → Thing → Thing
-linked link (node kind job_part links) = node kind job_part (links ++ link ∷ [])
-linked link (resource name class) = resource name class
+-- a node with one link more
+abbrev pub with_link : Link → Thing → Thing
+with_link link (node kind job_part links) = node kind job_part (links ++ link ∷ [])
+with_link link (resource name class) = resource name class
 
 abbrev pub plain_places : Edit → List Place → List Place
 plain_places (SetStatus n status) tree = tree
@@ -67,7 +58,7 @@ plain_places (SetResAttr x name value) tree = tree
 plain_places (Note n text) tree = tree
 plain_places (AddNode n id kind job_part status) tree = behind_last (below n) (record { id = id; path = id ∷ path_at tree n; thing = node kind job_part [] }) tree
 plain_places (AddResource n x) tree = behind_last (is_at n) (resource_place (path_at tree n) x) tree
-plain_places (AddLink n link) tree = map (λ (p : Place). if bytes_eq p.id n then record p { thing = linked link p.thing } else p) tree
+plain_places (AddLink n link) tree = map (λ (p : Place). if bytes_eq p.id n then record p { thing = with_link link p.thing } else p) tree
 
 -- ---- what it makes of the rows by id
 

@@ -20,8 +20,8 @@ pub fn depth_is_length_of_path()
     ensures { law.DepthIsPathLength }
 {}
 
-/// A node is another or below it exactly if it is known, and is the same or has a parent that is the
-/// other or below it.
+/// A node is another or below it exactly if it is known, and is the same or has a parent that is
+/// the other or below it.
 pub fn below_is_the_same_or_has_a_parent_below()
     ensures { law.BelowByParent }
 {}
@@ -31,14 +31,9 @@ pub fn rows_are_the_preorder_of_children()
     ensures { law.RowsArePreorder }
 {}
 
-/// Each link of valid rows names a resource whose home is the linking node or stands above it.
-pub fn links_are_above()
-    ensures { law.LinksAreAbove }
-{}
-
 /// An edit of the rows is the edit of the plain ticket: it is refused for the same; it makes of the
-/// places what the plain edit makes of them, which is to move nothing, to add one place, or to add a
-/// link to one; and of the rows by id, which is to change one, to add one, or none.
+/// places what the plain edit makes of them, which is to move nothing, to add one place, or to add
+/// a link to one; and of the rows by id, which is to change one, to add one, or none.
 pub fn edit_of_the_rows_is_the_plain_edit()
     ensures refused { law.RefusalIsPlain }
     ensures places { law.EditOfPlaces }
@@ -62,4 +57,44 @@ pub fn replaced_node_changes_its_rows()
 pub fn replaced_resource_changes_one_row()
     ensures places { law.ReplacedResourceOfPlaces }
     ensures rows { law.ReplacedResourceOfRows }
+{}
+
+/// A change leaves a ticket: an edit that isn't refused, an audit put at a node, and a node or a
+/// resource put in the place of one that it may take.
+pub fn changes_leave_a_ticket()
+    ensures edits { law.EditIsValid }
+    ensures append { law.AppendIsValid }
+    ensures nodes { law.ReplacedNodeIsValid }
+    ensures resources { law.ReplacedResourceIsValid }
+{}
+
+/// What is found among the rows is found on the places and on the rows by id: a node and a
+/// resource, each with what of it stands there, and the home of a resource.
+pub fn lookups_are_plain()
+    ensures nodes { law.NodeIsAtPlace }
+    ensures resources { law.ResourceIsAtPlace }
+    ensures homes { law.HomeIsAtPlace }
+{}
+
+/// Places by kind: those of nodes and of resources are there just if the rows have them, are the
+/// places of their ids, and are all that there are.
+pub fn places_are_found_by_kind()
+    ensures nodes { law.NodesAmongPlaces }
+    ensures resources { law.ResourcesAmongPlaces }
+    ensures kinds { law.PlacesByKind }
+{}
+
+/// An id stands at a place just if it has a row.
+pub fn an_id_stands_where_its_row_does()
+    ensures { law.StandsWithRow }
+{}
+
+/// The path of a resource is that of its home.
+pub fn path_of_a_resource_is_its_homes()
+    ensures { law.PathIsHomes }
+{}
+
+/// Valid rows are determined by their places and their rows by id: a depth is the length of a path.
+pub fn places_and_rows_determine_a_ticket()
+    ensures { law.PlacesAndRowsDetermine }
 {}

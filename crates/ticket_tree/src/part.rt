@@ -1,21 +1,15 @@
-use crate::ancestor::Ancestor;
-use crate::distinct::are_distinct_with;
-use crate::items::{Ancestors, Resources};
-use crate::name::Name;
-use crate::node_row::NodeRow;
-use crate::refusal::Refusal;
-use crate::resolved::are_resolved_with;
-use crate::resource::Resource;
-use crate::rows_iter::Rows;
-use crate::spawn_id::SpawnId;
-use crate::{rows, soundness};
+use crate::soundness;
 use std::alloc::{AllocError, Global};
 use std::marker::Model;
+use ticket_items::{Ancestor, Ancestors, Name, NodeRow, Refusal, Resource, Resources, SpawnId};
+use ticket_rows::distinct::are_distinct_with;
+use ticket_rows::resolved::are_resolved_with;
+use ticket_rows::{Rows, rows};
 
 /// A part of a ticket, which a spawn gives to another controller (JDF 1.5, 4.4): a node with all
 /// below it as a ticket of its own, the nodes that it stood under, and copies of the resources that
-/// it links from above, some to be changed and some to be read alone. With the copies in the pool of
-/// its root it is always a valid ticket.
+/// it links from above, some to be changed and some to be read alone. With the copies in the pool
+/// of its root it is always a valid ticket.
 #[derive(Debug, Drop)]
 pub struct Part {
     job: Name,
@@ -27,8 +21,9 @@ pub struct Part {
 }
 
 impl Model for Part {
-    ghost use Rattle.ticket_tree.specs.Part.{Copied, with_copies};
-    ghost use Rattle.ticket_tree.specs.Ticket.{IsValid};
+    ghost use Rattle.ticket_tree.specs.Part.{Copied};
+    ghost use Rattle.ticket_rows.specs.Copies.{with_copies};
+    ghost use Rattle.ticket_rows.specs.Ticket.{IsValid};
 
     ghost Value = { Copied };
 
@@ -40,26 +35,30 @@ impl Model for Part {
 impl Part {
     ghost use Rattle.std.specs.Prelude.{◌≡◌, ◌⊎◌, Some, OnOk, IfOk, IfErr};
     ghost use Rattle.ticket_tree.specs.Part as part;
-    ghost use Rattle.ticket_tree.specs.Part.{with_copies};
-    ghost use Rattle.ticket_tree.specs.Ticket.{IsValid, fault_of};
+    ghost use Rattle.ticket_rows.specs.Copies.{with_copies};
+    ghost use Rattle.ticket_rows.specs.Ticket.{IsValid, fault_of};
 
-    /// The part of a job with these nodes in preorder, the root at depth 1, and these copies. Refuses
-    /// the first of `NotATree`, `ReservedStatus`, `DuplicateId`, `TooDeep` and `UnresolvedLink` that
-    /// the rows have with the copies as resources of the root. The first two need no memory.
+    /// The part of a job with these nodes in preorder, the root at depth 1, and these copies.
+    /// Refuses the first of `NotATree`, `ReservedStatus`, `DuplicateId`, `TooDeep` and
+    /// `UnresolvedLink` that the rows have with the copies as resources of the root. The first two
+    /// need no memory.
     pub fn new(
         alloc: Global,
         job: Name,
         spawn_id: SpawnId,
         ancestors: Ancestors,
         rows: Vec<NodeRow>,
-        to_change: Resources,
-        to_read: Resources,
+        rw: Resources,
+        ro: Resources,
     ) -> Result<Part, Refusal>
-        ensures ok { IfOk result (λ p. p ≡ part.copied job spawn_id ancestors rows.items to_change to_read) }
-        ensures valid { OnOk result (IsValid (with_copies rows.items to_change to_read)) }
-        ensures err { IfErr result (λ e. (e ≡ Refusal.Memory) ⊎ (fault_of (with_copies rows.items to_change to_read) ≡ Some e)) }
-        ensures not_a_tree { fault_of (with_copies rows.items to_change to_read) ≡ Some Refusal.NotATree → result ≡ Err Refusal.NotATree }
-        ensures reserved { fault_of (with_copies rows.items to_change to_read) ≡ Some Refusal.ReservedStatus → result ≡ Err Refusal.ReservedStatus }
+        ensures ok { IfOk result (λ p. p ≡ part.copied job spawn_id ancestors rows.items rw ro) }
+        ensures valid { OnOk result (IsValid (with_copies rows.items rw ro)) }
+        ensures err { IfErr result
+            (λ e. (e ≡ Refusal.Memory) ⊎ (fault_of (with_copies rows.items rw ro) ≡ Some e)) }
+        ensures not_a_tree { fault_of (with_copies rows.items rw ro) ≡ Some Refusal.NotATree
+            → result ≡ Err Refusal.NotATree }
+        ensures reserved { fault_of (with_copies rows.items rw ro) ≡ Some Refusal.ReservedStatus
+            → result ≡ Err Refusal.ReservedStatus }
     {
         if !rows::is_outline(rows.as_slice()) {
             return Err(Refusal::NotATree);
@@ -67,14 +66,13 @@ impl Part {
         if !rows::are_unreserved(rows.as_slice()) {
             return Err(Refusal::ReservedStatus);
         }
-        let (change, read) = (to_change.as_slice(), to_read.as_slice());
-        if !are_distinct_with(alloc, rows.as_slice(), change, read)? {
+        if !are_distinct_with(alloc, rows.as_slice(), rw.as_slice(), ro.as_slice())? {
             return Err(Refusal::DuplicateId);
         }
         if !rows::are_shallow(rows.as_slice()) {
             return Err(Refusal::TooDeep);
         }
-        if !are_resolved_with(alloc, rows.as_slice(), change, read)? {
+        if !are_resolved_with(alloc, rows.as_slice(), rw.as_slice(), ro.as_slice())? {
             return Err(Refusal::UnresolvedLink);
         }
         Ok(Part {
@@ -82,8 +80,8 @@ impl Part {
             spawn_id,
             ancestors,
             rows,
-            rw: to_change,
-            ro: to_read,
+            rw,
+            ro,
         })
     }
 
@@ -150,8 +148,8 @@ impl Part {
     }
 
     /// Whether it can have come from a ticket: it has ancestors, their ids differ from each other
-    /// and from all ids of the part, no node is deeper than 32 below them, and each copy is linked by
-    /// some row. Needs no memory.
+    /// and from all ids of the part, no node is deeper than 32 below them, and each copy is linked
+    /// by some row. Needs no memory.
     pub fn is_sound(&self) -> bool
         ensures { result ≡ part.is_sound self.now }
     {
@@ -166,10 +164,12 @@ impl Part {
             && soundness::are_linked(rows, ro)
     }
 
-    /// Its nodes, and the copies that may be changed, by themselves. Needs no memory.
+    /// Its nodes, and the copies that may be changed, by themselves. With its other copies they are
+    /// still a valid ticket. Needs no memory.
     pub fn into_rows(self) -> (Vec<NodeRow>, Vec<Resource>)
         ensures rows { result.0.items ≡ self.rows }
         ensures copies { result.1.items ≡ self.rw }
+        ensures valid { IsValid (with_copies result.0.items result.1.items self.ro) }
     {
         let Part { rows, rw, .. } = self;
         (rows, rw.into_vec())

@@ -3,16 +3,13 @@
 ghost use Rattle.std.specs.Prelude.{◌≡◌, ◌+◌, ◌||◌, length, nat_le};
 ghost use Rattle.std.specs.List.{list_any};
 ghost use Rattle.std.specs.Str.{bytes_eq};
-ghost use Rattle.ticket_tree.specs.Ids as id_lists;
+ghost use Rattle.ticket_items.specs.Ids as id_lists;
 ghost use Rattle.ticket_tree.specs.Part as part;
-ghost use Rattle.ticket_tree.specs.Ticket.{ids, max_depth};
+ghost use Rattle.ticket_rows.specs.Ticket.{ids, max_depth};
 
-use crate::ancestor::Ancestor;
-use crate::id::Id;
-use crate::node_row::NodeRow;
-use crate::pools::{has_id, holds};
-use crate::resource::Resource;
-use crate::rows::MAX_DEPTH;
+use ticket_items::{Ancestor, Id, NodeRow, Resource};
+use ticket_rows::pools::{has_id, holds};
+use ticket_rows::rows::MAX_DEPTH;
 
 /// Whether a part has ancestors at all.
 pub fn has_ancestors(ancestors: &[Ancestor]) -> bool
@@ -42,7 +39,9 @@ fn are_distinct(ancestors: &[Ancestor]) -> bool
 
 /// Whether the rows have the id, or the copies do.
 fn some_has_id(rows: &[NodeRow], rw: &[Resource], ro: &[Resource], id: &Id) -> bool
-    ensures { result ≡ ((id_lists.mem id.now (ids rows.now) || list_any (λ x. bytes_eq x.id id.now) rw.now) || list_any (λ x. bytes_eq x.id id.now) ro.now) }
+    ensures { result ≡ ((id_lists.mem id.now (ids rows.now)
+        || list_any (λ x. bytes_eq x.id id.now) rw.now) || list_any (λ x. bytes_eq x.id id.now)
+        ro.now) }
 {
     has_id(rows, id) || holds(rw, id) || holds(ro, id)
 }
@@ -56,7 +55,8 @@ fn stands(rows: &[NodeRow], rw: &[Resource], ro: &[Resource], id: &Id) -> bool
 
 /// Whether no ancestor's id stands in a part.
 fn are_apart(ancestors: &[Ancestor], rows: &[NodeRow], rw: &[Resource], ro: &[Resource]) -> bool
-    ensures { result ≡ part.are_apart (part.ancestor_ids ancestors.now) (part.part_ids rows.now rw.now ro.now) }
+    ensures { result ≡ part.are_apart (part.ancestor_ids ancestors.now)
+        (part.part_ids rows.now rw.now ro.now) }
 {
     for ancestor in ancestors {
         if stands(rows, rw, ro, &ancestor.node_id) {

@@ -1,16 +1,9 @@
-use crate::audit::Audit;
-use crate::distinct::are_distinct;
-use crate::edit::Edit;
-use crate::id::Id;
-use crate::name::Name;
-use crate::node_row::NodeRow;
-use crate::refusal::Refusal;
-use crate::resolved::are_resolved;
-use crate::resource::Resource;
-use crate::rows_iter::Rows;
-use crate::{edits, one_row, pools, rows};
 use std::alloc::{AllocError, Global};
 use std::marker::Model;
+use ticket_items::{Audit, Edit, Id, Name, NodeRow, Refusal, Resource};
+use ticket_rows::distinct::are_distinct;
+use ticket_rows::resolved::are_resolved;
+use ticket_rows::{LastPlace, Rows, edits, one_row, pools, rows};
 
 /// A job's ticket (JDF 1.5, 3.1): the job's id, and its nodes in preorder. Its rows are always a
 /// tree, no node's Status is `Spawned`, each id stands once among nodes and resources, no node is
@@ -19,10 +12,11 @@ use std::marker::Model;
 pub struct Ticket {
     job: Name,
     rows: Vec<NodeRow>,
+    last: LastPlace,
 }
 
 impl Model for Ticket {
-    ghost use Rattle.ticket_tree.specs.Ticket.{Job, IsValid};
+    ghost use Rattle.ticket_rows.specs.Ticket.{Job, IsValid};
 
     ghost Value = { Job };
 
@@ -32,26 +26,30 @@ impl Model for Ticket {
 }
 
 impl Ticket {
-    ghost use Rattle.std.specs.Prelude.{◌≡◌, ◌⊎◌, None, Some, OnOk, OnErr, IfOk, IfErr, IfNone, IfSome, MatchResult, is_some};
+    ghost use Rattle.std.specs.Prelude.{◌≡◌, ◌⊎◌, None, Some, false, OnOk, OnErr, IfOk, IfErr};
+    ghost use Rattle.std.specs.Prelude.{IfNone, IfSome, IsOk, MatchResult, is_some};
     ghost use Rattle.std.specs.Option.{option_copied};
-    ghost use Rattle.ticket_tree.specs.Edit.{edited, node_refusal, refusal_of};
-    ghost use Rattle.ticket_tree.specs.Homes as homes;
-    ghost use Rattle.ticket_tree.specs.Homes.{resource_of};
-    ghost use Rattle.ticket_tree.specs.OneRow.{MayReplaceNode, MayReplaceResource, appended, replaced_node, replaced_resource};
-    ghost use Rattle.ticket_tree.specs.Place.{BoundsNodesBelow, node_places};
-    ghost use Rattle.ticket_tree.specs.Place as tree;
-    ghost use Rattle.ticket_tree.specs.Ticket.{IsValid, fault_of, has_node, row_of};
+    ghost use Rattle.ticket_rows.specs.Edit.{edited, grows, node_refusal, refusal_of};
+    ghost use Rattle.ticket_rows.specs.Homes as homes;
+    ghost use Rattle.ticket_rows.specs.Homes.{resource_of};
+    ghost use Rattle.ticket_rows.specs.OneRow.{MayReplaceNode, MayReplaceResource, appended};
+    ghost use Rattle.ticket_rows.specs.OneRow.{replaced_node, replaced_resource};
+    ghost use Rattle.ticket_rows.specs.Place.{BoundsNodesBelow, node_places};
+    ghost use Rattle.ticket_rows.specs.Place as tree;
+    ghost use Rattle.ticket_rows.specs.Ticket.{IsValid, fault_of, has_node, row_of};
 
     /// The ticket of a job with these nodes, in preorder with their depths. Refuses the first of
     /// `NotATree` (no row, a first depth other than 1, a later one under 2 or more than one above
-    /// the row before), `ReservedStatus`, `DuplicateId`, `TooDeep` and `UnresolvedLink` that the rows
-    /// have. The first two need no memory.
+    /// the row before), `ReservedStatus`, `DuplicateId`, `TooDeep` and `UnresolvedLink` that the
+    /// rows have. The first two need no memory.
     pub fn from_rows(alloc: Global, job: Name, rows: Vec<NodeRow>) -> Result<Ticket, Refusal>
         ensures ok { IfOk result (λ t. t ≡ record { job_id = job; rows = rows.items }) }
         ensures valid { OnOk result (IsValid rows.items) }
         ensures err { IfErr result (λ e. (e ≡ Refusal.Memory) ⊎ (fault_of rows.items ≡ Some e)) }
-        ensures not_a_tree { fault_of rows.items ≡ Some Refusal.NotATree → result ≡ Err Refusal.NotATree }
-        ensures reserved { fault_of rows.items ≡ Some Refusal.ReservedStatus → result ≡ Err Refusal.ReservedStatus }
+        ensures not_a_tree { fault_of rows.items ≡ Some Refusal.NotATree
+            → result ≡ Err Refusal.NotATree }
+        ensures reserved { fault_of rows.items ≡ Some Refusal.ReservedStatus
+            → result ≡ Err Refusal.ReservedStatus }
     {
         if !rows::is_outline(rows.as_slice()) {
             return Err(Refusal::NotATree);
@@ -68,7 +66,11 @@ impl Ticket {
         if !are_resolved(alloc, rows.as_slice())? {
             return Err(Refusal::UnresolvedLink);
         }
-        Ok(Ticket { job, rows })
+        Ok(Ticket {
+            job,
+            rows,
+            last: LastPlace::front(),
+        })
     }
 
     /// An equal ticket.
@@ -77,7 +79,11 @@ impl Ticket {
     {
         let job = self.job.copy(alloc)?;
         let rows = rows::copy(alloc, self.rows.as_slice())?;
-        Ok(Ticket { job, rows })
+        Ok(Ticket {
+            job,
+            rows,
+            last: LastPlace::front(),
+        })
     }
 
     /// The job's id.
@@ -97,7 +103,8 @@ impl Ticket {
 
     /// The node of an id.
     pub fn node(&self, id: &Id) -> Option<&NodeRow>
-        ensures { option_copied result ≡ row_of self.now.rows id.now }
+        ensures found { option_copied result ≡ row_of self.now.rows id.now }
+        ensures valid { IsValid self.now.rows }
     {
         rows::node(self.rows.as_slice(), id)
     }
@@ -133,10 +140,10 @@ impl Ticket {
     }
 
     /// Why `apply` would refuse an edit, want of memory aside: the first of these. `SetStatus`:
-    /// `UnknownNode`, `ReservedStatus`; `SetAttr`, `Note`: `UnknownNode`; `SetResStatus`, `SetResAttr`:
-    /// `UnknownResource`; `AddNode`: `UnknownNode`, `ReservedStatus`, `DuplicateId`, `TooDeep`;
-    /// `AddResource`: `UnknownNode`, `DuplicateId`; `AddLink`: `UnknownNode`, `UnknownResource`,
-    /// `UnresolvedLink`. Needs no memory.
+    /// `UnknownNode`, `ReservedStatus`; `SetAttr`, `Note`: `UnknownNode`; `SetResStatus`,
+    /// `SetResAttr`: `UnknownResource`; `AddNode`: `UnknownNode`, `ReservedStatus`, `DuplicateId`,
+    /// `TooDeep`; `AddResource`: `UnknownNode`, `DuplicateId`; `AddLink`: `UnknownNode`,
+    /// `UnknownResource`, `UnresolvedLink`. Needs no memory.
     pub fn check(&self, edit: &Edit) -> Result<(), Refusal>
         ensures { MatchResult result
             (λ _. refusal_of edit.now self.now.rows ≡ None)
@@ -146,42 +153,49 @@ impl Ticket {
     }
 
     /// Does an edit, at a time in seconds since 1970. Refuses what `check` says, which needs no
-    /// memory, and then `Memory`. A refusal changes nothing.
+    /// memory, and then `Memory`; never `Memory` where the edit gives another Status, which takes
+    /// none. A refusal changes nothing.
     pub fn apply(&mut self, alloc: Global, edit: Edit, at: u64) -> Result<(), Refusal>
         ensures ok { OnOk result (self.new ≡ edited edit at self.old) }
         ensures err { OnErr result (self.new ≡ self.old) }
         ensures refused { IfSome (refusal_of edit self.old.rows) (λ e. result ≡ Err e) }
-        ensures memory { IfNone (refusal_of edit self.old.rows) (IfErr result (λ e. e ≡ Refusal.Memory)) }
+        ensures memory { IfNone (refusal_of edit self.old.rows)
+            (IfErr result (λ e. e ≡ Refusal.Memory)) }
+        ensures in_place { grows edit ≡ false
+            → IfNone (refusal_of edit self.old.rows) (IsOk result) }
     {
         edits::apply(alloc, &mut self.rows, edit, at)
     }
 
-    /// Puts an audit last at a node. Refuses `UnknownNode`, which needs no memory, and then `Memory`.
-    /// A refusal changes nothing.
+    /// Puts an audit last at a node. Refuses `UnknownNode`, which needs no memory, and then
+    /// `Memory`. A refusal changes nothing.
     pub fn append(&mut self, _alloc: Global, node: &Id, audit: Audit) -> Result<(), Refusal>
-        ensures ok { OnOk result (self.new ≡ record self.old { rows = appended node.now audit self.old.rows }) }
+        ensures ok { OnOk result (self.new
+            ≡ record self.old { rows = appended node.now audit self.old.rows }) }
         ensures err { OnErr result (self.new ≡ self.old) }
         ensures refused { IfSome (node_refusal node.now self.old.rows) (λ e. result ≡ Err e) }
-        ensures memory { IfNone (node_refusal node.now self.old.rows) (IfErr result (λ e. e ≡ Refusal.Memory)) }
+        ensures memory { IfNone (node_refusal node.now self.old.rows)
+            (IfErr result (λ e. e ≡ Refusal.Memory)) }
     {
         one_row::append(&mut self.rows, node, audit)
     }
 
     /// Puts a node in the place of the one of its id, which keeps its depth. That one has the same
-    /// Type, job part, links and ids of resources, and the new Status isn't `Spawned`. Needs no memory.
+    /// Type, job part, links and ids of resources, and the new Status isn't `Spawned`. Needs no
+    /// memory.
     pub fn replace_node(&mut self, row: NodeRow)
         requires { MayReplaceNode self.old.rows row }
         ensures { self.new ≡ record self.old { rows = replaced_node row self.old.rows } }
     {
-        one_row::replace_node(&mut self.rows, row);
+        one_row::replace_node(&mut self.rows, &mut self.last, row);
     }
 
-    /// Puts a resource in the place of the one of its id, which has the same name and Class. Needs no
-    /// memory.
+    /// Puts a resource in the place of the one of its id, which has the same name and Class. Needs
+    /// no memory.
     pub fn replace_resource(&mut self, resource: Resource)
         requires { MayReplaceResource self.old.rows resource }
         ensures { self.new ≡ record self.old { rows = replaced_resource resource self.old.rows } }
     {
-        one_row::replace_resource(&mut self.rows, resource);
+        one_row::replace_resource(&mut self.rows, &mut self.last, resource);
     }
 }

@@ -3,7 +3,7 @@ use Rattle.std.proofs.lemmas.List.{take_rest}
 use Rattle.std.specs.List.{list_any}
 use Rattle.std.specs.Str.{bytes_eq}
 use Rattle.ticket_tree.proofs.Sound.{distinct_more}
-use Rattle.ticket_tree.specs.Ids as id_lists
+use Rattle.ticket_items.specs.Ids as id_lists
 use Rattle.ticket_tree.specs.Part as part
 use Rattle.ticket_tree.proofs.soundness.are_distinct.Goals as goal
 

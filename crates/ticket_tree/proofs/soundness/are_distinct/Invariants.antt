@@ -1,5 +1,5 @@
 use Rattle.std.proofs.Common.{◌≡◌, drop}
-use Rattle.ticket_tree.specs.Ids as id_lists
+use Rattle.ticket_items.specs.Ids as id_lists
 use Rattle.ticket_tree.specs.Part as part
 use Rattle.ticket_tree.proofs.soundness.are_distinct.Given as goal
 

@@ -1,0 +1,6 @@
+pub mod Names
+pub mod Refusal
+pub mod Attrs
+pub mod Ids
+pub mod SpawnId
+pub mod Resource

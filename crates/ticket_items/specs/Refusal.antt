@@ -1,0 +1,42 @@
+-- The number and the name of each refusal.
+use Rattle.std.specs.Prelude.{ℕ, List, codes}
+use Rattle.ticket_items.specs.declared.refusal.Refusal.{Refusal}
+use Rattle.ticket_items.specs.declared.refusal.Refusal.TheVariants.{BadId, DuplicateId, UnresolvedLink, TooDeep, ReservedStatus, BadText, NotATree, UnknownNode, UnknownResource, NotHeld, IsRoot, NotLinked, TooManySpawns, WrongShape, NotJson, NotProfile, Memory}
+
+abbrev pub number_of : Refusal → ℕ
+number_of BadId = 1
+number_of DuplicateId = 2
+number_of UnresolvedLink = 3
+number_of TooDeep = 4
+number_of ReservedStatus = 5
+number_of BadText = 6
+number_of NotATree = 7
+number_of UnknownNode = 10
+number_of UnknownResource = 11
+number_of (NotHeld s) = 12
+number_of IsRoot = 13
+number_of NotLinked = 14
+number_of TooManySpawns = 17
+number_of WrongShape = 22
+number_of NotJson = 40
+number_of NotProfile = 41
+number_of Memory = 90
+
+abbrev pub name_of : Refusal → List ℕ
+name_of BadId = codes "BadId"
+name_of DuplicateId = codes "DuplicateId"
+name_of UnresolvedLink = codes "UnresolvedLink"
+name_of TooDeep = codes "TooDeep"
+name_of ReservedStatus = codes "ReservedStatus"
+name_of BadText = codes "BadText"
+name_of NotATree = codes "NotATree"
+name_of UnknownNode = codes "UnknownNode"
+name_of UnknownResource = codes "UnknownResource"
+name_of (NotHeld s) = codes "NotHeld"
+name_of IsRoot = codes "IsRoot"
+name_of NotLinked = codes "NotLinked"
+name_of TooManySpawns = codes "TooManySpawns"
+name_of WrongShape = codes "WrongShape"
+name_of NotJson = codes "NotJson"
+name_of NotProfile = codes "NotProfile"
+name_of Memory = codes "Memory"

@@ -1,0 +1,125 @@
+ghost use Rattle.std.specs.Prelude.{◌≡◌};
+ghost use Rattle.ticket_items.specs.Ids.{mem};
+
+use crate::items::Items;
+use crate::refusal::Refusal;
+use crate::rules::is_name;
+use std::alloc::{AllocError, Global};
+use std::hash::{Hash, Hasher};
+use std::marker::Model;
+
+/// The id of a node, a resource or a controller: 1 to 64 characters of `A-Z a-z 0-9 _ . -`, of
+/// which the first is a letter or `_` (JDF 1.5, 3.1 wants an XML ID; the limits are our own).
+#[derive(Debug, Drop)]
+pub struct Id {
+    text: String,
+}
+
+impl Model for Id {
+    ghost use Rattle.std.specs.Prelude.{◌≡◌, ℕ, List, true, string_bytes};
+    ghost use Rattle.ticket_items.specs.Names.{is_name};
+
+    ghost Value = { List ℕ };
+
+    ghost view = { λ a. string_bytes a.text };
+
+    ghost invariant = { λ a. is_name (string_bytes a.text) ≡ true };
+}
+
+impl Id {
+    ghost use Rattle.std.specs.Prelude.{◌≡◌, true, false, string_bytes, IfOk, IfErr};
+    ghost use Rattle.ticket_items.specs.Names as names;
+
+    /// The id that the text is. Refuses `BadId` where it is none, and then needs no memory.
+    pub fn new(alloc: Global, text: &str) -> Result<Id, Refusal>
+        ensures ok { IfOk result (λ id. (id ≡ text.now) × (names.is_name text.now ≡ true)) }
+        ensures refused { names.is_name text.now ≡ false → result ≡ Err Refusal.BadId }
+        ensures memory { names.is_name text.now ≡ true → IfErr result (λ e. e ≡ Refusal.Memory) }
+    {
+        if !is_name(text) {
+            return Err(Refusal::BadId);
+        }
+        let text = String::from_str(alloc, text)?;
+        Ok(Id { text })
+    }
+
+    /// The id of a text that is one.
+    pub(crate) fn from_text(text: String) -> Id
+        requires { names.is_name (string_bytes text) ≡ true }
+        ensures { result ≡ string_bytes text }
+    {
+        Id { text }
+    }
+
+    /// Its characters.
+    pub fn as_str(&self) -> &str
+        ensures value { result.now ≡ self.now }
+        ensures valid { names.is_name self.now ≡ true }
+    {
+        self.text.as_str()
+    }
+
+    /// An equal id.
+    pub fn copy(&self, alloc: Global) -> Result<Id, AllocError>
+        ensures { IfOk result (λ id. id ≡ self.now) }
+    {
+        let text = String::from_str(alloc, self.as_str())?;
+        Ok(Id { text })
+    }
+}
+
+/// Whether an id is among these.
+pub fn is_among(ids: &[Id], id: &Id) -> bool
+    ensures { result ≡ mem id.now ids.now }
+{
+    ids.iter().any(|other| *other == *id)
+}
+
+impl Items<Id> {
+    ghost use Rattle.std.specs.Prelude.{◌≡◌, IfOk};
+
+    /// An equal list.
+    pub fn copy(&self, alloc: Global) -> Result<Items<Id>, AllocError>
+        ensures { IfOk result (λ all. all ≡ self.now) }
+    {
+        let mut copied = Vec::with_capacity(alloc, self.as_slice().len())?;
+        for item in self.as_slice() {
+            copied.push(item.copy(alloc)?)?;
+        }
+        Ok(Items::new(copied))
+    }
+}
+
+impl PartialEq for Id {
+    ghost use Rattle.std.specs.Prelude.{nat_eq};
+    ghost use Rattle.std.specs.Cmp.{partial_equiv_from_equiv};
+    ghost use Rattle.std.specs.Cmp.Lexicographic.{pointwise, nat_list_eq_equiv};
+
+    ghost eq = { pointwise nat_eq };
+
+    ghost laws = { partial_equiv_from_equiv nat_list_eq_equiv };
+
+    fn eq(&self, other: &Id) -> bool {
+        self.text == other.text
+    }
+}
+
+impl Eq for Id {
+    ghost use Rattle.std.specs.Cmp.Lexicographic.{nat_list_eq_equiv};
+
+    ghost laws = { nat_list_eq_equiv };
+}
+
+impl Hash for Id {
+    ghost use Rattle.std.specs.Hash as fed;
+    ghost use Rattle.std.specs.Cmp.Rules.{hashing};
+    ghost use Rattle.std.proofs.Common.{rules};
+
+    ghost hash_input = { fed.str };
+
+    ghost respects_eq = { Prim.search (hashing, rules) };
+
+    fn hash<H: Hasher>(&self, state: &mut H) {
+        self.text.hash(state);
+    }
+}

@@ -1,0 +1,42 @@
+//! What stands in a ticket: nodes with their resources, links and audits, their ids, names and
+//! texts, and the edits of a ticket.
+#![tactic(auto)]
+
+mod ancestor;
+mod attrs;
+mod audit;
+mod edit;
+mod id;
+mod items;
+mod link;
+mod marks;
+mod name;
+mod node_row;
+mod pool;
+mod refusal;
+mod res_mark;
+mod resource;
+mod rules;
+mod spawn_id;
+mod spawn_status;
+mod text;
+mod usage;
+
+pub use ancestor::Ancestor;
+pub use attrs::Attrs;
+pub use audit::Audit;
+pub use edit::Edit;
+pub use id::{Id, is_among};
+pub use items::{Ancestors, Audits, Ids, Items, Links, ResMarks, Resources, SpawnIds};
+pub use link::Link;
+pub use marks::Marks;
+pub use name::Name;
+pub use node_row::NodeRow;
+pub use refusal::Refusal;
+pub use res_mark::ResMark;
+pub use resource::Resource;
+pub use rules::{MAX_TEXT_BYTES, is_name, is_text};
+pub use spawn_id::SpawnId;
+pub use spawn_status::SpawnStatus;
+pub use text::Text;
+pub use usage::Usage;

@@ -1,0 +1,135 @@
+use crate::spawn_id::SpawnId;
+use std::alloc::{AllocError, AllocFailed};
+use std::error::Error;
+use std::fmt;
+
+/// Why a call was refused. Each refusal has a number and a name, which are our own profile's.
+#[derive(Clone, Copy, Debug, PartialEq, Eq)]
+pub enum Refusal {
+    /// An id or a name isn't one.
+    BadId,
+    /// An id stands twice in a ticket (JDF 1.5, 3.1: an ID is unique within its document).
+    DuplicateId,
+    /// A link names no resource in the pool of its node or of one above it (JDF 1.5, 3.9).
+    UnresolvedLink,
+    /// A node stands deeper than 32.
+    TooDeep,
+    /// A node shows the Status `Spawned`, or a resource marks of spawns, which only a spawn gives
+    /// (JDF 1.5, 4.4).
+    ReservedStatus,
+    /// A text has more than 1,024 bytes.
+    BadText,
+    /// The depths of the rows are those of no tree.
+    NotATree,
+    /// No node has the id.
+    UnknownNode,
+    /// No resource has the id.
+    UnknownResource,
+    /// What is to be changed or spawned is held by this spawn (JDF 1.5, 4.4: the part that was
+    /// spawned is changed where it went).
+    NotHeld(SpawnId),
+    /// The root of a ticket can't be spawned.
+    IsRoot,
+    /// A resource isn't linked by the spawned node or one below it, or is at home there.
+    NotLinked,
+    /// A spawn's number isn't one of 1 to 999,999,999.
+    TooManySpawns,
+    /// A part that comes back has another shape than what was spawned.
+    WrongShape,
+    /// The bytes are no JSON.
+    NotJson,
+    /// The JSON isn't of our profile's form.
+    NotProfile,
+    /// No memory was left.
+    Memory,
+}
+
+impl Refusal {
+    ghost use Rattle.std.specs.Prelude.{◌≡◌};
+    ghost use Rattle.ticket_items.specs.Refusal as refusals;
+
+    /// The refusal's number.
+    pub fn number(self) -> u16
+        ensures { result ≡ refusals.number_of self }
+    {
+        match self {
+            Refusal::BadId => 1,
+            Refusal::DuplicateId => 2,
+            Refusal::UnresolvedLink => 3,
+            Refusal::TooDeep => 4,
+            Refusal::ReservedStatus => 5,
+            Refusal::BadText => 6,
+            Refusal::NotATree => 7,
+            Refusal::UnknownNode => 10,
+            Refusal::UnknownResource => 11,
+            Refusal::NotHeld(_) => 12,
+            Refusal::IsRoot => 13,
+            Refusal::NotLinked => 14,
+            Refusal::TooManySpawns => 17,
+            Refusal::WrongShape => 22,
+            Refusal::NotJson => 40,
+            Refusal::NotProfile => 41,
+            Refusal::Memory => 90,
+        }
+    }
+
+    /// The refusal's name.
+    pub fn name(self) -> &'static str
+        ensures { result.now ≡ refusals.name_of self }
+    {
+        match self {
+            Refusal::BadId => "BadId",
+            Refusal::DuplicateId => "DuplicateId",
+            Refusal::UnresolvedLink => "UnresolvedLink",
+            Refusal::TooDeep => "TooDeep",
+            Refusal::ReservedStatus => "ReservedStatus",
+            Refusal::BadText => "BadText",
+            Refusal::NotATree => "NotATree",
+            Refusal::UnknownNode => "UnknownNode",
+            Refusal::UnknownResource => "UnknownResource",
+            Refusal::NotHeld(_) => "NotHeld",
+            Refusal::IsRoot => "IsRoot",
+            Refusal::NotLinked => "NotLinked",
+            Refusal::TooManySpawns => "TooManySpawns",
+            Refusal::WrongShape => "WrongShape",
+            Refusal::NotJson => "NotJson",
+            Refusal::NotProfile => "NotProfile",
+            Refusal::Memory => "Memory",
+        }
+    }
+}
+
+impl fmt::Display for Refusal {
+    ghost use Rattle.std.specs.Prelude.{Some};
+    ghost use Rattle.ticket_items.specs.Refusal as refusals;
+
+    ghost output = { λ refusal. Some (refusals.name_of refusal) };
+
+    fn fmt<W: fmt::Write>(&self, f: &mut fmt::Formatter<W>) -> fmt::Result {
+        write!(f, "{}", self.name())
+    }
+}
+
+impl Error for Refusal {}
+
+impl From<AllocError> for Refusal {
+    ghost use Rattle.std.specs.Prelude.{◌≡◌};
+    ghost use Rattle.ticket_items.specs.declared.refusal.Refusal.TheVariants.{Memory};
+
+    ghost from_gives = { λ _ e. e ≡ Memory };
+
+    fn from(_error: AllocError) -> Refusal {
+        Refusal::Memory
+    }
+}
+
+impl<T: Drop> From<AllocFailed<T>> for Refusal {
+    ghost use Rattle.std.specs.Prelude.{◌≡◌};
+    ghost use Rattle.ticket_items.specs.declared.refusal.Refusal.TheVariants.{Memory};
+
+    ghost from_gives = { λ _ e. e ≡ Memory };
+
+    fn from(_error: AllocFailed<T>) -> Refusal {
+        Refusal::Memory
+    }
+}

@@ -1,0 +1,96 @@
+use crate::attrs::Attrs;
+use crate::id::Id;
+use crate::items::Items;
+use crate::name::Name;
+use crate::pool::{place_in, place_in_from};
+use crate::text::Text;
+use std::alloc::{AllocError, Global};
+
+/// A resource of a node's pool (JDF 1.5, 3.8): what a node needs or makes, such as paper, plates or
+/// printed sheets.
+#[derive(Debug, Drop)]
+pub struct Resource {
+    pub id: Id,
+    /// The name of the resource's element, such as `Media`.
+    pub name: Name,
+    pub class: Name,
+    pub status: Name,
+    pub attrs: Attrs,
+}
+
+impl Resource {
+    ghost use Rattle.std.specs.Prelude.{◌≡◌, IfOk};
+
+    /// An equal resource.
+    pub fn copy(&self, alloc: Global) -> Result<Resource, AllocError>
+        ensures { IfOk result (λ resource. resource ≡ self.now) }
+    {
+        Ok(Resource {
+            id: self.id.copy(alloc)?,
+            name: self.name.copy(alloc)?,
+            class: self.class.copy(alloc)?,
+            status: self.status.copy(alloc)?,
+            attrs: self.attrs.copy(alloc)?,
+        })
+    }
+}
+
+impl Items<Resource> {
+    ghost use Rattle.std.specs.Prelude.{◌≡◌, true, map, IfOk, IfSome, OnOk, OnErr};
+    ghost use Rattle.std.specs.List.{position};
+    ghost use Rattle.std.specs.Str.{bytes_eq};
+    ghost use Rattle.ticket_items.specs.Attrs.{with_attr};
+    ghost use Rattle.ticket_items.specs.Resource.{with_item};
+    ghost use Rattle.ticket_items.specs.Ids.{are_distinct};
+
+    /// Gives the resource of an id another Status.
+    pub fn set_status(&mut self, id: &Id, status: Name)
+        requires { are_distinct (map (λ x. x.id) self.old) ≡ true }
+        ensures { self.new ≡ with_item id.now (λ x. record x { status = status }) self.old }
+    {
+        if let Some(place) = place_in(self.items.as_slice(), id) {
+            self.items[place].status = status;
+        }
+    }
+
+    /// Gives the resource of an id an attribute.
+    pub fn set_attr(&mut self, id: &Id, name: Name, value: Text) -> Result<(), AllocError>
+        requires { are_distinct (map (λ x. x.id) self.old) ≡ true }
+        ensures ok { OnOk result (self.new
+            ≡ with_item id.now (λ x. record x { attrs = with_attr name value x.attrs }) self.old) }
+        ensures err { OnErr result (self.new ≡ self.old) }
+    {
+        if let Some(place) = place_in(self.items.as_slice(), id) {
+            self.items[place].attrs.set(name, value)?;
+        }
+        Ok(())
+    }
+
+    /// Puts a resource in the place of the one of its id, which is looked for from a place on and
+    /// then in front of it. Returns where it stands.
+    pub fn replace(&mut self, resource: Resource, from: usize) -> usize
+        requires { are_distinct (map (λ x. x.id) self.old) ≡ true }
+        ensures items { self.new ≡ with_item resource.id (λ _. resource) self.old }
+        ensures place { IfSome (position (λ x. bytes_eq x.id resource.id) self.old)
+            (λ k. result ≡ k) }
+    {
+        match place_in_from(self.items.as_slice(), &resource.id, from) {
+            None => from,
+            Some(place) => {
+                self.items[place] = resource;
+                place
+            }
+        }
+    }
+
+    /// An equal list.
+    pub fn copy(&self, alloc: Global) -> Result<Items<Resource>, AllocError>
+        ensures { IfOk result (λ all. all ≡ self.now) }
+    {
+        let mut copied = Vec::with_capacity(alloc, self.as_slice().len())?;
+        for item in self.as_slice() {
+            copied.push(item.copy(alloc)?)?;
+        }
+        Ok(Items::new(copied))
+    }
+}

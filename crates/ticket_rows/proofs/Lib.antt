@@ -1,0 +1,15 @@
+pub mod Alike
+pub mod AtHome
+pub mod Below
+pub mod Changes
+pub mod Copies
+pub mod Growing
+pub mod LastPlaces
+pub mod LinkWalk
+pub mod NewNode
+pub mod NewResource
+pub mod NodePlaces
+pub mod OneRows
+pub mod Reasons
+pub mod ResourcePlaces
+pub mod Table

@@ -1,0 +1,9 @@
+pub mod Outline
+pub mod Homes
+pub mod HomeTable
+pub mod Ticket
+pub mod Place
+pub mod EditRefusal
+pub mod Edit
+pub mod Copies
+pub mod OneRow

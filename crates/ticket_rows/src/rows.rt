@@ -1,0 +1,169 @@
+//! The nodes of a ticket in preorder, and what is found among them.
+
+ghost use Rattle.std.specs.Prelude.{◌≡◌, ◌+◌, ◌<◌, ◌≤◌, ◌&&◌, ◌==◌, false, true, length, nat_le};
+ghost use Rattle.std.specs.Prelude.{suc, IfOk, IfSome};
+ghost use Rattle.std.specs.List.{position, position_or_len};
+ghost use Rattle.std.specs.Option.{option_copied};
+ghost use Rattle.std.specs.Prelude.{Some, drop, is_some, slice_get};
+ghost use Rattle.std.specs.Str.{bytes_eq};
+ghost use Rattle.ticket_items.specs.Ids.{are_distinct};
+ghost use Rattle.ticket_rows.specs.Outline as outline;
+ghost use Rattle.ticket_rows.specs.Place.{BoundsNodesBelow, node_places};
+ghost use Rattle.ticket_rows.specs.Place as tree;
+ghost use Rattle.ticket_rows.specs.Ticket.{IsValid, depths, has_node, node_ids, row_of};
+ghost use Rattle.ticket_rows.specs.Ticket as valid;
+ghost use Rattle.ticket_items.specs.declared.node_row.NodeRow.{NodeRow};
+
+use std::alloc::{AllocError, Global};
+use ticket_items::{Id, Name, NodeRow};
+
+/// The Status that only a spawned node shows (JDF 1.5, 4.4).
+pub const SPAWNED: &str = "Spawned";
+
+/// The greatest depth of a node.
+pub const MAX_DEPTH: u32 = 32;
+
+/// Whether a Status is the one that only a spawned node shows.
+pub fn is_reserved(status: &Name) -> bool
+    ensures { result ≡ valid.is_reserved status.now }
+{
+    status.as_str() == SPAWNED
+}
+
+/// Whether the depths are those of a tree in preorder.
+pub fn is_outline(rows: &[NodeRow]) -> bool
+    ensures { result ≡ outline.is_outline (depths rows.now) }
+{
+    let Some((root, later)) = rows.split_first() else {
+        return false;
+    };
+    root.depth == 1 && goes_on(later)
+}
+
+/// Whether a row at `depth` may stand behind one at `above`.
+fn may_follow(depth: u32, above: u32) -> bool
+    ensures { result ≡ (nat_le 2 depth && nat_le depth (suc above)) }
+{
+    2 <= depth && depth - 1 <= above
+}
+
+/// Whether the rows may follow the root's.
+fn goes_on(rows: &[NodeRow]) -> bool
+    ensures { result ≡ outline.goes_on 1 (depths rows.now) }
+{
+    let mut above = 1;
+    for row in rows {
+        if !may_follow(row.depth, above) {
+            return false;
+        }
+        above = row.depth;
+    }
+    true
+}
+
+/// Whether no node's Status is `Spawned`.
+pub fn are_unreserved(rows: &[NodeRow]) -> bool
+    ensures { result ≡ valid.are_unreserved rows.now }
+{
+    rows.iter().all(|row| !is_reserved(&row.status))
+}
+
+/// Whether no node is deeper than 32.
+pub fn are_shallow(rows: &[NodeRow]) -> bool
+    ensures { result ≡ valid.are_shallow rows.now }
+{
+    rows.iter().all(|row| row.depth <= MAX_DEPTH)
+}
+
+/// Equal rows.
+pub fn copy(alloc: Global, rows: &[NodeRow]) -> Result<Vec<NodeRow>, AllocError>
+    ensures { IfOk result (λ copied. copied.items ≡ rows.now) }
+{
+    let mut copied = Vec::with_capacity(alloc, rows.len())?;
+    for row in rows {
+        copied.push(row.copy(alloc)?)?;
+    }
+    Ok(copied)
+}
+
+/// The row of a node.
+pub fn node<'a>(rows: &'a [NodeRow], id: &Id) -> Option<&'a NodeRow>
+    ensures { option_copied result ≡ row_of rows.now id.now }
+{
+    rows.iter().find(|row| row.id == *id)
+}
+
+/// Where the row of a node stands.
+pub fn place_of(rows: &[NodeRow], id: &Id) -> Option<usize>
+    ensures { result ≡ position (λ r. bytes_eq r.id id.now) rows.now }
+{
+    rows.iter().position(|row| row.id == *id)
+}
+
+/// Where the row of a node stands, looked for from a place on and then in front of it.
+pub(crate) fn place_from(rows: &[NodeRow], id: &Id, from: usize) -> Option<usize>
+    requires { are_distinct (node_ids rows.now) ≡ true }
+    ensures { result ≡ position (λ r. bytes_eq r.id id.now) rows.now }
+{
+    let (front, behind) = rows.split_at(from.min(rows.len()));
+    match place_of(behind, id) {
+        Some(place) => Some(front.len() + place),
+        None => place_of(front, id),
+    }
+}
+
+/// Where the first row stands that is no deeper than `depth`.
+fn shallow_place(rows: &[NodeRow], depth: u32) -> Option<usize>
+    ensures { result ≡ position (λ r. nat_le r.depth depth) rows.now }
+{
+    rows.iter().position(|row| row.depth <= depth)
+}
+
+/// How many rows from the front on are deeper than `depth`.
+#[tactic(auto, using(ticket_items::proofs::Places::unwrap_or_position))]
+fn deeper_count(rows: &[NodeRow], depth: u32) -> usize
+    ensures count { result ≡ position_or_len (λ r. nat_le r.depth depth) rows.now }
+    ensures within { result ≤ length rows.now }
+{
+    shallow_place(rows, depth).unwrap_or(rows.len())
+}
+
+/// Where the rows end that stand deeper behind a place.
+pub(crate) fn run_end(rows: &[NodeRow], place: usize) -> usize
+    requires { place < length rows.now }
+    ensures end { (r : NodeRow) → slice_get rows.now place ≡ Some r
+        → result ≡ place + 1 + position_or_len (λ s. nat_le s.depth r.depth)
+        (drop (place + 1) rows.now) }
+    ensures within { result ≤ length rows.now }
+{
+    place + 1 + deeper_count(&rows[place + 1..], rows[place].depth)
+}
+
+/// Where the nodes below a node stand, itself among them: the first row, and the end.
+pub fn subtree(rows: &[NodeRow], id: &Id) -> Option<(usize, usize)>
+    requires { IsValid rows.now }
+    ensures found { IfSome result (λ b. BoundsNodesBelow rows.now id.now b.0 b.1) }
+    ensures known { is_some result ≡ has_node rows.now id.now }
+{
+    match place_of(rows, id) {
+        None => None,
+        Some(from) => {
+            let to = from + 1 + deeper_count(&rows[from + 1..], rows[from].depth);
+            Some((from, to))
+        }
+    }
+}
+
+/// Whether the node `lower` is `upper` or below it.
+pub fn is_below(rows: &[NodeRow], lower: &Id, upper: &Id) -> bool
+    requires { IsValid rows.now }
+    ensures { result ≡ tree.is_below (node_places rows.now) lower.now upper.now }
+{
+    match subtree(rows, upper) {
+        None => false,
+        Some((from, to)) => match place_of(rows, lower) {
+            None => false,
+            Some(place) => from <= place && place < to,
+        },
+    }
+}
