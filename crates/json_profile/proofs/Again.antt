@@ -4,26 +4,26 @@ use Rattle.std.proofs.lemmas.Bool.{true≢false, and_from, and_parts, ltb-true, 
 use Rattle.std.specs.List.{list_all}
 use Rattle.std.specs.Option.{option_map}
 use Rattle.serde_json.specs.Data.{Items, no_items, item, array}
-use Rattle.ticket_tree.specs.Attrs.{Pairs}
-use Rattle.ticket_tree.specs.Outline.{goes_on}
-use Rattle.ticket_tree.specs.Ticket.{IsValid, depths, are_shallow}
-use Rattle.ticket_tree.specs.declared.ancestor.Ancestor.{Ancestor}
-use Rattle.ticket_tree.specs.declared.audit.Audit.{Audit}
-use Rattle.ticket_tree.specs.declared.link.Link.{Link}
-use Rattle.ticket_tree.specs.declared.marks.Marks.{Marks}
-use Rattle.ticket_tree.specs.declared.node_row.NodeRow.{NodeRow}
-use Rattle.ticket_tree.specs.declared.resource.Resource.{Resource}
+use Rattle.ticket_items.specs.Attrs.{Pairs}
+use Rattle.ticket_rows.specs.Outline.{goes_on}
+use Rattle.ticket_rows.specs.Ticket.{IsValid, depths, are_shallow}
+use Rattle.ticket_items.specs.declared.ancestor.Ancestor.{Ancestor}
+use Rattle.ticket_items.specs.declared.audit.Audit.{Audit}
+use Rattle.ticket_items.specs.declared.link.Link.{Link}
+use Rattle.ticket_items.specs.declared.marks.Marks.{Marks}
+use Rattle.ticket_items.specs.declared.node_row.NodeRow.{NodeRow}
+use Rattle.ticket_items.specs.declared.resource.Resource.{Resource}
+use Rattle.json_form.specs.AuditDraft.{audit_draft}
+use Rattle.json_form.specs.Draft.{RawRow, RawTicket, resources_of, are_bare, raw_ticket, own_row, node_rows, item_rows, next_depth, node_members, root_members, ticket_draft}
+use Rattle.json_form.specs.Listed.{pool_draft, data_items}
+use Rattle.json_form.specs.PartDraft.{part_members}
+use Rattle.json_form.specs.PoolDraft.{RawResource, resource_draft, link_draft}
+use Rattle.json_form.specs.PoolWritten.{attr_members, link_data, audit_data}
+use Rattle.json_form.specs.Read.{◌>>=◌, text_pairs}
+use Rattle.json_writer.specs.Marked.{no_marks, marked_pool, marked_row, marked_rows}
+use Rattle.json_writer.specs.PartWritten.{part_root_data}
+use Rattle.json_writer.specs.Written.{pool_data, node_data, root_data, Tree, children, others, trees, job_data}
 use Rattle.json_profile.proofs.PoolAgain.{text_pairs-attr_members, raw_resources-again, links-again, audits-again}
-use Rattle.json_profile.specs.AuditDraft.{audit_draft}
-use Rattle.json_profile.specs.Draft.{RawRow, RawTicket, resources_of, are_bare, raw_ticket, own_row, node_rows, item_rows, next_depth, node_members, root_members, ticket_draft}
-use Rattle.json_profile.specs.Listed.{pool_draft, data_items}
-use Rattle.json_profile.specs.Marked.{no_marks, marked_pool, marked_row, marked_rows}
-use Rattle.json_profile.specs.PartDraft.{part_members}
-use Rattle.json_profile.specs.PartWritten.{part_root_data}
-use Rattle.json_profile.specs.PoolDraft.{RawResource, resource_draft, link_draft}
-use Rattle.json_profile.specs.PoolWritten.{attr_members, link_data, audit_data}
-use Rattle.json_profile.specs.Read.{◌>>=◌, text_pairs}
-use Rattle.json_profile.specs.Written.{pool_data, node_data, root_data, Tree, children, others, trees, job_data}
 
 -- the resources of a row are those of its pool
 abbrev pub IsWhole : RawRow → Type 0

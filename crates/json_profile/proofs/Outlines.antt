@@ -9,23 +9,22 @@ use Rattle.std.specs.Ordering.{nat_cmp, match_ordering}
 use Rattle.std.proofs.Common.{◌==◌, ◌⊎◌, inl, inr, Bool, false, Ordering, Less, Equal, Greater, codes, Result, Ok, Err, IfErr}
 use Rattle.serde_json.specs.Data.{Data, null, boolean, number, string, array, object, Items, no_items, item, Members, no_members, member}
 use Rattle.serde_json.specs.Find.{get}
-use Rattle.ticket_tree.specs.Attrs.{Pairs}
-use Rattle.ticket_tree.specs.Outline.{goes_on, is_outline}
-use Rattle.ticket_tree.specs.Ticket.{Job, depths}
-use Rattle.ticket_tree.specs.declared.audit.Audit.{Audit}
-use Rattle.ticket_tree.specs.declared.link.Link.{Link}
-use Rattle.ticket_tree.specs.declared.node_row.NodeRow.{NodeRow}
+use Rattle.ticket_items.specs.Attrs.{Pairs}
+use Rattle.ticket_rows.specs.Outline.{goes_on, is_outline}
+use Rattle.ticket_rows.specs.Ticket.{Job, depths, ids, are_unreserved, are_shallow, are_resolved, unless, first_of, fault_of}
+use Rattle.ticket_items.specs.declared.audit.Audit.{Audit}
+use Rattle.ticket_items.specs.declared.link.Link.{Link}
+use Rattle.ticket_items.specs.declared.node_row.NodeRow.{NodeRow}
+use Rattle.json_form.specs.AuditDraft.{audit_draft}
+use Rattle.json_form.specs.Listed.{pool_draft}
+use Rattle.json_form.specs.PoolDraft.{RawResource, resource_draft, link_draft}
+use Rattle.json_form.specs.Draft.{RawRow, RawTicket, resources_of, raw_ticket, own_row, node_rows, child_rows, list_rows, item_rows, next_depth, node_members, root_members, ticket_draft}
 use Rattle.json_profile.proofs.Again.{raw_depths}
-use Rattle.json_profile.specs.AuditDraft.{audit_draft}
-use Rattle.json_profile.specs.Listed.{pool_draft}
-use Rattle.json_profile.specs.PoolDraft.{RawResource, resource_draft, link_draft}
-use Rattle.json_profile.specs.Draft.{RawRow, RawTicket, resources_of, raw_ticket, own_row, node_rows, child_rows, list_rows, item_rows, next_depth, node_members, root_members, ticket_draft}
-use Rattle.ticket_tree.specs.Ids.{are_distinct}
-use Rattle.ticket_tree.specs.Ticket.{ids, are_unreserved, are_shallow, are_resolved, unless, first_of, fault_of}
-use Rattle.ticket_tree.specs.declared.refusal.Refusal.{Refusal}
-use Rattle.ticket_tree.specs.declared.refusal.Refusal.TheVariants.{BadId, DuplicateId, TooDeep, ReservedStatus, BadText, NotATree, UnresolvedLink, Memory}
-use Rattle.json_profile.specs.Form.{Answers, has_names, has_texts, built_fault, sound, ticket_fault}
-use Rattle.json_profile.specs.Read.{◌>>=◌, provided, has_only, text_under, attrs_of}
+use Rattle.ticket_items.specs.Ids.{are_distinct}
+use Rattle.ticket_items.specs.declared.refusal.Refusal.{Refusal}
+use Rattle.ticket_items.specs.declared.refusal.Refusal.TheVariants.{BadId, DuplicateId, TooDeep, ReservedStatus, BadText, NotATree, UnresolvedLink, Memory}
+use Rattle.json_form.specs.Form.{Answers, has_names, has_texts, built_fault, sound, ticket_fault}
+use Rattle.json_form.specs.Read.{◌>>=◌, provided, has_only, text_under, attrs_of}
 
 -- ---- a node's own row
 

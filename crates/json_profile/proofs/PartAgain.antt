@@ -5,31 +5,33 @@ use Rattle.std.proofs.lemmas.List.{map-append, take_at, drop_at}
 use Rattle.std.specs.List.{list_all, prefix_len, take_while}
 use Rattle.std.specs.Option.{option_map, option_map_or}
 use Rattle.std.specs.Str.{bytes_eq}
-use Rattle.ticket_tree.proofs.Apart.{bytes_eq-same}
-use Rattle.ticket_tree.proofs.SpawnTexts.{spawn_of-spawn_text}
-use Rattle.ticket_tree.specs.Names.{is_name}
-use Rattle.ticket_tree.specs.Part.{Copied, with_copies}
-use Rattle.ticket_tree.specs.SpawnId.{is_spawn_number, spawn_of, spawn_text}
-use Rattle.ticket_tree.specs.Ticket.{IsValid}
-use Rattle.ticket_tree.specs.declared.ancestor.Ancestor.{Ancestor}
-use Rattle.ticket_tree.specs.declared.node_row.NodeRow.{NodeRow}
-use Rattle.ticket_tree.specs.declared.resource.Resource.{Resource}
+use Rattle.ticket_items.proofs.Apart.{bytes_eq-same}
+use Rattle.ticket_items.proofs.SpawnTexts.{spawn_of-spawn_text}
+use Rattle.ticket_items.specs.Names.{is_name}
+use Rattle.ticket_tree.specs.Part.{Copied}
+use Rattle.ticket_rows.specs.Copies.{with_copies}
+use Rattle.ticket_items.specs.SpawnId.{is_spawn_number, spawn_of, spawn_text}
+use Rattle.ticket_rows.specs.Ticket.{IsValid}
+use Rattle.ticket_items.specs.declared.ancestor.Ancestor.{Ancestor}
+use Rattle.ticket_items.specs.declared.node_row.NodeRow.{NodeRow}
+use Rattle.ticket_items.specs.declared.resource.Resource.{Resource}
+use Rattle.json_form.specs.Draft.{resources_of, node_rows, item_rows, next_depth}
+use Rattle.json_form.specs.Form.{row_has_names, row_has_texts, sound}
+use Rattle.json_form.specs.PartDraft.{shown_rw, shown_ro, Groups, RawPart, Taken, behind, is_own, is_change, is_read, grouped, taken, taken_groups, ancestor_draft, part_members, part_draft, raw_part}
+use Rattle.json_forms.specs.Again.{each_again, ancestor_again}
+use Rattle.json_form.specs.PartForm.{ancestor_has_names, copies_have_names, copies_have_texts, has_names, part_fault, copied, part_read}
+use Rattle.json_form.specs.PoolDraft.{RawResource}
+use Rattle.json_form.specs.PoolForm.{nothing_shown}
+use Rattle.json_form.specs.PoolWritten.{all_showing}
+use Rattle.json_form.specs.Read.{◌>>=◌, provided}
+use Rattle.json_reader.proofs.Faults.{no_fault}
+use Rattle.json_writer.specs.Marked.{no_marks, marked_rows}
+use Rattle.json_writer.specs.PartWritten.{ancestor_data, copies_pool, root_pool, part_root_data, copied_root, rows_data, part_data}
+use Rattle.json_writer.specs.Written.{children, trees}
 use Rattle.json_profile.proofs.Again.{node_rows-part_root_data, item_rows-marked, unmarked_rows, unmarked_bare}
-use Rattle.json_profile.proofs.Lists.{each-again}
 use Rattle.json_profile.proofs.PoolAgain.{resources_of-all_showing}
-use Rattle.json_profile.proofs.RoundTrip.{no_fault, three}
-use Rattle.json_profile.specs.Draft.{resources_of, node_rows, item_rows, next_depth}
-use Rattle.json_profile.specs.Form.{row_has_names, row_has_texts, sound}
-use Rattle.json_profile.specs.Marked.{no_marks, marked_rows}
-use Rattle.json_profile.specs.PartDraft.{to_change, to_read, Groups, RawPart, Taken, behind, is_own, is_change, is_read, grouped, taken, taken_groups, ancestor_draft, part_members, part_draft, raw_part}
-use Rattle.json_profile.specs.PartForm.{ancestor_has_names, copies_have_names, copies_have_texts, has_names, part_fault, copied, part_read}
-use Rattle.json_profile.specs.PartWritten.{ancestor_data, copies_pool, root_pool, part_root_data, copied_root, rows_data, part_data}
-use Rattle.json_profile.specs.PoolDraft.{RawResource}
-use Rattle.json_profile.specs.PoolForm.{nothing_shown}
-use Rattle.json_profile.specs.PoolWritten.{all_showing}
-use Rattle.json_profile.specs.Read.{◌>>=◌, provided}
-use Rattle.json_profile.specs.Written.{children, trees}
-use Rattle.ticket_tree.specs.declared.refusal.Refusal.TheVariants.{NotProfile}
+use Rattle.json_profile.proofs.RoundTrip.{three}
+use Rattle.ticket_items.specs.declared.refusal.Refusal.TheVariants.{NotProfile}
 
 -- ---- the groups of a pool
 
@@ -60,11 +62,11 @@ all_own (r ∷ rs) = all_own rs
 only_same : (spawn : List ℕ) (rest : Bool) → rest ≡ true → ((bytes_eq spawn spawn && true) && true && rest) ≡ true
 only_same spawn rest e = and_from _ _ (and_from _ _ (and_from _ _ (bytes_eq-same spawn) refl) refl) e
 
-all_change : (spawn : List ℕ) (rs : List Resource) → list_all (is_change spawn) (all_showing (to_change spawn) rs) ≡ true
+all_change : (spawn : List ℕ) (rs : List Resource) → list_all (is_change spawn) (all_showing (shown_rw spawn) rs) ≡ true
 all_change spawn [] = refl
 all_change spawn (r ∷ rs) = only_same spawn _ (all_change spawn rs)
 
-all_read : (spawn : List ℕ) (rs : List Resource) → list_all (is_read spawn) (all_showing (to_read spawn) rs) ≡ true
+all_read : (spawn : List ℕ) (rs : List Resource) → list_all (is_read spawn) (all_showing (shown_ro spawn) rs) ≡ true
 all_read spawn [] = refl
 all_read spawn (r ∷ rs) = only_same spawn _ (all_read spawn rs)
 
@@ -73,7 +75,7 @@ stops_own spawn [] [] = tt
 stops_own spawn [] (r ∷ reads) = refl
 stops_own spawn (r ∷ changes) reads = refl
 
-stops_change : (spawn : List ℕ) (reads : List Resource) → Stops (is_change spawn) (all_showing (to_read spawn) reads)
+stops_change : (spawn : List ℕ) (reads : List Resource) → Stops (is_change spawn) (all_showing (shown_ro spawn) reads)
 stops_change spawn [] = tt
 stops_change spawn (r ∷ reads) = refl
 
@@ -84,12 +86,12 @@ abbrev cut_groups : List ℕ → List RawResource → List RawResource → Optio
 cut_groups spawn own copies = tested_groups spawn own (take_while (is_change spawn) copies) (behind (is_change spawn) copies)
 
 grouped-root_pool : (spawn : List ℕ) (own changes reads : List Resource)
-    → grouped spawn (root_pool spawn own changes reads) ≡ Some (record { own = all_showing nothing_shown own; rw = all_showing (to_change spawn) changes; ro = all_showing (to_read spawn) reads })
+    → grouped spawn (root_pool spawn own changes reads) ≡ Some (record { own = all_showing nothing_shown own; rw = all_showing (shown_rw spawn) changes; ro = all_showing (shown_ro spawn) reads })
 grouped-root_pool spawn own changes reads =
     let bare = all_showing nothing_shown own in
     let copies = copies_pool spawn changes reads in
-    let free = all_showing (to_change spawn) changes in
-    let locked = all_showing (to_read spawn) reads in
+    let free = all_showing (shown_rw spawn) changes in
+    let locked = all_showing (shown_ro spawn) reads in
     ap (λ xs. cut_groups spawn xs (behind is_own (bare ++ copies))) (take_while-front is_own bare copies (all_own own) (stops_own spawn changes reads))
     ∙ ap (cut_groups spawn bare) (behind-front is_own bare copies (all_own own) (stops_own spawn changes reads))
     ∙ ap (λ xs. tested_groups spawn bare xs (behind (is_change spawn) (free ++ locked))) (take_while-front (is_change spawn) free locked (all_change spawn changes) (stops_change spawn reads))
@@ -100,7 +102,7 @@ whole_pool : (spawn : List ℕ) (own changes reads : List Resource) → resource
 whole_pool spawn own changes reads =
     map-append (λ r. r.resource) (all_showing nothing_shown own) (copies_pool spawn changes reads)
     ∙ ap (λ xs. xs ++ resources_of (copies_pool spawn changes reads)) (resources_of-all_showing nothing_shown own)
-    ∙ ap (λ xs. own ++ xs) (map-append (λ r. r.resource) (all_showing (to_change spawn) changes) (all_showing (to_read spawn) reads) ∙ ap (λ xs. xs ++ resources_of (all_showing (to_read spawn) reads)) (resources_of-all_showing (to_change spawn) changes) ∙ ap (λ xs. changes ++ xs) (resources_of-all_showing (to_read spawn) reads))
+    ∙ ap (λ xs. own ++ xs) (map-append (λ r. r.resource) (all_showing (shown_rw spawn) changes) (all_showing (shown_ro spawn) reads) ∙ ap (λ xs. xs ++ resources_of (all_showing (shown_ro spawn) reads)) (resources_of-all_showing (shown_rw spawn) changes) ∙ ap (λ xs. changes ++ xs) (resources_of-all_showing (shown_ro spawn) reads))
     ∙ sym (append_assoc own changes reads)
 
 -- ---- rows and ancestors
@@ -128,18 +130,14 @@ part_taken : (spawn : List ℕ) (r : NodeRow) (rows : List NodeRow) (changes rea
 part_taken spawn r rows changes reads =
     let raws = marked_rows no_marks rows in
     let root = copied_root spawn changes reads r in
-    let free = resources_of (all_showing (to_change spawn) changes) in
-    let locked = resources_of (all_showing (to_read spawn) reads) in
+    let free = resources_of (all_showing (shown_rw spawn) changes) in
+    let locked = resources_of (all_showing (shown_ro spawn) reads) in
     ap (λ b. provided b >>= λ _. grouped spawn root.pool >>= λ g. Some (taken_groups root.row raws g)) (unmarked_bare rows)
     ∙ ap (λ o. o >>= λ g. Some (taken_groups root.row raws g)) (grouped-root_pool spawn r.resources changes reads)
     ∙ ap (λ xs. taken_of (record r { resources = xs } ∷ map (λ x. x.row) raws) free locked) (resources_of-all_showing nothing_shown r.resources)
     ∙ ap (λ xs. taken_of (r ∷ xs) free locked) (unmarked_rows rows)
-    ∙ ap (λ xs. taken_of (r ∷ rows) xs locked) (resources_of-all_showing (to_change spawn) changes)
-    ∙ ap (taken_of (r ∷ rows) changes) (resources_of-all_showing (to_read spawn) reads)
-
-ancestor_draft-ancestor_data : (a : Ancestor) → ancestor_draft (ancestor_data a) ≡ Some a
-unfolding ancestor_draft
-ancestor_draft-ancestor_data a = refl
+    ∙ ap (λ xs. taken_of (r ∷ rows) xs locked) (resources_of-all_showing (shown_rw spawn) changes)
+    ∙ ap (taken_of (r ∷ rows) changes) (resources_of-all_showing (shown_ro spawn) reads)
 
 -- ---- parts
 
@@ -148,7 +146,7 @@ part_draft-rows_data : (job spawn : List ℕ) (ancestors : List Ancestor) (rows 
 unfolding part_draft
 part_draft-rows_data job spawn ancestors [] changes reads valid = absurd (true≢false (sym valid.tree))
 part_draft-rows_data job spawn ancestors (r ∷ rows) changes reads valid =
-    ap (λ o. o >>= λ above. node_rows part_members 1 (rows_data job spawn ancestors (r ∷ rows) changes reads) >>= λ raws. taken spawn raws >>= λ t. Some (raw_part job spawn above t)) (each-again ancestor_draft ancestor_data ancestor_draft-ancestor_data ancestors)
+    ap (λ o. o >>= λ above. node_rows part_members 1 (rows_data job spawn ancestors (r ∷ rows) changes reads) >>= λ raws. taken spawn raws >>= λ t. Some (raw_part job spawn above t)) (each_again ancestor_draft ancestor_data ancestor_again ancestors)
     ∙ ap (λ o. o >>= λ raws. taken spawn raws >>= λ t. Some (raw_part job spawn ancestors t)) (part_rows job spawn ancestors r rows changes reads valid)
     ∙ ap (λ o. o >>= λ t. Some (raw_part job spawn ancestors t)) (part_taken spawn r rows changes reads)
 

@@ -4,19 +4,20 @@ use Rattle.std.specs.Bool.{⊤}
 use Rattle.std.specs.List.{list_all}
 use Rattle.std.specs.Option.{IfSome}
 use Rattle.serde_json.specs.Data.{Data}
-use Rattle.ticket_tree.specs.Outline.{is_outline}
-use Rattle.ticket_tree.specs.Part.{Copied, with_copies}
-use Rattle.ticket_tree.specs.Ticket.{depths}
-use Rattle.ticket_tree.specs.declared.ancestor.Ancestor.{Ancestor}
-use Rattle.ticket_tree.specs.declared.refusal.Refusal.{Refusal}
-use Rattle.ticket_tree.specs.declared.refusal.Refusal.TheVariants.{NotATree}
+use Rattle.ticket_rows.specs.Outline.{is_outline}
+use Rattle.ticket_tree.specs.Part.{Copied}
+use Rattle.ticket_rows.specs.Copies.{with_copies}
+use Rattle.ticket_rows.specs.Ticket.{depths}
+use Rattle.ticket_items.specs.declared.ancestor.Ancestor.{Ancestor}
+use Rattle.ticket_items.specs.declared.refusal.Refusal.{Refusal}
+use Rattle.ticket_items.specs.declared.refusal.Refusal.TheVariants.{NotATree}
+use Rattle.json_form.specs.Draft.{RawRow, are_bare, node_rows}
+use Rattle.json_form.specs.Form.{Answers, sound}
+use Rattle.json_form.specs.PartDraft.{Groups, RawPart, Taken, grouped, taken, taken_groups, ancestors_under, part_members, part_draft, raw_part}
+use Rattle.json_form.specs.PartForm.{has_names, has_texts, built_fault, part_fault, copied}
+use Rattle.json_form.specs.Read.{◌>>=◌, provided, text_under}
 use Rattle.json_profile.proofs.Again.{raw_depths}
 use Rattle.json_profile.proofs.Outlines.{root_is_tree, depths-raw, IsOther, fault_of-outline, draft_fault, judged_other, memory_or}
-use Rattle.json_profile.specs.Draft.{RawRow, are_bare, node_rows}
-use Rattle.json_profile.specs.Form.{Answers, sound}
-use Rattle.json_profile.specs.PartDraft.{Groups, RawPart, Taken, grouped, taken, taken_groups, ancestors_under, part_members, part_draft, raw_part}
-use Rattle.json_profile.specs.PartForm.{has_names, has_texts, built_fault, part_fault, copied}
-use Rattle.json_profile.specs.Read.{◌>>=◌, provided, text_under}
 
 abbrev IsTree : Taken → Type 0
 IsTree t = is_outline (depths (with_copies t.rows t.rw t.ro)) ≡ true

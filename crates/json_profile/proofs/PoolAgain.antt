@@ -1,28 +1,23 @@
 -- Resources, links and audits that were written are read again.
-use Rattle.std.proofs.Common.{◌≡◌, ℕ, ◌&&◌, Bool, true, false, not, List, [], ◌∷◌, map, Some, refl, ap, ◌∙◌}
+use Rattle.std.proofs.Common.{◌≡◌, ℕ, ◌&&◌, Bool, true, false, not, List, [], ◌∷◌, Some, refl, ap, ◌∙◌}
 use Rattle.std.specs.Option.{option_map}
-use Rattle.ticket_tree.specs.Attrs.{Pairs}
+use Rattle.ticket_items.specs.Attrs.{Pairs}
 use Rattle.serde_json.specs.Data.{string, array}
 use Rattle.serde_json.specs.Find.{as_str}
-use Rattle.ticket_tree.specs.declared.audit.Audit.{Audit}
-use Rattle.ticket_tree.specs.declared.audit.Audit.TheVariants.{Notification, Spawned, Merged}
-use Rattle.ticket_tree.specs.declared.link.Link.{Link}
-use Rattle.ticket_tree.specs.declared.resource.Resource.{Resource}
-use Rattle.ticket_tree.specs.declared.spawn_status.SpawnStatus.{SpawnStatus}
-use Rattle.ticket_tree.specs.declared.spawn_status.SpawnStatus.TheVariants.{NotSpawned, SpawnedRO, SpawnedRW}
-use Rattle.ticket_tree.specs.declared.usage.Usage.{Usage}
-use Rattle.ticket_tree.specs.declared.usage.Usage.TheVariants.{Input, Output}
-use Rattle.json_profile.proofs.Lists.{each-again, pool-again}
-use Rattle.json_profile.specs.AuditDraft.{notification_draft, spawned_draft, merged_draft, audit_draft}
-use Rattle.json_profile.specs.Draft.{resources_of}
-use Rattle.json_profile.specs.DraftedPool.{own_resource, drafted_resource}
-use Rattle.json_profile.specs.Listed.{pool_draft, data_items}
-use Rattle.json_profile.specs.PoolDraft.{RawResource, spawn_status_named, usage_named, shown_draft, resource_draft, link_draft}
-use Rattle.json_profile.specs.PoolForm.{nothing_shown, shows_nothing, is_empty, is_not_spawned}
-use Rattle.json_profile.specs.PoolWritten.{attr_members, spawn_status_word, usage_word, resource_data, raw_data, all_showing, link_data, audit_data}
-use Rattle.json_profile.specs.Read.{◌>>=◌, text_pairs}
-use Rattle.json_profile.specs.declared.resource_draft.ResourceDraft.{ResourceDraft}
-use Rattle.json_profile.specs.declared.shown.Shown.{Shown}
+use Rattle.ticket_items.specs.declared.audit.Audit.{Audit}
+use Rattle.ticket_items.specs.declared.link.Link.{Link}
+use Rattle.ticket_items.specs.declared.resource.Resource.{Resource}
+use Rattle.ticket_items.specs.declared.spawn_status.SpawnStatus.{SpawnStatus}
+use Rattle.ticket_items.specs.declared.spawn_status.SpawnStatus.TheVariants.{NotSpawned, SpawnedRO, SpawnedRW}
+use Rattle.json_forms.specs.Again.{each_again, pool_again, link_again, audit_again}
+use Rattle.json_form.specs.AuditDraft.{audit_draft}
+use Rattle.json_form.specs.Draft.{resources_of}
+use Rattle.json_form.specs.Listed.{pool_draft, data_items}
+use Rattle.json_form.specs.PoolDraft.{RawResource, spawn_status_named, shown_draft, resource_draft, link_draft}
+use Rattle.json_form.specs.PoolForm.{nothing_shown, shows_nothing, is_empty, is_not_spawned}
+use Rattle.json_form.specs.PoolWritten.{attr_members, spawn_status_word, resource_data, raw_data, all_showing, link_data, audit_data}
+use Rattle.json_form.specs.Read.{◌>>=◌, text_pairs}
+use Rattle.json_form.specs.declared.shown.Shown.{Shown}
 
 -- ---- attributes
 
@@ -38,7 +33,7 @@ spawn_status-again SpawnedRO = refl
 spawn_status-again SpawnedRW = refl
 
 texts-again : (texts : List (List ℕ)) → pool_draft as_str (Some (array (data_items string texts))) ≡ Some texts
-texts-again texts = each-again as_str string (λ s. refl) texts
+texts-again texts = each_again as_str string (λ s. refl) texts
 
 pub shown_draft-resource_data : (shown : Shown) (r : Resource) → shown_draft (resource_data shown r) ≡ Some shown
 unfolding shown_draft
@@ -54,16 +49,12 @@ resource_draft-resource_data shown r =
 
 -- a pool whose resources show something each
 pub raw_resources-again : (raws : List RawResource) → pool_draft resource_draft (Some (array (data_items raw_data raws))) ≡ Some raws
-raw_resources-again raws = pool-again resource_draft raw_data (λ r. resource_draft-resource_data r.shown r.resource) raws
+raw_resources-again raws = pool_again resource_draft raw_data (λ r. resource_draft-resource_data r.shown r.resource) raws
 
 -- the resources that are shown so
 pub resources_of-all_showing : (shown : Shown) (rs : List Resource) → resources_of (all_showing shown rs) ≡ rs
 resources_of-all_showing shown [] = refl
 resources_of-all_showing shown (r ∷ rs) = ap (λ more. r ∷ more) (resources_of-all_showing shown rs)
-
-pub own_resources : (drafts : List ResourceDraft) → map (λ r. r.resource) (map drafted_resource drafts) ≡ map own_resource drafts
-own_resources [] = refl
-own_resources (d ∷ drafts) = ap (λ more. own_resource d ∷ more) (own_resources drafts)
 
 -- what shows nothing is what absent members mean
 nothing_at : (locked : Bool) (ids : List (List ℕ)) (s : SpawnStatus) → (not locked && is_empty ids && is_not_spawned s) ≡ true → (locked ≡ false) × (ids ≡ []) × (s ≡ NotSpawned)
@@ -82,27 +73,10 @@ shows_nothing-exact shown h =
 
 -- ---- links
 
-pub usage-again : (u : Usage) → usage_named (usage_word u) ≡ Some u
-usage-again Input = refl
-usage-again Output = refl
-
-pub link_draft-link_data : (l : Link) → link_draft (link_data l) ≡ Some l
-unfolding link_draft
-link_draft-link_data l = ap (λ o. o >>= λ u. Some (record { rref = l.rref; usage = u })) (usage-again l.usage)
-
 pub links-again : (ls : List Link) → pool_draft link_draft (Some (array (data_items link_data ls))) ≡ Some ls
-links-again ls = pool-again link_draft link_data link_draft-link_data ls
+links-again ls = pool_again link_draft link_data link_again ls
 
 -- ---- audits
 
-pub audit_draft-audit_data : (a : Audit) → audit_draft (audit_data a) ≡ Some a
-unfolding audit_draft notification_draft spawned_draft merged_draft
-audit_draft-audit_data (Notification time text) = refl
-audit_draft-audit_data (Spawned time jref spawn_id ro changed status) =
-    ap (λ o. o >>= λ first. pool_draft as_str (Some (array (data_items string changed))) >>= λ second. Some (Spawned time jref spawn_id first second status)) (texts-again ro)
-    ∙ ap (λ o. o >>= λ second. Some (Spawned time jref spawn_id ro second status)) (texts-again changed)
-audit_draft-audit_data (Merged time jref merge_id overwritten) =
-    ap (λ o. o >>= λ ids. Some (Merged time jref merge_id ids)) (texts-again overwritten)
-
 pub audits-again : (as' : List Audit) → pool_draft audit_draft (Some (array (data_items audit_data as'))) ≡ Some as'
-audits-again as' = pool-again audit_draft audit_data audit_draft-audit_data as'
+audits-again as' = pool_again audit_draft audit_data audit_again as'

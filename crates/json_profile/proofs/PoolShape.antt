@@ -3,18 +3,18 @@ use Rattle.std.proofs.Common.{◌≡◌, ℕ, max, ◌≤◌, ◌||◌, false, L
 use Rattle.std.proofs.lemmas.Bool.{or_from}
 use Rattle.serde_json.specs.Data.{Data, string, depth, items_depth, members_depth}
 use Rattle.serde_json.specs.Written.{has_float, items_have_float, members_have_float}
-use Rattle.ticket_tree.specs.Attrs.{Pairs}
-use Rattle.ticket_tree.specs.declared.ancestor.Ancestor.{Ancestor}
-use Rattle.ticket_tree.specs.declared.audit.Audit.{Audit}
-use Rattle.ticket_tree.specs.declared.audit.Audit.TheVariants.{Notification, Spawned, Merged}
-use Rattle.ticket_tree.specs.declared.link.Link.{Link}
-use Rattle.ticket_tree.specs.declared.resource.Resource.{Resource}
-use Rattle.json_profile.specs.Listed.{data_items}
-use Rattle.json_profile.specs.PartWritten.{ancestor_data}
-use Rattle.json_profile.specs.PoolDraft.{RawResource}
-use Rattle.json_profile.specs.PoolWritten.{attr_members, resource_data, raw_data, link_data, audit_data}
-use Rattle.json_profile.specs.Written.{pool_data}
-use Rattle.json_profile.specs.declared.shown.Shown.{Shown}
+use Rattle.ticket_items.specs.Attrs.{Pairs}
+use Rattle.ticket_items.specs.declared.ancestor.Ancestor.{Ancestor}
+use Rattle.ticket_items.specs.declared.audit.Audit.{Audit}
+use Rattle.ticket_items.specs.declared.audit.Audit.TheVariants.{Notification, Spawned, Merged}
+use Rattle.ticket_items.specs.declared.link.Link.{Link}
+use Rattle.ticket_items.specs.declared.resource.Resource.{Resource}
+use Rattle.json_form.specs.Listed.{data_items}
+use Rattle.json_form.specs.PoolDraft.{RawResource}
+use Rattle.json_form.specs.PoolWritten.{attr_members, resource_data, raw_data, link_data, audit_data}
+use Rattle.json_form.specs.declared.shown.Shown.{Shown}
+use Rattle.json_writer.specs.PartWritten.{ancestor_data}
+use Rattle.json_writer.specs.Written.{pool_data}
 
 -- ---- no float
 

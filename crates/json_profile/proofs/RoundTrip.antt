@@ -1,36 +1,23 @@
 -- A written ticket and a written edit are read as what they were.
-use Rattle.std.proofs.Common.{◌≡◌, ◌≤◌, Bool, true, false, List, [], ◌∷◌, Option, Some, None, Ok, Err, refl, ap, ◌∙◌, arith}
+use Rattle.std.proofs.Common.{◌≡◌, ◌≤◌, Bool, true, false, [], ◌∷◌, Option, Some, None, Ok, Err, refl, ap, ◌∙◌, arith}
 use Rattle.std.proofs.lemmas.Bool.{or_from}
 use Rattle.std.specs.Option.{option_map_or}
 use Rattle.serde_json.specs.Data.{depth}
 use Rattle.serde_json.specs.Written.{has_float}
-use Rattle.ticket_tree.specs.Ticket.{Job, IsValid, fault_of, unless, first_of}
-use Rattle.ticket_tree.specs.declared.edit.Edit.{Edit}
-use Rattle.ticket_tree.specs.declared.edit.Edit.TheVariants.{SetStatus, SetAttr, SetResStatus, SetResAttr, Note, AddNode, AddResource, AddLink}
-use Rattle.ticket_tree.specs.declared.node_row.NodeRow.{NodeRow}
-use Rattle.ticket_tree.specs.declared.refusal.Refusal.{Refusal}
-use Rattle.ticket_tree.specs.declared.refusal.Refusal.TheVariants.{NotATree, NotProfile, ReservedStatus, DuplicateId, TooDeep, UnresolvedLink, BadId, BadText}
-use Rattle.json_profile.specs.EditDraft.{edit_draft, adding_draft, setting_draft, set_status_draft, set_attr_draft, set_resource_status_draft, set_resource_attr_draft, note_draft, add_node_draft, add_resource_draft, add_link_draft}
-use Rattle.json_profile.specs.Form.{job_has_names, job_has_texts, ticket_fault, ticket_read, edit_has_names, edit_has_texts, edit_fault, edit_read, judged, sound}
-use Rattle.json_profile.specs.Written.{ticket_data, edit_data}
+use Rattle.ticket_rows.specs.Ticket.{Job, IsValid, fault_of, unless, first_of}
+use Rattle.ticket_items.specs.declared.edit.Edit.{Edit}
+use Rattle.ticket_items.specs.declared.edit.Edit.TheVariants.{SetStatus, SetAttr, SetResStatus, SetResAttr, Note, AddNode, AddResource, AddLink}
+use Rattle.ticket_items.specs.declared.refusal.Refusal.{Refusal}
+use Rattle.ticket_items.specs.declared.refusal.Refusal.TheVariants.{NotProfile, ReservedStatus, BadId, BadText}
+use Rattle.json_form.specs.EditDraft.{edit_draft, adding_draft, setting_draft, set_status_draft, set_attr_draft, set_resource_status_draft, set_resource_attr_draft, note_draft, add_node_draft, add_resource_draft, add_link_draft}
+use Rattle.json_form.specs.Form.{job_has_names, job_has_texts, ticket_fault, ticket_read, edit_has_names, edit_has_texts, edit_fault, edit_read, judged, sound}
+use Rattle.json_form.specs.Read.{◌>>=◌}
+use Rattle.json_reader.proofs.Faults.{no_fault}
+use Rattle.json_writer.specs.Written.{ticket_data, edit_data}
 use Rattle.json_profile.proofs.Again.{ticket_draft-ticket_data}
-use Rattle.json_profile.proofs.PoolAgain.{text_pairs-attr_members, usage-again}
+use Rattle.json_forms.specs.Again.{usage_again}
+use Rattle.json_profile.proofs.PoolAgain.{text_pairs-attr_members}
 use Rattle.json_profile.proofs.PoolShape.{attrs_plain, attrs_flat}
-use Rattle.json_profile.specs.Read.{◌>>=◌}
-
-five : (a b c d e : Bool) → a ≡ true → b ≡ true → c ≡ true → d ≡ true → e ≡ true
-    → first_of (unless a NotATree ∷ unless b ReservedStatus ∷ unless c DuplicateId ∷ unless d TooDeep ∷ unless e UnresolvedLink ∷ []) ≡ None
-five true true true true true p q r s t = refl
-five false b c d e p q r s t = cc
-five true false c d e p q r s t = cc
-five true true false d e p q r s t = cc
-five true true true false e p q r s t = cc
-five true true true true false p q r s t = cc
-
--- valid rows have no fault
-pub no_fault : (rows : List NodeRow) → IsValid rows → fault_of rows ≡ None
-no_fault rows valid =
-    five _ _ _ _ _ valid.tree valid.unreserved valid.distinct valid.shallow valid.resolved
 
 no_built_fault : (bare : Bool) (o : Option Refusal) → bare ≡ true → o ≡ None → first_of (unless bare ReservedStatus ∷ o ∷ []) ≡ None
 no_built_fault true None p q = refl
@@ -62,7 +49,7 @@ edit_draft-edit_data (SetResAttr resource name value) = refl
 edit_draft-edit_data (Note node text) = refl
 edit_draft-edit_data (AddNode node id kind job_part status) = refl
 edit_draft-edit_data (AddResource node resource) = ap (λ o. o >>= λ attrs. Some (AddResource node (record resource { attrs = attrs }))) (text_pairs-attr_members resource.attrs)
-edit_draft-edit_data (AddLink node link) = ap (λ o. o >>= λ usage. Some (AddLink node (record { rref = link.rref; usage = usage }))) (usage-again link.usage)
+edit_draft-edit_data (AddLink node link) = ap (λ o. o >>= λ usage. Some (AddLink node (record { rref = link.rref; usage = usage }))) (usage_again link.usage)
 
 pub edit_again : (e : Edit) → edit_has_names e ≡ true → edit_has_texts e ≡ true → edit_read (edit_data e) ≡ Ok e
 edit_again e names texts = ap (judged edit_fault) (edit_draft-edit_data e) ∙ ap (λ f. sound f e) (two _ _ names texts)

@@ -3,19 +3,20 @@ use Rattle.std.proofs.Common.{◌≡◌, ℕ, max, ◌+◌, ◌*◌, ◌<◌, �
 use Rattle.std.proofs.lemmas.Bool.{and_parts, ltb-true, leb-true, or_from}
 use Rattle.serde_json.specs.Data.{Data, Items, no_items, item, depth, items_depth}
 use Rattle.serde_json.specs.Written.{has_float, items_have_float}
-use Rattle.ticket_tree.specs.Part.{Copied, with_copies}
-use Rattle.ticket_tree.specs.SpawnId.{spawn_text}
-use Rattle.ticket_tree.specs.Ticket.{Job, are_shallow}
-use Rattle.ticket_tree.specs.declared.ancestor.Ancestor.{Ancestor}
-use Rattle.ticket_tree.specs.declared.marks.Marks.{Marks}
-use Rattle.ticket_tree.specs.declared.node_row.NodeRow.{NodeRow}
-use Rattle.ticket_tree.specs.declared.resource.Resource.{Resource}
+use Rattle.ticket_tree.specs.Part.{Copied}
+use Rattle.ticket_rows.specs.Copies.{with_copies}
+use Rattle.ticket_items.specs.SpawnId.{spawn_text}
+use Rattle.ticket_rows.specs.Ticket.{Job, are_shallow}
+use Rattle.ticket_items.specs.declared.ancestor.Ancestor.{Ancestor}
+use Rattle.ticket_items.specs.declared.marks.Marks.{Marks}
+use Rattle.ticket_items.specs.declared.node_row.NodeRow.{NodeRow}
+use Rattle.ticket_items.specs.declared.resource.Resource.{Resource}
+use Rattle.json_form.specs.Draft.{RawRow}
+use Rattle.json_writer.specs.Marked.{no_marks, marked_rows}
+use Rattle.json_writer.specs.PartWritten.{part_root_data, copied_root, rows_data, part_data}
+use Rattle.json_writer.specs.Written.{node_data, root_data, Tree, children, others, trees, job_data, shown_data}
 use Rattle.json_profile.proofs.Again.{raws_are_shallow, shallow-marked}
 use Rattle.json_profile.proofs.PoolShape.{attrs_plain, audits_plain, links_plain, pool_plain, ancestors_plain, attrs_flat, audits_low, links_low, pool_low, ancestors_low}
-use Rattle.json_profile.specs.Draft.{RawRow}
-use Rattle.json_profile.specs.Marked.{no_marks, marked_rows}
-use Rattle.json_profile.specs.PartWritten.{part_root_data, copied_root, rows_data, part_data}
-use Rattle.json_profile.specs.Written.{node_data, root_data, Tree, children, others, trees, job_data, shown_data}
 
 -- ---- no float
 

@@ -2,19 +2,19 @@
 use Rattle.std.proofs.Common.{◌≡◌, true, false, List, [], ◌∷◌, Some, None, refl}
 use Rattle.std.specs.Prelude.{codes}
 use Rattle.serde_json.specs.Data.{Data, no_items, item, Members, no_members, member, unsigned, null, boolean, number, string, array, object}
-use Rattle.ticket_tree.specs.declared.audit.Audit.TheVariants.{Notification, Spawned, Merged}
-use Rattle.ticket_tree.specs.declared.node_row.NodeRow.{NodeRow}
-use Rattle.ticket_tree.specs.declared.refusal.Refusal.TheVariants.{NotATree, ReservedStatus}
-use Rattle.ticket_tree.specs.declared.resource.Resource.{Resource}
-use Rattle.ticket_tree.specs.declared.spawn_status.SpawnStatus.TheVariants.{NotSpawned, SpawnedRO, SpawnedRW}
-use Rattle.ticket_tree.specs.declared.usage.Usage.TheVariants.{Input, Output}
-use Rattle.json_profile.specs.AuditDraft.{notification_draft, spawned_draft, merged_draft, audit_draft}
-use Rattle.json_profile.specs.Draft.{node_members, own_row}
-use Rattle.json_profile.specs.Form.{built_fault}
-use Rattle.json_profile.specs.Listed.{pool_draft}
-use Rattle.json_profile.specs.PoolDraft.{shown_draft, resource_draft, link_draft}
-use Rattle.json_profile.specs.PoolForm.{resource_has_names, audit_has_names, nothing_shown, shows_nothing}
-use Rattle.json_profile.specs.PoolWritten.{link_data}
+use Rattle.ticket_items.specs.declared.audit.Audit.TheVariants.{Notification, Spawned, Merged}
+use Rattle.ticket_items.specs.declared.node_row.NodeRow.{NodeRow}
+use Rattle.ticket_items.specs.declared.refusal.Refusal.TheVariants.{NotATree, ReservedStatus}
+use Rattle.ticket_items.specs.declared.resource.Resource.{Resource}
+use Rattle.ticket_items.specs.declared.spawn_status.SpawnStatus.TheVariants.{NotSpawned, SpawnedRO, SpawnedRW}
+use Rattle.ticket_items.specs.declared.usage.Usage.TheVariants.{Input, Output}
+use Rattle.json_form.specs.AuditDraft.{notification_draft, spawned_draft, merged_draft, audit_draft}
+use Rattle.json_form.specs.Draft.{node_members, own_row}
+use Rattle.json_form.specs.Form.{built_fault}
+use Rattle.json_form.specs.Listed.{pool_draft}
+use Rattle.json_form.specs.PoolDraft.{shown_draft, resource_draft, link_draft}
+use Rattle.json_form.specs.PoolForm.{resource_has_names, audit_has_names, nothing_shown, shows_nothing}
+use Rattle.json_form.specs.PoolWritten.{link_data}
 
 -- ---- resources
 

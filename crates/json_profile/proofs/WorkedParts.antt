@@ -4,21 +4,21 @@ use Rattle.std.specs.Fmt.{digits}
 use Rattle.std.specs.Prelude.{codes}
 use Rattle.serde_json.specs.Data.{Data, Items, no_items, item, no_members, member, boolean, string, array, object}
 use Rattle.ticket_tree.specs.Part.{Copied}
-use Rattle.ticket_tree.specs.declared.marks.Marks.{Marks}
-use Rattle.ticket_tree.specs.declared.node_row.NodeRow.{NodeRow}
-use Rattle.ticket_tree.specs.declared.refusal.Refusal.TheVariants.{BadId, NotProfile, ReservedStatus}
-use Rattle.ticket_tree.specs.declared.resource.Resource.{Resource}
-use Rattle.ticket_tree.specs.declared.spawn_status.SpawnStatus.TheVariants.{SpawnedRO, SpawnedRW}
-use Rattle.ticket_tree.specs.declared.usage.Usage.TheVariants.{Input, Output}
-use Rattle.json_profile.specs.Draft.{own_row}
-use Rattle.json_profile.specs.Form.{node_has_names, pools_have_names, row_has_texts}
-use Rattle.json_profile.specs.Marked.{marked_rows, shown_of, no_marks}
-use Rattle.json_profile.specs.PartDraft.{ancestor_draft, part_draft, shows_change, shows_read, to_change, to_read}
-use Rattle.json_profile.specs.PartForm.{ancestor_has_names, part_read}
-use Rattle.json_profile.specs.PartWritten.{part_data}
-use Rattle.json_profile.specs.PoolDraft.{resource_draft, shown_draft, link_draft}
-use Rattle.json_profile.specs.PoolForm.{resource_has_names, resource_has_texts, nothing_shown}
-use Rattle.json_profile.specs.PoolWritten.{resource_data}
+use Rattle.ticket_items.specs.declared.marks.Marks.{Marks}
+use Rattle.ticket_items.specs.declared.node_row.NodeRow.{NodeRow}
+use Rattle.ticket_items.specs.declared.refusal.Refusal.TheVariants.{BadId, NotProfile, ReservedStatus}
+use Rattle.ticket_items.specs.declared.resource.Resource.{Resource}
+use Rattle.ticket_items.specs.declared.spawn_status.SpawnStatus.TheVariants.{SpawnedRO, SpawnedRW}
+use Rattle.ticket_items.specs.declared.usage.Usage.TheVariants.{Input, Output}
+use Rattle.json_form.specs.Draft.{own_row}
+use Rattle.json_form.specs.Form.{node_has_names, pools_have_names, row_has_texts}
+use Rattle.json_form.specs.PartDraft.{ancestor_draft, part_draft, shows_change, shows_read, shown_rw, shown_ro}
+use Rattle.json_form.specs.PartForm.{ancestor_has_names, part_read}
+use Rattle.json_form.specs.PoolDraft.{resource_draft, shown_draft, link_draft}
+use Rattle.json_form.specs.PoolForm.{resource_has_names, resource_has_texts, nothing_shown}
+use Rattle.json_form.specs.PoolWritten.{resource_data}
+use Rattle.json_writer.specs.Marked.{marked_rows, shown_of, no_marks}
+use Rattle.json_writer.specs.PartWritten.{part_data}
 
 -- ---- the part of n1, with r2 to change and r1 to read
 
@@ -121,13 +121,13 @@ status_spawned = refl
 
 -- ---- what copies show
 
-change_shown : shows_change (codes "S1") (to_change (codes "S1")) ≡ true
+change_shown : shows_change (codes "S1") (shown_rw (codes "S1")) ≡ true
 change_shown = refl
 
-read_shown : shows_read (codes "S1") (to_read (codes "S1")) ≡ true
+read_shown : shows_read (codes "S1") (shown_ro (codes "S1")) ≡ true
 read_shown = refl
 
-change_is_not_read : shows_read (codes "S1") (to_change (codes "S1")) ≡ false
+change_is_not_read : shows_read (codes "S1") (shown_rw (codes "S1")) ≡ false
 change_is_not_read = refl
 
 no_spawn_ids : shows_change (codes "S1") (record { locked = false; spawn_ids = []; spawn_status = SpawnedRW }) ≡ false

@@ -2,12 +2,10 @@
 
 ghost use Rattle.std.specs.Prelude.{◌≡◌, IfErr};
 ghost use Rattle.serde_json.specs.View.{view};
-ghost use Rattle.json_profile.specs.Form.{Answers, edit_read, ticket_read};
-ghost use Rattle.json_profile.specs.PartForm.{part_read};
+ghost use Rattle.json_form.specs.Form.{Answers, edit_read, ticket_read};
+ghost use Rattle.json_form.specs.PartForm.{part_read};
 
-use crate::edit_draft::EditDraft;
-use crate::part_draft::PartDraft;
-use crate::ticket_draft::TicketDraft;
+use json_reader::{EditDraft, PartDraft, TicketDraft};
 use serde_json::Value;
 use std::alloc::Global;
 use ticket_tree::{Edit, Part, Refusal, Ticket};
@@ -24,10 +22,10 @@ pub fn ticket_of(alloc: Global, value: &Value) -> Result<Ticket, Refusal>
     draft.build(alloc)
 }
 
-/// The part that a value is. Refuses the first of `NotProfile` (also where the resources of the root
-/// don't stand in their groups, or a resource shows what it may not), `BadId`, `BadText`,
-/// `ReservedStatus` (a node's Status alone), `DuplicateId`, `TooDeep` and `UnresolvedLink` that stands
-/// in it, each looked for in all of it before the next one is; `Memory` may come before any.
+/// The part that a value is. Refuses the first of `NotProfile` (also where the resources of the
+/// root don't stand in their groups, or a resource shows what it may not), `BadId`, `BadText`,
+/// `ReservedStatus` (a node's Status alone), `DuplicateId`, `TooDeep` and `UnresolvedLink` that
+/// stands in it, each looked for in all of it before the next one is; `Memory` may come before any.
 pub fn part_of(alloc: Global, value: &Value) -> Result<Part, Refusal>
     ensures answers { Answers result (part_read (view value.now)) }
     ensures tree { IfErr result (λ e. e ≡ Refusal.NotATree → ⊥) }

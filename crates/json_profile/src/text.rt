@@ -9,8 +9,8 @@ use serde_json::Value;
 use std::alloc::{AllocError, Global};
 use ticket_tree::Refusal;
 
-/// The JSON value that the bytes are. Refuses `NotJson` where they aren't UTF-8, are no JSON, or nest
-/// deeper than 127 levels.
+/// The JSON value that the bytes are. Refuses `NotJson` where they aren't UTF-8, are no JSON, or
+/// nest deeper than 127 levels.
 pub fn value_of(alloc: Global, bytes: &[u8]) -> Result<Value, Refusal>
     ensures ok { IfOk result (λ v. IsUtf8 bytes.now × (read bytes.now ≡ Some (view v))) }
     ensures nests { IfOk result (λ v. depth (view v) ≤ max_depth) }
@@ -31,9 +31,11 @@ pub fn value_of(alloc: Global, bytes: &[u8]) -> Result<Value, Refusal>
 
 /// The compact JSON text of a value: no white space, and the members of each object in byte order.
 pub fn text_of(alloc: Global, value: &Value) -> Result<Vec<u8>, AllocError>
-    ensures text { IfOk result (λ b. has_float (view value.now) ≡ false → b.items ≡ compact_text (view value.now)) }
+    ensures text { IfOk result (λ b. has_float (view value.now) ≡ false
+        → b.items ≡ compact_text (view value.now)) }
     ensures utf8 { IfOk result (λ b. IsUtf8 b.items) }
-    ensures reads_back { IfOk result (λ b. depth (view value.now) ≤ max_depth → read b.items ≡ Some (view value.now)) }
+    ensures reads_back { IfOk result (λ b. depth (view value.now) ≤ max_depth
+        → read b.items ≡ Some (view value.now)) }
 {
     value.to_vec(alloc)
 }

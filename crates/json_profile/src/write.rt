@@ -6,20 +6,17 @@ ghost use Rattle.serde_json.specs.Data.{depth};
 ghost use Rattle.serde_json.specs.Read.{max_depth};
 ghost use Rattle.serde_json.specs.View.{view};
 ghost use Rattle.serde_json.specs.Written.{has_float};
-ghost use Rattle.ticket_tree.specs.Names.{is_name};
-ghost use Rattle.ticket_tree.specs.SpawnId.{is_spawn_number, spawn_text};
-ghost use Rattle.json_profile.specs.Form.{edit_read, row_has_names, row_has_texts, ticket_read};
-ghost use Rattle.json_profile.specs.Marked.{marked_rows};
-ghost use Rattle.json_profile.specs.PartForm.{part_read};
-ghost use Rattle.json_profile.specs.PartWritten.{part_data};
-ghost use Rattle.json_profile.specs.Written.{edit_data, job_data, shown_data, ticket_data};
+ghost use Rattle.ticket_items.specs.Names.{is_name};
+ghost use Rattle.ticket_items.specs.SpawnId.{is_spawn_number, spawn_text};
+ghost use Rattle.json_form.specs.Form.{edit_read, row_has_names, row_has_texts, ticket_read};
+ghost use Rattle.json_form.specs.PartForm.{part_read};
+ghost use Rattle.json_writer.specs.Marked.{marked_rows};
+ghost use Rattle.json_writer.specs.PartWritten.{part_data};
+ghost use Rattle.json_writer.specs.Written.{edit_data, job_data, shown_data, ticket_data};
 
-use crate::edit_writer::edit_map;
-use crate::forest::{forest, take_children};
-use crate::marked::no_marks;
-use crate::node_writer::marked_map;
-use crate::object::put_text;
-use crate::part_writer::rows_value;
+use json_form::put_text;
+use json_writer::forest::{forest, take_children};
+use json_writer::{edit_map, marked_map, no_marks, rows_value};
 use serde_json::{Map, Value};
 use std::alloc::{AllocError, Global};
 use ticket_tree::{Edit, Id, Marks, Name, NodeRow, Part, Rows, Ticket};
@@ -42,7 +39,8 @@ fn job_value(
     rows: &[&NodeRow],
     marks: &Marks,
 ) -> Result<Value, AllocError>
-    ensures value { IfOk result (λ v. view v ≡ job_data job.now (marked_rows marks.now (map (λ r. r.now) rows.now))) }
+    ensures value { IfOk result (λ v. view v
+        ≡ job_data job.now (marked_rows marks.now (map (λ r. r.now) rows.now))) }
     ensures job { OnOk result (is_name job.now ≡ true) }
     ensures names { OnOk result (list_all row_has_names (map (λ r. r.now) rows.now) ≡ true) }
     ensures texts { OnOk result (list_all row_has_texts (map (λ r. r.now) rows.now) ≡ true) }
@@ -72,8 +70,8 @@ pub fn ticket_value(alloc: Global, ticket: &Ticket) -> Result<Value, AllocError>
 
 /// A ticket that shows these marks as a value, in the form of tickets: the Status `Spawned` at the
 /// marked nodes, and the SpawnStatus and SpawnIDs of the marks at their resources. A mark of an id
-/// that isn't in the ticket shows nothing; of two marks of a resource the first does. Nothing reads it
-/// again.
+/// that isn't in the ticket shows nothing; of two marks of a resource the first does. Nothing reads
+/// it again.
 pub fn shown_value(alloc: Global, ticket: &Ticket, marks: &Marks) -> Result<Value, AllocError>
     ensures value { IfOk result (λ v. view v ≡ shown_data marks.now ticket.now) }
     ensures plain { IfOk result (λ v. has_float (view v) ≡ false) }

@@ -2,7 +2,7 @@ use Rattle.std.proofs.Common.{◌∙◌, ◌≤◌, sym, ap, subst}
 use Rattle.serde_json.proofs.Views.{view-Object}
 use Rattle.serde_json.specs.Data.{depth}
 use Rattle.serde_json.specs.Written.{has_float}
-use Rattle.json_profile.specs.Form.{edit_read}
+use Rattle.json_form.specs.Form.{edit_read}
 use Rattle.json_profile.proofs.RoundTrip.{edit_again, edit_plain, edit_nests}
 use Rattle.json_profile.proofs.write.edit_value.Goals as goal
 

@@ -1,8 +1,8 @@
 use Rattle.std.proofs.Common.{◌∙◌, ◌≤◌, map, sym, ap, subst}
 use Rattle.serde_json.specs.Data.{depth}
 use Rattle.serde_json.specs.Written.{has_float}
-use Rattle.json_profile.specs.Marked.{marked_rows}
-use Rattle.json_profile.specs.Written.{job_data}
+use Rattle.json_writer.specs.Marked.{marked_rows}
+use Rattle.json_writer.specs.Written.{job_data}
 use Rattle.json_profile.proofs.Shape.{job_data_plain, shown_data_nests}
 use Rattle.json_profile.proofs.write.shown_value.Goals as goal
 

@@ -1,0 +1,2 @@
+-- Reading JSON data: handed on from the crate below.
+pub use Rattle.json_forms.specs.Read.{◌>>=◌, provided, are_among, has_only, text_under, number_under, text_pairs, attrs_of, Fails, Gives, Adds}

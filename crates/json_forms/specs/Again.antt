@@ -1,0 +1,78 @@
+-- What is written is read again.
+use Rattle.std.specs.Prelude.{◌≡◌, ℕ, Bool, List, [], ◌∷◌, Option, Some, None, refl}
+use Rattle.std.specs.Option.{option_map}
+use Rattle.std.proofs.Common.{ap, ◌∙◌}
+use Rattle.serde_json.specs.Data.{Data, array, boolean, number, unsigned, string}
+use Rattle.serde_json.specs.Find.{as_bool, as_str}
+use Rattle.ticket_items.specs.declared.ancestor.Ancestor.{Ancestor}
+use Rattle.ticket_items.specs.declared.audit.Audit.{Audit}
+use Rattle.ticket_items.specs.declared.audit.Audit.TheVariants.{Notification, Spawned, Merged}
+use Rattle.ticket_items.specs.declared.link.Link.{Link}
+use Rattle.ticket_items.specs.declared.usage.Usage.{Usage}
+use Rattle.ticket_items.specs.declared.usage.Usage.TheVariants.{Input, Output}
+use Rattle.json_forms.specs.Ancestors.{ancestor_draft, ancestor_data}
+use Rattle.json_forms.specs.Audits.{notification_draft, spawned_draft, merged_draft, audit_draft, audit_data}
+use Rattle.json_forms.specs.Links.{usage_form, usage_data, link_draft, link_data}
+use Rattle.json_forms.specs.Listed.{data_items, each, list_form, pool_draft, texts_data}
+use Rattle.json_forms.specs.Read.{◌>>=◌, number_of}
+
+-- a text is itself
+same : (o : Option (List ℕ)) → o ≡ option_map (λ text. text) o
+same None = refl
+same (Some text) = refl
+
+pub text_itself : (d : Data) → as_str d ≡ option_map (λ text. text) (as_str d)
+text_itself d = same (as_str d)
+
+pub text_again : (text : List ℕ) → as_str (string text) ≡ Some text
+text_again text = refl
+
+pub number_again : (n : ℕ) → number_of (number (unsigned n)) ≡ Some n
+number_again n = refl
+
+pub switch_again : (b : Bool) → as_bool (boolean b) ≡ Some b
+switch_again b = refl
+
+more_at : {X : Type 0} (o : Option X) (x : X) (rest : Option (List X)) (xs : List X) → o ≡ Some x → rest ≡ Some xs → (o >>= λ y. option_map (λ ys. y ∷ ys) rest) ≡ Some (x ∷ xs)
+more_at o x rest xs e f = ap (λ p. p >>= λ y. option_map (λ ys. y ∷ ys) rest) e ∙ ap (option_map (λ ys. x ∷ ys)) f
+
+-- each item of a list
+pub each_again : {X : Type 0} (form : Data → Option X) (data' : X → Data) → ((x : X) → form (data' x) ≡ Some x) → (xs : List X) → each form (data_items data' xs) ≡ Some xs
+each_again form data' again [] = refl
+each_again form data' again (x ∷ xs) = more_at (form (data' x)) x _ _ (again x) (each_again form data' again xs)
+
+pub list_again : {X : Type 0} (form : Data → Option X) (data' : X → Data) → ((x : X) → form (data' x) ≡ Some x) → (xs : List X) → list_form form (array (data_items data' xs)) ≡ Some xs
+list_again form data' again xs = each_again form data' again xs
+
+-- a list that may be absent
+pub pool_again : {X : Type 0} (form : Data → Option X) (data' : X → Data) → ((x : X) → form (data' x) ≡ Some x) → (xs : List X) → pool_draft form (Some (array (data_items data' xs))) ≡ Some xs
+pool_again form data' again xs = each_again form data' again xs
+
+-- ---- links
+
+pub usage_again : (u : Usage) → usage_form (usage_data u) ≡ Some u
+usage_again Input = refl
+usage_again Output = refl
+
+pub link_again : (l : Link) → link_draft (link_data l) ≡ Some l
+unfolding link_draft
+link_again l = ap (λ o. o >>= λ u. Some (record { rref = l.rref; usage = u })) (usage_again l.usage)
+
+-- ---- audits
+
+ids_again : (ids : List (List ℕ)) → list_form as_str (texts_data ids) ≡ Some ids
+ids_again ids = list_again as_str string text_again ids
+
+pub audit_again : (a : Audit) → audit_draft (audit_data a) ≡ Some a
+unfolding audit_draft notification_draft spawned_draft merged_draft
+audit_again (Notification time text) = refl
+audit_again (Spawned time jref spawn_id ro changed status) =
+    ap (λ o. o >>= λ first. list_form as_str (texts_data changed) >>= λ second. Some (Spawned time jref spawn_id first second status)) (ids_again ro)
+    ∙ ap (λ o. o >>= λ second. Some (Spawned time jref spawn_id ro second status)) (ids_again changed)
+audit_again (Merged time jref merge_id overwritten) = ap (λ o. o >>= λ ids. Some (Merged time jref merge_id ids)) (ids_again overwritten)
+
+-- ---- ancestors
+
+pub ancestor_again : (a : Ancestor) → ancestor_draft (ancestor_data a) ≡ Some a
+unfolding ancestor_draft
+ancestor_again a = refl

@@ -1,9 +1,0 @@
-use Rattle.std.proofs.Common.{◌≡◌, map, take, Some}
-use Rattle.serde_json.specs.View.{view}
-use Rattle.json_profile.specs.DraftedPool.{drafted_link}
-use Rattle.json_profile.specs.PoolDraft.{link_draft}
-use Rattle.json_profile.proofs.link_drafts.drafts_of.Given as goal
-
--- the drafts so far
-abbrev pub invariant-loop-item : goal.invariant-loop-item
-invariant-loop-item l = map (λ v. link_draft (view v)) (take l.item-index l.items) ≡ map (λ d. Some (drafted_link d)) l.drafts.items

@@ -1,7 +1,0 @@
-use Rattle.std.proofs.Common.{◌≡◌, map, take}
-use Rattle.ticket_tree.specs.SpawnId.{spawn_text}
-use Rattle.json_profile.proofs.marked.spawn_texts.Given as goal
-
--- the ids so far
-abbrev pub invariant-loop-spawn : goal.invariant-loop-spawn
-invariant-loop-spawn l = l.ids.items ≡ map spawn_text (take l.spawn-index l.spawns)

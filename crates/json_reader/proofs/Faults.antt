@@ -1,0 +1,122 @@
+-- What the tests of drafts say of their parts.
+use Rattle.std.proofs.Common.{◌≡◌, ℕ, ◌&&◌, Bool, true, false, List, [], ◌∷◌, map, Option, Some, None, refl, sym, ap}
+use Rattle.std.proofs.lemmas.Bool.{and_parts}
+use Rattle.std.specs.List.{list_all}
+use Rattle.ticket_items.specs.Names.{is_name, is_text}
+use Rattle.ticket_rows.specs.Ticket.{IsValid, fault_of, first_of, unless}
+use Rattle.ticket_items.specs.declared.refusal.Refusal.{Refusal}
+use Rattle.ticket_items.specs.declared.refusal.Refusal.TheVariants.{NotATree, ReservedStatus, DuplicateId, TooDeep, UnresolvedLink}
+use Rattle.ticket_items.specs.declared.node_row.NodeRow.{NodeRow}
+use Rattle.ticket_items.specs.declared.resource.Resource.{Resource}
+use Rattle.json_form.specs.Draft.{RawTicket, resources_of, are_bare}
+use Rattle.json_form.specs.Form.{built_fault, node_has_names, pools_have_names, row_has_names, row_has_texts}
+use Rattle.json_form.specs.PoolForm.{resource_has_names, resource_has_texts, link_has_names, audit_has_names, audit_has_texts, shows_nothing}
+use Rattle.json_reader.specs.Drafted.{drafted_raw, drafted_resources, drafted_row, drafted_rows}
+use Rattle.json_reader.specs.DraftedPool.{drafted_resource, own_resource}
+use Rattle.json_reader.specs.declared.node_draft.NodeDraft.{NodeDraft}
+use Rattle.json_reader.specs.declared.resource_draft.ResourceDraft.{ResourceDraft}
+
+-- the ids and the names of a row
+pub record NamesOfRow (r : NodeRow) : Type 0 where
+  pub id : is_name r.id ≡ true
+  pub kind : is_name r.kind ≡ true
+  pub job_part : is_name r.job_part ≡ true
+  pub status : is_name r.status ≡ true
+  pub attrs : list_all (λ p. is_name p.0) r.attrs ≡ true
+  pub resources : list_all resource_has_names r.resources ≡ true
+  pub links : list_all link_has_names r.links ≡ true
+  pub audits : list_all audit_has_names r.audits ≡ true
+
+pub names_of_row : (r : NodeRow) → row_has_names r ≡ true → NamesOfRow r
+unfolding node_has_names pools_have_names
+names_of_row r h =
+    let both = and_parts _ _ h in
+    let first = and_parts _ _ both.0 in
+    let second = and_parts _ _ first.0 in
+    let third = and_parts _ _ second.0 in
+    let fourth = and_parts _ _ third.0 in
+    let pools = and_parts _ _ both.1 in
+    let two = and_parts _ _ pools.0 in
+    record { id = fourth.0; kind = fourth.1; job_part = third.1; status = second.1; attrs = first.1; resources = two.0; links = two.1; audits = pools.1 }
+
+-- the texts of a row
+pub record TextsOfRow (r : NodeRow) : Type 0 where
+  pub attrs : list_all (λ p. is_text p.1) r.attrs ≡ true
+  pub resources : list_all resource_has_texts r.resources ≡ true
+  pub audits : list_all audit_has_texts r.audits ≡ true
+
+pub texts_of_row : (r : NodeRow) → row_has_texts r ≡ true → TextsOfRow r
+unfolding row_has_texts
+texts_of_row r h =
+    let both = and_parts _ _ h in
+    let two = and_parts _ _ both.0 in
+    record { attrs = two.0; resources = two.1; audits = both.1 }
+
+-- a test of drafts is one of the rows that they are
+pub list_all-drafted : (p : NodeRow → Bool) (drafts : List NodeDraft) → list_all (λ d. p (drafted_row d)) drafts ≡ list_all p (map (λ r. r.row) (drafted_rows drafts))
+list_all-drafted p [] = refl
+list_all-drafted p (d ∷ drafts) = ap (λ b. p (drafted_row d) && b) (list_all-drafted p drafts)
+
+pub bare-drafted : (drafts : List NodeDraft) → list_all (λ d. are_bare (drafted_raw d).pool) drafts ≡ list_all (λ r. are_bare r.pool) (drafted_rows drafts)
+bare-drafted [] = refl
+bare-drafted (d ∷ drafts) = ap (λ b. are_bare (drafted_raw d).pool && b) (bare-drafted drafts)
+
+-- ---- tests of the drafts in a pool are tests of what they are
+
+tested_resources : (p : Resource → Bool) (drafts : List ResourceDraft) → list_all (λ d. p (own_resource d)) drafts ≡ list_all p (resources_of (drafted_resources drafts))
+tested_resources p [] = refl
+tested_resources p (d ∷ drafts) = ap (λ b. p (own_resource d) && b) (tested_resources p drafts)
+
+pub names_in_resources : (drafts : List ResourceDraft) → list_all (λ d. resource_has_names (own_resource d)) drafts ≡ list_all resource_has_names (resources_of (drafted_resources drafts))
+names_in_resources drafts = tested_resources resource_has_names drafts
+
+pub texts_in_resources : (drafts : List ResourceDraft) → list_all (λ d. resource_has_texts (own_resource d)) drafts ≡ list_all resource_has_texts (resources_of (drafted_resources drafts))
+texts_in_resources drafts = tested_resources resource_has_texts drafts
+
+pub bare_drafts : (drafts : List ResourceDraft) → list_all (λ d. shows_nothing d.shown) drafts ≡ are_bare (drafted_resources drafts)
+bare_drafts [] = refl
+bare_drafts (d ∷ drafts) = ap (λ b. shows_nothing d.shown && b) (bare_drafts drafts)
+
+-- what a draft is, without what it shows of spawns
+pub own_resources : (drafts : List ResourceDraft) → map (λ r. r.resource) (map drafted_resource drafts) ≡ map own_resource drafts
+own_resources [] = refl
+own_resources (d ∷ drafts) = ap (λ more. own_resource d ∷ more) (own_resources drafts)
+
+-- the ids and the names of a new node
+pub record NamesOfNode (node id kind job_part status : List ℕ) : Type 0 where
+  pub node_named : is_name node ≡ true
+  pub id_named : is_name id ≡ true
+  pub kind_named : is_name kind ≡ true
+  pub job_part_named : is_name job_part ≡ true
+  pub status_named : is_name status ≡ true
+
+pub names_of_node : (node id kind job_part status : List ℕ) → (is_name node && is_name id && is_name kind && is_name job_part && is_name status) ≡ true → NamesOfNode node id kind job_part status
+names_of_node node id kind job_part status h =
+    let first = and_parts _ _ h in
+    let second = and_parts _ _ first.0 in
+    let third = and_parts _ _ second.0 in
+    let fourth = and_parts _ _ third.0 in
+    record { node_named = fourth.0; id_named = fourth.1; kind_named = third.1; job_part_named = second.1; status_named = first.1 }
+
+-- ---- what is wrong with the draft of a ticket
+
+marked_at : (bare : Bool) (o : Option Refusal) → bare ≡ false → first_of (unless bare ReservedStatus ∷ o ∷ []) ≡ Some ReservedStatus
+marked_at false o h = refl
+marked_at true o h = cc
+
+pub fault_of_marks : (t : RawTicket) → t.bare ≡ false → built_fault t ≡ Some ReservedStatus
+fault_of_marks t h = marked_at t.bare (fault_of t.job.rows) h
+
+five : (a b c d e : Bool) → a ≡ true → b ≡ true → c ≡ true → d ≡ true → e ≡ true
+    → first_of (unless a NotATree ∷ unless b ReservedStatus ∷ unless c DuplicateId ∷ unless d TooDeep ∷ unless e UnresolvedLink ∷ []) ≡ None
+five true true true true true p q r s t = refl
+five false b c d e p q r s t = cc
+five true false c d e p q r s t = cc
+five true true false d e p q r s t = cc
+five true true true false e p q r s t = cc
+five true true true true false p q r s t = cc
+
+-- valid rows have no fault
+pub no_fault : (rows : List NodeRow) → IsValid rows → fault_of rows ≡ None
+no_fault rows valid =
+    five _ _ _ _ _ valid.tree valid.unreserved valid.distinct valid.shallow valid.resolved

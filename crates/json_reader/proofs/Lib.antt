@@ -1,0 +1,5 @@
+pub mod Faults
+pub mod Nodes
+pub mod PartFaults
+pub mod PartPools
+pub mod Pools

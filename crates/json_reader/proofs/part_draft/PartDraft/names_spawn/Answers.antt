@@ -1,0 +1,12 @@
+use Rattle.std.proofs.Common.{◌≡◌, ◌∙◌, ℕ, Option, Some, None, Result, Ok, Err, MatchResult, is_some, is_ok, sym, ap}
+use Rattle.ticket_items.specs.SpawnId.{spawn_of}
+use Rattle.ticket_items.specs.declared.refusal.Refusal.{Refusal}
+use Rattle.ticket_items.specs.declared.refusal.Refusal.TheVariants.{BadId}
+use Rattle.json_reader.proofs.part_draft.PartDraft.names_spawn.Goals as goal
+
+parsed : (r : Result ℕ Refusal) (o : Option ℕ) → MatchResult r (λ s. o ≡ Some s) (λ e. (e ≡ BadId) × (o ≡ None)) → is_ok r ≡ is_some o
+parsed (Ok s) o h = sym (ap is_some h)
+parsed (Err e) o h = sym (ap is_some h.1)
+
+pub returns : goal.returns
+returns c = c.is_ok.ensures.value ∙ parsed c.parse.result (spawn_of c.self.inside.spawn.now) c.parse.ensures.read ∙ ap (λ p. is_some (spawn_of p.spawn)) c.self.view_is

@@ -1,0 +1,155 @@
+//! Reading nodes: from a JSON value to drafts in preorder.
+
+ghost use Rattle.std.specs.Prelude.{◌≡◌, map};
+ghost use Rattle.serde_json.specs.Data.{depth};
+ghost use Rattle.serde_json.specs.View.{view};
+ghost use Rattle.json_form.specs.Draft as form;
+ghost use Rattle.json_form.specs.Read.{Adds, Gives};
+ghost use Rattle.json_reader.specs.Drafted.{drafted_raw, drafted_rows};
+
+use crate::node_draft::NodeDraft;
+use crate::resource_drafts::resource_drafts;
+use json_form::{AttrsDraft, has_only, text_under};
+use json_forms::Drafts;
+use serde_json::Value;
+use std::alloc::Global;
+use ticket_tree::Refusal;
+
+/// The members of a node.
+pub const NODE_MEMBERS: &[&str] = &[
+    "Attr",
+    "AuditPool",
+    "ID",
+    "JDF",
+    "JobPartID",
+    "ResourceLinkPool",
+    "ResourcePool",
+    "Status",
+    "Type",
+];
+
+/// The members of a ticket's root.
+pub const ROOT_MEMBERS: &[&str] = &[
+    "JobID",
+    "Attr",
+    "AuditPool",
+    "ID",
+    "JDF",
+    "JobPartID",
+    "ResourceLinkPool",
+    "ResourcePool",
+    "Status",
+    "Type",
+];
+
+/// The members of a part's root.
+pub const PART_MEMBERS: &[&str] = &[
+    "AncestorPool",
+    "SpawnID",
+    "JobID",
+    "Attr",
+    "AuditPool",
+    "ID",
+    "JDF",
+    "JobPartID",
+    "ResourceLinkPool",
+    "ResourcePool",
+    "Status",
+    "Type",
+];
+
+/// How far depths are counted: one more than a ticket may have.
+const DEEPEST_READ: u32 = 33;
+
+/// A node without its children, of an object with no other members than `names`.
+#[tactic(auto, unfolding(json_form::specs::Draft::own_row))]
+fn own_row<'a>(
+    alloc: Global,
+    names: &[&str],
+    depth: u32,
+    value: &'a Value,
+) -> Result<NodeDraft<'a>, Refusal>
+    ensures { Gives drafted_raw result
+        (form.own_row (map (λ n. n.now) names.now) depth (view value.now)) }
+{
+    if !has_only(value, names) {
+        return Err(Refusal::NotProfile);
+    }
+    let id = text_under(value, "ID").ok_or(Refusal::NotProfile)?;
+    let job_part = text_under(value, "JobPartID").ok_or(Refusal::NotProfile)?;
+    let kind = text_under(value, "Type").ok_or(Refusal::NotProfile)?;
+    let status = text_under(value, "Status").ok_or(Refusal::NotProfile)?;
+    let attrs = AttrsDraft::under_attr(alloc, value)?;
+    let resources = resource_drafts(alloc, value, "ResourcePool")?;
+    let links = Drafts::under(alloc, value, "ResourceLinkPool")?;
+    let audits = Drafts::under(alloc, value, "AuditPool")?;
+    Ok(NodeDraft {
+        id,
+        depth,
+        kind,
+        job_part,
+        status,
+        attrs,
+        resources,
+        links,
+        audits,
+    })
+}
+
+/// The depth of a child.
+fn next_depth(depth: u32) -> u32
+    ensures { result ≡ form.next_depth depth }
+{
+    depth.saturating_add(1).min(DEEPEST_READ)
+}
+
+/// Appends a node and those below it, in preorder. The node's object has no other members than
+/// `names`.
+#[cycle(nodes)]
+pub fn push_node<'a>(
+    alloc: Global,
+    rows: &mut Vec<NodeDraft<'a>>,
+    names: &[&str],
+    depth: u32,
+    value: &'a Value,
+) -> Result<(), Refusal>
+    ensures { Adds drafted_rows rows.old.items rows.new.items result
+        (form.node_rows (map (λ n. n.now) names.now) depth (view value.now)) }
+{
+    let Value::Object(members) = value else {
+        return Err(Refusal::NotProfile);
+    };
+    let row = own_row(alloc, names, depth, value)?;
+    rows.push(row)?;
+    match members.get("JDF") {
+        None => Ok(()),
+        Some(children) => {
+            if let Err(refusal) = push_children(alloc, rows, next_depth(depth), children) {
+                return Err(refusal);
+            }
+            Ok(())
+        }
+    }
+}
+
+/// Appends the nodes of a list, each with those below it.
+#[cycle(nodes)]
+fn push_children<'a>(
+    alloc: Global,
+    rows: &mut Vec<NodeDraft<'a>>,
+    depth: u32,
+    value: &'a Value,
+) -> Result<(), Refusal>
+    ensures { Adds drafted_rows rows.old.items rows.new.items result
+        (form.list_rows depth (view value.now)) }
+{
+    let Value::Array(children) = value else {
+        return Err(Refusal::NotProfile);
+    };
+    for child in children {
+        if let Err(refusal) = push_node(alloc, rows, NODE_MEMBERS, depth, child) {
+            return Err(refusal);
+        }
+    }
+    Ok(())
+}

@@ -1,0 +1,4 @@
+pub mod Attributes
+pub mod Forests
+pub mod PartRoots
+pub mod Taken

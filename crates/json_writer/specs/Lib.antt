@@ -1,0 +1,4 @@
+pub mod Written
+pub mod Trees
+pub mod Marked
+pub mod PartWritten

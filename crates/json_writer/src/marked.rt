@@ -1,0 +1,55 @@
+//! What a ticket shows of the spawns that are out.
+
+ghost use Rattle.std.specs.Prelude.{◌≡◌, true, map, IfOk};
+ghost use Rattle.std.specs.Option.{option_copied};
+ghost use Rattle.ticket_items.specs.Names.{is_name};
+ghost use Rattle.ticket_items.specs.SpawnId.{spawn_text};
+ghost use Rattle.json_writer.specs.Marked as marked;
+
+use std::alloc::{AllocError, Global};
+use ticket_items::is_among;
+use ticket_tree::{Id, Ids, Items, Marks, NodeRow, ResMark, SpawnId};
+
+/// The marks of a ticket of which nothing is out.
+pub fn no_marks(alloc: Global) -> Marks
+    ensures { result ≡ marked.no_marks }
+{
+    Marks {
+        nodes: Items::new(Vec::new(alloc)),
+        resources: Items::new(Vec::new(alloc)),
+    }
+}
+
+/// The Status that a node shows.
+pub fn shown_status<'a>(marks: &Marks, row: &'a NodeRow) -> &'a str
+    ensures status { result.now ≡ marked.shown_status marks.now row.now }
+    ensures valid { is_name row.now.status ≡ true }
+{
+    let status = row.status.as_str();
+    if is_among(marks.nodes.as_slice(), &row.id) {
+        return "Spawned";
+    }
+    status
+}
+
+/// The mark of a resource.
+pub fn mark_of<'a>(marks: &'a Marks, id: &Id) -> Option<&'a ResMark>
+    ensures { option_copied result ≡ marked.mark_of marks.now.resources id.now }
+{
+    marks
+        .resources
+        .as_slice()
+        .iter()
+        .find(|mark| mark.id == *id)
+}
+
+/// The ids of spawns as texts.
+pub fn spawn_texts(alloc: Global, spawns: &[SpawnId]) -> Result<Ids, AllocError>
+    ensures { IfOk result (λ ids. ids ≡ map spawn_text spawns.now) }
+{
+    let mut ids = Vec::with_capacity(alloc, spawns.len())?;
+    for spawn in spawns {
+        ids.push(spawn.to_id(alloc)?)?;
+    }
+    Ok(Items::new(ids))
+}
