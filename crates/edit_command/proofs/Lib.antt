@@ -1,0 +1,3 @@
+pub mod Calls
+pub mod Documents
+pub mod Runs

@@ -1,0 +1,5 @@
+mod counts;
+mod documents;
+mod fakes;
+mod streams;
+mod words;
