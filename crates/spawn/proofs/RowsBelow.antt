@@ -1,0 +1,98 @@
+-- The rows below a node are its own and the deeper ones behind it.
+use Rattle.std.proofs.Common.{◌≡◌, ◌∙◌, ℕ, Bool, true, false, not, cond, List, [], ◌∷◌, ◌++◌, Some, map, is_some, refl, sym, ap, subst, append-nil}
+use Rattle.std.proofs.lemmas.Bool.{and_parts, or_parts}
+use Rattle.std.specs.List.{filter, list_all, list_any}
+use Rattle.std.specs.Option.{option_map_or}
+use Rattle.ticket_items.proofs.Apart.{bytes_eq-same}
+use Rattle.ticket_rows.proofs.Below.{Path, mem-node_ids, is_some-place_at}
+use Rattle.ticket_rows.proofs.NodePlaces.{nodes_from, node_places-rows, node_ids_distinct}
+use Rattle.ticket_tree.proofs.Parents.{other_id}
+use Rattle.ticket_items.specs.Ids.{mem, are_distinct}
+use Rattle.ticket_rows.specs.Place.{Place, node_place, resource_place, places_from, node_places, place_at, below, is_below, path_of}
+use Rattle.ticket_rows.specs.Ticket.{IsValid, node_ids}
+use Rattle.ticket_items.specs.declared.node_row.NodeRow.{NodeRow}
+use Rattle.spawn.proofs.Split.{path_after, path_after-append, Around}
+use Rattle.spawn.specs.Parts.{rows_below}
+
+-- ---- each row's own place is found by its id
+
+abbrev FindsAll : List Place → List Place → Type 0
+FindsAll tree later = (y : List ℕ) (p : Place) → place_at later y ≡ Some p → place_at tree y ≡ Some p
+
+abbrev pub OwnPlaces : List Place → Path → List NodeRow → Type 0
+OwnPlaces tree before [] = Unit {0}
+OwnPlaces tree before (r ∷ rows) = (place_at tree r.id ≡ Some (node_place r (path_of before r))) × OwnPlaces tree (path_of before r) rows
+
+own_places : (tree : List Place) (before : Path) (rows : List NodeRow) → FindsAll tree (nodes_from before rows) → are_distinct (node_ids rows) ≡ true → OwnPlaces tree before rows
+own_places tree before [] finds apart = tt
+own_places tree before (r ∷ rows) finds apart =
+    let path = path_of before r in
+    let parts = and_parts (not (mem r.id (node_ids rows))) (are_distinct (node_ids rows)) apart in (
+      finds r.id (node_place r path) (ap (λ b. cond b (Some (node_place r path)) (place_at (nodes_from path rows) r.id)) (bytes_eq-same r.id)),
+      own_places tree path rows
+          (λ y p found. finds y p (ap (λ b. cond b (Some (node_place r path)) (place_at (nodes_from path rows) y)) (other_id r rows y apart (mem-node_ids rows y ∙ sym (is_some-place_at path rows y) ∙ ap is_some found)) ∙ found))
+          parts.1,
+    )
+
+pub own_places-rows : (rows : List NodeRow) → IsValid rows → OwnPlaces (node_places rows) [] rows
+own_places-rows rows valid =
+    own_places (node_places rows) [] rows (λ y p found. ap (λ ps. place_at ps y) (node_places-rows rows) ∙ found) (node_ids_distinct rows valid.distinct)
+
+own_front : (tree : List Place) (before : Path) (xs ys : List NodeRow) → OwnPlaces tree before (xs ++ ys) → OwnPlaces tree before xs
+own_front tree before [] ys own = tt
+own_front tree before (r ∷ xs) ys own = (own.0, own_front tree (path_of before r) xs ys own.1)
+
+pub own_back : (tree : List Place) (before : Path) (xs ys : List NodeRow) → OwnPlaces tree before (xs ++ ys) → OwnPlaces tree (path_after before xs) ys
+own_back tree before [] ys own = own
+own_back tree before (r ∷ xs) ys own = own_back tree (path_of before r) xs ys own.1
+
+-- ---- which of them are below n
+
+any_front : {X : Type 0} (f : X → Bool) (xs ys : List X) → list_any f (xs ++ ys) ≡ false → list_any f ys ≡ false
+any_front f [] ys none = none
+any_front f (x ∷ xs) ys none = any_front f xs ys (or_parts (f x) (list_any f (xs ++ ys)) none).1
+
+all_front : {X : Type 0} (f : X → Bool) (xs ys : List X) → list_all f (xs ++ ys) ≡ true → list_all f ys ≡ true
+all_front f [] ys all = all
+all_front f (x ∷ xs) ys all = all_front f xs ys (and_parts (f x) (list_all f (xs ++ ys)) all).1
+
+pub stands_below : (tree : List Place) (n : List ℕ) (r : NodeRow) (path : Path) (b : Bool) → place_at tree r.id ≡ Some (node_place r path) → mem n path ≡ b → is_below tree r.id n ≡ b
+stands_below tree n r path b there on = ap (λ o. option_map_or (below n) o false) there ∙ on
+
+pub kept_none : (tree : List Place) (n : List ℕ) (before : Path) (rows : List NodeRow) → OwnPlaces tree before rows → list_any (below n) (places_from before rows) ≡ false → filter (λ r. is_below tree r.id n) rows ≡ []
+kept_none tree n before [] own none = refl
+kept_none tree n before (r ∷ rows) own none =
+    let path = path_of before r in
+    let parts = or_parts (mem n path) _ none in
+    ap (λ b. cond b (r ∷ filter (λ s. is_below tree s.id n) rows) (filter (λ s. is_below tree s.id n) rows)) (stands_below tree n r path false own.0 parts.0)
+    ∙ kept_none tree n path rows own.1 (any_front (below n) (map (resource_place path) r.resources) (places_from path rows) parts.1)
+
+kept_all : (tree : List Place) (n : List ℕ) (before : Path) (rows : List NodeRow) → OwnPlaces tree before rows → list_all (below n) (places_from before rows) ≡ true → filter (λ r. is_below tree r.id n) rows ≡ rows
+kept_all tree n before [] own all = refl
+kept_all tree n before (r ∷ rows) own all =
+    let path = path_of before r in
+    let parts = and_parts (mem n path) _ all in
+    ap (λ b. cond b (r ∷ filter (λ s. is_below tree s.id n) rows) (filter (λ s. is_below tree s.id n) rows)) (stands_below tree n r path true own.0 parts.0)
+    ∙ ap (λ rs. r ∷ rs) (kept_all tree n path rows own.1 (all_front (below n) (map (resource_place path) r.resources) (places_from path rows) parts.1))
+
+filtered_at : {X : Type 0} (b : Bool) (f : X → Bool) (x : X) (xs ys : List X) → filter f (xs ++ ys) ≡ filter f xs ++ filter f ys → cond b (x ∷ filter f (xs ++ ys)) (filter f (xs ++ ys)) ≡ cond b (x ∷ filter f xs) (filter f xs) ++ filter f ys
+filtered_at true f x xs ys e = ap (λ rs. x ∷ rs) e
+filtered_at false f x xs ys e = e
+
+pub filter-append : {X : Type 0} (f : X → Bool) (xs ys : List X) → filter f (xs ++ ys) ≡ filter f xs ++ filter f ys
+filter-append f [] ys = refl
+filter-append f (x ∷ xs) ys = filtered_at (f x) f x xs ys (filter-append f xs ys)
+
+-- the rows below n
+pub rows_below-around : (rows : List NodeRow) (n : List ℕ) → IsValid rows → (at : Around rows n) → rows_below rows n ≡ at.root ∷ at.inner
+rows_below-around rows n valid at =
+    let tree = node_places rows in
+    let f : NodeRow → Bool = λ r. is_below tree r.id n in
+    let mid = at.root ∷ at.inner in
+    let own = subst (OwnPlaces tree []) at.whole (own_places-rows rows valid) in
+    let own_first = own_front tree [] (at.front ++ mid) at.back own in
+    ap (filter f) at.whole ∙ filter-append f (at.front ++ mid) at.back ∙ ap (λ rs. rs ++ filter f at.back) (filter-append f at.front mid)
+    ∙ ap (λ rs. (rs ++ filter f mid) ++ filter f at.back) (kept_none tree n [] at.front (own_front tree [] at.front mid own_first) at.none_front)
+    ∙ ap (λ rs. rs ++ filter f at.back) (kept_all tree n (path_after [] at.front) mid (own_back tree [] at.front mid own_first) at.all_inner)
+    ∙ ap (λ rs. mid ++ rs) (kept_none tree n (path_after (path_after [] at.front) mid) at.back (subst (λ p. OwnPlaces tree p at.back) (path_after-append [] at.front mid) (own_back tree [] (at.front ++ mid) at.back own)) at.none_back)
+    ∙ append-nil mid

@@ -1,0 +1,175 @@
+-- The definitions computed on a small job: a product with paper and sheets in its pool, whose printing takes paper and makes sheets,
+-- and whose cutting takes the sheets.
+use Rattle.std.proofs.Common.{◌≡◌, ℕ, List, [], ◌∷◌, map, Some, None, refl}
+use Rattle.std.specs.Fmt.{digits}
+use Rattle.std.specs.List.{filter}
+use Rattle.std.specs.Prelude.{codes}
+use Rattle.ticket_rows.specs.Place.{below, places, resource, row_in}
+use Rattle.ticket_rows.specs.Ticket.{Job}
+use Rattle.ticket_tree.specs.PartView.{cut, part_row, part_thing}
+use Rattle.ticket_items.specs.declared.audit.Audit.TheVariants.{Spawned}
+use Rattle.ticket_items.specs.declared.link.Link.{Link}
+use Rattle.ticket_items.specs.declared.node_row.NodeRow.{NodeRow}
+use Rattle.ticket_items.specs.declared.refusal.Refusal.TheVariants.{UnknownNode, IsRoot, UnknownResource, NotLinked, NotHeld, TooManySpawns}
+use Rattle.ticket_items.specs.declared.resource.Resource.{Resource}
+use Rattle.ticket_items.specs.declared.spawn_status.SpawnStatus.TheVariants.{SpawnedRO, SpawnedRW}
+use Rattle.ticket_items.specs.declared.usage.Usage.TheVariants.{Input, Output}
+use Rattle.spawn.specs.Claim.{ids_of, linked_outside, claim}
+use Rattle.spawn.specs.Marking.{marks}
+use Rattle.spawn.specs.Parts.{part_for}
+use Rattle.spawn.specs.Spawning.{spawn_refusal, new_record, spawned}
+use Rattle.spawn.specs.Table.{holder_of}
+use Rattle.spawn.specs.declared.holder.Holder.TheVariants.{Master, Spawn}
+use Rattle.spawn.specs.declared.phase.Phase.TheVariants.{Out, Merged}
+use Rattle.spawn.specs.declared.spawn_rec.SpawnRec.{SpawnRec}
+
+abbrev paper : Resource
+paper = record { id = codes "r1"; name = codes "Media"; class = codes "Consumable"; status = codes "Available"; attrs = [] }
+
+abbrev sheets : Resource
+sheets = record { id = codes "r2"; name = codes "Component"; class = codes "Quantity"; status = codes "Unavailable"; attrs = [] }
+
+abbrev node : List ℕ → ℕ → List ℕ → List ℕ → List Resource → List Link → NodeRow
+node id depth kind job_part pool links =
+    record { id = id; depth = depth; kind = kind; job_part = job_part; status = codes "Waiting"; attrs = []; resources = pool; links = links; audits = [] }
+
+abbrev product : NodeRow
+product = node (codes "n0") 1 (codes "Product") (codes "p0") (paper ∷ sheets ∷ []) []
+
+abbrev printing : ℕ → NodeRow
+printing depth =
+    node (codes "n1") depth (codes "ConventionalPrinting") (codes "p1") [] (record { rref = codes "r1"; usage = Input } ∷ record { rref = codes "r2"; usage = Output } ∷ [])
+
+abbrev cutting : NodeRow
+cutting = node (codes "n2") 2 (codes "Cutting") (codes "p2") [] (record { rref = codes "r2"; usage = Input } ∷ [])
+
+abbrev rows : List NodeRow
+rows = product ∷ printing 2 ∷ cutting ∷ []
+
+abbrev job : Job
+job = record { job_id = codes "J1"; rows = rows }
+
+-- ---- what is linked and claimed
+
+printing_links : ids_of (linked_outside (places rows) (codes "n1")) ≡ codes "r1" ∷ codes "r2" ∷ []
+printing_links = refl
+
+cutting_links : ids_of (linked_outside (places rows) (codes "n2")) ≡ codes "r2" ∷ []
+cutting_links = refl
+
+product_links : ids_of (linked_outside (places rows) (codes "n0")) ≡ []
+product_links = refl
+
+printing_claims : ids_of (claim (places rows) (codes "n1") (codes "r2" ∷ [])) ≡ codes "r2" ∷ codes "n1" ∷ []
+printing_claims = refl
+
+-- ---- the spawn of the printing
+
+abbrev first : SpawnRec
+first = record { id = 1; node = codes "n1"; worker = codes "press"; at = 100; rw = codes "r2" ∷ []; ro = paper ∷ []; phase = Out }
+
+first_record : new_record rows 1 (codes "n1") (codes "press") (codes "r2" ∷ codes "r2" ∷ []) 100 ≡ first
+first_record = refl
+
+abbrev told : List NodeRow
+told =
+    record product { audits = Spawned 100 (codes "n1") (codes "S1") (codes "r1" ∷ []) (codes "r2" ∷ []) (codes "Waiting") ∷ [] } ∷ printing 2 ∷ cutting ∷ []
+
+first_spawned : spawned job first ≡ record { job_id = codes "J1"; rows = told }
+unfolding digits
+first_spawned = refl
+
+first_part : part_for job first ≡ record {
+  job_id = codes "J1";
+  spawn_id = 1;
+  ancestors = record { node_id = codes "n0"; job_part = codes "p0" } ∷ [];
+  rows = printing 1 ∷ [];
+  rw = sheets ∷ [];
+  ro = paper ∷ [];
+}
+first_part = refl
+
+-- the part shows the printing and its sheets, but neither the paper, which may be read alone, nor the product
+first_rows : map (part_row (part_for job first)) (codes "n1" ∷ codes "r2" ∷ codes "r1" ∷ codes "n0" ∷ []) ≡ row_in rows (codes "n1") ∷ row_in rows (codes "r2") ∷ None ∷ None ∷ []
+first_rows = refl
+
+first_sheets : part_thing (part_for job first) (codes "r2") ≡ Some (resource (codes "Component") (codes "Quantity"))
+first_sheets = refl
+
+first_paper : part_thing (part_for job first) (codes "r1") ≡ None
+first_paper = refl
+
+-- the paths of the part end at the printing
+first_places : map (cut 1) (filter (below (codes "n1")) (places rows)) ≡ places (printing 1 ∷ [])
+first_places = refl
+
+-- ---- refusals
+
+root_refused : spawn_refusal rows [] 1 (codes "n0") [] ≡ Some IsRoot
+root_refused = refl
+
+unknown_refused : spawn_refusal rows [] 1 (codes "r1") [] ≡ Some UnknownNode
+unknown_refused = refl
+
+node_refused : spawn_refusal rows [] 1 (codes "n1") (codes "n2" ∷ []) ≡ Some UnknownResource
+node_refused = refl
+
+unlinked_refused : spawn_refusal rows [] 1 (codes "n2") (codes "r1" ∷ []) ≡ Some NotLinked
+unlinked_refused = refl
+
+number_refused : spawn_refusal rows [] 0 (codes "n1") (codes "r2" ∷ []) ≡ Some TooManySpawns
+number_refused = refl
+
+large_number_refused : spawn_refusal rows [] 1000000000 (codes "n1") (codes "r2" ∷ []) ≡ Some TooManySpawns
+large_number_refused = refl
+
+done : spawn_refusal rows [] 1 (codes "n1") (codes "r2" ∷ []) ≡ None
+done = refl
+
+twice_refused : spawn_refusal told (first ∷ []) 2 (codes "n1") (codes "r2" ∷ []) ≡ Some (NotHeld 1)
+twice_refused = refl
+
+shared_refused : spawn_refusal told (first ∷ []) 2 (codes "n2") (codes "r2" ∷ []) ≡ Some (NotHeld 1)
+shared_refused = refl
+
+read_alone : spawn_refusal told (first ∷ []) 2 (codes "n2") [] ≡ None
+read_alone = refl
+
+-- ---- holders and marks
+
+sheets_held : holder_of told (first ∷ []) (codes "r2") ≡ Some (Spawn 1)
+sheets_held = refl
+
+paper_held : holder_of told (first ∷ []) (codes "r1") ≡ Some Master
+paper_held = refl
+
+unknown_held : holder_of told (first ∷ []) (codes "n9") ≡ None
+unknown_held = refl
+
+abbrev second : SpawnRec
+second = record { id = 2; node = codes "n2"; worker = codes "bind"; at = 100; rw = []; ro = sheets ∷ []; phase = Out }
+
+second_record : new_record told 2 (codes "n2") (codes "bind") [] 100 ≡ second
+second_record = refl
+
+both_marked : marks told (first ∷ second ∷ []) ≡ record {
+  nodes = codes "n1" ∷ codes "n2" ∷ [];
+  resources = record { id = codes "r1"; status = SpawnedRO; spawn_ids = 1 ∷ [] } ∷ record { id = codes "r2"; status = SpawnedRW; spawn_ids = 1 ∷ 2 ∷ [] } ∷ [];
+}
+both_marked = refl
+
+-- numbers stand in their order, whatever that of the records is
+turned_marked : marks told (second ∷ first ∷ []) ≡ marks told (first ∷ second ∷ [])
+turned_marked = refl
+
+second_merged : marks told (first ∷ record second { phase = Merged } ∷ []) ≡ record {
+  nodes = codes "n1" ∷ [];
+  resources = record { id = codes "r1"; status = SpawnedRO; spawn_ids = 1 ∷ [] } ∷ record { id = codes "r2"; status = SpawnedRW; spawn_ids = 1 ∷ [] } ∷ [];
+}
+second_merged = refl
+
+first_merged : marks told (record first { phase = Merged } ∷ second ∷ []) ≡ record {
+  nodes = codes "n2" ∷ [];
+  resources = record { id = codes "r2"; status = SpawnedRO; spawn_ids = 2 ∷ [] } ∷ [];
+}
+first_merged = refl

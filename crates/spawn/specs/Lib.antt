@@ -1,0 +1,13 @@
+pub mod Claim
+pub mod Records
+pub mod Table
+pub mod Parts
+pub mod Spawning
+pub mod Marking
+pub mod Bounds
+pub mod IdSet
+pub mod At
+pub mod Laws
+pub mod Walk
+pub mod OutTables
+pub mod ClaimSet

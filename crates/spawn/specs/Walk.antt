@@ -1,0 +1,38 @@
+-- The walk on which a record is compared with a ticket: what is left of the record's copies, as the resources of the ticket are met.
+use Rattle.std.specs.Prelude.{ℕ, ◌&&◌, Bool, true, false, List, [], ◌∷◌, Option, Some, None, if◌then◌else◌}
+use Rattle.std.specs.Option.{option_map, option_and_then}
+use Rattle.std.specs.Str.{bytes_eq}
+use Rattle.ticket_items.specs.Ids.{mem}
+use Rattle.ticket_tree.specs.Part.{is_linked}
+use Rattle.ticket_items.specs.declared.node_row.NodeRow.{NodeRow}
+use Rattle.ticket_items.specs.declared.resource.Resource.{Resource}
+
+-- whether two resources have the same id, name and Class
+abbrev pub are_same : Resource → Resource → Bool
+are_same x y = bytes_eq x.id y.id && bytes_eq x.name y.name && bytes_eq x.class y.class
+
+-- what stands behind the first, if that passes the test
+abbrev pub behind : {X : Type 0} → (X → Bool) → List X → Option (List X)
+behind f [] = None
+behind f (x ∷ xs) = if f x then Some xs else None
+
+-- the copies that weren't met yet: ids of those that may be changed, and those that may be read alone
+abbrev pub Left : Type 0
+Left = List (List ℕ) × List Resource
+
+-- what is left behind a resource. One that the rows link is the next to change if it is among `rw`, and else the next to read
+abbrev pub met : List NodeRow → List (List ℕ) → Resource → Left → Option Left
+met inside rw x left =
+    if is_linked inside x.id
+    then (if mem x.id rw then option_map (λ ids. (ids, left.1)) (behind (λ i. bytes_eq i x.id) left.0) else option_map (λ copies. (left.0, copies)) (behind (λ y. are_same y x) left.1))
+    else Some left
+
+-- what is left behind these resources
+abbrev pub all_met : List NodeRow → List (List ℕ) → List Resource → Left → Option Left
+all_met inside rw [] left = Some left
+all_met inside rw (x ∷ pool) left = option_and_then (all_met inside rw pool) (met inside rw x left)
+
+abbrev pub are_none : Left → Bool
+are_none ([], []) = true
+are_none ([], x ∷ copies) = false
+are_none (i ∷ ids, copies) = false

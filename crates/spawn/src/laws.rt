@@ -1,0 +1,52 @@
+//! Laws of the words that the contracts of this crate use. Each function does nothing: its contract
+//! is the law.
+
+ghost use Rattle.spawn.specs.Laws as law;
+
+/// A spawn that is out holds just what it claims, where the records stand well beside the ticket.
+pub fn a_spawn_that_is_out_holds_its_claim()
+    ensures claimed { law.ClaimIsHeld }
+    ensures held { law.HeldIsClaimed }
+{}
+
+/// The parent of a node that is out is held by the master, where the records stand well beside the
+/// ticket.
+pub fn the_parent_of_a_spawned_node_is_the_masters()
+    ensures { law.ParentIsMasters }
+{}
+
+/// As a spawn goes out that isn't refused, the records go on to stand well beside the ticket: the
+/// claims of spawns that are out share nothing.
+pub fn a_spawn_keeps_claims_apart()
+    ensures { law.SpawnKeepsApart }
+{}
+
+/// The part of a good record is sound.
+pub fn the_part_of_a_good_record_is_sound()
+    ensures { law.PartIsSound }
+{}
+
+/// The part of a spawn stays the same while nothing of what it claims moves and nothing is added
+/// there, no row of it changes, and the nodes above it keep their job parts.
+pub fn a_part_stays_while_its_claim_does()
+    ensures { law.PartStays }
+{}
+
+/// An edit of what the master holds changes no claim of a good record that is out, and nothing that
+/// is linked outside its node.
+pub fn an_edit_keeps_claims()
+    ensures { law.EditKeepsClaims }
+{}
+
+/// The part of a good record shows what the spawn claims as it stands in the ticket, and nothing
+/// else.
+pub fn a_part_shows_its_claim()
+    ensures claimed { law.PartShowsClaim }
+    ensures no_more { law.PartShowsNoMore }
+{}
+
+/// The rows below a node, so many levels higher that it is the root, have the places that they had,
+/// with their paths cut at the node.
+pub fn rows_below_a_node_have_its_places()
+    ensures { law.CutPlaces }
+{}

@@ -1,0 +1,8 @@
+/// How far a spawn is.
+#[derive(Clone, Copy, Debug, PartialEq, Eq)]
+pub enum Phase {
+    /// Its part is with another controller.
+    Out,
+    /// Its part came back and is put in.
+    Merged,
+}
