@@ -1,0 +1,13 @@
+mod CopiesToChange
+mod OrderedCopies
+mod Told
+mod Fitting
+mod ParentRows
+mod Replaced
+mod Returning
+mod Worked
+pub mod Lawful
+pub mod PutPlaces
+pub mod PutRows
+pub mod PutValid
+pub mod MergedHolders

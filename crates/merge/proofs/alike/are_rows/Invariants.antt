@@ -1,0 +1,7 @@
+use Rattle.std.proofs.Common.{◌≡◌, drop}
+use Rattle.merge.specs.Alike.{are_pairs, is_row}
+use Rattle.merge.proofs.alike.are_rows.Given as goal
+
+-- what is left decides
+abbrev pub invariant-loop-place : goal.invariant-loop-place
+invariant-loop-place l = are_pairs (is_row l.levels) (drop l.place l.old) (drop l.place l.new) ≡ are_pairs (is_row l.levels) l.old l.new

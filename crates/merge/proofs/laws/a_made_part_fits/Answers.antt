@@ -1,0 +1,5 @@
+use Rattle.merge.proofs.Lawful.{made_part_fits}
+use Rattle.merge.proofs.laws.a_made_part_fits.Goals as goal
+
+pub returns : goal.returns
+returns c = made_part_fits

@@ -1,0 +1,7 @@
+pub mod Shape
+pub mod Put
+pub mod PlainPut
+pub mod Alike
+pub mod InOrder
+pub mod Putting
+pub mod Laws

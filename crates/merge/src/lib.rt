@@ -1,0 +1,15 @@
+//! Merging: what another controller made of its part of a ticket is put back (JDF 1.5, 4.4).
+#![tactic(auto)]
+
+mod alike;
+mod audits;
+mod copies;
+mod in_order;
+pub mod laws;
+mod merging;
+mod parent;
+mod replacing;
+mod shape;
+
+pub use merging::merge;
+pub use shape::fits;

@@ -1,0 +1,95 @@
+//! The merge of a part.
+
+ghost use Rattle.std.specs.Prelude.{◌≡◌, true, IfOk, IfErr, OnOk, OnErr};
+ghost use Rattle.ticket_rows.specs.OneRow.{appended};
+ghost use Rattle.spawn.specs.Records.{IsGood, is_out};
+ghost use Rattle.spawn.specs.Spawning as spawning;
+ghost use Rattle.spawn.specs.declared.phase.Phase.TheVariants.{Merged};
+ghost use Rattle.merge.specs.Put as puts;
+ghost use Rattle.merge.specs.Put.{put};
+ghost use Rattle.merge.specs.Shape.{Fits};
+
+use crate::parent::parent_of;
+use crate::replacing::put_back;
+use crate::shape::fits;
+use spawn::{Phase, SpawnRec};
+use std::alloc::{AllocError, Global};
+use ticket_tree::{Audit, Part, Refusal, Ticket};
+
+/// The audit that tells of the merge of a spawn.
+fn merged_audit(alloc: Global, spawn: &SpawnRec, at: u64) -> Result<Audit, AllocError>
+    ensures { IfOk result (λ audit. audit ≡ puts.merged_audit spawn.now at) }
+{
+    let jref = spawn.node.copy(alloc)?;
+    let merge_id = spawn.id.to_id(alloc)?;
+    let overwritten = spawn.rw.copy(alloc)?;
+    Ok(Audit::Merged {
+        at,
+        jref,
+        merge_id,
+        overwritten,
+    })
+}
+
+/// Puts the audit that tells of the merge of a spawn at the parent of its node.
+fn tell(alloc: Global, ticket: &mut Ticket, spawn: &SpawnRec, at: u64) -> Result<(), Refusal>
+    requires { IsGood ticket.old.rows spawn.now }
+    ensures ok { OnOk result (ticket.new
+        ≡ record ticket.old {
+          rows = appended (spawning.parent_of ticket.old.rows spawn.now.node)
+              (puts.merged_audit spawn.now at) ticket.old.rows;
+        }) }
+    ensures err { OnErr result (ticket.new ≡ ticket.old) }
+    ensures memory { IfErr result (λ e. e ≡ Refusal.Memory) }
+{
+    // What its rows tell: the ticket is valid, so that a parent stands in it.
+    let _rows = ticket.rows();
+    let audit = merged_audit(alloc, spawn, at)?;
+    let Some(parent) = parent_of(ticket, &spawn.node) else {
+        return Err(Refusal::UnknownNode);
+    };
+    let parent = parent.copy(alloc)?;
+    ticket.append(alloc, &parent, audit)
+}
+
+/// Merges a part that comes back from a spawn that is out (JDF 1.5, 4.4): each of its nodes takes
+/// the place of the ticket's node of its id, at that one's depth, and each of its copies that may
+/// be changed the place of the resource of its id; its copies that may be read alone are let go. At
+/// the parent of the spawned node a `Merged` audit tells of it (JDF 1.5, 3.11), and the record is
+/// then that of a merged spawn. The record is good in the ticket.
+///
+/// Refuses `WrongShape` exactly where the part doesn't fit, which needs no memory, and then
+/// `Memory`. A refusal changes nothing.
+pub fn merge(
+    alloc: Global,
+    ticket: &mut Ticket,
+    spawn: &mut SpawnRec,
+    part: Part,
+    at: u64,
+) -> Result<(), Refusal>
+    requires out { is_out spawn.old ≡ true }
+    requires good { IsGood ticket.old.rows spawn.old }
+
+    ensures merged { OnOk result (ticket.new ≡ put ticket.old spawn.old part at) }
+    ensures phase { OnOk result (spawn.new ≡ record spawn.old { phase = Merged }) }
+    ensures fits { OnOk result (Fits ticket.old spawn.old part) }
+
+    // A refusal changes nothing.
+    ensures ticket { OnErr result (ticket.new ≡ ticket.old) }
+    ensures spawn { OnErr result (spawn.new ≡ spawn.old) }
+
+    // It is refused for its shape exactly where it doesn't fit.
+    ensures wrong_shape { (Fits ticket.old spawn.old part → ⊥) → result ≡ Err Refusal.WrongShape }
+    ensures memory { Fits ticket.old spawn.old part → IfErr result (λ e. e ≡ Refusal.Memory) }
+{
+    if !fits(ticket, spawn, &part) {
+        return Err(Refusal::WrongShape);
+    }
+    // What their rows tell: both are valid.
+    let _rows = ticket.rows();
+    let _part_rows = part.rows();
+    tell(alloc, ticket, spawn, at)?;
+    put_back(ticket, part);
+    spawn.phase = Phase::Merged;
+    Ok(())
+}
