@@ -40,6 +40,8 @@ pub fn refusal_line(refusal: Refusal) -> &'static str
         Refusal::WrongShape => "Refused 22 WrongShape\n",
         Refusal::NotJson => "Refused 40 NotJson\n",
         Refusal::NotProfile => "Refused 41 NotProfile\n",
+        Refusal::WrongMessage => "Refused 45 WrongMessage\n",
+        Refusal::WrongVersion => "Refused 46 WrongVersion\n",
         Refusal::Memory => "Refused 90 Memory\n",
     }
 }

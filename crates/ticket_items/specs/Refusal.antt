@@ -1,7 +1,7 @@
 -- The number and the name of each refusal.
 use Rattle.std.specs.Prelude.{ℕ, List, codes}
 use Rattle.ticket_items.specs.declared.refusal.Refusal.{Refusal}
-use Rattle.ticket_items.specs.declared.refusal.Refusal.TheVariants.{BadId, DuplicateId, UnresolvedLink, TooDeep, ReservedStatus, BadText, NotATree, UnknownNode, UnknownResource, NotHeld, IsRoot, NotLinked, TooManySpawns, WrongShape, NotJson, NotProfile, Memory}
+use Rattle.ticket_items.specs.declared.refusal.Refusal.TheVariants.{BadId, DuplicateId, UnresolvedLink, TooDeep, ReservedStatus, BadText, NotATree, UnknownNode, UnknownResource, NotHeld, IsRoot, NotLinked, TooManySpawns, WrongShape, NotJson, NotProfile, WrongMessage, WrongVersion, Memory}
 
 abbrev pub number_of : Refusal → ℕ
 number_of BadId = 1
@@ -20,6 +20,8 @@ number_of TooManySpawns = 17
 number_of WrongShape = 22
 number_of NotJson = 40
 number_of NotProfile = 41
+number_of WrongMessage = 45
+number_of WrongVersion = 46
 number_of Memory = 90
 
 abbrev pub name_of : Refusal → List ℕ
@@ -39,4 +41,6 @@ name_of TooManySpawns = codes "TooManySpawns"
 name_of WrongShape = codes "WrongShape"
 name_of NotJson = codes "NotJson"
 name_of NotProfile = codes "NotProfile"
+name_of WrongMessage = codes "WrongMessage"
+name_of WrongVersion = codes "WrongVersion"
 name_of Memory = codes "Memory"

@@ -40,6 +40,10 @@ pub enum Refusal {
     NotJson,
     /// The JSON isn't of our profile's form.
     NotProfile,
+    /// A message says what none may: its Type, ids, places, part, status or codes don't go together.
+    WrongMessage,
+    /// A message is of another Version than `1.5`.
+    WrongVersion,
     /// No memory was left.
     Memory,
 }
@@ -69,6 +73,8 @@ impl Refusal {
             Refusal::WrongShape => 22,
             Refusal::NotJson => 40,
             Refusal::NotProfile => 41,
+            Refusal::WrongMessage => 45,
+            Refusal::WrongVersion => 46,
             Refusal::Memory => 90,
         }
     }
@@ -94,6 +100,8 @@ impl Refusal {
             Refusal::WrongShape => "WrongShape",
             Refusal::NotJson => "NotJson",
             Refusal::NotProfile => "NotProfile",
+            Refusal::WrongMessage => "WrongMessage",
+            Refusal::WrongVersion => "WrongVersion",
             Refusal::Memory => "Memory",
         }
     }

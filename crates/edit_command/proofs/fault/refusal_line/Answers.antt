@@ -69,3 +69,11 @@ returns-in-NotLinked c = rw c.in-NotLinked.is refl
 pub returns-in-WrongShape : goal.returns-in-WrongShape
 unfolding digits
 returns-in-WrongShape c = rw c.in-WrongShape.is refl
+
+pub returns-in-WrongMessage : goal.returns-in-WrongMessage
+unfolding digits
+returns-in-WrongMessage c = rw c.in-WrongMessage.is refl
+
+pub returns-in-WrongVersion : goal.returns-in-WrongVersion
+unfolding digits
+returns-in-WrongVersion c = rw c.in-WrongVersion.is refl
