@@ -32,18 +32,45 @@ pub enum Refusal {
     IsRoot,
     /// A resource isn't linked by the spawned node or one below it, or is at home there.
     NotLinked,
+    /// No worker has the name.
+    UnknownWorker,
+    /// No spawn that is out has the id.
+    NotOut,
     /// A spawn's number isn't one of 1 to 999,999,999.
     TooManySpawns,
+    /// Two controllers are to have one name.
+    SameName,
+    /// No spawn has the id that a message tells of.
+    UnknownSpawn,
+    /// A message comes from another controller than the one that it would have to come from.
+    WrongSender,
     /// A part that comes back has another shape than what was spawned.
     WrongShape,
+    /// A worker has no entry of the spawn.
+    UnknownEntry,
+    /// A worker's entry was finished.
+    NotOpen,
+    /// What is to be changed is a copy that may be read alone.
+    ReadOnly,
+    /// What is to be changed isn't in the part.
+    NotInPart,
+    /// A worker is to add to the tree, which only the master may.
+    NotForWorkers,
+    /// A worker's entry isn't finished yet.
+    NotDone,
+    /// A part can't have come from a ticket.
+    BadPart,
     /// The bytes are no JSON.
     NotJson,
     /// The JSON isn't of our profile's form.
     NotProfile,
-    /// A message says what none may: its Type, ids, places, part, status or codes don't go together.
+    /// A message says what none may: its Type, ids, places, part, status or codes don't go
+    /// together.
     WrongMessage,
     /// A message is of another Version than `1.5`.
     WrongVersion,
+    /// What was stored is no state of a controller.
+    BadState,
     /// No memory was left.
     Memory,
 }
@@ -69,12 +96,25 @@ impl Refusal {
             Refusal::NotHeld(_) => 12,
             Refusal::IsRoot => 13,
             Refusal::NotLinked => 14,
+            Refusal::UnknownWorker => 15,
+            Refusal::NotOut => 16,
             Refusal::TooManySpawns => 17,
+            Refusal::SameName => 18,
+            Refusal::UnknownSpawn => 20,
+            Refusal::WrongSender => 21,
             Refusal::WrongShape => 22,
+            Refusal::UnknownEntry => 30,
+            Refusal::NotOpen => 31,
+            Refusal::ReadOnly => 32,
+            Refusal::NotInPart => 33,
+            Refusal::NotForWorkers => 34,
+            Refusal::NotDone => 35,
+            Refusal::BadPart => 36,
             Refusal::NotJson => 40,
             Refusal::NotProfile => 41,
             Refusal::WrongMessage => 45,
             Refusal::WrongVersion => 46,
+            Refusal::BadState => 47,
             Refusal::Memory => 90,
         }
     }
@@ -96,12 +136,25 @@ impl Refusal {
             Refusal::NotHeld(_) => "NotHeld",
             Refusal::IsRoot => "IsRoot",
             Refusal::NotLinked => "NotLinked",
+            Refusal::UnknownWorker => "UnknownWorker",
+            Refusal::NotOut => "NotOut",
             Refusal::TooManySpawns => "TooManySpawns",
+            Refusal::SameName => "SameName",
+            Refusal::UnknownSpawn => "UnknownSpawn",
+            Refusal::WrongSender => "WrongSender",
             Refusal::WrongShape => "WrongShape",
+            Refusal::UnknownEntry => "UnknownEntry",
+            Refusal::NotOpen => "NotOpen",
+            Refusal::ReadOnly => "ReadOnly",
+            Refusal::NotInPart => "NotInPart",
+            Refusal::NotForWorkers => "NotForWorkers",
+            Refusal::NotDone => "NotDone",
+            Refusal::BadPart => "BadPart",
             Refusal::NotJson => "NotJson",
             Refusal::NotProfile => "NotProfile",
             Refusal::WrongMessage => "WrongMessage",
             Refusal::WrongVersion => "WrongVersion",
+            Refusal::BadState => "BadState",
             Refusal::Memory => "Memory",
         }
     }

@@ -77,3 +77,55 @@ returns-in-WrongMessage c = rw c.in-WrongMessage.is refl
 pub returns-in-WrongVersion : goal.returns-in-WrongVersion
 unfolding digits
 returns-in-WrongVersion c = rw c.in-WrongVersion.is refl
+
+pub returns-in-UnknownWorker : goal.returns-in-UnknownWorker
+unfolding digits
+returns-in-UnknownWorker c = rw c.in-UnknownWorker.is refl
+
+pub returns-in-NotOut : goal.returns-in-NotOut
+unfolding digits
+returns-in-NotOut c = rw c.in-NotOut.is refl
+
+pub returns-in-SameName : goal.returns-in-SameName
+unfolding digits
+returns-in-SameName c = rw c.in-SameName.is refl
+
+pub returns-in-UnknownSpawn : goal.returns-in-UnknownSpawn
+unfolding digits
+returns-in-UnknownSpawn c = rw c.in-UnknownSpawn.is refl
+
+pub returns-in-WrongSender : goal.returns-in-WrongSender
+unfolding digits
+returns-in-WrongSender c = rw c.in-WrongSender.is refl
+
+pub returns-in-UnknownEntry : goal.returns-in-UnknownEntry
+unfolding digits
+returns-in-UnknownEntry c = rw c.in-UnknownEntry.is refl
+
+pub returns-in-NotOpen : goal.returns-in-NotOpen
+unfolding digits
+returns-in-NotOpen c = rw c.in-NotOpen.is refl
+
+pub returns-in-ReadOnly : goal.returns-in-ReadOnly
+unfolding digits
+returns-in-ReadOnly c = rw c.in-ReadOnly.is refl
+
+pub returns-in-NotInPart : goal.returns-in-NotInPart
+unfolding digits
+returns-in-NotInPart c = rw c.in-NotInPart.is refl
+
+pub returns-in-NotForWorkers : goal.returns-in-NotForWorkers
+unfolding digits
+returns-in-NotForWorkers c = rw c.in-NotForWorkers.is refl
+
+pub returns-in-NotDone : goal.returns-in-NotDone
+unfolding digits
+returns-in-NotDone c = rw c.in-NotDone.is refl
+
+pub returns-in-BadPart : goal.returns-in-BadPart
+unfolding digits
+returns-in-BadPart c = rw c.in-BadPart.is refl
+
+pub returns-in-BadState : goal.returns-in-BadState
+unfolding digits
+returns-in-BadState c = rw c.in-BadState.is refl
