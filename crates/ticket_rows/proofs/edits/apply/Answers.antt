@@ -60,3 +60,11 @@ returns-in-AddResource-clause-in_place c still = absurd (true≢false (sym (ap g
 
 pub returns-in-AddLink-clause-in_place : goal.returns-in-AddLink-clause-in_place
 returns-in-AddLink-clause-in_place c still = absurd (true≢false (sym (ap grows c.in-AddLink.is) ∙ still))
+
+pub returns-in-Note-clause-refused : goal.returns-in-Note-clause-refused
+returns-in-Note-clause-refused c =
+    subst (λ e. IfSome (refusal_of e c.args.rows.now.items) (λ r. c.note.result ≡ Err r)) (sym c.in-Note.is) c.note.ensures.refused
+
+pub returns-in-AddResource-clause-refused : goal.returns-in-AddResource-clause-refused
+returns-in-AddResource-clause-refused c =
+    subst (λ e. IfSome (refusal_of e c.args.rows.now.items) (λ r. c.add_resource.result ≡ Err r)) (sym c.in-AddResource.is) c.add_resource.ensures.refused
