@@ -4,7 +4,7 @@ use Rattle.std.specs.IoError.{error_kind}
 use Rattle.std.specs.declared.io.Error.{Error}
 use Rattle.std.specs.declared.io.ErrorKind.TheVariants.{Interrupted}
 
--- a reader or a writer, how many calls of it were made, and how many of these failed or were interrupted reads
+-- a reader or a writer with its calls: all, those that failed, and interrupted reads
 pub record Counts (T : Type 0) : Type 0 where
   pub inner : T
   pub calls : ℕ
@@ -41,7 +41,9 @@ pub record CountsInterruption {T : Type 0} (old new : Counts T) : Type 0 where
 
 -- a read that answered an error was interrupted, or failed
 abbrev pub CountsError : {T : Type 0} → Counts T → Counts T → Error → Type 0
-CountsError old new e = ((error_kind e ≡ Interrupted) × CountsInterruption old new) ⊎ ((error_kind e ≢ Interrupted) × CountsFailure old new)
+CountsError old new e =
+    ((error_kind e ≡ Interrupted) × CountsInterruption old new)
+    ⊎ ((error_kind e ≢ Interrupted) × CountsFailure old new)
 
 -- a read was counted by what it answered
 abbrev pub CountsRead : {T : Type 0} → Counts T → Counts T → Result ℕ Error → Type 0
@@ -49,4 +51,6 @@ CountsRead old new answer = MatchResult answer (λ _. CountsCall old new) (Count
 
 -- a write was counted by what it answered: it failed where it took no byte
 abbrev pub CountsWrite : {T : Type 0} → Counts T → Counts T → Result ℕ Error → Type 0
-CountsWrite old new answer = MatchResult answer (λ n. (n ≡ 0 → CountsFailure old new) × (0 < n → CountsCall old new)) (λ _. CountsFailure old new)
+CountsWrite old new answer =
+    MatchResult answer (λ n. (n ≡ 0 → CountsFailure old new) × (0 < n → CountsCall old new))
+    (λ _. CountsFailure old new)

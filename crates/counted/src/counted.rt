@@ -19,7 +19,12 @@ impl<T> Model for Counted<T> {
 
     ghost Value = { Counts T };
 
-    ghost view = { λ c. record { inner = c.inner; calls = c.calls; failures = c.failures; interruptions = c.interruptions } };
+    ghost view = { λ c. record {
+      inner = c.inner;
+      calls = c.calls;
+      failures = c.failures;
+      interruptions = c.interruptions;
+    } };
 
     ghost invariant = { λ c. c.failures + c.interruptions ≤ c.calls };
 }

@@ -1,5 +1,6 @@
 -- The laws of merging.
-use Rattle.std.proofs.Common.{◌≡◌, ◌∙◌, ℕ, Bool, true, false, not, cond, List, [], ◌∷◌, ◌++◌, length, map, take, Option, Some, None, is_some, refl, sym, ap, subst}
+use Rattle.std.proofs.Common.{◌≡◌, ◌∙◌, ℕ, Bool, true, false, not, cond, List, [], ◌∷◌, ◌++◌}
+use Rattle.std.proofs.Common.{length, map, take, Option, Some, None, is_some, refl, sym, ap, subst}
 use Rattle.std.proofs.lemmas.Bool.{true≢false, and_parts, not-true}
 use Rattle.std.proofs.lemmas.Slice.Eq.{bytes_eq-Decides}
 use Rattle.std.specs.List.{filter, find, zip}
@@ -44,14 +45,20 @@ abbrev pub AllOwn : {X : Type 0} → (X → List ℕ) → List X → List X → 
 AllOwn key all [] = Unit {0}
 AllOwn key all (x ∷ xs) = (find (λ z. bytes_eq (key z) (key x)) all ≡ Some x) × AllOwn key all xs
 
-other_at : {X : Type 0} (here : Bool) (key : X → List ℕ) (x : X) (xs : List X) (y : List ℕ) → bytes_eq (key x) y ≡ here → mem (key x) (map key xs) ≡ false → mem y (map key xs) ≡ true → here ≡ false
+other_at : {X : Type 0} (here : Bool) (key : X → List ℕ) (x : X) (xs : List X) (y : List ℕ)
+    → bytes_eq (key x) y ≡ here → mem (key x) (map key xs) ≡ false → mem y (map key xs) ≡ true
+    → here ≡ false
 other_at false key x xs y e out there = refl
 other_at true key x xs y e out there = absurd (true≢false (sym there ∙ ap (λ i. mem i (map key xs)) (sym ((bytes_eq-Decides (key x) y).0 e)) ∙ out))
 
-found_stands : {X : Type 0} (key : X → List ℕ) (xs : List X) (y : List ℕ) (x : X) → find (λ z. bytes_eq (key z) y) xs ≡ Some x → mem y (map key xs) ≡ true
+found_stands : {X : Type 0} (key : X → List ℕ) (xs : List X) (y : List ℕ) (x : X)
+    → find (λ z. bytes_eq (key z) y) xs ≡ Some x → mem y (map key xs) ≡ true
 found_stands key xs y x found = sym (any_key key y xs) ∙ sym (is_some-find (λ z. bytes_eq (key z) y) xs) ∙ ap is_some found
 
-pub all_own : {X : Type 0} (key : X → List ℕ) (all xs : List X) → ((y : List ℕ) (x : X) → find (λ z. bytes_eq (key z) y) xs ≡ Some x → find (λ z. bytes_eq (key z) y) all ≡ Some x) → are_distinct (map key xs) ≡ true → AllOwn key all xs
+pub all_own : {X : Type 0} (key : X → List ℕ) (all xs : List X)
+    → ((y : List ℕ) (x : X) → find (λ z. bytes_eq (key z) y) xs ≡ Some x
+    → find (λ z. bytes_eq (key z) y) all ≡ Some x)
+    → are_distinct (map key xs) ≡ true → AllOwn key all xs
 all_own key all [] finds apart = tt
 all_own key all (x ∷ xs) finds apart =
     let parts = and_parts (not (mem (key x) (map key xs))) (are_distinct (map key xs)) apart in (
@@ -59,11 +66,13 @@ all_own key all (x ∷ xs) finds apart =
       all_own key all xs (λ y z found. finds y z (ap (λ b. cond b (Some x) (find (λ w. bytes_eq (key w) y) xs)) (other_at (bytes_eq (key x) y) key x xs y refl (not-true _ parts.0) (found_stands key xs y z found)) ∙ found)) parts.1,
     )
 
-pub own_front : {X : Type 0} (key : X → List ℕ) (all xs ys : List X) → AllOwn key all (xs ++ ys) → AllOwn key all xs
+pub own_front : {X : Type 0} (key : X → List ℕ) (all xs ys : List X) → AllOwn key all (xs ++ ys)
+    → AllOwn key all xs
 own_front key all [] ys own = tt
 own_front key all (x ∷ xs) ys own = (own.0, own_front key all xs ys own.1)
 
-pub own_back : {X : Type 0} (key : X → List ℕ) (all xs ys : List X) → AllOwn key all (xs ++ ys) → AllOwn key all ys
+pub own_back : {X : Type 0} (key : X → List ℕ) (all xs ys : List X) → AllOwn key all (xs ++ ys)
+    → AllOwn key all ys
 own_back key all [] ys own = own
 own_back key all (x ∷ xs) ys own = own_back key all xs ys own.1
 
@@ -76,25 +85,36 @@ either_self : (b : Bool) (x : Resource) → option_map_or (λ y. y) (cond b (Som
 either_self true x = refl
 either_self false x = refl
 
-same_pool : (ids : List (List ℕ)) (all pool : List Resource) → AllOwn by_id all pool → map (resource_from (filter (λ x. mem x.id ids) all)) pool ≡ pool
+same_pool : (ids : List (List ℕ)) (all pool : List Resource) → AllOwn by_id all pool
+    → map (resource_from (filter (λ x. mem x.id ids) all)) pool ≡ pool
 same_pool ids all [] own = refl
 same_pool ids all (x ∷ pool) own =
     ap (λ o. option_map_or (λ y. y) o x ∷ map (resource_from (filter (λ z. mem z.id ids) all)) pool) (find_kept by_id (λ i. mem i ids) x.id all ∙ ap (λ o. cond (mem x.id ids) o None) own.0)
     ∙ ap (λ y. y ∷ map (resource_from (filter (λ z. mem z.id ids) all)) pool) (either_self (mem x.id ids) x) ∙ ap (λ ys. x ∷ ys) (same_pool ids all pool own.1)
 
-lifted_at : (here : Bool) (k : ℕ) (r : NodeRow) (o later : Option NodeRow) → o ≡ option_map (lifted k) later → cond here (Some (lifted k r)) o ≡ option_map (lifted k) (cond here (Some r) later)
+lifted_at : (here : Bool) (k : ℕ) (r : NodeRow) (o later : Option NodeRow)
+    → o ≡ option_map (lifted k) later
+    → cond here (Some (lifted k r)) o ≡ option_map (lifted k) (cond here (Some r) later)
 lifted_at true k r o later e = refl
 lifted_at false k r o later e = e
 
-row_of_lifted : (k : ℕ) (rows : List NodeRow) (x : List ℕ) → row_of (map (lifted k) rows) x ≡ option_map (lifted k) (row_of rows x)
+row_of_lifted : (k : ℕ) (rows : List NodeRow) (x : List ℕ)
+    → row_of (map (lifted k) rows) x ≡ option_map (lifted k) (row_of rows x)
 row_of_lifted k [] x = refl
 row_of_lifted k (r ∷ rows) x = lifted_at (bytes_eq r.id x) k r (row_of (map (lifted k) rows) x) (row_of rows x) (row_of_lifted k rows x)
 
-row_back : (b : Bool) (k : ℕ) (r : NodeRow) (pool : List Resource) → pool ≡ r.resources → option_map_or (λ (new : NodeRow). record new { depth = r.depth }) (option_map (lifted k) (cond b (Some r) None)) (record r { resources = pool }) ≡ r
+row_back : (b : Bool) (k : ℕ) (r : NodeRow) (pool : List Resource) → pool ≡ r.resources
+    → option_map_or (λ (new : NodeRow). record new { depth = r.depth })
+    (option_map (lifted k) (cond b (Some r) None)) (record r { resources = pool })
+    ≡ r
 row_back true k r pool e = refl
 row_back false k r pool e = ap (λ xs. record r { resources = xs }) e
 
-same_rows : (p : Copied) (all : List NodeRow) (ok : List ℕ → Bool) (k : ℕ) (ids : List (List ℕ)) (pools : List Resource) → p.rows ≡ map (lifted k) (filter (λ r. ok r.id) all) → p.rw ≡ filter (λ x. mem x.id ids) pools → (rows : List NodeRow) → AllOwn (λ (r : NodeRow). r.id) all rows → AllOwn by_id pools (resources rows) → map (row_from p) rows ≡ rows
+same_rows : (p : Copied) (all : List NodeRow) (ok : List ℕ → Bool) (k : ℕ) (ids : List (List ℕ))
+    (pools : List Resource)
+    → p.rows ≡ map (lifted k) (filter (λ r. ok r.id) all) → p.rw ≡ filter (λ x. mem x.id ids) pools
+    → (rows : List NodeRow) → AllOwn (λ (r : NodeRow). r.id) all rows
+    → AllOwn by_id pools (resources rows) → map (row_from p) rows ≡ rows
 same_rows p all ok k ids pools rs xs [] own pool_own = refl
 same_rows p all ok k ids pools rs xs (r ∷ rows) own pool_own =
     let both = subst (AllOwn by_id pools) (resources_cons r rows) pool_own in

@@ -1,5 +1,7 @@
 -- Who holds what after a merge: the master what the spawn claimed, and all else is held as before.
-use Rattle.std.proofs.Common.{◌≡◌, ◌∙◌, ◌⊎◌, ℕ, zero, suc, ◌&&◌, Bool, true, false, cond, List, [], ◌∷◌, Option, Some, None, slice_get, slice_set, inl, inr, refl, sym, ap, arith}
+use Rattle.std.proofs.Common.{◌≡◌, ◌∙◌, ◌⊎◌, ℕ, zero, suc, ◌&&◌, Bool, true, false, cond, List, []}
+use Rattle.std.proofs.Common.{◌∷◌, Option, Some, None, slice_get, slice_set, inl, inr, refl, sym}
+use Rattle.std.proofs.Common.{ap, arith}
 use Rattle.std.proofs.lemmas.Bool.{true≢false, and_from}
 use Rattle.std.specs.List.{find}
 use Rattle.std.specs.Option.{option_map, option_map_or}
@@ -29,7 +31,8 @@ as_merged r = record r { phase = Merged }
 -- ---- the records after a merge
 
 -- a record is the one that was put in, or stands elsewhere as it did
-set_found : (xs : List SpawnRec) (k j : ℕ) (v y : SpawnRec) → slice_get (slice_set xs k v) j ≡ Some y → (y ≡ v) ⊎ ((j ≡ k → ⊥) × (slice_get xs j ≡ Some y))
+set_found : (xs : List SpawnRec) (k j : ℕ) (v y : SpawnRec)
+    → slice_get (slice_set xs k v) j ≡ Some y → (y ≡ v) ⊎ ((j ≡ k → ⊥) × (slice_get xs j ≡ Some y))
 set_found [] k j v y e = cc
 set_found (x ∷ xs) zero zero v y e = inl (sym (ap (λ o. option_map_or (λ s. s) o v) e))
 set_found (x ∷ xs) zero (suc j) v y e = inr (λ same. absurd (omega (arith, same)), e)
@@ -41,7 +44,8 @@ set_found (x ∷ xs) (suc k) (suc j) v y e =
     ]
 
 -- what fails before and after isn't missed
-find_set : (f : SpawnRec → Bool) (xs : List SpawnRec) (k : ℕ) (r v : SpawnRec) → slice_get xs k ≡ Some r → f r ≡ false → f v ≡ false → find f (slice_set xs k v) ≡ find f xs
+find_set : (f : SpawnRec → Bool) (xs : List SpawnRec) (k : ℕ) (r v : SpawnRec)
+    → slice_get xs k ≡ Some r → f r ≡ false → f v ≡ false → find f (slice_set xs k v) ≡ find f xs
 find_set f [] k r v there old new = cc
 find_set f (x ∷ xs) zero r v there old new =
     let same : f x ≡ false = ap (λ o. option_map_or f o false) there ∙ old in
@@ -50,7 +54,9 @@ find_set f (x ∷ xs) (suc k) r v there old new = ap (cond (f x) (Some x)) (find
 
 -- ---- the laws
 
-still : (t : Job) (recs : List SpawnRec) (k : ℕ) (r : SpawnRec) (p : Copied) (time : ℕ) → IsValid t.rows → StandApart t.rows recs → slice_get recs k ≡ Some r → is_out r ≡ true → Fits t r p → places (put t r p time).rows ≡ places t.rows
+still : (t : Job) (recs : List SpawnRec) (k : ℕ) (r : SpawnRec) (p : Copied) (time : ℕ)
+    → IsValid t.rows → StandApart t.rows recs → slice_get recs k ≡ Some r → is_out r ≡ true
+    → Fits t r p → places (put t r p time).rows ≡ places t.rows
 still t recs k r p time valid apart there out fits = put_of_places t r p time valid (apart.good k r there out) fits
 
 -- what is merged isn't out, and holds nothing
@@ -81,7 +87,10 @@ merge_keeps_apart t recs k r p time valid apart there out fits =
     }
 
 -- no record holds what was claimed
-none_holds : (o : Option SpawnRec) (rows : List NodeRow) (recs : List SpawnRec) (k : ℕ) (r : SpawnRec) (x : List ℕ) (q : Place) → StandApart rows recs → slice_get recs k ≡ Some r → is_out r ≡ true → place_at (places rows) x ≡ Some q → is_claimed r.node r.rw q ≡ true
+none_holds : (o : Option SpawnRec) (rows : List NodeRow) (recs : List SpawnRec) (k : ℕ)
+    (r : SpawnRec) (x : List ℕ) (q : Place)
+    → StandApart rows recs → slice_get recs k ≡ Some r → is_out r ≡ true
+    → place_at (places rows) x ≡ Some q → is_claimed r.node r.rw q ≡ true
     → holding (merged_recs recs k r) q ≡ o → o ≡ None
 none_holds None rows recs k r x q apart there out stands claims e = refl
 none_holds (Some s) rows recs k r x q apart there out stands claims e =
@@ -99,7 +108,10 @@ merged_claim_is_masters t recs k r p time valid apart there out fits x q stands 
     ∙ ap (option_map (holder_at new)) stands
     ∙ ap (λ o. Some (option_map_or (λ s. Spawn s.id) o Master)) (none_holds (holding new q) t.rows recs k r x q apart there out stands claims refl)
 
-others_at : (o : Option Place) (recs : List SpawnRec) (k : ℕ) (r : SpawnRec) → slice_get recs k ≡ Some r → is_out r ≡ true → option_map_or (is_claimed r.node r.rw) o false ≡ false → option_map (holder_at (merged_recs recs k r)) o ≡ option_map (holder_at recs) o
+others_at : (o : Option Place) (recs : List SpawnRec) (k : ℕ) (r : SpawnRec)
+    → slice_get recs k ≡ Some r → is_out r ≡ true
+    → option_map_or (is_claimed r.node r.rw) o false ≡ false
+    → option_map (holder_at (merged_recs recs k r)) o ≡ option_map (holder_at recs) o
 others_at None recs k r there out claims = refl
 others_at (Some q) recs k r there out claims =
     ap (λ o. Some (option_map_or (λ s. Spawn s.id) o Master)) (find_set (holds q) recs k r (as_merged r) there (ap (λ b. b && is_claimed r.node r.rw q) out ∙ claims) refl)

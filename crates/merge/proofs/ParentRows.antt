@@ -1,5 +1,8 @@
 -- The parent of a node is the last row in front of it that stands higher.
-use Rattle.std.proofs.Common.{◌≡◌, ◌∙◌, ℕ, zero, suc, ◌+◌, ◌-◌, ◌≤◌, inl, inr, Bool, true, false, cond, List, [], ◌∷◌, ◌++◌, length, take, drop, reverse, slice_get, Option, Some, None, is_some, nat_lt, Result, IfErr, IfNone, refl, sym, ap, subst, append_assoc, arith}
+use Rattle.std.proofs.Common.{◌≡◌, ◌∙◌, ℕ, zero, suc, ◌+◌, ◌-◌, ◌≤◌, inl, inr, Bool, true, false}
+use Rattle.std.proofs.Common.{cond, List, [], ◌∷◌, ◌++◌, length, take, drop, reverse, slice_get}
+use Rattle.std.proofs.Common.{Option, Some, None, is_some, nat_lt, Result, IfErr, IfNone, refl, sym}
+use Rattle.std.proofs.Common.{ap, subst, append_assoc, arith}
 use Rattle.std.proofs.lemmas.Bool.{ltb-true, ltb-false}
 use Rattle.std.proofs.lemmas.List.{reverse-append, length-drop}
 use Rattle.std.proofs.lemmas.List.Folds.{find-append}
@@ -8,9 +11,10 @@ use Rattle.std.specs.Option.{option_map, option_map_or, option_or, option_and_th
 use Rattle.ticket_rows.proofs.Below.{Path, Follows, Follows-outline, length-path_of}
 use Rattle.ticket_tree.proofs.OnPlaces.{stands_node}
 use Rattle.ticket_tree.proofs.Parents.{one_parent_each}
-use Rattle.ticket_rows.specs.Place.{Place, node_place, node_places, place_at, up, parent, BoundsNodesBelow, path_of}
+use Rattle.ticket_rows.specs.Place.{Place, node_place, node_places, place_at, up, parent}
+use Rattle.ticket_rows.specs.Place.{BoundsNodesBelow, path_of}
 use Rattle.ticket_rows.specs.Edit.{node_refusal}
-use Rattle.ticket_rows.specs.Ticket.{IsValid, has_node, unless, first_of}
+use Rattle.ticket_rows.specs.Ticket.{IsValid, has_node, unless}
 use Rattle.ticket_items.specs.declared.refusal.Refusal.{Refusal}
 use Rattle.ticket_items.specs.declared.refusal.Refusal.TheVariants.{UnknownNode, Memory}
 use Rattle.ticket_items.specs.declared.node_row.NodeRow.{NodeRow}
@@ -28,13 +32,16 @@ last_above depth known (r ∷ rows) = last_above depth (cond (nat_lt r.depth dep
 abbrev found_above : ℕ → List NodeRow → Option (List ℕ)
 found_above depth rows = option_map (λ r. r.id) (find (λ r. nat_lt r.depth depth) (reverse rows))
 
-or_here : (b : Bool) (o : Option NodeRow) (r : NodeRow) (known : Option (List ℕ)) → option_or (option_map (λ s. s.id) (option_or o (cond b (Some r) None))) known ≡ option_or (option_map (λ s. s.id) o) (cond b (Some r.id) known)
+or_here : (b : Bool) (o : Option NodeRow) (r : NodeRow) (known : Option (List ℕ))
+    → option_or (option_map (λ s. s.id) (option_or o (cond b (Some r) None))) known
+    ≡ option_or (option_map (λ s. s.id) o) (cond b (Some r.id) known)
 or_here true None r known = refl
 or_here true (Some s) r known = refl
 or_here false None r known = refl
 or_here false (Some s) r known = refl
 
-from_front : (depth : ℕ) (known : Option (List ℕ)) (rows : List NodeRow) → option_or (found_above depth rows) known ≡ last_above depth known rows
+from_front : (depth : ℕ) (known : Option (List ℕ)) (rows : List NodeRow)
+    → option_or (found_above depth rows) known ≡ last_above depth known rows
 from_front depth known [] = refl
 from_front depth known (r ∷ rows) =
     ap (λ rs. option_or (option_map (λ s. s.id) (find (λ s. nat_lt s.depth depth) rs)) known) (reverse-append (r ∷ []) rows)
@@ -53,7 +60,8 @@ get_none [] zero e = refl
 get_none [] (suc k) e = refl
 get_none (x ∷ xs) k e = cc
 
-pub get-drop : {X : Type 0} (n : ℕ) (xs : List X) (k : ℕ) → slice_get (drop n xs) k ≡ slice_get xs (n + k)
+pub get-drop : {X : Type 0} (n : ℕ) (xs : List X) (k : ℕ)
+    → slice_get (drop n xs) k ≡ slice_get xs (n + k)
 get-drop zero xs k = ap (slice_get xs) (omega arith)
 get-drop (suc n) [] k = get_none [] k refl ∙ sym (get_none [] (suc n + k) refl)
 get-drop (suc n) (x ∷ xs) k =
@@ -64,7 +72,9 @@ get-drop (suc n) (x ∷ xs) k =
 abbrev KnowsLevel : ℕ → Path → Option (List ℕ) → Type 0
 KnowsLevel level path known = level ≤ length path → known ≡ slice_get path (length path - level)
 
-level_at : (b : Bool) (level : ℕ) (before : Path) (r : NodeRow) (known : Option (List ℕ)) → nat_lt r.depth (suc level) ≡ b → 1 ≤ r.depth → r.depth ≤ suc (length before) → KnowsLevel level before known → KnowsLevel level (path_of before r) (cond b (Some r.id) known)
+level_at : (b : Bool) (level : ℕ) (before : Path) (r : NodeRow) (known : Option (List ℕ))
+    → nat_lt r.depth (suc level) ≡ b → 1 ≤ r.depth → r.depth ≤ suc (length before)
+    → KnowsLevel level before known → KnowsLevel level (path_of before r) (cond b (Some r.id) known)
 level_at true level before r known e low high knows within =
     let long : length (path_of before r) ≡ r.depth = length-path_of before r low high in
     let here : length (path_of before r) - level ≡ 0 = omega (arith, long, ltb-true _ _ e) in
@@ -76,17 +86,21 @@ level_at false level before r known e low high knows within =
     let same : (length before - (r.depth - 1)) + (r.depth - suc level) ≡ length before - level = omega (arith, deep, high) in
     knows (omega (arith, deep, high)) ∙ sym (ap (slice_get (path_of before r)) later ∙ get-drop (length before - (r.depth - 1)) before (r.depth - suc level) ∙ ap (slice_get before) same)
 
-knows_last : (level : ℕ) (before : Path) (rows : List NodeRow) (known : Option (List ℕ)) → Follows before rows → KnowsLevel level before known → KnowsLevel level (path_after before rows) (last_above (suc level) known rows)
+knows_last : (level : ℕ) (before : Path) (rows : List NodeRow) (known : Option (List ℕ))
+    → Follows before rows → KnowsLevel level before known
+    → KnowsLevel level (path_after before rows) (last_above (suc level) known rows)
 knows_last level before [] known follows knows = knows
 knows_last level before (r ∷ rows) known follows knows =
     knows_last level (path_of before r) rows (cond (nat_lt r.depth (suc level)) (Some r.id) known) follows.2 (level_at (nat_lt r.depth (suc level)) level before r known refl follows.0 follows.1 knows)
 
 -- ---- the parent
 
-pub up_is : (rows : List NodeRow) (n : List ℕ) → IsValid rows → (at : Around rows n) → up (node_places rows) n ≡ slice_get at.up 0
+pub up_is : (rows : List NodeRow) (n : List ℕ) → IsValid rows → (at : Around rows n)
+    → up (node_places rows) n ≡ slice_get at.up 0
 up_is rows n valid at = ap (option_and_then parent) (root_place rows n valid at) ∙ ap (λ path. slice_get path 1) at.path
 
-front_above : (rows : List NodeRow) (n : List ℕ) → IsValid rows → (at : Around rows n) → found_above at.root.depth at.front ≡ slice_get at.up 0
+front_above : (rows : List NodeRow) (n : List ℕ) → IsValid rows → (at : Around rows n)
+    → found_above at.root.depth at.front ≡ slice_get at.up 0
 front_above rows n valid at =
     let path = path_after [] at.front in
     let level : ℕ = length at.up in
@@ -107,12 +121,15 @@ front_above rows n valid at =
     ∙ ap (λ p. slice_get p 0) above
 
 -- the row that is found in front of a node is its parent
-pub parent_is : (rows : List NodeRow) (n : List ℕ) (from to : ℕ) → IsValid rows → BoundsNodesBelow rows n from to → (at : Around rows n)
-    → option_map (λ r. r.id) (find (λ r. nat_lt r.depth at.root.depth) (reverse (take from rows))) ≡ up (node_places rows) n
+pub parent_is : (rows : List NodeRow) (n : List ℕ) (from to : ℕ) → IsValid rows
+    → BoundsNodesBelow rows n from to → (at : Around rows n)
+    → option_map (λ r. r.id) (find (λ r. nat_lt r.depth at.root.depth) (reverse (take from rows)))
+    ≡ up (node_places rows) n
 parent_is rows n from to valid bounds at =
     ap (found_above at.root.depth) (rows_before rows n from to valid bounds at) ∙ front_above rows n valid at ∙ sym (up_is rows n valid at)
 
-pub root_at : (rows : List NodeRow) (n : List ℕ) (from to : ℕ) → IsValid rows → BoundsNodesBelow rows n from to → (at : Around rows n) → slice_get rows from ≡ Some at.root
+pub root_at : (rows : List NodeRow) (n : List ℕ) (from to : ℕ) → IsValid rows
+    → BoundsNodesBelow rows n from to → (at : Around rows n) → slice_get rows from ≡ Some at.root
 root_at rows n from to valid bounds at =
     ap (slice_get rows) (sym (from_is rows n from to valid bounds at)) ∙ ap (λ rs. slice_get rs (length at.front)) (at.whole ∙ append_assoc at.front (at.root ∷ at.inner) at.back) ∙ at_end at.front at.root (at.inner ++ at.back)
 
@@ -121,22 +138,27 @@ no_place None h = refl
 no_place (Some p) h = cc
 
 -- an unknown node has no parent
-pub unknown_parent : (rows : List NodeRow) (n : List ℕ) → has_node rows n ≡ false → up (node_places rows) n ≡ None
+pub unknown_parent : (rows : List NodeRow) (n : List ℕ) → has_node rows n ≡ false
+    → up (node_places rows) n ≡ None
 unknown_parent rows n unknown = no_place (place_at (node_places rows) n) (stands_node rows n ∙ unknown)
 
 -- the same of the rows as they were seen
-pub seen_parent : (seen rows : List NodeRow) (n : List ℕ) (from to : ℕ) → seen ≡ rows → IsValid rows → BoundsNodesBelow rows n from to → (at : Around rows n)
-    → option_map (λ r. r.id) (find (λ r. nat_lt r.depth at.root.depth) (reverse (take from seen))) ≡ up (node_places rows) n
+pub seen_parent : (seen rows : List NodeRow) (n : List ℕ) (from to : ℕ) → seen ≡ rows → IsValid rows
+    → BoundsNodesBelow rows n from to → (at : Around rows n)
+    → option_map (λ r. r.id) (find (λ r. nat_lt r.depth at.root.depth) (reverse (take from seen)))
+    ≡ up (node_places rows) n
 seen_parent seen rows n from to same valid bounds at = ap (λ rs. found_above at.root.depth (take from rs)) same ∙ parent_is rows n from to valid bounds at
 
-parent_on : (o : Option Place) (p : Place) (u : List ℕ) → o ≡ Some p → option_and_then parent o ≡ Some u → parent p ≡ Some u
+parent_on : (o : Option Place) (p : Place) (u : List ℕ) → o ≡ Some p
+    → option_and_then parent o ≡ Some u → parent p ≡ Some u
 parent_on o p u e f = sym (ap (option_and_then parent) e) ∙ f
 
 none_some : {X : Type 0} {x : X} → None ≡ Some x → ⊥
 none_some e = cc
 
 -- a parent stands in the ticket
-pub parent_known : (rows : List NodeRow) (n u : List ℕ) → IsValid rows → (at : Around rows n) → up (node_places rows) n ≡ Some u → has_node rows u ≡ true
+pub parent_known : (rows : List NodeRow) (n u : List ℕ) → IsValid rows → (at : Around rows n)
+    → up (node_places rows) n ≡ Some u → has_node rows u ≡ true
 parent_known rows n u valid at above =
     let place = node_place at.root (path_of (path_after [] at.front) at.root) in
     let there = root_place rows n valid at in
@@ -147,10 +169,14 @@ parent_known rows n u valid at above =
           sym (stands_node rows u) ∙ ap is_some (ap (place_at (node_places rows)) (sym same) ∙ child.there)
     ]
 
--- what is put at a known node is refused for want of memory alone
-memory_at : {X : Type 0} (known : Bool) (result : Result X Refusal) → known ≡ true → IfNone (unless known UnknownNode) (IfErr result (λ e. e ≡ Memory)) → IfErr result (λ e. e ≡ Memory)
+-- what is put at a known node is refused only where memory runs out
+memory_at : {X : Type 0} (known : Bool) (result : Result X Refusal) → known ≡ true
+    → IfNone (unless known UnknownNode) (IfErr result (λ e. e ≡ Memory))
+    → IfErr result (λ e. e ≡ Memory)
 memory_at true result e h = h
 memory_at false result e h = cc
 
-pub memory_alone : {X : Type 0} (result : Result X Refusal) (rows : List NodeRow) (n : List ℕ) → has_node rows n ≡ true → IfNone (node_refusal n rows) (IfErr result (λ e. e ≡ Memory)) → IfErr result (λ e. e ≡ Memory)
+pub memory_alone : {X : Type 0} (result : Result X Refusal) (rows : List NodeRow) (n : List ℕ)
+    → has_node rows n ≡ true → IfNone (node_refusal n rows) (IfErr result (λ e. e ≡ Memory))
+    → IfErr result (λ e. e ≡ Memory)
 memory_alone result rows n known h = memory_at (has_node rows n) result known h

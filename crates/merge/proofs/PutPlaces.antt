@@ -1,5 +1,6 @@
 -- A part that fits moves nothing as it is put back.
-use Rattle.std.proofs.Common.{◌≡◌, ◌∙◌, ℕ, ◌-◌, ◌||◌, Bool, true, false, cond, List, [], ◌∷◌, ◌++◌, length, map, Option, Some, None, refl, sym, ap, subst, append_assoc}
+use Rattle.std.proofs.Common.{◌≡◌, ◌∙◌, ℕ, ◌-◌, ◌||◌, Bool, true, false, cond, List, [], ◌∷◌, ◌++◌}
+use Rattle.std.proofs.Common.{length, map, Option, Some, None, refl, sym, ap, subst, append_assoc}
 use Rattle.std.proofs.lemmas.List.{map-append}
 use Rattle.std.specs.List.{find}
 use Rattle.std.specs.Option.{option_map, option_map_or}
@@ -8,7 +9,8 @@ use Rattle.ticket_items.proofs.Apart.{bytes_eq-same}
 use Rattle.ticket_items.specs.Ids.{mem, are_distinct}
 use Rattle.ticket_rows.proofs.Below.{Path}
 use Rattle.ticket_rows.proofs.NodePlaces.{node_ids_distinct}
-use Rattle.ticket_rows.specs.Place.{Place, Thing, node_place, resource_place, places_from, places, path_of, last_of, fixed}
+use Rattle.ticket_rows.specs.Place.{Place, Thing, node_place, resource_place, places_from, places}
+use Rattle.ticket_rows.specs.Place.{path_of, last_of, fixed}
 use Rattle.ticket_rows.specs.Ticket.{Job, IsValid, ids, node_ids, row_of}
 use Rattle.ticket_tree.proofs.OnPlaces.{ids_of_places}
 use Rattle.ticket_tree.proofs.PlainOneRow.{append_of_places}
@@ -49,11 +51,13 @@ abbrev shape_places : Path → List Shape → List Place
 shape_places before [] = []
 shape_places before (s ∷ shapes) = record { id = s.id; path = shape_path before s; thing = s.thing } ∷ (map (fixed_place (shape_path before s)) s.pool ++ shape_places (shape_path before s) shapes)
 
-pool_places : (path : Path) (pool : List Resource) → map (resource_place path) pool ≡ map (fixed_place path) (map fixed pool)
+pool_places : (path : Path) (pool : List Resource)
+    → map (resource_place path) pool ≡ map (fixed_place path) (map fixed pool)
 pool_places path [] = refl
 pool_places path (x ∷ pool) = ap (λ ps. resource_place path x ∷ ps) (pool_places path pool)
 
-places_by_shape : (before : Path) (rows : List NodeRow) → places_from before rows ≡ shape_places before (map shape rows)
+places_by_shape : (before : Path) (rows : List NodeRow)
+    → places_from before rows ≡ shape_places before (map shape rows)
 places_by_shape before [] = refl
 places_by_shape before (r ∷ rows) =
     let path = path_of before r in
@@ -67,28 +71,36 @@ same_ids xs ys e = sym (ids_of_places [] xs) ∙ ap ids_of (same_places xs ys e)
 
 -- ---- rows outside the part: their resources may be the part's
 
-pub outside_put : (p : Copied) (rows : List NodeRow) → AreApart (node_ids rows) (node_ids p.rows) → map (row_from p) rows ≡ with_resources p.rw rows
+pub outside_put : (p : Copied) (rows : List NodeRow) → AreApart (node_ids rows) (node_ids p.rows)
+    → map (row_from p) rows ≡ with_resources p.rw rows
 outside_put p [] apart = refl
 outside_put p (r ∷ rows) apart =
     let none : row_of p.rows r.id ≡ None = unfound (λ s. s.id) p.rows r.id (apart r.id (ap (λ b. b || mem r.id (node_ids rows)) (bytes_eq-same r.id))) in
     ap (λ o. option_map_or (λ (new : NodeRow). record new { depth = r.depth }) o (pool_from p.rw r) ∷ map (row_from p) rows) none
     ∙ ap (λ rs. pool_from p.rw r ∷ rs) (outside_put p rows (λ x there. apart x (or_right (bytes_eq r.id x) (mem x (node_ids rows)) there)))
 
-mapped_at : {X : Type 0} (b : Bool) (x : Resource) (o : Option Resource) (f : Resource → X) (later : Option X) → option_map f o ≡ later → option_map f (cond b (Some x) o) ≡ cond b (Some (f x)) later
+mapped_at : {X : Type 0} (b : Bool) (x : Resource) (o : Option Resource) (f : Resource → X)
+    (later : Option X)
+    → option_map f o ≡ later → option_map f (cond b (Some x) o) ≡ cond b (Some (f x)) later
 mapped_at true x o f later e = refl
 mapped_at false x o f later e = e
 
-found_fixed : (xs : List Resource) (y : List ℕ) → option_map fixed (find (λ x. bytes_eq x.id y) xs) ≡ find (λ f. bytes_eq f.0 y) (map fixed xs)
+found_fixed : (xs : List Resource) (y : List ℕ)
+    → option_map fixed (find (λ x. bytes_eq x.id y) xs) ≡ find (λ f. bytes_eq f.0 y) (map fixed xs)
 found_fixed [] y = refl
 found_fixed (x ∷ xs) y = mapped_at (bytes_eq x.id y) x (find (λ z. bytes_eq z.id y) xs) fixed (find (λ f. bytes_eq f.0 y) (map fixed xs)) (found_fixed xs y)
 
-fixed_at : (b : Bool) (o : Option Resource) (x : Resource) → option_map fixed o ≡ option_map fixed (cond b (Some x) None) → fixed (option_map_or (λ y. y) o x) ≡ fixed x
+fixed_at : (b : Bool) (o : Option Resource) (x : Resource)
+    → option_map fixed o ≡ option_map fixed (cond b (Some x) None)
+    → fixed (option_map_or (λ y. y) o x) ≡ fixed x
 fixed_at b None x e = refl
 fixed_at true (Some y) x e = ap (λ o. option_map_or (λ f. f) o (fixed x)) e
 fixed_at false (Some y) x e = cc
 
 -- what of the resources never changes is the same in the part
-pool_fixed : (t : Job) (r : SpawnRec) (p : Copied) (pool : List Resource) → Fits t r p → AllOwn by_id (resources t.rows) pool → map fixed (map (resource_from p.rw) pool) ≡ map fixed pool
+pool_fixed : (t : Job) (r : SpawnRec) (p : Copied) (pool : List Resource) → Fits t r p
+    → AllOwn by_id (resources t.rows) pool
+    → map fixed (map (resource_from p.rw) pool) ≡ map fixed pool
 pool_fixed t r p [] fits own = refl
 pool_fixed t r p (x ∷ pool) fits own =
     let all = resources t.rows in
@@ -96,7 +108,9 @@ pool_fixed t r p (x ∷ pool) fits own =
     ∙ ap (option_map fixed) (find_kept by_id (λ i. mem i r.rw) x.id all ∙ ap (λ o. cond (mem x.id r.rw) o None) own.0) in
     ap (λ f. f ∷ map fixed (map (resource_from p.rw) pool)) (fixed_at (mem x.id r.rw) (find (λ y. bytes_eq y.id x.id) p.rw) x found) ∙ ap (λ fs. fixed x ∷ fs) (pool_fixed t r p pool fits own.1)
 
-outside_shapes : (t : Job) (r : SpawnRec) (p : Copied) (rows : List NodeRow) → Fits t r p → AllOwn by_id (resources t.rows) (resources rows) → map shape (with_resources p.rw rows) ≡ map shape rows
+outside_shapes : (t : Job) (r : SpawnRec) (p : Copied) (rows : List NodeRow) → Fits t r p
+    → AllOwn by_id (resources t.rows) (resources rows)
+    → map shape (with_resources p.rw rows) ≡ map shape rows
 outside_shapes t r p [] fits own = refl
 outside_shapes t r p (s ∷ rows) fits own =
     let all = resources t.rows in
@@ -111,7 +125,10 @@ deepened [] news = []
 deepened (o ∷ olds) [] = []
 deepened (o ∷ olds) (n ∷ news) = record n { depth = o.depth } ∷ deepened olds news
 
-inside_put : (p : Copied) (levels : ℕ) (olds news : List NodeRow) → AllOwn (λ (s : NodeRow). s.id) p.rows news → map shape news ≡ map shape (all_lifted levels olds) → map (row_from p) olds ≡ deepened olds news
+inside_put : (p : Copied) (levels : ℕ) (olds news : List NodeRow)
+    → AllOwn (λ (s : NodeRow). s.id) p.rows news
+    → map shape news ≡ map shape (all_lifted levels olds)
+    → map (row_from p) olds ≡ deepened olds news
 inside_put p levels [] news own same = refl
 inside_put p levels (o ∷ olds) [] own same = cc
 inside_put p levels (o ∷ olds) (n ∷ news) own same =
@@ -120,7 +137,9 @@ inside_put p levels (o ∷ olds) (n ∷ news) own same =
     ap (λ q. option_map_or (λ (new : NodeRow). record new { depth = o.depth }) q (pool_from p.rw o) ∷ map (row_from p) olds) found
     ∙ ap (λ rs. record n { depth = o.depth } ∷ rs) (inside_put p levels olds news own.1 parts.1)
 
-pub deep_entries : {V : Type 0} (f : NodeRow → V) (g : Resource → V) → IsOwn f → (levels : ℕ) (olds news : List NodeRow) → map shape news ≡ map shape (all_lifted levels olds) → entries f g (deepened olds news) ≡ entries f g news
+pub deep_entries : {V : Type 0} (f : NodeRow → V) (g : Resource → V) → IsOwn f
+    → (levels : ℕ) (olds news : List NodeRow) → map shape news ≡ map shape (all_lifted levels olds)
+    → entries f g (deepened olds news) ≡ entries f g news
 deep_entries f g own levels [] [] same = refl
 deep_entries f g own levels [] (n ∷ news) same = cc
 deep_entries f g own levels (o ∷ olds) [] same = refl
@@ -128,7 +147,9 @@ deep_entries f g own levels (o ∷ olds) (n ∷ news) same =
     let parts = heads (shape n) (shape (lifted levels o)) (map shape news) (map shape (all_lifted levels olds)) same in
     ap (λ v. ((n.id, v) ∷ pool_entries g n.resources) ++ entries f g (deepened olds news)) (own n o.depth n.resources) ∙ ap (λ ls. entries_of f g n ++ ls) (deep_entries f g own levels olds news parts.1)
 
-deep_shapes : (levels : ℕ) (olds news : List NodeRow) → map shape news ≡ map shape (all_lifted levels olds) → map shape (deepened olds news) ≡ map shape olds
+deep_shapes : (levels : ℕ) (olds news : List NodeRow)
+    → map shape news ≡ map shape (all_lifted levels olds)
+    → map shape (deepened olds news) ≡ map shape olds
 deep_shapes levels [] news same = refl
 deep_shapes levels (o ∷ olds) [] same = cc
 deep_shapes levels (o ∷ olds) (n ∷ news) same =
@@ -138,7 +159,8 @@ deep_shapes levels (o ∷ olds) (n ∷ news) same =
 -- ---- the rows around the node
 
 -- the rows of a ticket at the node of a spawn, when a part is put back
-pub record PutAround (t : Job) (r : SpawnRec) (p : Copied) (at : Around t.rows r.node) : Type 0 where
+pub record PutAround (t : Job) (r : SpawnRec) (p : Copied)
+    (at : Around t.rows r.node) : Type 0 where
   pub shapes : map shape p.rows ≡ map shape (all_lifted (length (above t.rows r.node)) (at.root ∷ at.inner))
   pub split : rows_from p t.rows ≡ with_resources p.rw at.front ++ (deepened (at.root ∷ at.inner) p.rows ++ with_resources p.rw at.back)
   pub front : map shape (with_resources p.rw at.front) ≡ map shape at.front
@@ -148,7 +170,8 @@ pub record PutAround (t : Job) (r : SpawnRec) (p : Copied) (at : Around t.rows r
 apart_back : (xs ys : List (List ℕ)) → are_distinct (xs ++ ys) ≡ true → AreApart ys xs
 apart_back xs ys apart x there = not_both (mem x xs) (mem x ys) (λ first. apart_lists x xs ys apart first) there
 
-pub put_around : (t : Job) (r : SpawnRec) (p : Copied) → IsValid t.rows → Fits t r p → (at : Around t.rows r.node) → PutAround t r p at
+pub put_around : (t : Job) (r : SpawnRec) (p : Copied) → IsValid t.rows → Fits t r p
+    → (at : Around t.rows r.node) → PutAround t r p at
 put_around t r p valid fits at =
     let rows = t.rows in
     let n = r.node in
@@ -177,7 +200,8 @@ put_around t r p valid fits at =
       part = same_ids p.rows (all_lifted levels mid) shapes ∙ ids_lifted levels mid;
     }
 
-pub put_shapes : (t : Job) (r : SpawnRec) (p : Copied) → IsValid t.rows → Fits t r p → (at : Around t.rows r.node) → map shape (rows_from p t.rows) ≡ map shape t.rows
+pub put_shapes : (t : Job) (r : SpawnRec) (p : Copied) → IsValid t.rows → Fits t r p
+    → (at : Around t.rows r.node) → map shape (rows_from p t.rows) ≡ map shape t.rows
 put_shapes t r p valid fits at =
     let put = put_around t r p valid fits at in
     let mid = at.root ∷ at.inner in
@@ -189,7 +213,8 @@ put_shapes t r p valid fits at =
     ∙ sym (ap (map shape) (at.whole ∙ append_assoc at.front mid at.back) ∙ map-append shape at.front (mid ++ at.back) ∙ ap (λ ss. map shape at.front ++ ss) (map-append shape mid at.back))
 
 -- nothing moves
-places_put : (t : Job) (r : SpawnRec) (p : Copied) → IsValid t.rows → Fits t r p → Around t.rows r.node → places (rows_from p t.rows) ≡ places t.rows
+places_put : (t : Job) (r : SpawnRec) (p : Copied) → IsValid t.rows → Fits t r p
+    → Around t.rows r.node → places (rows_from p t.rows) ≡ places t.rows
 places_put t r p valid fits at = same_places (rows_from p t.rows) t.rows (put_shapes t r p valid fits at)
 
 pub put_of_places : PutOfPlaces

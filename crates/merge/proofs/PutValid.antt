@@ -1,23 +1,28 @@
 -- A ticket stays valid as a part that fits is put back.
-use Rattle.std.proofs.Common.{◌≡◌, ◌∙◌, true, List, [], ◌∷◌, ◌++◌, sym, ap, subst, append_assoc, append-nil}
+use Rattle.std.proofs.Common.{◌≡◌, ◌∙◌, true, List, [], ◌∷◌, ◌++◌, sym, ap, subst, append_assoc}
+use Rattle.std.proofs.Common.{append-nil}
 use Rattle.ticket_items.specs.Ids.{are_distinct}
 use Rattle.ticket_items.specs.Resource.{resource_ids}
 use Rattle.ticket_rows.proofs.Changes.{IsValid-with_row}
-use Rattle.ticket_rows.proofs.OneRows.{IsValid-replaced_node, IsValid-replaced_resource, keeps-append}
+use Rattle.ticket_rows.proofs.OneRows.{IsValid-replaced_node, IsValid-replaced_resource}
+use Rattle.ticket_rows.proofs.OneRows.{keeps-append}
 use Rattle.ticket_rows.specs.OneRow.{appended}
 use Rattle.ticket_rows.specs.Ticket.{IsValid}
 use Rattle.ticket_items.specs.declared.node_row.NodeRow.{NodeRow}
 use Rattle.ticket_items.specs.declared.resource.Resource.{Resource}
 use Rattle.spawn.specs.Spawning.{parent_of}
-use Rattle.merge.proofs.Replaced.{new_key, no_nodes, no_resources, node_may, node_more, nodes_last, resource_more, resources_last}
-use Rattle.merge.proofs.Returning.{free_nodes, nodes_behind_resources, nodes_told, parent_of_out, part_copies, put_told}
+use Rattle.merge.proofs.Replaced.{new_key, no_nodes, no_resources, node_may, node_more, nodes_last}
+use Rattle.merge.proofs.Replaced.{resource_more, resources_last}
+use Rattle.merge.proofs.Returning.{free_nodes, nodes_behind_resources, nodes_told, parent_of_out}
+use Rattle.merge.proofs.Returning.{part_copies, put_told}
 use Rattle.merge.specs.Laws.{PutIsValid}
 use Rattle.merge.specs.Put.{merged_audit}
 use Rattle.merge.specs.Putting.{MayTakeNodes, with_nodes, with_resources}
 
 -- ---- nodes and resources put in, one by one
 
-valid_nodes : (rows done later : List NodeRow) → MayTakeNodes rows (done ++ later) → IsValid (with_nodes done rows) → IsValid (with_nodes (done ++ later) rows)
+valid_nodes : (rows done later : List NodeRow) → MayTakeNodes rows (done ++ later)
+    → IsValid (with_nodes done rows) → IsValid (with_nodes (done ++ later) rows)
 valid_nodes rows done [] may valid = subst (λ ns. IsValid (with_nodes ns rows)) (sym (append-nil done)) valid
 valid_nodes rows done (x ∷ later) may valid =
     let whole : (done ++ x ∷ []) ++ later ≡ done ++ x ∷ later = append_assoc done (x ∷ []) later in
@@ -25,7 +30,9 @@ valid_nodes rows done (x ∷ later) may valid =
     subst (λ ns. IsValid (with_nodes ns rows)) whole
     (valid_nodes rows (done ++ x ∷ []) later (subst (MayTakeNodes rows) (sym whole) may) (subst IsValid put (IsValid-replaced_node (with_nodes done rows) x (node_may rows done x later may) valid)))
 
-valid_resources : (rows : List NodeRow) (done later : List Resource) → are_distinct (resource_ids (done ++ later)) ≡ true → IsValid (with_resources done rows) → IsValid (with_resources (done ++ later) rows)
+valid_resources : (rows : List NodeRow) (done later : List Resource)
+    → are_distinct (resource_ids (done ++ later)) ≡ true → IsValid (with_resources done rows)
+    → IsValid (with_resources (done ++ later) rows)
 valid_resources rows done [] apart valid = subst (λ xs. IsValid (with_resources xs rows)) (sym (append-nil done)) valid
 valid_resources rows done (x ∷ later) apart valid =
     let whole : (done ++ x ∷ []) ++ later ≡ done ++ x ∷ later = append_assoc done (x ∷ []) later in

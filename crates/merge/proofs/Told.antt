@@ -1,5 +1,6 @@
 -- What the tests tell: a test holds exactly where what it compares is the same.
-use Rattle.std.proofs.Common.{◌≡◌, ◌∙◌, ℕ, ◌-◌, ◌&&◌, ◌==◌, Bool, true, List, [], ◌∷◌, length, map, take, nat_le, refl, sym, ap, arith, eq-eqb}
+use Rattle.std.proofs.Common.{◌≡◌, ◌∙◌, ℕ, ◌-◌, ◌&&◌, ◌==◌, Bool, true, List, [], ◌∷◌, length, map}
+use Rattle.std.proofs.Common.{take, nat_le, refl, sym, ap, arith, eq-eqb}
 use Rattle.std.proofs.lemmas.Bool.{and_parts, and_from, eqb-true, le-leb}
 use Rattle.std.proofs.lemmas.List.{length-take}
 use Rattle.std.proofs.lemmas.Slice.Eq.{bytes_eq-Decides}
@@ -16,7 +17,8 @@ use Rattle.ticket_items.specs.declared.usage.Usage.{Usage}
 use Rattle.ticket_items.specs.declared.usage.Usage.TheVariants.{Input, Output}
 use Rattle.spawn.specs.Parts.{lifted}
 use Rattle.ticket_tree.proofs.PlainOneRow.{name_in, class_in}
-use Rattle.merge.specs.Alike.{are_pairs, begins, is_usage, is_link, is_fixed, are_ids, is_notification, is_spawned, is_merged, is_audit, is_row}
+use Rattle.merge.specs.Alike.{are_pairs, begins, is_usage, is_link, is_fixed, are_ids}
+use Rattle.merge.specs.Alike.{is_notification, is_spawned, is_merged, is_audit, is_row}
 use Rattle.merge.specs.Shape.{Shape, shape, first_audits}
 
 -- ---- single values
@@ -30,12 +32,10 @@ bytes_from x y e = ap (λ z. bytes_eq z y) e ∙ bytes_eq-same y
 number_same : (n : ℕ) → (n == n) ≡ true
 number_same n = eq-eqb n n refl
 
-pub number_from : (m n : ℕ) → m ≡ n → (m == n) ≡ true
-number_from m n e = ap (λ k. k == n) e ∙ number_same n
-
 -- ---- pairs
 
-pub pairs_same : {X : Type 0} (test : X → X → Bool) (xs ys : List X) → ((x y : X) → test x y ≡ true → x ≡ y) → are_pairs test xs ys ≡ true → xs ≡ ys
+pub pairs_same : {X : Type 0} (test : X → X → Bool) (xs ys : List X)
+    → ((x y : X) → test x y ≡ true → x ≡ y) → are_pairs test xs ys ≡ true → xs ≡ ys
 pairs_same test [] [] same h = refl
 pairs_same test [] (y ∷ ys) same h = cc
 pairs_same test (x ∷ xs) [] same h = cc
@@ -43,11 +43,15 @@ pairs_same test (x ∷ xs) (y ∷ ys) same h =
     let parts = and_parts (test x y) (are_pairs test xs ys) h in
     ap (λ z. z ∷ xs) (same x y parts.0) ∙ ap (λ zs. y ∷ zs) (pairs_same test xs ys same parts.1)
 
-pub pairs_own : {X : Type 0} (test : X → X → Bool) (xs : List X) → ((x : X) → test x x ≡ true) → are_pairs test xs xs ≡ true
+pub pairs_own : {X : Type 0} (test : X → X → Bool) (xs : List X) → ((x : X) → test x x ≡ true)
+    → are_pairs test xs xs ≡ true
 pairs_own test [] own = refl
 pairs_own test (x ∷ xs) own = and_from _ _ (own x) (pairs_own test xs own)
 
-pub pairs_map : {X Y Z : Type 0} (test : X → Y → Bool) (f : Y → Z) (g : X → Z) (xs : List X) (ys : List Y) → ((x : X) (y : Y) → test x y ≡ true → f y ≡ g x) → are_pairs test xs ys ≡ true → map f ys ≡ map g xs
+pub pairs_map : {X Y Z : Type 0} (test : X → Y → Bool) (f : Y → Z) (g : X → Z) (xs : List X)
+    (ys : List Y)
+    → ((x : X) (y : Y) → test x y ≡ true → f y ≡ g x) → are_pairs test xs ys ≡ true
+    → map f ys ≡ map g xs
 pairs_map test f g [] [] to h = refl
 pairs_map test f g [] (y ∷ ys) to h = cc
 pairs_map test f g (x ∷ xs) [] to h = cc
@@ -58,7 +62,10 @@ pairs_map test f g (x ∷ xs) (y ∷ ys) to h =
 pub heads : {X : Type 0} (x y : X) (xs ys : List X) → x ∷ xs ≡ y ∷ ys → (x ≡ y) × (xs ≡ ys)
 heads x y xs ys e = (cc, cc)
 
-pub pairs_from : {X Y Z : Type 0} (test : X → Y → Bool) (f : Y → Z) (g : X → Z) (xs : List X) (ys : List Y) → ((x : X) (y : Y) → f y ≡ g x → test x y ≡ true) → map f ys ≡ map g xs → are_pairs test xs ys ≡ true
+pub pairs_from : {X Y Z : Type 0} (test : X → Y → Bool) (f : Y → Z) (g : X → Z) (xs : List X)
+    (ys : List Y)
+    → ((x : X) (y : Y) → f y ≡ g x → test x y ≡ true) → map f ys ≡ map g xs
+    → are_pairs test xs ys ≡ true
 pairs_from test f g [] [] from e = refl
 pairs_from test f g [] (y ∷ ys) from e = cc
 pairs_from test f g (x ∷ xs) [] from e = cc
@@ -89,7 +96,8 @@ link_same old new h =
 link_own : (l : Link) → is_link l l ≡ true
 link_own l = and_from _ _ (bytes_eq-same l.rref) (usage_own l.usage)
 
-fixed_is : (old new : Resource) → old.id ≡ new.id → old.name ≡ new.name → old.class ≡ new.class → fixed new ≡ fixed old
+fixed_is : (old new : Resource) → old.id ≡ new.id → old.name ≡ new.name → old.class ≡ new.class
+    → fixed new ≡ fixed old
 fixed_is old new id name class =
     ap (λ (i : List ℕ). (i, resource new.name new.class)) (sym id) ∙ ap (λ (n : List ℕ). (old.id, resource n new.class)) (sym name) ∙ ap (λ (k : List ℕ). (old.id, resource old.name k)) (sym class)
 
@@ -111,18 +119,24 @@ ids_same xs ys h = pairs_same bytes_eq xs ys same_bytes h
 ids_own : (xs : List (List ℕ)) → are_ids xs xs ≡ true
 ids_own xs = pairs_own bytes_eq xs bytes_eq-same
 
-notification_same : (at : ℕ) (text : List ℕ) (new : Audit) → is_notification at text new ≡ true → Notification at text ≡ new
+notification_same : (at : ℕ) (text : List ℕ) (new : Audit) → is_notification at text new ≡ true
+    → Notification at text ≡ new
 notification_same at text (Notification at' text') h =
     let parts = and_parts (at == at') (bytes_eq text text') h in
     ap (λ n. Notification n text) (eqb-true at at' parts.0) ∙ ap (Notification at') (same_bytes text text' parts.1)
 notification_same at text (Spawned at' jref' id' read' changed' status') h = cc
 notification_same at text (Merged at' jref' id' changed') h = cc
 
-spawned_is : (at at' : ℕ) (jref jref' id id' status status' : List ℕ) (read read' changed changed' : List (List ℕ)) → at ≡ at' → jref ≡ jref' → id ≡ id' → read ≡ read' → changed ≡ changed' → status ≡ status'
+spawned_is : (at at' : ℕ) (jref jref' id id' status status' : List ℕ)
+    (read read' changed changed' : List (List ℕ))
+    → at ≡ at' → jref ≡ jref' → id ≡ id' → read ≡ read' → changed ≡ changed' → status ≡ status'
     → Spawned at jref id read changed status ≡ Spawned at' jref' id' read' changed' status'
 spawned_is at at' jref jref' id id' status status' read read' changed changed' a b c d e f = cc
 
-spawned_same : (at : ℕ) (jref id : List ℕ) (read changed : List (List ℕ)) (status : List ℕ) (new : Audit) → is_spawned at jref id read changed status new ≡ true → Spawned at jref id read changed status ≡ new
+spawned_same : (at : ℕ) (jref id : List ℕ) (read changed : List (List ℕ)) (status : List ℕ)
+    (new : Audit)
+    → is_spawned at jref id read changed status new ≡ true
+    → Spawned at jref id read changed status ≡ new
 spawned_same at jref id read changed status (Notification at' text') h = cc
 spawned_same at jref id read changed status (Spawned at' jref' id' read' changed' status') h =
     let p5 = and_parts ((((at == at' && bytes_eq jref jref') && bytes_eq id id') && are_ids read read') && are_ids changed changed') (bytes_eq status status') h in
@@ -133,10 +147,13 @@ spawned_same at jref id read changed status (Spawned at' jref' id' read' changed
     spawned_is at at' jref jref' id id' status status' read read' changed changed' (eqb-true at at' p1.0) (same_bytes jref jref' p1.1) (same_bytes id id' p2.1) (ids_same read read' p3.1) (ids_same changed changed' p4.1) (same_bytes status status' p5.1)
 spawned_same at jref id read changed status (Merged at' jref' id' changed') h = cc
 
-merged_is : (at at' : ℕ) (jref jref' id id' : List ℕ) (changed changed' : List (List ℕ)) → at ≡ at' → jref ≡ jref' → id ≡ id' → changed ≡ changed' → Merged at jref id changed ≡ Merged at' jref' id' changed'
+merged_is : (at at' : ℕ) (jref jref' id id' : List ℕ) (changed changed' : List (List ℕ)) → at ≡ at'
+    → jref ≡ jref' → id ≡ id' → changed ≡ changed'
+    → Merged at jref id changed ≡ Merged at' jref' id' changed'
 merged_is at at' jref jref' id id' changed changed' a b c d = cc
 
-merged_same : (at : ℕ) (jref id : List ℕ) (changed : List (List ℕ)) (new : Audit) → is_merged at jref id changed new ≡ true → Merged at jref id changed ≡ new
+merged_same : (at : ℕ) (jref id : List ℕ) (changed : List (List ℕ)) (new : Audit)
+    → is_merged at jref id changed new ≡ true → Merged at jref id changed ≡ new
 merged_same at jref id changed (Notification at' text') h = cc
 merged_same at jref id changed (Spawned at' jref' id' read' changed' status') h = cc
 merged_same at jref id changed (Merged at' jref' id' changed') h =
@@ -156,23 +173,23 @@ audit_own (Spawned at jref id read changed status) =
     and_from _ _ (and_from _ _ (and_from _ _ (and_from _ _ (and_from _ _ (number_same at) (bytes_eq-same jref)) (bytes_eq-same id)) (ids_own read)) (ids_own changed)) (bytes_eq-same status)
 audit_own (Merged at jref id changed) = and_from _ _ (and_from _ _ (and_from _ _ (number_same at) (bytes_eq-same jref)) (bytes_eq-same id)) (ids_own changed)
 
-pub begins_same : (olds news : List Audit) → begins is_audit olds news ≡ true → take (length olds) news ≡ olds
+pub begins_same : (olds news : List Audit) → begins is_audit olds news ≡ true
+    → take (length olds) news ≡ olds
 begins_same olds news h =
     let parts = and_parts (nat_le (length olds) (length news)) (are_pairs is_audit olds (take (length olds) news)) h in
     sym (pairs_same is_audit olds (take (length olds) news) audit_same parts.1)
 
-pub begins_from : (olds news : List Audit) → take (length olds) news ≡ olds → begins is_audit olds news ≡ true
+pub begins_from : (olds news : List Audit) → take (length olds) news ≡ olds
+    → begins is_audit olds news ≡ true
 begins_from olds news e =
     let long : length (take (length olds) news) ≡ length olds = ap length e in
     and_from _ _ (le-leb (length olds) (length news) (omega (arith, long, length-take (length olds) news))) (ap (are_pairs is_audit olds) e ∙ pairs_own is_audit olds audit_own)
 
 -- ---- rows
 
-abbrev row_tests : ℕ → NodeRow → NodeRow → Bool
-row_tests levels old new =
-    bytes_eq old.id new.id && (old.depth - levels) == new.depth && bytes_eq old.kind new.kind && bytes_eq old.job_part new.job_part && are_pairs is_link old.links new.links && are_pairs is_fixed old.resources new.resources
-
-shape_is : (levels : ℕ) (old new : NodeRow) → old.id ≡ new.id → old.depth - levels ≡ new.depth → old.kind ≡ new.kind → old.job_part ≡ new.job_part → old.links ≡ new.links → map fixed new.resources ≡ map fixed old.resources → shape new ≡ shape (lifted levels old)
+shape_is : (levels : ℕ) (old new : NodeRow) → old.id ≡ new.id → old.depth - levels ≡ new.depth
+    → old.kind ≡ new.kind → old.job_part ≡ new.job_part → old.links ≡ new.links
+    → map fixed new.resources ≡ map fixed old.resources → shape new ≡ shape (lifted levels old)
 shape_is levels old new id depth kind job_part links pool =
     let s : Shape = shape new in
     ap (λ i. record s { id = i }) (sym id)
@@ -182,7 +199,8 @@ shape_is levels old new id depth kind job_part links pool =
     ∙ ap (λ l. record s { id = old.id; depth = old.depth - levels; thing = node old.kind old.job_part l }) (sym links)
     ∙ ap (λ f. record s { id = old.id; depth = old.depth - levels; thing = node old.kind old.job_part old.links; pool = f }) pool
 
-pub row_same : (levels : ℕ) (old new : NodeRow) → is_row levels old new ≡ true → (shape new ≡ shape (lifted levels old)) × (take (length old.audits) new.audits ≡ old.audits)
+pub row_same : (levels : ℕ) (old new : NodeRow) → is_row levels old new ≡ true
+    → (shape new ≡ shape (lifted levels old)) × (take (length old.audits) new.audits ≡ old.audits)
 row_same levels old new h =
     let a = bytes_eq old.id new.id in
     let b = (old.depth - levels) == new.depth in
@@ -201,7 +219,8 @@ row_same levels old new h =
       begins_same old.audits new.audits p6.1,
     )
 
-pub row_from : (levels : ℕ) (old new : NodeRow) → shape new ≡ shape (lifted levels old) → take (length old.audits) new.audits ≡ old.audits → is_row levels old new ≡ true
+pub row_from : (levels : ℕ) (old new : NodeRow) → shape new ≡ shape (lifted levels old)
+    → take (length old.audits) new.audits ≡ old.audits → is_row levels old new ≡ true
 row_from levels old new same first =
     let links : are_pairs is_link old.links new.links ≡ true = ap (are_pairs is_link old.links) (ap (λ s. links_of s.thing) same) ∙ pairs_own is_link old.links link_own in
     and_from _ _
@@ -219,7 +238,9 @@ all_lifted levels rows = map (lifted levels) rows
 
 -- rows that pass have the shape of the ticket's, and begin with their audits
 pub rows_same : (levels : ℕ) (olds news : List NodeRow) → are_pairs (is_row levels) olds news ≡ true
-    → (map shape news ≡ map shape (all_lifted levels olds)) × (map first_audits (zip (all_lifted levels olds) news) ≡ map (λ o. o.audits) (all_lifted levels olds))
+    → (map shape news ≡ map shape (all_lifted levels olds))
+    × (map first_audits (zip (all_lifted levels olds) news)
+    ≡ map (λ o. o.audits) (all_lifted levels olds))
 rows_same levels [] [] h = (refl, refl)
 rows_same levels [] (n ∷ news) h = cc
 rows_same levels (o ∷ olds) [] h = cc
@@ -232,7 +253,11 @@ rows_same levels (o ∷ olds) (n ∷ news) h =
     )
 
 -- and the other way round
-pub rows_from_shape : (levels : ℕ) (olds news : List NodeRow) → map shape news ≡ map shape (all_lifted levels olds) → map first_audits (zip (all_lifted levels olds) news) ≡ map (λ o. o.audits) (all_lifted levels olds) → are_pairs (is_row levels) olds news ≡ true
+pub rows_from_shape : (levels : ℕ) (olds news : List NodeRow)
+    → map shape news ≡ map shape (all_lifted levels olds)
+    → map first_audits (zip (all_lifted levels olds) news)
+    ≡ map (λ o. o.audits) (all_lifted levels olds)
+    → are_pairs (is_row levels) olds news ≡ true
 rows_from_shape levels [] [] same first = refl
 rows_from_shape levels [] (n ∷ news) same first = cc
 rows_from_shape levels (o ∷ olds) [] same first = cc

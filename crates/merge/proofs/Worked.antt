@@ -1,5 +1,6 @@
--- The definitions computed on a small job: a product with paper and sheets in its pool, whose printing takes paper and makes sheets,
--- and whose cutting takes the sheets. The printing was spawned.
+-- The definitions computed on a small job: a product with paper and sheets in its pool, whose
+-- printing takes paper and makes sheets, and whose cutting takes the sheets. The printing was
+-- spawned.
 use Rattle.std.proofs.Common.{◌≡◌, ℕ, List, [], ◌∷◌, map, Some, refl, ap}
 use Rattle.std.specs.Fmt.{digits}
 use Rattle.std.proofs.lemmas.Bool.{true≢false}
@@ -32,7 +33,8 @@ paper = resource (codes "r1") (codes "Media") (codes "Consumable") (codes "Avail
 abbrev sheets : List ℕ → Resource
 sheets status = resource (codes "r2") (codes "Component") (codes "Quantity") status
 
-abbrev node : List ℕ → ℕ → List ℕ → List ℕ → List ℕ → List Resource → List Link → List Audit → NodeRow
+abbrev node : List ℕ → ℕ → List ℕ → List ℕ → List ℕ → List Resource → List Link → List Audit
+    → NodeRow
 node id depth kind job_part status pool links audits =
     record { id = id; depth = depth; kind = kind; job_part = job_part; status = status; attrs = []; resources = pool; links = links; audits = audits }
 
@@ -94,10 +96,14 @@ printed_put = refl
 abbrev now : List ℕ → List Audit → Row
 now status audits = record { status = status; attrs = []; audits = audits }
 
-printed_rows : map (merged_rows job first (printed (taken ∷ made ∷ []) (washed ∷ []))) (codes "n1" ∷ codes "r2" ∷ []) ≡ Some (now (codes "Completed") (washed ∷ [])) ∷ Some (now (codes "Available") []) ∷ []
+printed_rows : map (merged_rows job first (printed (taken ∷ made ∷ []) (washed ∷ [])))
+    (codes "n1" ∷ codes "r2" ∷ [])
+    ≡ Some (now (codes "Completed") (washed ∷ [])) ∷ Some (now (codes "Available") []) ∷ []
 printed_rows = refl
 
-other_rows : map (merged_rows job first (printed (taken ∷ made ∷ []) (washed ∷ []))) (codes "n0" ∷ codes "r1" ∷ codes "n9" ∷ []) ≡ map (row_in job.rows) (codes "n0" ∷ codes "r1" ∷ codes "n9" ∷ [])
+other_rows : map (merged_rows job first (printed (taken ∷ made ∷ []) (washed ∷ [])))
+    (codes "n0" ∷ codes "r1" ∷ codes "n9" ∷ [])
+    ≡ map (row_in job.rows) (codes "n0" ∷ codes "r1" ∷ codes "n9" ∷ [])
 other_rows = refl
 
 -- what the spawn held the master holds then

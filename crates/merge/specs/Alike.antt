@@ -1,5 +1,6 @@
 -- Tests of what a worker may not change: of links, resources and audits, and of whole rows.
-use Rattle.std.specs.Prelude.{ℕ, ◌-◌, ◌&&◌, ◌==◌, Bool, true, false, List, [], ◌∷◌, length, take, nat_le, if◌then◌else◌, Option, Some, None}
+use Rattle.std.specs.Prelude.{ℕ, ◌-◌, ◌&&◌, ◌==◌, Bool, true, false, List, [], ◌∷◌, length, take}
+use Rattle.std.specs.Prelude.{nat_le, if◌then◌else◌, Option, Some, None}
 use Rattle.std.specs.Str.{bytes_eq}
 use Rattle.ticket_tree.specs.Part.{Copied}
 use Rattle.ticket_rows.specs.Ticket.{Job}
@@ -20,7 +21,7 @@ are_pairs test [] (y ∷ ys) = false
 are_pairs test (x ∷ xs) [] = false
 are_pairs test (x ∷ xs) (y ∷ ys) = test x y && are_pairs test xs ys
 
--- whether the second list begins with as many as the first has, each of which passes a test with the first's
+-- whether the second list begins with as many as the first has, each passing a test with its own
 abbrev pub begins : {X Y : Type 0} → (X → Y → Bool) → List X → List Y → Bool
 begins test xs ys = nat_le (length xs) (length ys) && are_pairs test xs (take (length xs) ys)
 
@@ -37,7 +38,8 @@ is_link old new = bytes_eq old.rref new.rref && is_usage old.usage new.usage
 
 -- whether two resources have one id, name and Class
 abbrev pub is_fixed : Resource → Resource → Bool
-is_fixed old new = bytes_eq old.id new.id && bytes_eq old.name new.name && bytes_eq old.class new.class
+is_fixed old new =
+    bytes_eq old.id new.id && bytes_eq old.name new.name && bytes_eq old.class new.class
 
 -- whether two lists of ids are the same
 abbrev pub are_ids : List (List ℕ) → List (List ℕ) → Bool
@@ -53,35 +55,41 @@ is_notification at text (Merged at' jref' id' changed') = false
 abbrev pub is_spawned : ℕ → List ℕ → List ℕ → List (List ℕ) → List (List ℕ) → List ℕ → Audit → Bool
 is_spawned at jref id read changed status (Notification at' text') = false
 is_spawned at jref id read changed status (Spawned at' jref' id' read' changed' status') =
-    at == at' && bytes_eq jref jref' && bytes_eq id id' && are_ids read read' && are_ids changed changed' && bytes_eq status status'
+    at == at' && bytes_eq jref jref' && bytes_eq id id' && are_ids read read'
+    && are_ids changed changed' && bytes_eq status status'
 is_spawned at jref id read changed status (Merged at' jref' id' changed') = false
 
 -- whether an audit tells of this merge
 abbrev pub is_merged : ℕ → List ℕ → List ℕ → List (List ℕ) → Audit → Bool
 is_merged at jref id changed (Notification at' text') = false
 is_merged at jref id changed (Spawned at' jref' id' read' changed' status') = false
-is_merged at jref id changed (Merged at' jref' id' changed') = at == at' && bytes_eq jref jref' && bytes_eq id id' && are_ids changed changed'
+is_merged at jref id changed (Merged at' jref' id' changed') =
+    at == at' && bytes_eq jref jref' && bytes_eq id id' && are_ids changed changed'
 
 -- whether two audits are the same
 abbrev pub is_audit : Audit → Audit → Bool
 is_audit (Notification at text) new = is_notification at text new
-is_audit (Spawned at jref id read changed status) new = is_spawned at jref id read changed status new
+is_audit (Spawned at jref id read changed status) new =
+    is_spawned at jref id read changed status new
 is_audit (Merged at jref id changed) new = is_merged at jref id changed new
 
--- whether a row of a part is one of the ticket's, so many levels higher, but for what a worker may change
+-- whether a row of a part is the ticket's, levels higher, but for what a worker may change
 abbrev pub is_row : ℕ → NodeRow → NodeRow → Bool
 is_row levels old new =
-    bytes_eq old.id new.id && (old.depth - levels) == new.depth && bytes_eq old.kind new.kind && bytes_eq old.job_part new.job_part && are_pairs is_link old.links new.links
+    bytes_eq old.id new.id && (old.depth - levels) == new.depth && bytes_eq old.kind new.kind
+    && bytes_eq old.job_part new.job_part && are_pairs is_link old.links new.links
     && are_pairs is_fixed old.resources new.resources && begins is_audit old.audits new.audits
 
--- what is left of the second list behind one that is the same as the first in its ids, names and Classes, if it begins so
+-- what is left of the second list behind one that is the same as the first in its ids, names and
+-- Classes, if it begins so
 abbrev pub behind : List Resource → List Resource → Option (List Resource)
 behind [] copies = Some copies
 behind (x ∷ xs) [] = None
 behind (x ∷ xs) (y ∷ copies) = if is_fixed x y then behind xs copies else None
 
--- whether a part has the job and spawn id of a record, and its rows and copies to change are these rows, so many levels higher, and the
--- resources of the record, but for what a worker may change
+-- whether a part has the job and spawn id of a record, and its rows and copies to change are these
+-- rows, so many levels higher, and the resources of the record, but for what a worker may change
 abbrev pub is_part : Job → SpawnRec → List NodeRow → ℕ → Copied → Bool
 is_part t r below levels p =
-    bytes_eq p.job_id t.job_id && p.spawn_id == r.id && are_pairs (is_row levels) below p.rows && are_pairs is_fixed (resources_among r.rw t.rows) p.rw
+    bytes_eq p.job_id t.job_id && p.spawn_id == r.id && are_pairs (is_row levels) below p.rows
+    && are_pairs is_fixed (resources_among r.rw t.rows) p.rw

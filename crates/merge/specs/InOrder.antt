@@ -1,4 +1,5 @@
--- What is met in ticket order: going over the ticket's resources once, each takes what stands in front of a list, if that is its own.
+-- What is met in ticket order: going over the ticket's resources once, each takes what stands in
+-- front of a list, if that is its own.
 use Rattle.std.specs.Prelude.{ℕ, Bool, true, false, List, [], ◌∷◌, if◌then◌else◌}
 use Rattle.std.specs.Str.{bytes_eq}
 use Rattle.ticket_items.specs.declared.resource.Resource.{Resource}
@@ -12,7 +13,8 @@ abbrev pub past : {X Y : Type 0} → (X → Y → Bool) → X → List Y → Lis
 past test x [] = []
 past test x (y ∷ ys) = if test x y then ys else y ∷ ys
 
--- what is left of the second list behind the first, each of which takes what passes a test with it from the front
+-- what is left of the second list behind the first, each of which takes what passes a test with it
+-- from the front
 abbrev pub left_behind : {X Y : Type 0} → (X → Y → Bool) → List X → List Y → List Y
 left_behind test [] ys = ys
 left_behind test (x ∷ xs) ys = left_behind test xs (past test x ys)

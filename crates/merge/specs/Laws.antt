@@ -26,38 +26,52 @@ MadePartFits = (t : Job) (r : SpawnRec) → Fits t r (part_for t r)
 abbrev pub MadePartChangesNothing : Type 0
 MadePartChangesNothing =
     (t : Job) (r : SpawnRec) (at : ℕ) → IsValid t.rows
-    → put t r (part_for t r) at ≡ record t { rows = appended (parent_of t.rows r.node) (merged_audit r at) t.rows }
+    → put t r (part_for t r) at
+    ≡ record t { rows = appended (parent_of t.rows r.node) (merged_audit r at) t.rows }
 
 -- a part that fits moves nothing as it is put back
 abbrev pub PutOfPlaces : Type 0
-PutOfPlaces = (t : Job) (r : SpawnRec) (p : Copied) (at : ℕ) → IsValid t.rows → IsGood t.rows r → Fits t r p → places (put t r p at).rows ≡ places t.rows
+PutOfPlaces =
+    (t : Job) (r : SpawnRec) (p : Copied) (at : ℕ) → IsValid t.rows → IsGood t.rows r → Fits t r p
+    → places (put t r p at).rows ≡ places t.rows
 
--- and of the rows by id those of the claim are then the part's, and the parent of the node has an audit more
+-- and the rows of the claim are then the part's, and the parent of the node has an audit more
 abbrev pub PutOfRows : Type 0
 PutOfRows =
-    (t : Job) (r : SpawnRec) (p : Copied) (at : ℕ) → IsValid t.rows → IsGood t.rows r → Fits t r p → (x : List ℕ)
-    → row_in (put t r p at).rows x ≡ touch (parent_of t.rows r.node) (λ row. record row { audits = row.audits ++ merged_audit r at ∷ [] }) (merged_rows t r p) x
+    (t : Job) (r : SpawnRec) (p : Copied) (at : ℕ) → IsValid t.rows → IsGood t.rows r → Fits t r p
+    → (x : List ℕ)
+    → row_in (put t r p at).rows x
+    ≡ touch (parent_of t.rows r.node)
+    (λ row. record row { audits = row.audits ++ merged_audit r at ∷ [] }) (merged_rows t r p) x
 
 -- the ticket stays valid, where no Status in the part is reserved
 abbrev pub PutIsValid : Type 0
 PutIsValid =
-    (t : Job) (r : SpawnRec) (p : Copied) (at : ℕ) → IsValid t.rows → IsGood t.rows r → Fits t r p → are_unreserved p.rows ≡ true
+    (t : Job) (r : SpawnRec) (p : Copied) (at : ℕ) → IsValid t.rows → IsGood t.rows r → Fits t r p
+    → are_unreserved p.rows ≡ true
     → IsValid (put t r p at).rows
 
 -- the records go on to stand well beside the ticket
 abbrev pub MergeKeepsApart : Type 0
 MergeKeepsApart =
-    (t : Job) (recs : List SpawnRec) (k : ℕ) (r : SpawnRec) (p : Copied) (at : ℕ) → IsValid t.rows → StandApart t.rows recs → slice_get recs k ≡ Some r → is_out r ≡ true → Fits t r p
+    (t : Job) (recs : List SpawnRec) (k : ℕ) (r : SpawnRec) (p : Copied) (at : ℕ) → IsValid t.rows
+    → StandApart t.rows recs → slice_get recs k ≡ Some r → is_out r ≡ true → Fits t r p
     → StandApart (put t r p at).rows (merged_recs recs k r)
 
 -- the master then holds what the spawn claimed
 abbrev pub MergedClaimIsMasters : Type 0
 MergedClaimIsMasters =
-    (t : Job) (recs : List SpawnRec) (k : ℕ) (r : SpawnRec) (p : Copied) (at : ℕ) → IsValid t.rows → StandApart t.rows recs → slice_get recs k ≡ Some r → is_out r ≡ true → Fits t r p
-    → (x : List ℕ) (q : Place) → place_at (places t.rows) x ≡ Some q → is_claimed r.node r.rw q ≡ true → holder_of (put t r p at).rows (merged_recs recs k r) x ≡ Some Master
+    (t : Job) (recs : List SpawnRec) (k : ℕ) (r : SpawnRec) (p : Copied) (at : ℕ) → IsValid t.rows
+    → StandApart t.rows recs → slice_get recs k ≡ Some r → is_out r ≡ true → Fits t r p
+    → (x : List ℕ) (q : Place) → place_at (places t.rows) x ≡ Some q
+    → is_claimed r.node r.rw q ≡ true
+    → holder_of (put t r p at).rows (merged_recs recs k r) x ≡ Some Master
 
 -- and all else has the holder that it had
 abbrev pub MergeKeepsOthers : Type 0
 MergeKeepsOthers =
-    (t : Job) (recs : List SpawnRec) (k : ℕ) (r : SpawnRec) (p : Copied) (at : ℕ) → IsValid t.rows → StandApart t.rows recs → slice_get recs k ≡ Some r → is_out r ≡ true → Fits t r p
-    → (x : List ℕ) → option_map_or (is_claimed r.node r.rw) (place_at (places t.rows) x) false ≡ false → holder_of (put t r p at).rows (merged_recs recs k r) x ≡ holder_of t.rows recs x
+    (t : Job) (recs : List SpawnRec) (k : ℕ) (r : SpawnRec) (p : Copied) (at : ℕ) → IsValid t.rows
+    → StandApart t.rows recs → slice_get recs k ≡ Some r → is_out r ≡ true → Fits t r p
+    → (x : List ℕ)
+    → option_map_or (is_claimed r.node r.rw) (place_at (places t.rows) x) false ≡ false
+    → holder_of (put t r p at).rows (merged_recs recs k r) x ≡ holder_of t.rows recs x

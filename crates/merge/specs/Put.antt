@@ -22,15 +22,18 @@ merged_audit r at = Merged at r.node (spawn_text r.id) r.rw
 abbrev pub resource_from : List Resource → Resource → Resource
 resource_from new x = option_map_or (λ y. y) (find (λ y. bytes_eq y.id x.id) new) x
 
--- a row as the part has it, at its own depth; or as it was, but for the resources that the part may change
+-- a row as the part has it, at its own depth, or as it was but for the part's copies to change
 abbrev pub row_from : Copied → NodeRow → NodeRow
 row_from p r =
-    option_map_or (λ (new : NodeRow). record new { depth = r.depth }) (row_of p.rows r.id) (record r { resources = map (resource_from p.rw) r.resources })
+    option_map_or (λ (new : NodeRow). record new { depth = r.depth }) (row_of p.rows r.id)
+    (record r { resources = map (resource_from p.rw) r.resources })
 
 -- the rows with those of a part in their places, by id
 abbrev pub rows_from : Copied → List NodeRow → List NodeRow
 rows_from p rows = map (row_from p) rows
 
--- the ticket after a merge: the claim as the part has it, and an audit that stands last at the parent of the spawned node
+-- the ticket after a merge: the claim as the part has it, and an audit that stands last at the
+-- parent of the spawned node
 abbrev pub put : Job → SpawnRec → Copied → ℕ → Job
-put t r p at = record t { rows = appended (parent_of t.rows r.node) (merged_audit r at) (rows_from p t.rows) }
+put t r p at =
+    record t { rows = appended (parent_of t.rows r.node) (merged_audit r at) (rows_from p t.rows) }

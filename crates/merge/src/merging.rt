@@ -14,7 +14,7 @@ use crate::replacing::put_back;
 use crate::shape::fits;
 use spawn::{Phase, SpawnRec};
 use std::alloc::{AllocError, Global};
-use ticket_tree::{Audit, Part, Refusal, Ticket};
+use ticket_tree::{Audit, Duplicate, Part, Refusal, Ticket};
 
 /// The audit that tells of the merge of a spawn.
 fn merged_audit(alloc: Global, spawn: &SpawnRec, at: u64) -> Result<Audit, AllocError>

@@ -1,10 +1,14 @@
--- The rows below a node, lifted to stand by themselves, have the places that they had, with their paths cut at the node.
-use Rattle.std.proofs.Common.{◌≡◌, ◌∙◌, ℕ, suc, ◌+◌, ◌-◌, ◌≤◌, Bool, true, false, cond, List, [], ◌∷◌, ◌++◌, length, map, drop, take, refl, sym, ap, append_assoc, append-nil, arith, nat_lt}
+-- The rows below a node, lifted to stand by themselves, have the places that they had, with their
+-- paths cut at the node.
+use Rattle.std.proofs.Common.{◌≡◌, ◌∙◌, ℕ, suc, ◌+◌, ◌-◌, ◌≤◌, Bool, true, false, cond, List, []}
+use Rattle.std.proofs.Common.{◌∷◌, ◌++◌, length, map, drop, take, refl, sym, ap, append_assoc}
+use Rattle.std.proofs.Common.{append-nil, arith, nat_lt}
 use Rattle.std.proofs.lemmas.Bool.{and_parts, or_parts, ltb-true}
 use Rattle.std.proofs.lemmas.List.{length-append, length-reverse, map-append, take_at}
 use Rattle.std.specs.List.{filter, list_all, list_any}
 use Rattle.ticket_rows.proofs.Below.{Path, below_x}
-use Rattle.ticket_rows.specs.Place.{Place, node_place, resource_place, places_of, places_from, places, below, path_of}
+use Rattle.ticket_rows.specs.Place.{Place, node_place, resource_place, places_of, places_from}
+use Rattle.ticket_rows.specs.Place.{places, below, path_of}
 use Rattle.ticket_tree.specs.PartView.{cut}
 use Rattle.ticket_items.specs.declared.node_row.NodeRow.{NodeRow}
 use Rattle.ticket_items.specs.declared.resource.Resource.{Resource}
@@ -17,7 +21,8 @@ use Rattle.spawn.specs.Parts.{above, lifted}
 
 -- ---- paths through n, cut at n
 
-cut_path : (q up : Path) (n : List ℕ) → take (length (q ++ n ∷ up) - length up) (q ++ n ∷ up) ≡ q ++ n ∷ []
+cut_path : (q up : Path) (n : List ℕ)
+    → take (length (q ++ n ∷ up) - length up) (q ++ n ∷ up) ≡ q ++ n ∷ []
 cut_path q up n =
     let long : length (q ++ n ∷ up) ≡ length q + suc (length up) = length-append q (n ∷ up) in
     let short : length (q ++ n ∷ []) ≡ length q + 1 = length-append q (n ∷ []) in
@@ -28,11 +33,14 @@ cut_path q up n =
 abbrev IsCut : ℕ → Path → Path → Type 0
 IsCut levels path short = take (length path - levels) path ≡ short
 
-cut_pool : (levels : ℕ) (path short : Path) (pool : List Resource) → IsCut levels path short → map (resource_place short) pool ≡ map (cut levels) (map (resource_place path) pool)
+cut_pool : (levels : ℕ) (path short : Path) (pool : List Resource) → IsCut levels path short
+    → map (resource_place short) pool ≡ map (cut levels) (map (resource_place path) pool)
 cut_pool levels path short [] e = refl
 cut_pool levels path short (x ∷ pool) e = ap (λ p. resource_place p x ∷ map (resource_place short) pool) (sym e) ∙ ap (λ ps. cut levels (resource_place path x) ∷ ps) (cut_pool levels path short pool e)
 
-cut_row : (levels : ℕ) (path short : Path) (r : NodeRow) (ps qs : List Place) → IsCut levels path short → ps ≡ map (cut levels) qs → places_of (lifted levels r) short ++ ps ≡ map (cut levels) (places_of r path ++ qs)
+cut_row : (levels : ℕ) (path short : Path) (r : NodeRow) (ps qs : List Place)
+    → IsCut levels path short → ps ≡ map (cut levels) qs
+    → places_of (lifted levels r) short ++ ps ≡ map (cut levels) (places_of r path ++ qs)
 cut_row levels path short r ps qs e go =
     let first = cut levels (node_place r path) in
     let pool = map (resource_place path) r.resources in
@@ -43,7 +51,9 @@ cut_row levels path short r ps qs e go =
 
 -- ---- the rows behind n
 
-cut_from : (n : List ℕ) (up q : Path) (rows : List NodeRow) → AreDeep (suc (length up)) rows → places_from (q ++ n ∷ []) (map (lifted (length up)) rows) ≡ map (cut (length up)) (places_from (q ++ n ∷ up) rows)
+cut_from : (n : List ℕ) (up q : Path) (rows : List NodeRow) → AreDeep (suc (length up)) rows
+    → places_from (q ++ n ∷ []) (map (lifted (length up)) rows)
+    ≡ map (cut (length up)) (places_from (q ++ n ∷ up) rows)
 cut_from n up q [] deep = refl
 cut_from n up q (r ∷ rows) deep =
     let levels : ℕ = length up in
@@ -61,7 +71,9 @@ cut_from n up q (r ∷ rows) deep =
 
 -- ---- n with the rows behind it
 
-cut_below : (rows : List NodeRow) (n : List ℕ) → (at : Around rows n) → places (map (lifted (length at.up)) (at.root ∷ at.inner)) ≡ map (cut (length at.up)) (places_from (path_after [] at.front) (at.root ∷ at.inner))
+cut_below : (rows : List NodeRow) (n : List ℕ) → (at : Around rows n)
+    → places (map (lifted (length at.up)) (at.root ∷ at.inner))
+    ≡ map (cut (length at.up)) (places_from (path_after [] at.front) (at.root ∷ at.inner))
 cut_below rows n at =
     let levels : ℕ = length at.up in
     let root = at.root in
@@ -86,7 +98,8 @@ filter_none f (x ∷ xs) none =
     let parts = or_parts (f x) (list_any f xs) none in
     ap (λ b. cond b (x ∷ filter f xs) (filter f xs)) parts.0 ∙ filter_none f xs parts.1
 
-pub places_below : (rows : List NodeRow) (n : List ℕ) → (at : Around rows n) → filter (below n) (places rows) ≡ places_from (path_after [] at.front) (at.root ∷ at.inner)
+pub places_below : (rows : List NodeRow) (n : List ℕ) → (at : Around rows n)
+    → filter (below n) (places rows) ≡ places_from (path_after [] at.front) (at.root ∷ at.inner)
 places_below rows n at =
     let ps = around_places rows n at in
     let f : Place → Bool = below n in

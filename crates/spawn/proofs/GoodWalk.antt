@@ -1,36 +1,434 @@
--- What the walk past the rows around a node tells of a record.
-use Rattle.std.proofs.Common.{◌≡◌, ◌∙◌, ℕ, suc, ◌+◌, ◌-◌, Bool, true, false, not, List, [], ◌∷◌, ◌++◌, length, map, take, drop, is_some, nat_lt, slice_get, sym, ap, arith}
-use Rattle.std.proofs.lemmas.Bool.{lt-ltb, le-ltb}
-use Rattle.std.proofs.lemmas.List.{take-append-drop, drop-drop}
-use Rattle.std.specs.Option.{option_map_or, option_and_then}
-use Rattle.ticket_rows.proofs.Below.{Path}
+-- The walk past the resources of the rows around a node ends with no copy left exactly if the
+-- copies are those of the resources linked outside the node, and so it tells whether a record is
+-- good.
+use Rattle.std.proofs.Common.{◌≡◌, ◌∙◌, ℕ, ◌+◌, ◌<◌, ◌&&◌, Bool, true, false, not, cond, List, []}
+use Rattle.std.proofs.Common.{◌∷◌, ◌++◌, length, map, drop, get_or, Option, Some, None, refl, sym}
+use Rattle.std.proofs.Common.{ap, ◌||◌, append_assoc, suc, ◌-◌, take, is_some, nat_lt, slice_get}
+use Rattle.std.proofs.Common.{arith}
+use Rattle.std.proofs.lemmas.Bool.{true≢false, and_parts, and_from, or_parts, lt-ltb, le-ltb}
+use Rattle.std.proofs.lemmas.List.{drop_more, map-append, take-append-drop, drop-drop}
+use Rattle.std.proofs.lemmas.Slice.Eq.{bytes_eq-Decides}
+use Rattle.std.proofs.lemmas.List.Folds.{list_any-append}
+use Rattle.std.specs.List.{filter, list_all, list_any}
+use Rattle.std.specs.Option.{option_map, option_map_or, option_and_then}
+use Rattle.std.specs.Str.{bytes_eq}
+use Rattle.ticket_items.proofs.Apart.{bytes_eq-same, or_none}
+use Rattle.ticket_rows.specs.Homes.{homes}
 use Rattle.ticket_items.specs.Ids.{mem}
-use Rattle.ticket_rows.specs.Place.{places, node_places, up, parent, BoundsNodesBelow, fixed, fixed_at}
-use Rattle.ticket_rows.specs.Ticket.{IsValid}
+use Rattle.ticket_tree.specs.Part.{is_linked}
+use Rattle.ticket_rows.specs.Place.{Thing, resource, fixed, Place, resource_place, places}
+use Rattle.ticket_rows.specs.Place.{places_from, is_node, below, path_of, fixed_at, node_places, up}
+use Rattle.ticket_rows.specs.Place.{parent, BoundsNodesBelow}
 use Rattle.ticket_items.specs.declared.node_row.NodeRow.{NodeRow}
+use Rattle.ticket_items.specs.declared.resource.Resource.{Resource}
+use Rattle.spawn.specs.Parts.{resources}
+use Rattle.spawn.specs.Walk.{Left, are_same, behind, met, all_met, are_none}
+use Rattle.ticket_rows.proofs.Below.{Path}
+use Rattle.spawn.proofs.Outside.{around_places}
+use Rattle.spawn.proofs.RowsBelow.{filter-append}
+use Rattle.spawn.proofs.Split.{Around, path_after, path_after-append, places_from-append}
+use Rattle.spawn.specs.Claim.{links, is_linked_below, is_linked_outside, linked_outside, ids_of}
+use Rattle.spawn.specs.Claim.{linked_rw, linked_ro}
+use Rattle.ticket_rows.specs.Ticket.{IsValid}
 use Rattle.spawn.proofs.Ancestry.{root_place}
 use Rattle.spawn.proofs.GoodCopies.{first_of_fixed, first_of_places}
-use Rattle.spawn.proofs.CopiesOutside.{outside_fixed}
-use Rattle.spawn.proofs.Meeting.{changed_ones, met_all}
 use Rattle.spawn.proofs.PartFor.{bounds_apart}
 use Rattle.spawn.proofs.Slices.{rows_between, rows_before, rows_behind}
-use Rattle.spawn.proofs.Split.{Around}
-use Rattle.spawn.specs.Claim.{ids_of, linked_rw, linked_ro}
-use Rattle.spawn.specs.Parts.{resources}
 use Rattle.spawn.specs.Records.{IsGood}
-use Rattle.spawn.specs.Walk.{all_met, are_none}
 use Rattle.spawn.specs.declared.spawn_rec.SpawnRec.{SpawnRec}
+
+-- ---- one list of resources after another
+
+then_then : {X Y Z : Type 0} (f : X → Option Y) (g : Y → Option Z) (o : Option X)
+    → option_and_then (λ x. option_and_then g (f x)) o ≡ option_and_then g (option_and_then f o)
+then_then f g None = refl
+then_then f g (Some x) = refl
+
+then_as : {X Y : Type 0} (f g : X → Option Y) (o : Option X) → ((x : X) → f x ≡ g x)
+    → option_and_then f o ≡ option_and_then g o
+then_as f g None same = refl
+then_as f g (Some x) same = same x
+
+pub all_met-append : (inside : List NodeRow) (rw : List (List ℕ)) (xs ys : List Resource)
+    (left : Left)
+    → all_met inside rw (xs ++ ys) left
+    ≡ option_and_then (all_met inside rw ys) (all_met inside rw xs left)
+all_met-append inside rw [] ys left = refl
+all_met-append inside rw (x ∷ xs) ys left =
+    then_as (all_met inside rw (xs ++ ys)) (λ l. option_and_then (all_met inside rw ys) (all_met inside rw xs l)) (met inside rw x left) (all_met-append inside rw xs ys)
+    ∙ then_then (all_met inside rw xs) (all_met inside rw ys) (met inside rw x left)
+
+own_pool : (h : List ℕ) (pool : List Resource) (rest : List (Resource × List ℕ))
+    → map {A = Resource × List ℕ} (λ e. e.0) (map (λ (x : Resource). (x, h)) pool ++ rest)
+    ≡ pool ++ map (λ e. e.0) rest
+own_pool h [] rest = refl
+own_pool h (x ∷ pool) rest = ap (λ xs. x ∷ xs) (own_pool h pool rest)
+
+pub resources-cons : (r : NodeRow) (rows : List NodeRow)
+    → resources (r ∷ rows) ≡ r.resources ++ resources rows
+resources-cons r rows = own_pool r.id r.resources (homes rows)
+
+-- what is left behind the rows from one on is what is left behind its pool, and then behind the
+-- other rows
+rows_from : (inside : List NodeRow) (rw : List (List ℕ)) (rows : List NodeRow) (i : ℕ) (d : NodeRow)
+    (left : Left)
+    → i < length rows
+    → all_met inside rw (resources (drop i rows)) left
+    ≡ option_and_then (all_met inside rw (resources (drop (i + 1) rows)))
+    (all_met inside rw (get_or rows i d).resources left)
+rows_from inside rw rows i d left within =
+    let r = get_or rows i d in
+    ap (λ rs. all_met inside rw (resources rs) left) (drop_more rows i d within) ∙ ap (λ xs. all_met inside rw xs left) (resources-cons r (drop (i + 1) rows))
+    ∙ all_met-append inside rw r.resources (resources (drop (i + 1) rows)) left
+
+pub met_more : (inside : List NodeRow) (rw : List (List ℕ)) (rows : List NodeRow) (i : ℕ)
+    (d : NodeRow) (old new : Left)
+    → i < length rows → Some new ≡ all_met inside rw (get_or rows i d).resources old
+    → all_met inside rw (resources (drop (i + 1) rows)) new
+    ≡ all_met inside rw (resources (drop i rows)) old
+met_more inside rw rows i d old new within step =
+    ap (option_and_then (all_met inside rw (resources (drop (i + 1) rows)))) step ∙ sym (rows_from inside rw rows i d old within)
+
+pub met_none : (inside : List NodeRow) (rw : List (List ℕ)) (rows : List NodeRow) (i : ℕ)
+    (d : NodeRow) (old : Left)
+    → i < length rows → None ≡ all_met inside rw (get_or rows i d).resources old
+    → None ≡ all_met inside rw (resources (drop i rows)) old
+met_none inside rw rows i d old within step =
+    ap (option_and_then (all_met inside rw (resources (drop (i + 1) rows)))) step ∙ sym (rows_from inside rw rows i d old within)
+
+-- ---- the copies of linked resources
+
+-- those that pass both tests
+abbrev put : Bool → Bool → Resource → List Resource → List Resource
+put linked kept x rest = cond linked (cond kept (x ∷ rest) rest) rest
+
+abbrev linked_ones : List NodeRow → List Resource → List Resource
+linked_ones inside xs = filter (λ x. is_linked inside x.id) xs
+
+abbrev pub changed_ones : List NodeRow → List (List ℕ) → List Resource → List Resource
+changed_ones inside rw xs = filter (λ x. mem x.id rw) (linked_ones inside xs)
+
+abbrev pub read_ones : List NodeRow → List (List ℕ) → List Resource → List Resource
+read_ones inside rw xs = filter (λ x. not (mem x.id rw)) (linked_ones inside xs)
+
+put_is : (linked : Bool) (f : Resource → Bool) (x : Resource) (rest : List Resource)
+    → put linked (f x) x (filter f rest) ≡ filter f (cond linked (x ∷ rest) rest)
+put_is true f x rest = refl
+put_is false f x rest = refl
+
+-- whether nothing is left
+abbrev is_done : Option Left → Bool
+is_done o = option_map_or are_none o false
+
+-- the copies are those
+abbrev pub AreTheirs : List (List ℕ) → List Resource → List Resource → List Resource → Type 0
+AreTheirs ids copies changed read = (ids ≡ map (λ x. x.id) changed) × (map fixed copies ≡ map fixed read)
+
+abbrev BothWays : Type 0 → Type 0 → Type 0
+BothWays P Q = (P → Q) × (Q → P)
+
+same_fixed : (x y : Resource) → are_same x y ≡ true → fixed x ≡ fixed y
+same_fixed x y e =
+    let parts = and_parts (bytes_eq x.id y.id && bytes_eq x.name y.name) (bytes_eq x.class y.class) e in
+    let more = and_parts (bytes_eq x.id y.id) (bytes_eq x.name y.name) parts.0 in
+    ap (λ i. (i, resource x.name x.class)) ((bytes_eq-Decides x.id y.id).0 more.0) ∙ ap (λ n. (y.id, resource n x.class)) ((bytes_eq-Decides x.name y.name).0 more.1)
+    ∙ ap (λ n. (y.id, resource y.name n)) ((bytes_eq-Decides x.class y.class).0 parts.1)
+
+abbrev name_of : Thing → List ℕ
+name_of (Thing.node kind job_part links) = []
+name_of (Thing.resource name class) = name
+
+abbrev class_of : Thing → List ℕ
+class_of (Thing.node kind job_part links) = []
+class_of (Thing.resource name class) = class
+
+fixed_same : (x y : Resource) → fixed x ≡ fixed y → are_same x y ≡ true
+fixed_same x y e =
+    and_from (bytes_eq x.id y.id && bytes_eq x.name y.name) (bytes_eq x.class y.class)
+    (and_from (bytes_eq x.id y.id) (bytes_eq x.name y.name) (ap (λ f. bytes_eq x.id f.0) (sym e) ∙ bytes_eq-same x.id) (ap (λ f. bytes_eq x.name (name_of f.1)) (sym e) ∙ bytes_eq-same x.name))
+    (ap (λ f. bytes_eq x.class (class_of f.1)) (sym e) ∙ bytes_eq-same x.class)
+
+head_is : {X : Type 0} (x y : X) (xs ys : List X) → x ∷ xs ≡ y ∷ ys → x ≡ y
+head_is x y xs ys e = cc
+
+tail_is : {X : Type 0} (x y : X) (xs ys : List X) → x ∷ xs ≡ y ∷ ys → xs ≡ ys
+tail_is x y xs ys e = cc
+
+change_at : (here : Bool) (go : Left → Option Left) (x : Resource) (i : List ℕ)
+    (ids : List (List ℕ)) (copies changed read : List Resource)
+    → bytes_eq i x.id ≡ here
+    → BothWays (is_done (go (ids, copies)) ≡ true) (AreTheirs ids copies changed read)
+    → BothWays
+    (is_done (option_and_then go (option_map (λ left. (left, copies)) (cond here (Some ids) None)))
+    ≡ true)
+    (AreTheirs (i ∷ ids) copies (x ∷ changed) read)
+change_at true go x i ids copies changed read e rest = (
+  λ done. let those = rest.0 done in (ap (λ j. j ∷ ids) ((bytes_eq-Decides i x.id).0 e) ∙ ap (λ js. x.id ∷ js) those.0, those.1),
+  λ those. rest.1 (tail_is i x.id ids (map (λ y. y.id) changed) those.0, those.1),
+)
+change_at false go x i ids copies changed read e rest = (
+  λ done. absurd (true≢false (sym done)),
+  λ those. absurd (true≢false (sym (ap (λ j. bytes_eq j x.id) (head_is i x.id ids (map (λ y. y.id) changed) those.0) ∙ bytes_eq-same x.id) ∙ e)),
+)
+
+read_at : (here : Bool) (go : Left → Option Left) (x y : Resource) (ids : List (List ℕ))
+    (copies changed read : List Resource)
+    → are_same y x ≡ here
+    → BothWays (is_done (go (ids, copies)) ≡ true) (AreTheirs ids copies changed read)
+    → BothWays
+    (is_done (option_and_then go (option_map (λ left. (ids, left)) (cond here (Some copies) None)))
+    ≡ true)
+    (AreTheirs ids (y ∷ copies) changed (x ∷ read))
+read_at true go x y ids copies changed read e rest = (
+  λ done. let those = rest.0 done in (those.0, ap (λ f. f ∷ map fixed copies) (same_fixed y x e) ∙ ap (λ fs. fixed x ∷ fs) those.1),
+  λ those. rest.1 (those.0, tail_is (fixed y) (fixed x) (map fixed copies) (map fixed read) those.1),
+)
+read_at false go x y ids copies changed read e rest = (
+  λ done. absurd (true≢false (sym done)),
+  λ those. absurd (true≢false (sym (fixed_same y x (head_is (fixed y) (fixed x) (map fixed copies) (map fixed read) those.1)) ∙ e)),
+)
+
+no_ids : (go : Left → Option Left) (x : Resource) (ids : List (List ℕ))
+    (copies changed read : List Resource)
+    → ((js : List (List ℕ))
+    → BothWays (is_done (go (js, copies)) ≡ true) (AreTheirs js copies changed read))
+    → BothWays
+    (is_done
+    (option_and_then go (option_map (λ left. (left, copies)) (behind (λ i. bytes_eq i x.id) ids)))
+    ≡ true)
+    (AreTheirs ids copies (x ∷ changed) read)
+no_ids go x [] copies changed read rest = (λ done. absurd (true≢false (sym done)), λ those. let e = those.0 in cc)
+no_ids go x (i ∷ ids) copies changed read rest = change_at (bytes_eq i x.id) go x i ids copies changed read refl (rest ids)
+
+no_copies : (go : Left → Option Left) (x : Resource) (ids : List (List ℕ))
+    (copies changed read : List Resource)
+    → ((ys : List Resource)
+    → BothWays (is_done (go (ids, ys)) ≡ true) (AreTheirs ids ys changed read))
+    → BothWays
+    (is_done
+    (option_and_then go (option_map (λ left. (ids, left)) (behind (λ y. are_same y x) copies)))
+    ≡ true)
+    (AreTheirs ids copies changed (x ∷ read))
+no_copies go x ids [] changed read rest = (λ done. absurd (true≢false (sym done)), λ those. let e = those.1 in cc)
+no_copies go x ids (y ∷ copies) changed read rest = read_at (are_same y x) go x y ids copies changed read refl (rest copies)
+
+met_at : (linked kept : Bool) (go : Left → Option Left) (x : Resource) (ids : List (List ℕ))
+    (copies changed read : List Resource)
+    → ((js : List (List ℕ)) (ys : List Resource)
+    → BothWays (is_done (go (js, ys)) ≡ true) (AreTheirs js ys changed read))
+    → BothWays
+    (is_done
+    (option_and_then go
+    (cond linked
+    (cond kept (option_map (λ left. (left, copies)) (behind (λ i. bytes_eq i x.id) ids))
+    (option_map (λ left. (ids, left)) (behind (λ y. are_same y x) copies)))
+    (Some (ids, copies))))
+    ≡ true)
+    (AreTheirs ids copies (put linked kept x changed) (put linked (not kept) x read))
+met_at true true go x ids copies changed read rest = no_ids go x ids copies changed read (λ js. rest js copies)
+met_at true false go x ids copies changed read rest = no_copies go x ids copies changed read (λ ys. rest ids ys)
+met_at false true go x ids copies changed read rest = rest ids copies
+met_at false false go x ids copies changed read rest = rest ids copies
+
+none_left : (ids : List (List ℕ)) (copies : List Resource)
+    → BothWays (are_none (ids, copies) ≡ true) (AreTheirs ids copies [] [])
+none_left [] [] = (λ done. (refl, refl), λ those. refl)
+none_left [] (y ∷ copies) = (λ done. absurd (true≢false (sym done)), λ those. let e = those.1 in cc)
+none_left (i ∷ ids) copies = (λ done. absurd (true≢false (sym done)), λ those. let e = those.0 in cc)
+
+as_put : (P : Type 0) (ids : List (List ℕ)) (copies c d r s : List Resource) → c ≡ d → r ≡ s
+    → BothWays P (AreTheirs ids copies c r) → BothWays P (AreTheirs ids copies d s)
+as_put P ids copies c d r s e f both = (
+  λ p. let those = both.0 p in (those.0 ∙ ap (map (λ x. x.id)) e, those.1 ∙ ap (map fixed) f),
+  λ those. both.1 (those.0 ∙ ap (map (λ x. x.id)) (sym e), those.1 ∙ ap (map fixed) (sym f)),
+)
+
+-- the walk ends with nothing left exactly if the copies are those of the linked resources, of which
+-- `rw` names those to change
+pub met_all : (inside : List NodeRow) (rw : List (List ℕ)) (xs : List Resource)
+    (ids : List (List ℕ)) (copies : List Resource)
+    → BothWays (is_done (all_met inside rw xs (ids, copies)) ≡ true)
+    (AreTheirs ids copies (changed_ones inside rw xs) (read_ones inside rw xs))
+met_all inside rw [] ids copies = none_left ids copies
+met_all inside rw (x ∷ xs) ids copies =
+    as_put (is_done (all_met inside rw (x ∷ xs) (ids, copies)) ≡ true) ids copies _ (changed_ones inside rw (x ∷ xs)) _ (read_ones inside rw (x ∷ xs))
+    (put_is (is_linked inside x.id) (λ y. mem y.id rw) x (linked_ones inside xs)) (put_is (is_linked inside x.id) (λ y. not (mem y.id rw)) x (linked_ones inside xs))
+    (met_at (is_linked inside x.id) (mem x.id rw) (all_met inside rw xs) x ids copies (changed_ones inside rw xs) (read_ones inside rw xs) (met_all inside rw xs))
+
+-- ---- what is linked below the node
+
+off_at : (on linked rest : Bool) → on ≡ false → rest ≡ false → ((on && linked) || rest) ≡ false
+off_at false linked rest off e = e
+off_at true linked rest off e = cc
+
+none_linked : (n x : List ℕ) (tree : List Place) → list_any (below n) tree ≡ false
+    → list_any (λ p. below n p && links x p) tree ≡ false
+none_linked n x [] off = refl
+none_linked n x (p ∷ tree) off =
+    let parts = or_parts (below n p) (list_any (below n) tree) off in
+    off_at (below n p) (links x p) (list_any (λ q. below n q && links x q) tree) parts.0 (none_linked n x tree parts.1)
+
+on_at : (on linked : Bool) → on ≡ true → (on && linked) ≡ linked
+on_at true linked on = refl
+on_at false linked on = cc
+
+all_linked : (n x : List ℕ) (tree : List Place) → list_all (below n) tree ≡ true
+    → list_any (λ p. below n p && links x p) tree ≡ list_any (links x) tree
+all_linked n x [] on = refl
+all_linked n x (p ∷ tree) on =
+    let parts = and_parts (below n p) (list_all (below n) tree) on in
+    ap (λ b. b || list_any (λ q. below n q && links x q) tree) (on_at (below n p) (links x p) parts.0) ∙ ap (λ b. links x p || b) (all_linked n x tree parts.1)
+
+pool_links : (x : List ℕ) (path : Path) (pool : List Resource) (rest : List Place)
+    → list_any (links x) (map (resource_place path) pool ++ rest) ≡ list_any (links x) rest
+pool_links x path [] rest = refl
+pool_links x path (y ∷ pool) rest = pool_links x path pool rest
+
+row_links : (x : List ℕ) (before : Path) (rows : List NodeRow)
+    → list_any (links x) (places_from before rows) ≡ is_linked rows x
+row_links x before [] = refl
+row_links x before (r ∷ rows) =
+    ap (λ b. list_any (λ l. bytes_eq l.rref x) r.links || b) (pool_links x (path_of before r) r.resources (places_from (path_of before r) rows) ∙ row_links x (path_of before r) rows)
+
+-- the rows at and below n link just what is linked below n
+pub linked_is : (rows : List NodeRow) (n x : List ℕ) → (at : Around rows n)
+    → is_linked_below (places rows) n x ≡ is_linked (at.root ∷ at.inner) x
+linked_is rows n x at =
+    let ps = around_places rows n at in
+    let f : Place → Bool = λ p. below n p && links x p in
+    ap (list_any f) ps.whole ∙ list_any-append f ps.front (ps.inner ++ ps.back) ∙ ap (λ b. b || list_any f (ps.inner ++ ps.back)) (none_linked n x ps.front ps.none_front)
+    ∙ list_any-append f ps.inner ps.back ∙ ap (λ b. list_any f ps.inner || b) (none_linked n x ps.back ps.none_back) ∙ or_none (list_any f ps.inner)
+    ∙ all_linked n x ps.inner ps.all_inner ∙ ap (list_any (links x)) ps.inner_is ∙ row_links x (path_after [] at.front) (at.root ∷ at.inner)
+
+-- ---- which places are linked outside
+
+whole_is : (rows : List NodeRow) (n : List ℕ) → (at : Around rows n)
+    → places rows
+    ≡ places_from [] at.front
+    ++ (places_from (path_after [] at.front) (at.root ∷ at.inner)
+    ++ places_from (path_after (path_after [] at.front) (at.root ∷ at.inner)) at.back)
+whole_is rows n at =
+    let mid = at.root ∷ at.inner in
+    let path = path_after [] at.front in
+    ap places at.whole ∙ places_from-append [] (at.front ++ mid) at.back
+    ∙ ap (λ ps. ps ++ places_from (path_after [] (at.front ++ mid)) at.back) (places_from-append [] at.front mid)
+    ∙ ap (λ p. (places_from [] at.front ++ places_from path mid) ++ places_from p at.back) (path_after-append [] at.front mid)
+    ∙ append_assoc (places_from [] at.front) (places_from path mid) (places_from (path_after path mid) at.back)
+
+outside_at : (node on linked : Bool) (kept : Place → Bool) (p : Place) (xs ys : List Place)
+    → on ≡ false → linked ≡ kept p → xs ≡ filter kept ys
+    → cond ((not node && not on) && linked) (p ∷ xs) xs ≡ filter kept (cond (not node) (p ∷ ys) ys)
+outside_at true on linked kept p xs ys off e f = f
+outside_at false false linked kept p xs ys off e f = ap (λ b. cond b (p ∷ xs) xs) e ∙ ap (λ zs. cond (kept p) (p ∷ zs) zs) f
+outside_at false true linked kept p xs ys off e f = cc
+
+-- of places that aren't below n these are the resources that are linked
+kept_outside : (rows mid : List NodeRow) (n : List ℕ) (tree : List Place)
+    → list_any (below n) tree ≡ false
+    → ((x : List ℕ) → is_linked_below (places rows) n x ≡ is_linked mid x)
+    → filter (is_linked_outside (places rows) n) tree
+    ≡ filter (λ p. is_linked mid p.id) (filter (λ p. not (is_node p)) tree)
+kept_outside rows mid n [] off same = refl
+kept_outside rows mid n (p ∷ tree) off same =
+    let parts = or_parts (below n p) (list_any (below n) tree) off in
+    outside_at (is_node p) (below n p) (is_linked_below (places rows) n p.id) (λ q. is_linked mid q.id) p (filter (is_linked_outside (places rows) n) tree) (filter (λ q. not (is_node q)) tree) parts.0 (same p.id) (kept_outside rows mid n tree parts.1 same)
+
+inside_at : (node on linked : Bool) (p : Place) (xs : List Place) → on ≡ true → xs ≡ []
+    → cond ((not node && not on) && linked) (p ∷ xs) xs ≡ []
+inside_at true on linked p xs e f = f
+inside_at false true linked p xs e f = f
+inside_at false false linked p xs e f = cc
+
+-- and of those that are there are none
+none_inside : (rows : List NodeRow) (n : List ℕ) (tree : List Place)
+    → list_all (below n) tree ≡ true → filter (is_linked_outside (places rows) n) tree ≡ []
+none_inside rows n [] on = refl
+none_inside rows n (p ∷ tree) on =
+    let parts = and_parts (below n p) (list_all (below n) tree) on in
+    inside_at (is_node p) (below n p) (is_linked_below (places rows) n p.id) p (filter (is_linked_outside (places rows) n) tree) parts.0 (none_inside rows n tree parts.1)
+
+-- ---- places and resources that have the same id, name and Class
+
+kept_at : (a b : Bool) (p : Place) (x : Resource) (ps : List Place) (xs : List Resource) → a ≡ b
+    → fixed_at p ≡ fixed x → map fixed_at ps ≡ map fixed xs
+    → map fixed_at (cond a (p ∷ ps) ps) ≡ map fixed (cond b (x ∷ xs) xs)
+kept_at true true p x ps xs e head later = ap (λ f. f ∷ map fixed_at ps) head ∙ ap (λ fs. fixed x ∷ fs) later
+kept_at false false p x ps xs e head later = later
+kept_at true false p x ps xs e head later = cc
+kept_at false true p x ps xs e head later = cc
+
+-- so do those whose id passes a test
+fixed_kept : (t : List ℕ → Bool) (ps : List Place) (xs : List Resource)
+    → map fixed_at ps ≡ map fixed xs
+    → map fixed_at (filter (λ p. t p.id) ps) ≡ map fixed (filter (λ x. t x.id) xs)
+fixed_kept t [] [] e = refl
+fixed_kept t [] (x ∷ xs) e = cc
+fixed_kept t (p ∷ ps) [] e = cc
+fixed_kept t (p ∷ ps) (x ∷ xs) e =
+    let head = head_is (fixed_at p) (fixed x) (map fixed_at ps) (map fixed xs) e in
+    kept_at (t p.id) (t x.id) p x (filter (λ q. t q.id) ps) (filter (λ y. t y.id) xs) (ap (λ f. t f.0) head) head (fixed_kept t ps xs (tail_is (fixed_at p) (fixed x) (map fixed_at ps) (map fixed xs) e))
+
+pool_fixed : (path : Path) (pool : List Resource) (rest : List Place)
+    → map fixed_at (filter (λ p. not (is_node p)) (map (resource_place path) pool ++ rest))
+    ≡ map fixed pool ++ map fixed_at (filter (λ p. not (is_node p)) rest)
+pool_fixed path [] rest = refl
+pool_fixed path (x ∷ pool) rest = ap (λ fs. fixed x ∷ fs) (pool_fixed path pool rest)
+
+rows_fixed : (before : Path) (rows : List NodeRow)
+    → map fixed_at (filter (λ p. not (is_node p)) (places_from before rows))
+    ≡ map fixed (resources rows)
+rows_fixed before [] = refl
+rows_fixed before (r ∷ rows) =
+    pool_fixed (path_of before r) r.resources (places_from (path_of before r) rows) ∙ ap (λ fs. map fixed r.resources ++ fs) (rows_fixed (path_of before r) rows)
+    ∙ sym (ap (map fixed) (resources-cons r rows) ∙ map-append fixed r.resources (resources rows))
+
+-- ---- what is linked outside n, on the rows before and behind
+
+side : (rows mid : List NodeRow) (n : List ℕ) (t : List ℕ → Bool) (before : Path)
+    (some : List NodeRow)
+    → list_any (below n) (places_from before some) ≡ false
+    → ((x : List ℕ) → is_linked_below (places rows) n x ≡ is_linked mid x)
+    → map fixed_at
+    (filter (λ p. t p.id) (filter (is_linked_outside (places rows) n) (places_from before some)))
+    ≡ map fixed (filter (λ x. t x.id) (filter (λ x. is_linked mid x.id) (resources some)))
+side rows mid n t before some off same =
+    ap (λ ps. map fixed_at (filter (λ p. t p.id) ps)) (kept_outside rows mid n (places_from before some) off same)
+    ∙ fixed_kept t (filter (λ p. is_linked mid p.id) (filter (λ p. not (is_node p)) (places_from before some))) (filter (λ x. is_linked mid x.id) (resources some))
+    (fixed_kept (is_linked mid) (filter (λ p. not (is_node p)) (places_from before some)) (resources some) (rows_fixed before some))
+
+pub outside_fixed : (rows : List NodeRow) (n : List ℕ) (t : List ℕ → Bool) → (at : Around rows n)
+    → map fixed_at (filter (λ p. t p.id) (linked_outside (places rows) n))
+    ≡ map fixed
+    (filter (λ x. t x.id)
+    (filter (λ x. is_linked (at.root ∷ at.inner) x.id) (resources at.front ++ resources at.back)))
+outside_fixed rows n t at =
+    let mid = at.root ∷ at.inner in
+    let path = path_after [] at.front in
+    let front = places_from [] at.front in
+    let inner = places_from path mid in
+    let back = places_from (path_after path mid) at.back in
+    let lo = is_linked_outside (places rows) n in
+    let lk : Resource → Bool = λ x. is_linked mid x.id in
+    let same : (x : List ℕ) → is_linked_below (places rows) n x ≡ is_linked mid x = λ x. linked_is rows n x at in
+    let cut : filter lo (places rows) ≡ filter lo front ++ filter lo back =
+    ap (filter lo) (whole_is rows n at) ∙ filter-append lo front (inner ++ back) ∙ ap (λ ps. filter lo front ++ ps) (filter-append lo inner back ∙ ap (λ ps. ps ++ filter lo back) (none_inside rows n inner at.all_inner)) in
+    ap (λ ps. map fixed_at (filter (λ p. t p.id) ps)) cut
+    ∙ ap (map fixed_at) (filter-append (λ p. t p.id) (filter lo front) (filter lo back))
+    ∙ map-append fixed_at (filter (λ p. t p.id) (filter lo front)) (filter (λ p. t p.id) (filter lo back))
+    ∙ ap (λ fs. fs ++ map fixed_at (filter (λ p. t p.id) (filter lo back))) (side rows mid n t [] at.front at.none_front same)
+    ∙ ap (λ fs. map fixed (filter (λ x. t x.id) (filter lk (resources at.front))) ++ fs) (side rows mid n t (path_after path mid) at.back at.none_back same)
+    ∙ sym (ap (λ xs. map fixed (filter (λ x. t x.id) xs)) (filter-append lk (resources at.front) (resources at.back))
+    ∙ ap (map fixed) (filter-append (λ x. t x.id) (filter lk (resources at.front)) (filter lk (resources at.back)))
+    ∙ map-append fixed (filter (λ x. t x.id) (filter lk (resources at.front))) (filter (λ x. t x.id) (filter lk (resources at.back))))
 
 -- ---- the rows behind those below a node
 
-tail_is : {X : Type 0} (x : X) (xs ys : List X) → x ∷ xs ≡ x ∷ ys → xs ≡ ys
-tail_is x xs ys e = cc
-
 same_behind : {X : Type 0} (xs ys zs : List X) → xs ++ ys ≡ xs ++ zs → ys ≡ zs
 same_behind [] ys zs e = e
-same_behind (x ∷ xs) ys zs e = same_behind xs ys zs (tail_is x (xs ++ ys) (xs ++ zs) e)
+same_behind (x ∷ xs) ys zs e = same_behind xs ys zs (tail_is x x (xs ++ ys) (xs ++ zs) e)
 
-rows_after : (rows : List NodeRow) (n : List ℕ) (from to : ℕ) → IsValid rows → BoundsNodesBelow rows n from to → (at : Around rows n) → drop to rows ≡ at.back
+rows_after : (rows : List NodeRow) (n : List ℕ) (from to : ℕ) → IsValid rows
+    → BoundsNodesBelow rows n from to → (at : Around rows n) → drop to rows ≡ at.back
 rows_after rows n from to valid bounds at =
     let mid = at.root ∷ at.inner in
     let later = drop from rows in
@@ -41,12 +439,16 @@ rows_after rows n from to valid bounds at =
 
 -- ---- the parent
 
-above_at : (n : List ℕ) (above : Path) (depth : ℕ) → depth ≡ suc (length above) → nat_lt 1 depth ≡ is_some (slice_get (n ∷ above) 1)
+above_at : (n : List ℕ) (above : Path) (depth : ℕ) → depth ≡ suc (length above)
+    → nat_lt 1 depth ≡ is_some (slice_get (n ∷ above) 1)
 above_at n [] depth level = le-ltb 1 depth (omega (arith, level))
 above_at n (u ∷ above) depth level = lt-ltb 1 depth (omega (arith, level))
 
-pub parent_is : (rows : List NodeRow) (n : List ℕ) (from to : ℕ) (inside : List NodeRow) → IsValid rows → BoundsNodesBelow rows n from to → (at : Around rows n) → inside ≡ take (to - from) (drop from rows)
-    → option_map_or (λ r. nat_lt 1 r.depth) (slice_get inside 0) false ≡ is_some (up (node_places rows) n)
+pub parent_is : (rows : List NodeRow) (n : List ℕ) (from to : ℕ) (inside : List NodeRow)
+    → IsValid rows → BoundsNodesBelow rows n from to → (at : Around rows n)
+    → inside ≡ take (to - from) (drop from rows)
+    → option_map_or (λ r. nat_lt 1 r.depth) (slice_get inside 0) false
+    ≡ is_some (up (node_places rows) n)
 parent_is rows n from to inside valid bounds at seen =
     ap (λ rs. option_map_or (λ r. nat_lt 1 r.depth) (slice_get rs 0) false) (seen ∙ rows_between rows n from to valid bounds at)
     ∙ above_at n at.up at.root.depth at.level
@@ -60,11 +462,16 @@ AreCopied rows r = (r.rw ≡ ids_of (linked_rw (places rows) r.node r.rw)) × (m
 abbrev copied_in : List NodeRow → List NodeRow → List NodeRow → SpawnRec → Bool
 copied_in front inside back r = option_map_or are_none (all_met inside r.rw (resources front ++ resources back) (r.rw, r.ro)) false
 
-changed_ids : (rows : List NodeRow) (r : SpawnRec) → (at : Around rows r.node) → map (λ x. x.id) (changed_ones (at.root ∷ at.inner) r.rw (resources at.front ++ resources at.back)) ≡ ids_of (linked_rw (places rows) r.node r.rw)
+changed_ids : (rows : List NodeRow) (r : SpawnRec) → (at : Around rows r.node)
+    → map (λ x. x.id)
+    (changed_ones (at.root ∷ at.inner) r.rw (resources at.front ++ resources at.back))
+    ≡ ids_of (linked_rw (places rows) r.node r.rw)
 changed_ids rows r at =
     sym (first_of_fixed (changed_ones (at.root ∷ at.inner) r.rw (resources at.front ++ resources at.back))) ∙ ap (map (λ f. f.0)) (sym (outside_fixed rows r.node (λ i. mem i r.rw) at)) ∙ first_of_places (linked_rw (places rows) r.node r.rw)
 
-copied_around : (rows : List NodeRow) (r : SpawnRec) → (at : Around rows r.node) → (copied_in at.front (at.root ∷ at.inner) at.back r ≡ true → AreCopied rows r) × (AreCopied rows r → copied_in at.front (at.root ∷ at.inner) at.back r ≡ true)
+copied_around : (rows : List NodeRow) (r : SpawnRec) → (at : Around rows r.node)
+    → (copied_in at.front (at.root ∷ at.inner) at.back r ≡ true → AreCopied rows r)
+    × (AreCopied rows r → copied_in at.front (at.root ∷ at.inner) at.back r ≡ true)
 copied_around rows r at =
     let both = met_all (at.root ∷ at.inner) r.rw (resources at.front ++ resources at.back) r.rw r.ro in
     let changed = changed_ids rows r at in
@@ -73,7 +480,10 @@ copied_around rows r at =
       λ those. both.1 (those.0 ∙ sym changed, those.1 ∙ read),
     )
 
-pub copies_are : (rows : List NodeRow) (r : SpawnRec) (from to : ℕ) (front inside back : List NodeRow) → IsValid rows → BoundsNodesBelow rows r.node from to → (at : Around rows r.node) → front ≡ take from rows → inside ≡ take (to - from) (drop from rows) → back ≡ drop to rows
+pub copies_are : (rows : List NodeRow) (r : SpawnRec) (from to : ℕ)
+    (front inside back : List NodeRow)
+    → IsValid rows → BoundsNodesBelow rows r.node from to → (at : Around rows r.node)
+    → front ≡ take from rows → inside ≡ take (to - from) (drop from rows) → back ≡ drop to rows
     → copied_in front inside back r ≡ copied_in at.front (at.root ∷ at.inner) at.back r
 copies_are rows r from to front inside back valid bounds at f i b =
     ap (λ rs. copied_in rs inside back r) (f ∙ rows_before rows r.node from to valid bounds at)
@@ -81,7 +491,10 @@ copies_are rows r from to front inside back valid bounds at f i b =
     ∙ ap (λ rs. copied_in at.front (at.root ∷ at.inner) rs r) (b ∙ rows_after rows r.node from to valid bounds at)
 
 -- a record is good exactly if its node has a parent and the walk finds its copies
-pub good_if : (rows : List NodeRow) (r : SpawnRec) (result : Bool) → (at : Around rows r.node) → is_some (up (node_places rows) r.node) ≡ true → result ≡ copied_in at.front (at.root ∷ at.inner) at.back r → (result ≡ true → IsGood rows r) × (IsGood rows r → result ≡ true)
+pub good_if : (rows : List NodeRow) (r : SpawnRec) (result : Bool) → (at : Around rows r.node)
+    → is_some (up (node_places rows) r.node) ≡ true
+    → result ≡ copied_in at.front (at.root ∷ at.inner) at.back r
+    → (result ≡ true → IsGood rows r) × (IsGood rows r → result ≡ true)
 good_if rows r result at above e =
     let both = copied_around rows r at in (
       λ done. let those = both.0 (sym e ∙ done) in record { has_parent = above; rw = those.0; ro = those.1 },

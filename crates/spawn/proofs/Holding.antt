@@ -1,5 +1,6 @@
 -- Who holds an id, by the node at which it stands.
-use Rattle.std.proofs.Common.{◌≡◌, ◌∙◌, ℕ, ◌&&◌, ◌||◌, Bool, true, false, cond, List, [], ◌∷◌, Option, Some, None, is_some, subst, refl, ap}
+use Rattle.std.proofs.Common.{◌≡◌, ◌∙◌, ℕ, ◌&&◌, ◌||◌, Bool, true, false, cond, List, [], ◌∷◌}
+use Rattle.std.proofs.Common.{Option, Some, None, is_some, subst, refl, ap}
 use Rattle.std.proofs.lemmas.Bool.{or_parts}
 use Rattle.std.specs.List.{find, list_any}
 use Rattle.std.specs.Option.{option_map, option_map_or}
@@ -25,16 +26,19 @@ use Rattle.spawn.specs.declared.spawn_rec.SpawnRec.{SpawnRec}
 same_some : {X : Type 0} (x y d : X) → Some x ≡ Some y → x ≡ y
 same_some x y d e = ap (λ o. option_map_or (λ z. z) o d) e
 
-stands_by : (known : Bool) (rows : List NodeRow) (x h : List ℕ) → IsValid rows → has_node rows x ≡ known → cond known (Some x) (home_of rows x) ≡ Some h → StandsAt rows x h
+stands_by : (known : Bool) (rows : List NodeRow) (x h : List ℕ) → IsValid rows
+    → has_node rows x ≡ known → cond known (Some x) (home_of rows x) ≡ Some h → StandsAt rows x h
 stands_by true rows x h valid known at = subst (λ i. StandsAt rows x i) (same_some x h x at) (node_stands rows x valid known)
 stands_by false rows x h valid known at = resource_stands rows x h valid at
 
-pub stands_at : (rows : List NodeRow) (x h : List ℕ) → IsValid rows → stand_of rows x ≡ Some h → StandsAt rows x h
+pub stands_at : (rows : List NodeRow) (x h : List ℕ) → IsValid rows → stand_of rows x ≡ Some h
+    → StandsAt rows x h
 stands_at rows x h valid at = stands_by (has_node rows x) rows x h valid refl at
 
 -- ---- what a known id's holder is
 
-pub find_as : {X : Type 0} (f g : X → Bool) → ((x : X) → f x ≡ g x) → (xs : List X) → find f xs ≡ find g xs
+pub find_as : {X : Type 0} (f g : X → Bool) → ((x : X) → f x ≡ g x) → (xs : List X)
+    → find f xs ≡ find g xs
 find_as f g same [] = refl
 find_as f g same (x ∷ xs) = ap (λ b. cond b (Some x) (find f xs)) (same x) ∙ ap (cond (g x) (Some x)) (find_as f g same xs)
 
@@ -42,8 +46,10 @@ find_as f g same (x ∷ xs) = ap (λ b. cond b (Some x) (find f xs)) (same x) �
 abbrev pub claims_at : List NodeRow → List ℕ → List ℕ → SpawnRec → Bool
 claims_at rows x h r = is_out r && (is_below (node_places rows) h r.node || mem x r.rw)
 
-pub held : (rows : List NodeRow) (recs : List SpawnRec) (x h : List ℕ) → IsValid rows → stand_of rows x ≡ Some h
-    → holder_of rows recs x ≡ Some (option_map_or (λ r. Spawn r.id) (find (claims_at rows x h) recs) Master)
+pub held : (rows : List NodeRow) (recs : List SpawnRec) (x h : List ℕ) → IsValid rows
+    → stand_of rows x ≡ Some h
+    → holder_of rows recs x
+    ≡ Some (option_map_or (λ r. Spawn r.id) (find (claims_at rows x h) recs) Master)
 held rows recs x h valid at =
     let stands = stands_at rows x h valid at in
     ap (option_map (holder_at recs)) stands.there
@@ -52,7 +58,8 @@ held rows recs x h valid at =
 
 -- ---- an unknown id has no holder
 
-any_or : {X : Type 0} (f g : X → Bool) (xs : List X) → list_any f xs ≡ false → list_any g xs ≡ false → list_any (λ x. f x || g x) xs ≡ false
+any_or : {X : Type 0} (f g : X → Bool) (xs : List X) → list_any f xs ≡ false → list_any g xs ≡ false
+    → list_any (λ x. f x || g x) xs ≡ false
 any_or f g [] p q = refl
 any_or f g (x ∷ xs) p q =
     let one = or_parts (f x) (list_any f xs) p in
@@ -63,18 +70,23 @@ none_of : {X : Type 0} (o : Option X) → is_some o ≡ false → o ≡ None
 none_of None h = refl
 none_of (Some x) h = cc
 
-none_stands : (tree : List Place) (x : List ℕ) → is_some (place_at tree x) ≡ false → place_at tree x ≡ None
+none_stands : (tree : List Place) (x : List ℕ) → is_some (place_at tree x) ≡ false
+    → place_at tree x ≡ None
 none_stands tree x h = none_of (place_at tree x) h
 
-unknown_by : (known : Bool) (rows : List NodeRow) (x : List ℕ) → has_node rows x ≡ known → cond known (Some x) (home_of rows x) ≡ None → (has_node rows x ≡ false) × (home_of rows x ≡ None)
+unknown_by : (known : Bool) (rows : List NodeRow) (x : List ℕ) → has_node rows x ≡ known
+    → cond known (Some x) (home_of rows x) ≡ None
+    → (has_node rows x ≡ false) × (home_of rows x ≡ None)
 unknown_by true rows x known at = cc
 unknown_by false rows x known at = (known, at)
 
-no_entry : {X : Type 0} (o : Option (X × List ℕ)) → option_map (λ e. e.1) o ≡ None → is_some o ≡ false
+no_entry : {X : Type 0} (o : Option (X × List ℕ)) → option_map (λ e. e.1) o ≡ None
+    → is_some o ≡ false
 no_entry None h = refl
 no_entry (Some e) h = cc
 
-pub unheld : (rows : List NodeRow) (recs : List SpawnRec) (x : List ℕ) → stand_of rows x ≡ None → holder_of rows recs x ≡ None
+pub unheld : (rows : List NodeRow) (recs : List SpawnRec) (x : List ℕ) → stand_of rows x ≡ None
+    → holder_of rows recs x ≡ None
 unheld rows recs x at =
     let parts = unknown_by (has_node rows x) rows x refl at in
     let nodes : list_any (λ r. bytes_eq r.id x) rows ≡ false = any_key (λ r. r.id) x rows ∙ mem-node_ids rows x ∙ parts.0 in

@@ -1,5 +1,7 @@
 -- The laws of spawning.
-use Rattle.std.proofs.Common.{◌≡◌, ◌∙◌, ◌⊎◌, ℕ, zero, suc, ◌&&◌, ◌||◌, Bool, true, false, not, cond, List, [], ◌∷◌, Option, Some, None, is_some, slice_get, inl, inr, refl, sym, ap, arith}
+use Rattle.std.proofs.Common.{◌≡◌, ◌∙◌, ◌⊎◌, ℕ, zero, suc, ◌&&◌, ◌||◌, Bool, true, false, not, cond}
+use Rattle.std.proofs.Common.{List, [], ◌∷◌, Option, Some, None, is_some, slice_get, inl, inr, refl}
+use Rattle.std.proofs.Common.{sym, ap, arith}
 use Rattle.std.proofs.lemmas.Bool.{true≢false, and_parts, and_from}
 use Rattle.std.specs.List.{find}
 use Rattle.std.specs.Option.{option_map, option_map_or, option_and_then}
@@ -9,7 +11,8 @@ use Rattle.ticket_rows.proofs.AtHome.{find-passes}
 use Rattle.ticket_tree.proofs.Parents.{one_parent_each}
 use Rattle.ticket_items.specs.Ids.{mem}
 use Rattle.ticket_tree.specs.Laws.{HasParentAt, IsRootAt}
-use Rattle.ticket_rows.specs.Place.{Place, places, node_places, place_at, is_node, below, parent, up}
+use Rattle.ticket_rows.specs.Place.{Place, places, node_places, place_at, is_node, below, parent}
+use Rattle.ticket_rows.specs.Place.{up}
 use Rattle.ticket_rows.specs.Ticket.{IsValid}
 use Rattle.ticket_items.specs.declared.node_row.NodeRow.{NodeRow}
 use Rattle.spawn.proofs.Among.{kept_keys}
@@ -29,14 +32,18 @@ use Rattle.spawn.specs.declared.spawn_rec.SpawnRec.{SpawnRec}
 abbrev Alone : (SpawnRec → Bool) → List SpawnRec → ℕ → Type 0
 Alone f xs k = (j : ℕ) (y : SpawnRec) → slice_get xs j ≡ Some y → f y ≡ true → j ≡ k
 
-first_at : (here : Bool) (f : SpawnRec → Bool) (x : SpawnRec) (xs : List SpawnRec) (k : ℕ) (r : SpawnRec) → f x ≡ here → slice_get (x ∷ xs) k ≡ Some r → f r ≡ true → Alone f (x ∷ xs) k
-    → ((j : ℕ) → slice_get xs j ≡ Some r → Alone f xs j → find f xs ≡ Some r) → cond here (Some x) (find f xs) ≡ Some r
+first_at : (here : Bool) (f : SpawnRec → Bool) (x : SpawnRec) (xs : List SpawnRec) (k : ℕ)
+    (r : SpawnRec)
+    → f x ≡ here → slice_get (x ∷ xs) k ≡ Some r → f r ≡ true → Alone f (x ∷ xs) k
+    → ((j : ℕ) → slice_get xs j ≡ Some r → Alone f xs j → find f xs ≡ Some r)
+    → cond here (Some x) (find f xs) ≡ Some r
 first_at true f x xs zero r e at passes alone go = at
 first_at true f x xs (suc k) r e at passes alone go = absurd (omega (arith, alone zero x refl e))
 first_at false f x xs zero r e at passes alone go = absurd (true≢false (sym passes ∙ ap (λ o. option_map_or f o true) (sym at) ∙ e))
 first_at false f x xs (suc k) r e at passes alone go = go k at (λ j y there ok. omega (arith, alone (suc j) y there ok))
 
-found_alone : (f : SpawnRec → Bool) (xs : List SpawnRec) (k : ℕ) (r : SpawnRec) → slice_get xs k ≡ Some r → f r ≡ true → Alone f xs k → find f xs ≡ Some r
+found_alone : (f : SpawnRec → Bool) (xs : List SpawnRec) (k : ℕ) (r : SpawnRec)
+    → slice_get xs k ≡ Some r → f r ≡ true → Alone f xs k → find f xs ≡ Some r
 found_alone f [] k r at passes alone = cc
 found_alone f (x ∷ xs) k r at passes alone = first_at (f x) f x xs k r refl at passes alone (λ j there only. found_alone f xs j r there passes only)
 
@@ -45,11 +52,13 @@ pub record Placed (xs : List SpawnRec) (r : SpawnRec) : Type 0 where
   pub place : ℕ
   pub there : slice_get xs place ≡ Some r
 
-placed_at : (here : Bool) (x : SpawnRec) (xs : List SpawnRec) (o : Option SpawnRec) (r : SpawnRec) → cond here (Some x) o ≡ Some r → (o ≡ Some r → Placed xs r) → Placed (x ∷ xs) r
+placed_at : (here : Bool) (x : SpawnRec) (xs : List SpawnRec) (o : Option SpawnRec) (r : SpawnRec)
+    → cond here (Some x) o ≡ Some r → (o ≡ Some r → Placed xs r) → Placed (x ∷ xs) r
 placed_at true x xs o r e go = record { place = 0; there = e }
 placed_at false x xs o r e go = record { place = suc (go e).place; there = (go e).there }
 
-pub placed : (f : SpawnRec → Bool) (xs : List SpawnRec) (r : SpawnRec) → find f xs ≡ Some r → Placed xs r
+pub placed : (f : SpawnRec → Bool) (xs : List SpawnRec) (r : SpawnRec) → find f xs ≡ Some r
+    → Placed xs r
 placed f [] r e = cc
 placed f (x ∷ xs) r e = placed_at (f x) x xs (find f xs) r e (placed f xs r)
 
@@ -73,7 +82,8 @@ same_place : (p q : Place) → Some p ≡ Some q → p ≡ q
 same_place p q e = ap (λ o. option_map_or (λ r. r) o p) e
 
 -- a copy that may be changed isn't of a node
-no_node : (rows : List NodeRow) (q : SpawnRec) (x : List ℕ) (p : Place) → IsValid rows → IsGood rows q → place_at (places rows) x ≡ Some p → is_node p ≡ true → mem x q.rw ≡ true → ⊥
+no_node : (rows : List NodeRow) (q : SpawnRec) (x : List ℕ) (p : Place) → IsValid rows
+    → IsGood rows q → place_at (places rows) x ≡ Some p → is_node p ≡ true → mem x q.rw ≡ true → ⊥
 no_node rows q x p valid good there node chosen =
     let tree = places rows in
     let linked = (and_parts (mem x q.rw) _ (sym (kept_keys (λ s. s.id) (λ i. mem i q.rw) (linked_outside tree q.node) x) ∙ sym (ap (mem x) good.rw) ∙ chosen)).1 in
@@ -96,7 +106,9 @@ stood : (o : Option Place) → is_some (option_and_then parent o) ≡ true → (
 stood None h = cc
 stood (Some p) h = (p, refl)
 
-family_by : (rows : List NodeRow) (n : List ℕ) (p : Place) → IsValid rows → is_some (up (node_places rows) n) ≡ true → place_at (node_places rows) n ≡ Some p → IsRootAt (node_places rows) n p ⊎ HasParentAt (node_places rows) n p → Family rows n
+family_by : (rows : List NodeRow) (n : List ℕ) (p : Place) → IsValid rows
+    → is_some (up (node_places rows) n) ≡ true → place_at (node_places rows) n ≡ Some p
+    → IsRootAt (node_places rows) n p ⊎ HasParentAt (node_places rows) n p → Family rows n
 family_by rows n p valid has there (inl root) =
     absurd (true≢false (sym has ∙ ap (λ o. is_some (option_and_then parent o)) there ∙ ap (λ path. is_some (slice_get path 1)) root.path))
 family_by rows n p valid has there (inr at) =
@@ -111,7 +123,8 @@ family_by rows n p valid has there (inr at) =
       parent_is = ap (λ o. option_map_or (λ u. u) o []) at.above;
     }
 
-family : (rows : List NodeRow) (n : List ℕ) → IsValid rows → is_some (up (node_places rows) n) ≡ true → Family rows n
+family : (rows : List NodeRow) (n : List ℕ) → IsValid rows
+    → is_some (up (node_places rows) n) ≡ true → Family rows n
 family rows n valid has =
     let there = stood (place_at (node_places rows) n) has in
     family_by rows n there.0 valid has there.1 (one_parent_each rows valid n there.0 there.1)
@@ -125,7 +138,10 @@ or_left true b h = refl
 or_left false b h = cc
 
 -- no spawn holds the parent
-unheld_by : (o : Option SpawnRec) (rows : List NodeRow) (recs : List SpawnRec) (k : ℕ) (r : SpawnRec) → IsValid rows → StandApart rows recs → slice_get recs k ≡ Some r → is_out r ≡ true → (at : Family rows r.node) → holding recs at.above ≡ o → o ≡ None
+unheld_by : (o : Option SpawnRec) (rows : List NodeRow) (recs : List SpawnRec) (k : ℕ)
+    (r : SpawnRec)
+    → IsValid rows → StandApart rows recs → slice_get recs k ≡ Some r → is_out r ≡ true
+    → (at : Family rows r.node) → holding recs at.above ≡ o → o ≡ None
 unheld_by None rows recs k r valid apart there out at e = refl
 unheld_by (Some q) rows recs k r valid apart there out at e =
     let parts = held_is_claimed recs q at.above e in

@@ -1,5 +1,7 @@
--- The record of a new spawn: what its copies are, that it is good, and that it stays so while nothing moves.
-use Rattle.std.proofs.Common.{◌≡◌, ◌∙◌, ℕ, ◌-◌, ◌<◌, ◌&&◌, ◌||◌, Bool, true, false, not, List, [], ◌∷◌, ◌++◌, length, map, take, drop, is_some, refl, sym, ap, arith}
+-- The record of a new spawn: what its copies are, that it is good, and that it stays so while
+-- nothing moves.
+use Rattle.std.proofs.Common.{◌≡◌, ◌∙◌, ℕ, ◌-◌, ◌<◌, ◌&&◌, ◌||◌, Bool, true, false, not, List, []}
+use Rattle.std.proofs.Common.{◌∷◌, ◌++◌, length, map, take, drop, is_some, refl, sym, ap, arith}
 use Rattle.std.proofs.lemmas.Bool.{and_from}
 use Rattle.std.proofs.lemmas.List.{map-append, drop_at, length-take, length-drop, length-append}
 use Rattle.std.specs.List.{filter, list_all}
@@ -8,12 +10,14 @@ use Rattle.ticket_items.proofs.Apart.{bytes_eq-same}
 use Rattle.ticket_items.specs.Ids.{mem}
 use Rattle.ticket_items.specs.Resource.{resource_ids}
 use Rattle.ticket_tree.specs.Part.{is_linked}
-use Rattle.ticket_rows.specs.Place.{places, node_places, nodes_in, up, BoundsNodesBelow, fixed, fixed_at}
+use Rattle.ticket_rows.specs.Place.{places, node_places, nodes_in, up, BoundsNodesBelow, fixed}
+use Rattle.ticket_rows.specs.Place.{fixed_at}
 use Rattle.ticket_rows.specs.Ticket.{IsValid, has_node}
 use Rattle.ticket_items.specs.declared.node_row.NodeRow.{NodeRow}
 use Rattle.ticket_items.specs.declared.resource.Resource.{Resource}
 use Rattle.spawn.proofs.Among.{kept_keys}
-use Rattle.spawn.proofs.Chosen.{all_too, around_kept, kept_fixed, kept_ids, linked_and, same_where, wanted}
+use Rattle.spawn.proofs.Chosen.{all_too, around_kept, kept_fixed, kept_ids, linked_and, same_where}
+use Rattle.spawn.proofs.Chosen.{wanted}
 use Rattle.spawn.proofs.HomesBelow.{or_right}
 use Rattle.spawn.proofs.PartFor.{bounds_apart}
 use Rattle.spawn.proofs.Slices.{from_is, rows_before, rows_between}
@@ -29,7 +33,8 @@ use Rattle.spawn.specs.declared.spawn_rec.SpawnRec.{SpawnRec}
 
 -- ---- rows behind a node
 
-pub rows_after : (rows : List NodeRow) (n : List ℕ) (from to : ℕ) → IsValid rows → BoundsNodesBelow rows n from to → (at : Around rows n) → drop to rows ≡ at.back
+pub rows_after : (rows : List NodeRow) (n : List ℕ) (from to : ℕ) → IsValid rows
+    → BoundsNodesBelow rows n from to → (at : Around rows n) → drop to rows ≡ at.back
 rows_after rows n from to valid bounds at =
     let mid = at.root ∷ at.inner in
     let front : length at.front ≡ from = from_is rows n from to valid bounds at in
@@ -40,7 +45,8 @@ rows_after rows n from to valid bounds at =
 
 -- ---- ids among ids
 
-mem_all : {X : Type 0} (key : X → List ℕ) (xs : List X) → list_all (λ x. mem (key x) (map key xs)) xs ≡ true
+mem_all : {X : Type 0} (key : X → List ℕ) (xs : List X)
+    → list_all (λ x. mem (key x) (map key xs)) xs ≡ true
 mem_all key [] = refl
 mem_all key (y ∷ xs) =
     and_from _ _ (ap (λ b. b || mem (key y) (map key xs)) (bytes_eq-same (key y))) (all_too (λ x. mem (key x) (map key xs)) (λ x. mem (key x) (key y ∷ map key xs)) xs (λ x there. or_right (bytes_eq (key y) (key x)) _ there) (mem_all key xs))
@@ -49,63 +55,92 @@ and_true : (b : Bool) → (b && true) ≡ b
 and_true true = refl
 and_true false = refl
 
-kept_there : {X : Type 0} (key : X → List ℕ) (p : List ℕ → Bool) (xs : List X) (x : X) → mem (key x) (map key xs) ≡ true → mem (key x) (map key (filter (λ y. p (key y)) xs)) ≡ p (key x)
+kept_there : {X : Type 0} (key : X → List ℕ) (p : List ℕ → Bool) (xs : List X) (x : X)
+    → mem (key x) (map key xs) ≡ true
+    → mem (key x) (map key (filter (λ y. p (key y)) xs)) ≡ p (key x)
 kept_there key p xs x there = kept_keys key p xs (key x) ∙ ap (λ b. p (key x) && b) there ∙ and_true (p (key x))
 
 -- those whose keys are among the keys of those that pass are those that pass
-pub refilter : {X : Type 0} (key : X → List ℕ) (p : List ℕ → Bool) (xs : List X) → filter (λ x. mem (key x) (map key (filter (λ y. p (key y)) xs))) xs ≡ filter (λ x. p (key x)) xs
+pub refilter : {X : Type 0} (key : X → List ℕ) (p : List ℕ → Bool) (xs : List X)
+    → filter (λ x. mem (key x) (map key (filter (λ y. p (key y)) xs))) xs
+    ≡ filter (λ x. p (key x)) xs
 refilter key p xs =
     same_where (λ x. mem (key x) (map key xs)) (λ x. mem (key x) (map key (filter (λ y. p (key y)) xs))) (λ x. p (key x)) xs (mem_all key xs) (λ x there. kept_there key p xs x there)
 
-pub refilter_others : {X : Type 0} (key : X → List ℕ) (p : List ℕ → Bool) (xs : List X) → filter (λ x. not (mem (key x) (map key (filter (λ y. p (key y)) xs)))) xs ≡ filter (λ x. not (p (key x))) xs
+pub refilter_others : {X : Type 0} (key : X → List ℕ) (p : List ℕ → Bool) (xs : List X)
+    → filter (λ x. not (mem (key x) (map key (filter (λ y. p (key y)) xs)))) xs
+    ≡ filter (λ x. not (p (key x))) xs
 refilter_others key p xs =
     same_where (λ x. mem (key x) (map key xs)) (λ x. not (mem (key x) (map key (filter (λ y. p (key y)) xs)))) (λ x. not (p (key x))) xs (mem_all key xs) (λ x there. ap not (kept_there key p xs x there))
 
 -- ---- the copies of a new spawn
 
 -- the copies to read are the resources linked outside that aren't to be changed
-pub reads_are : (rows : List NodeRow) (n : List ℕ) (ids : List (List ℕ)) → IsValid rows → (at : Around rows n) → resources_among (ids_of (linked_ro (places rows) n ids)) rows ≡ filter (λ x. wanted at x.id && not (mem x.id ids)) (resources rows)
+pub reads_are : (rows : List NodeRow) (n : List ℕ) (ids : List (List ℕ)) → IsValid rows
+    → (at : Around rows n)
+    → resources_among (ids_of (linked_ro (places rows) n ids)) rows
+    ≡ filter (λ x. wanted at x.id && not (mem x.id ids)) (resources rows)
 reads_are rows n ids valid at =
     let p : List ℕ → Bool = λ x. wanted at x && not (mem x ids) in
     ap (λ is. resources_among is rows) (ap ids_of (linked_and rows n (λ x. not (mem x ids)) valid at) ∙ kept_ids p rows) ∙ refilter (λ x. x.id) p (resources rows)
 
-pub changes_are : (rows : List NodeRow) (n : List ℕ) (ids : List (List ℕ)) → IsValid rows → (at : Around rows n) → ids_of (linked_rw (places rows) n ids) ≡ resource_ids (filter (λ x. wanted at x.id && mem x.id ids) (resources rows))
+pub changes_are : (rows : List NodeRow) (n : List ℕ) (ids : List (List ℕ)) → IsValid rows
+    → (at : Around rows n)
+    → ids_of (linked_rw (places rows) n ids)
+    ≡ resource_ids (filter (λ x. wanted at x.id && mem x.id ids) (resources rows))
 changes_are rows n ids valid at = ap ids_of (linked_and rows n (λ x. mem x ids) valid at) ∙ kept_ids (λ x. wanted at x && mem x ids) rows
 
-fronts : (rows : List NodeRow) (n : List ℕ) (a : At) → IsValid rows → IsAt rows n a → (at : Around rows n) → a.front.now ≡ at.front
+fronts : (rows : List NodeRow) (n : List ℕ) (a : At) → IsValid rows → IsAt rows n a
+    → (at : Around rows n) → a.front.now ≡ at.front
 fronts rows n a valid here at = here.front ∙ rows_before rows n here.from here.to valid here.bounds at
 
-mids : (rows : List NodeRow) (n : List ℕ) (a : At) → IsValid rows → IsAt rows n a → (at : Around rows n) → a.below.now ≡ at.root ∷ at.inner
+mids : (rows : List NodeRow) (n : List ℕ) (a : At) → IsValid rows → IsAt rows n a
+    → (at : Around rows n) → a.below.now ≡ at.root ∷ at.inner
 mids rows n a valid here at = here.below ∙ rows_between rows n here.from here.to valid here.bounds at
 
-backs : (rows : List NodeRow) (n : List ℕ) (a : At) → IsValid rows → IsAt rows n a → (at : Around rows n) → a.back.now ≡ at.back
+backs : (rows : List NodeRow) (n : List ℕ) (a : At) → IsValid rows → IsAt rows n a
+    → (at : Around rows n) → a.back.now ≡ at.back
 backs rows n a valid here at = here.back ∙ rows_after rows n here.from here.to valid here.bounds at
 
 -- those that pass in front of n and behind it
-both_sides : (rows : List NodeRow) (n : List ℕ) (a : At) (q : List ℕ → Bool) → IsValid rows → IsAt rows n a → (at : Around rows n)
-    → filter (λ x. is_linked a.below.now x.id && q x.id) (resources a.front.now) ++ filter (λ x. is_linked a.below.now x.id && q x.id) (resources a.back.now) ≡ filter (λ x. wanted at x.id && q x.id) (resources rows)
+both_sides : (rows : List NodeRow) (n : List ℕ) (a : At) (q : List ℕ → Bool) → IsValid rows
+    → IsAt rows n a → (at : Around rows n)
+    → filter (λ x. is_linked a.below.now x.id && q x.id) (resources a.front.now)
+    ++ filter (λ x. is_linked a.below.now x.id && q x.id) (resources a.back.now)
+    ≡ filter (λ x. wanted at x.id && q x.id) (resources rows)
 both_sides rows n a q valid here at =
     ap (λ rs. filter (λ x. is_linked rs x.id && q x.id) (resources a.front.now) ++ filter (λ x. is_linked rs x.id && q x.id) (resources a.back.now)) (mids rows n a valid here at)
     ∙ ap (λ rs. filter (λ x. is_linked (at.root ∷ at.inner) x.id && q x.id) (resources rs) ++ filter (λ x. is_linked (at.root ∷ at.inner) x.id && q x.id) (resources a.back.now)) (fronts rows n a valid here at)
     ∙ ap (λ rs. filter (λ x. is_linked (at.root ∷ at.inner) x.id && q x.id) (resources at.front) ++ filter (λ x. is_linked (at.root ∷ at.inner) x.id && q x.id) (resources rs)) (backs rows n a valid here at)
     ∙ sym (around_kept rows n q valid at)
 
-pub new_changes : (rows : List NodeRow) (n : List ℕ) (a : At) (ids : List (List ℕ)) → IsValid rows → has_node rows n ≡ true → IsAt rows n a
-    → resource_ids (filter (λ x. is_linked a.below.now x.id && mem x.id ids) (resources a.front.now)) ++ resource_ids (filter (λ x. is_linked a.below.now x.id && mem x.id ids) (resources a.back.now)) ≡ ids_of (linked_rw (places rows) n ids)
+pub new_changes : (rows : List NodeRow) (n : List ℕ) (a : At) (ids : List (List ℕ)) → IsValid rows
+    → has_node rows n ≡ true → IsAt rows n a
+    → resource_ids
+    (filter (λ x. is_linked a.below.now x.id && mem x.id ids) (resources a.front.now))
+    ++ resource_ids
+    (filter (λ x. is_linked a.below.now x.id && mem x.id ids) (resources a.back.now))
+    ≡ ids_of (linked_rw (places rows) n ids)
 new_changes rows n a ids valid known here =
     let at = around rows n valid known in
     let test : Resource → Bool = λ x. is_linked a.below.now x.id && mem x.id ids in
     sym (map-append (λ x. x.id) (filter test (resources a.front.now)) (filter test (resources a.back.now))) ∙ ap resource_ids (both_sides rows n a (λ x. mem x ids) valid here at) ∙ sym (changes_are rows n ids valid at)
 
-pub new_reads : (rows : List NodeRow) (n : List ℕ) (a : At) (ids : List (List ℕ)) → IsValid rows → has_node rows n ≡ true → IsAt rows n a
-    → filter (λ x. is_linked a.below.now x.id && not (mem x.id ids)) (resources a.front.now) ++ filter (λ x. is_linked a.below.now x.id && not (mem x.id ids)) (resources a.back.now) ≡ resources_among (ids_of (linked_ro (places rows) n ids)) rows
+pub new_reads : (rows : List NodeRow) (n : List ℕ) (a : At) (ids : List (List ℕ)) → IsValid rows
+    → has_node rows n ≡ true → IsAt rows n a
+    → filter (λ x. is_linked a.below.now x.id && not (mem x.id ids)) (resources a.front.now)
+    ++ filter (λ x. is_linked a.below.now x.id && not (mem x.id ids)) (resources a.back.now)
+    ≡ resources_among (ids_of (linked_ro (places rows) n ids)) rows
 new_reads rows n a ids valid known here =
     let at = around rows n valid known in
     both_sides rows n a (λ x. not (mem x ids)) valid here at ∙ sym (reads_are rows n ids valid at)
 
 -- ---- a new record is good
 
-pub new_is_good : (rows : List NodeRow) (number : ℕ) (n worker : List ℕ) (ids : List (List ℕ)) (time : ℕ) → IsValid rows → has_node rows n ≡ true → is_some (up (node_places rows) n) ≡ true → IsGood rows (new_record rows number n worker ids time)
+pub new_is_good : (rows : List NodeRow) (number : ℕ) (n worker : List ℕ) (ids : List (List ℕ))
+    (time : ℕ)
+    → IsValid rows → has_node rows n ≡ true → is_some (up (node_places rows) n) ≡ true
+    → IsGood rows (new_record rows number n worker ids time)
 new_is_good rows number n worker ids time valid known parent =
     let at = around rows n valid known in
     let linked = linked_outside (places rows) n in
@@ -117,7 +152,8 @@ new_is_good rows number n worker ids time valid known parent =
     }
 
 -- a good record stays good while nothing moves
-pub good_stays : (rows other : List NodeRow) (r : SpawnRec) → places other ≡ places rows → IsGood rows r → IsGood other r
+pub good_stays : (rows other : List NodeRow) (r : SpawnRec) → places other ≡ places rows
+    → IsGood rows r → IsGood other r
 good_stays rows other r same good =
     record {
       has_parent = ap (λ tree. is_some (up (nodes_in tree) r.node)) same ∙ good.has_parent;

@@ -1,5 +1,7 @@
 -- The rows below a node with copies of what they link from above are a ticket of their own.
-use Rattle.std.proofs.Common.{◌≡◌, ◌∙◌, ◌⊎◌, ℕ, suc, ◌+◌, ◌-◌, ◌≤◌, ◌||◌, Bool, true, false, not, cond, List, [], ◌∷◌, ◌++◌, length, map, drop, Option, Some, None, inl, inr, refl, sym, ap, subst, append_assoc, arith, nat_le, nat_lt}
+use Rattle.std.proofs.Common.{◌≡◌, ◌∙◌, ◌⊎◌, ℕ, suc, ◌+◌, ◌-◌, ◌≤◌, ◌||◌, Bool, true, false, not}
+use Rattle.std.proofs.Common.{cond, List, [], ◌∷◌, ◌++◌, length, map, drop, Option, Some, None, inl}
+use Rattle.std.proofs.Common.{inr, refl, sym, ap, subst, append_assoc, arith, nat_le, nat_lt}
 use Rattle.std.proofs.lemmas.Bool.{true≢false, and_parts, and_from, ltb-true}
 use Rattle.std.proofs.lemmas.List.{length-append, map-append}
 use Rattle.std.specs.List.{find, list_all, list_any}
@@ -8,7 +10,8 @@ use Rattle.std.specs.Str.{bytes_eq}
 use Rattle.ticket_items.proofs.Apart.{bytes_eq-same, mem-append, or_true}
 use Rattle.ticket_rows.proofs.Below.{Path, below_x}
 use Rattle.ticket_rows.proofs.AtHome.{home_of-cons}
-use Rattle.ticket_rows.proofs.Copies.{outline-copies, unreserved-copies, shallow-copies, resolved-copies, ids-copies}
+use Rattle.ticket_rows.proofs.Copies.{outline-copies, unreserved-copies, shallow-copies}
+use Rattle.ticket_rows.proofs.Copies.{resolved-copies, ids-copies}
 use Rattle.ticket_rows.specs.Homes.{home_of}
 use Rattle.ticket_items.specs.Ids.{mem, are_distinct}
 use Rattle.ticket_rows.specs.Copies.{with_copies}
@@ -21,18 +24,18 @@ use Rattle.ticket_items.specs.declared.link.Link.{Link}
 use Rattle.ticket_items.specs.declared.node_row.NodeRow.{NodeRow}
 use Rattle.ticket_items.specs.declared.resource.Resource.{Resource}
 use Rattle.spawn.proofs.Among.{AreApart, distinct_front, distinct_back, distinct_between}
-use Rattle.spawn.proofs.HomesBelow.{ids_around, home_inside, home_stands, homeless_inside, not_above}
-use Rattle.spawn.proofs.Lifting.{all_lifted, outline_lifted, unreserved_lifted, shallow_lifted, ids_lifted, homes_lifted}
+use Rattle.spawn.proofs.HomesBelow.{ids_around, home_inside, home_stands, homeless_inside}
+use Rattle.spawn.proofs.HomesBelow.{not_above}
+use Rattle.spawn.proofs.Lifting.{all_lifted, outline_lifted, unreserved_lifted, shallow_lifted}
+use Rattle.spawn.proofs.Lifting.{ids_lifted, homes_lifted}
 use Rattle.spawn.proofs.Split.{path_after, AreDeep, Around}
 use Rattle.spawn.specs.Parts.{lifted}
 
 -- ---- the copies
 
-abbrev pub mid : (rows : List NodeRow) (n : List ℕ) → Around rows n → List NodeRow
-mid rows n at = at.root ∷ at.inner
-
 -- copies of just the resources that are linked from below n and stand outside, each once
-pub record AreCopies (rows : List NodeRow) (n : List ℕ) (at : Around rows n) (changes reads : List Resource) : Type 0 where
+pub record AreCopies (rows : List NodeRow) (n : List ℕ) (at : Around rows n)
+    (changes reads : List Resource) : Type 0 where
   pub distinct_changes : are_distinct (resource_ids changes) ≡ true
   pub distinct_reads : are_distinct (resource_ids reads) ≡ true
   pub apart : AreApart (resource_ids changes) (resource_ids reads)
@@ -42,30 +45,40 @@ pub record AreCopies (rows : List NodeRow) (n : List ℕ) (at : Around rows n) (
 
 -- ---- tests of all rows
 
-all_first : {X : Type 0} (f : X → Bool) (xs ys : List X) → list_all f (xs ++ ys) ≡ true → list_all f xs ≡ true
+all_first : {X : Type 0} (f : X → Bool) (xs ys : List X) → list_all f (xs ++ ys) ≡ true
+    → list_all f xs ≡ true
 all_first f [] ys all = refl
 all_first f (x ∷ xs) ys all =
     let parts = and_parts (f x) (list_all f (xs ++ ys)) all in
     and_from _ _ parts.0 (all_first f xs ys parts.1)
 
-all_middle : {X : Type 0} (f : X → Bool) (xs ys zs : List X) → list_all f ((xs ++ ys) ++ zs) ≡ true → list_all f ys ≡ true
+all_middle : {X : Type 0} (f : X → Bool) (xs ys zs : List X) → list_all f ((xs ++ ys) ++ zs) ≡ true
+    → list_all f ys ≡ true
 all_middle f [] ys zs all = all_first f ys zs all
 all_middle f (x ∷ xs) ys zs all = all_middle f xs ys zs (and_parts (f x) (list_all f ((xs ++ ys) ++ zs)) all).1
 
-all_around : (f : NodeRow → Bool) (rows : List NodeRow) (n : List ℕ) → (at : Around rows n) → list_all f rows ≡ true → list_all f (at.root ∷ at.inner) ≡ true
+all_around : (f : NodeRow → Bool) (rows : List NodeRow) (n : List ℕ) → (at : Around rows n)
+    → list_all f rows ≡ true → list_all f (at.root ∷ at.inner) ≡ true
 all_around f rows n at all = all_middle f at.front (at.root ∷ at.inner) at.back (ap (list_all f) (sym at.whole) ∙ all)
 
 -- ---- distinct ids
 
-out_at : (b : Bool) (x : List ℕ) (xs ys zs : List (List ℕ)) → mem x xs ≡ b → AreApart xs zs → AreApart ys zs → (b || mem x ys) ≡ true → mem x zs ≡ false
+out_at : (b : Bool) (x : List ℕ) (xs ys zs : List (List ℕ)) → mem x xs ≡ b → AreApart xs zs
+    → AreApart ys zs → (b || mem x ys) ≡ true → mem x zs ≡ false
 out_at true x xs ys zs e one two there = one x e
 out_at false x xs ys zs e one two there = two x there
 
-out_of_either : (x : List ℕ) (xs ys zs : List (List ℕ)) → AreApart xs zs → AreApart ys zs → mem x (xs ++ ys) ≡ true → mem x zs ≡ false
+out_of_either : (x : List ℕ) (xs ys zs : List (List ℕ)) → AreApart xs zs → AreApart ys zs
+    → mem x (xs ++ ys) ≡ true → mem x zs ≡ false
 out_of_either x xs ys zs one two there = out_at (mem x xs) x xs ys zs refl one two (sym (mem-append x xs ys) ∙ there)
 
-distinct_copies : (root : NodeRow) (inner : List NodeRow) (changes reads : List Resource) → are_distinct (ids (root ∷ inner)) ≡ true → are_distinct (resource_ids changes) ≡ true → are_distinct (resource_ids reads) ≡ true
-    → AreApart (resource_ids changes) (resource_ids reads) → AreApart (resource_ids changes) (ids (root ∷ inner)) → AreApart (resource_ids reads) (ids (root ∷ inner)) → are_distinct (ids (with_copies (root ∷ inner) changes reads)) ≡ true
+distinct_copies : (root : NodeRow) (inner : List NodeRow) (changes reads : List Resource)
+    → are_distinct (ids (root ∷ inner)) ≡ true → are_distinct (resource_ids changes) ≡ true
+    → are_distinct (resource_ids reads) ≡ true
+    → AreApart (resource_ids changes) (resource_ids reads)
+    → AreApart (resource_ids changes) (ids (root ∷ inner))
+    → AreApart (resource_ids reads) (ids (root ∷ inner))
+    → are_distinct (ids (with_copies (root ∷ inner) changes reads)) ≡ true
 distinct_copies root inner changes reads own c d apart out_c out_r =
     let xs = ids_of root in
     let cs = resource_ids changes in
@@ -83,16 +96,22 @@ or_right : (a b : Bool) → b ≡ true → (a || b) ≡ true
 or_right true b h = refl
 or_right false b h = h
 
-links_resolved : (all part : List NodeRow) (n : List ℕ) (up : Path) (rows : List NodeRow) → Swaps all part n up rows → (q : Path) (ls : List Link) → ((x : List ℕ) → list_any (λ l. bytes_eq l.rref x) ls ≡ true → is_linked rows x ≡ true)
-    → list_all (resolves all (q ++ n ∷ up)) ls ≡ true → list_all (resolves part (q ++ n ∷ [])) ls ≡ true
+links_resolved : (all part : List NodeRow) (n : List ℕ) (up : Path) (rows : List NodeRow)
+    → Swaps all part n up rows → (q : Path) (ls : List Link)
+    → ((x : List ℕ) → list_any (λ l. bytes_eq l.rref x) ls ≡ true → is_linked rows x ≡ true)
+    → list_all (resolves all (q ++ n ∷ up)) ls ≡ true
+    → list_all (resolves part (q ++ n ∷ [])) ls ≡ true
 links_resolved all part n up rows swap q [] linked res = refl
 links_resolved all part n up rows swap q (l ∷ ls) linked res =
     let parts = and_parts (resolves all (q ++ n ∷ up) l) (list_all (resolves all (q ++ n ∷ up)) ls) res in
     and_from _ _ (swap q l (linked l.rref (ap (λ b. b || list_any (λ m. bytes_eq m.rref l.rref) ls) (bytes_eq-same l.rref))) parts.0)
     (links_resolved all part n up rows swap q ls (λ x h. linked x (or_right (bytes_eq l.rref x) _ h)) parts.1)
 
-rows_resolved : (all part : List NodeRow) (n : List ℕ) (up : Path) (whole : List NodeRow) → Swaps all part n up whole → (q : Path) (rows : List NodeRow) → AreDeep (suc (length up)) rows → ((x : List ℕ) → is_linked rows x ≡ true → is_linked whole x ≡ true)
-    → are_resolved_from all (q ++ n ∷ up) rows ≡ true → are_resolved_from part (q ++ n ∷ []) (all_lifted (length up) rows) ≡ true
+rows_resolved : (all part : List NodeRow) (n : List ℕ) (up : Path) (whole : List NodeRow)
+    → Swaps all part n up whole → (q : Path) (rows : List NodeRow) → AreDeep (suc (length up)) rows
+    → ((x : List ℕ) → is_linked rows x ≡ true → is_linked whole x ≡ true)
+    → are_resolved_from all (q ++ n ∷ up) rows ≡ true
+    → are_resolved_from part (q ++ n ∷ []) (all_lifted (length up) rows) ≡ true
 rows_resolved all part n up whole swap q [] deep linked res = refl
 rows_resolved all part n up whole swap q (r ∷ rows) deep linked res =
     let levels : ℕ = length up in
@@ -113,10 +132,13 @@ rows_resolved all part n up whole swap q (r ∷ rows) deep linked res =
 
 -- ---- homes in the part
 
-home_lifted : (levels : ℕ) (rows : List NodeRow) (x : List ℕ) → home_of (all_lifted levels rows) x ≡ home_of rows x
+home_lifted : (levels : ℕ) (rows : List NodeRow) (x : List ℕ)
+    → home_of (all_lifted levels rows) x ≡ home_of rows x
 home_lifted levels rows x = ap (λ es. option_map (λ e. e.1) (find (λ e. bytes_eq e.0.id x) es)) (homes_lifted levels rows)
 
-pool_ids : (x : List ℕ) (own changes reads : List Resource) → mem x (map (λ y. y.id) ((own ++ changes) ++ reads)) ≡ ((mem x (resource_ids own) || mem x (resource_ids changes)) || mem x (resource_ids reads))
+pool_ids : (x : List ℕ) (own changes reads : List Resource)
+    → mem x (map (λ y. y.id) ((own ++ changes) ++ reads))
+    ≡ ((mem x (resource_ids own) || mem x (resource_ids changes)) || mem x (resource_ids reads))
 pool_ids x own changes reads =
     ap (mem x) (map-append (λ y. y.id) (own ++ changes) reads) ∙ mem-append x (resource_ids (own ++ changes)) (resource_ids reads)
     ∙ ap (λ b. b || mem x (resource_ids reads)) (ap (mem x) (map-append (λ y. y.id) own changes) ∙ mem-append x (resource_ids own) (resource_ids changes))
@@ -124,8 +146,13 @@ pool_ids x own changes reads =
 abbrev part_rows : ℕ → NodeRow → List NodeRow → List Resource → List Resource → List NodeRow
 part_rows levels root inner changes reads = with_copies (all_lifted levels (root ∷ inner)) changes reads
 
-part_home : (levels : ℕ) (root : NodeRow) (inner : List NodeRow) (changes reads : List Resource) (x : List ℕ)
-    → home_of (part_rows levels root inner changes reads) x ≡ cond ((mem x (resource_ids root.resources) || mem x (resource_ids changes)) || mem x (resource_ids reads)) (Some root.id) (home_of inner x)
+part_home : (levels : ℕ) (root : NodeRow) (inner : List NodeRow) (changes reads : List Resource)
+    (x : List ℕ)
+    → home_of (part_rows levels root inner changes reads) x
+    ≡ cond
+    ((mem x (resource_ids root.resources) || mem x (resource_ids changes))
+    || mem x (resource_ids reads))
+    (Some root.id) (home_of inner x)
 part_home levels root inner changes reads x =
     home_of-cons x (record (lifted levels root) { resources = (root.resources ++ changes) ++ reads }) (all_lifted levels inner)
     ∙ ap (λ b. cond b (Some root.id) (home_of (all_lifted levels inner) x)) (pool_ids x root.resources changes reads)
@@ -143,7 +170,8 @@ or_some false b c h = h
 
 -- ---- a link of a row below n resolves in the part
 
-known_at : {X : Type 0} (f : X → Bool) (o : Option X) → option_map_or f o false ≡ true → (x : X) × (o ≡ Some x) × (f x ≡ true)
+known_at : {X : Type 0} (f : X → Bool) (o : Option X) → option_map_or f o false ≡ true
+    → (x : X) × (o ≡ Some x) × (f x ≡ true)
 known_at f None h = cc
 known_at f (Some x) h = (x, refl, h)
 
@@ -151,7 +179,8 @@ either_home : {X : Type 0} (o : Option X) → (o ≡ None) ⊎ ((x : X) × (o �
 either_home None = inl refl
 either_home (Some x) = inr (x, refl)
 
-not_in : (b : Bool) (x : List ℕ) (xs ys : List (List ℕ)) → AreApart xs ys → mem x ys ≡ true → mem x xs ≡ b → b ≡ false
+not_in : (b : Bool) (x : List ℕ) (xs ys : List (List ℕ)) → AreApart xs ys → mem x ys ≡ true
+    → mem x xs ≡ b → b ≡ false
 not_in false x xs ys apart there e = refl
 not_in true x xs ys apart there e = absurd (true≢false (sym there ∙ apart x e))
 
@@ -160,7 +189,10 @@ within true b c h e = refl
 within false true c h e = refl
 within false false c h e = sym e ∙ h
 
-swaps : (rows : List NodeRow) (n : List ℕ) (changes reads : List Resource) → IsValid rows → (at : Around rows n) → AreCopies rows n at changes reads → Swaps rows (part_rows (length at.up) at.root at.inner changes reads) n at.up (at.root ∷ at.inner)
+swaps : (rows : List NodeRow) (n : List ℕ) (changes reads : List Resource) → IsValid rows
+    → (at : Around rows n) → AreCopies rows n at changes reads
+    → Swaps rows (part_rows (length at.up) at.root at.inner changes reads) n at.up
+    (at.root ∷ at.inner)
 swaps rows n changes reads valid at copies q l linked res =
     let x = l.rref in
     let below_n = at.root ∷ at.inner in
@@ -187,15 +219,21 @@ swaps rows n changes reads valid at copies q l linked res =
           ∙ within (mem some.0 q) (bytes_eq n some.0) (mem some.0 at.up) (sym (mem-append some.0 q (n ∷ at.up)) ∙ on) (not_above rows n some.0 valid at stands.1)
     ]
 
-resolved-append : (all : List NodeRow) (before : Path) (xs ys : List NodeRow) → are_resolved_from all before (xs ++ ys) ≡ true → (are_resolved_from all before xs ≡ true) × (are_resolved_from all (path_after before xs) ys ≡ true)
+resolved-append : (all : List NodeRow) (before : Path) (xs ys : List NodeRow)
+    → are_resolved_from all before (xs ++ ys) ≡ true
+    → (are_resolved_from all before xs ≡ true)
+    × (are_resolved_from all (path_after before xs) ys ≡ true)
 resolved-append all before [] ys res = (refl, res)
 resolved-append all before (r ∷ xs) ys res =
     let parts = and_parts (list_all (resolves all (path_of before r)) r.links) (are_resolved_from all (path_of before r) (xs ++ ys)) res in
     let later = resolved-append all (path_of before r) xs ys parts.1 in
     (and_from _ _ parts.0 later.0, later.1)
 
-part_resolved : (rows : List NodeRow) (n : List ℕ) (changes reads : List Resource) → IsValid rows → (at : Around rows n) → AreCopies rows n at changes reads
-    → are_resolved_from (part_rows (length at.up) at.root at.inner changes reads) [] (all_lifted (length at.up) (at.root ∷ at.inner)) ≡ true
+part_resolved : (rows : List NodeRow) (n : List ℕ) (changes reads : List Resource) → IsValid rows
+    → (at : Around rows n) → AreCopies rows n at changes reads
+    → are_resolved_from (part_rows (length at.up) at.root at.inner changes reads) []
+    (all_lifted (length at.up) (at.root ∷ at.inner))
+    ≡ true
 part_resolved rows n changes reads valid at copies =
     let below_n = at.root ∷ at.inner in
     let levels : ℕ = length at.up in
@@ -213,7 +251,9 @@ part_resolved rows n changes reads valid at copies =
 
 -- ---- the part
 
-pub part_valid : (rows : List NodeRow) (n : List ℕ) (changes reads : List Resource) → IsValid rows → (at : Around rows n) → AreCopies rows n at changes reads → IsValid (with_copies (all_lifted (length at.up) (at.root ∷ at.inner)) changes reads)
+pub part_valid : (rows : List NodeRow) (n : List ℕ) (changes reads : List Resource) → IsValid rows
+    → (at : Around rows n) → AreCopies rows n at changes reads
+    → IsValid (with_copies (all_lifted (length at.up) (at.root ∷ at.inner)) changes reads)
 part_valid rows n changes reads valid at copies =
     let below_n = at.root ∷ at.inner in
     let levels : ℕ = length at.up in

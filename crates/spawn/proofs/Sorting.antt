@@ -1,6 +1,8 @@
 -- A list that rises is the one that numbers put in order are, if it has them all.
-use Rattle.std.proofs.Common.{◌≡◌, ◌∙◌, ℕ, suc, ◌+◌, ◌<◌, ◌≤◌, Bool, true, false, cond, List, [], ◌∷◌, length, get_or, refl, sym, ap, arith, eqb, nat_le, nat_cmp}
-use Rattle.std.proofs.lemmas.Bool.{and_parts, and_from, eqb-true, eq-eqb, leb-true, leb-false, le-leb}
+use Rattle.std.proofs.Common.{◌≡◌, ◌∙◌, ℕ, suc, ◌+◌, ◌<◌, ◌≤◌, Bool, true, false, cond, List, []}
+use Rattle.std.proofs.Common.{◌∷◌, length, get_or, refl, sym, ap, arith, eqb, nat_le, nat_cmp}
+use Rattle.std.proofs.lemmas.Bool.{and_parts, and_from, eqb-true, eq-eqb, leb-true, leb-false}
+use Rattle.std.proofs.lemmas.Bool.{le-leb}
 use Rattle.std.proofs.lemmas.List.Sorted.{IsNonDecreasingBy-from_sort, sum_by-IsPermutation}
 use Rattle.std.proofs.lemmas.List.Sums.{sum_by-cons}
 use Rattle.std.specs.List.{list_all, sum_by}
@@ -22,7 +24,8 @@ all_lower m n (k ∷ ns) low all =
     let parts = and_parts (nat_le n k) (list_all (nat_le n) ns) all in
     and_from _ _ (le-leb m k (omega (arith, low, leb-true n k parts.0))) (all_lower m n ns low parts.1)
 
-all_put_at : (first : Bool) (m n k : ℕ) (ns : List ℕ) → m ≤ n → AllFrom m (k ∷ ns) → AllFrom m (put_in n ns) → AllFrom m (cond first (n ∷ k ∷ ns) (k ∷ put_in n ns))
+all_put_at : (first : Bool) (m n k : ℕ) (ns : List ℕ) → m ≤ n → AllFrom m (k ∷ ns)
+    → AllFrom m (put_in n ns) → AllFrom m (cond first (n ∷ k ∷ ns) (k ∷ put_in n ns))
 all_put_at true m n k ns low all later = and_from _ _ (le-leb m n low) all
 all_put_at false m n k ns low all later = and_from _ _ (and_parts (nat_le m k) (list_all (nat_le m) ns) all).0 later
 
@@ -30,7 +33,8 @@ all_put : (m n : ℕ) (ns : List ℕ) → m ≤ n → AllFrom m ns → AllFrom m
 all_put m n [] low all = and_from _ _ (le-leb m n low) refl
 all_put m n (k ∷ ns) low all = all_put_at (nat_le n k) m n k ns low all (all_put m n ns low (and_parts (nat_le m k) (list_all (nat_le m) ns) all).1)
 
-rises_put_at : (first : Bool) (n k : ℕ) (ns : List ℕ) → nat_le n k ≡ first → AllFrom k ns → Rises ns → Rises (put_in n ns) → Rises (cond first (n ∷ k ∷ ns) (k ∷ put_in n ns))
+rises_put_at : (first : Bool) (n k : ℕ) (ns : List ℕ) → nat_le n k ≡ first → AllFrom k ns → Rises ns
+    → Rises (put_in n ns) → Rises (cond first (n ∷ k ∷ ns) (k ∷ put_in n ns))
 rises_put_at true n k ns e all rises later = (and_from _ _ e (all_lower n k ns (leb-true n k e) all), (all, rises))
 rises_put_at false n k ns e all rises later = (all_put k n ns (omega (arith, leb-false n k e)) all, later)
 
@@ -44,7 +48,9 @@ rises_in_order (n ∷ ns) = rises_put n (in_order ns) (rises_in_order ns)
 
 -- ---- numbers in order are the same numbers
 
-sum_put_at : (first : Bool) (f : ℕ → ℕ) (n k : ℕ) (ns : List ℕ) → sum_by f (put_in n ns) ≡ f n + sum_by f ns → sum_by f (cond first (n ∷ k ∷ ns) (k ∷ put_in n ns)) ≡ f n + sum_by f (k ∷ ns)
+sum_put_at : (first : Bool) (f : ℕ → ℕ) (n k : ℕ) (ns : List ℕ)
+    → sum_by f (put_in n ns) ≡ f n + sum_by f ns
+    → sum_by f (cond first (n ∷ k ∷ ns) (k ∷ put_in n ns)) ≡ f n + sum_by f (k ∷ ns)
 sum_put_at true f n k ns e = sum_by-cons f n (k ∷ ns)
 sum_put_at false f n k ns e = omega (arith, sum_by-cons f k (put_in n ns), sum_by-cons f k ns, e)
 
@@ -67,7 +73,8 @@ count x ns = sum_by (one x) ns
 one_same : (x : ℕ) → one x x ≡ 1
 one_same x = ap (λ b. cond b 1 0) (eq-eqb x x refl)
 
-lowest_at : (here : Bool) (m x k c : ℕ) → eqb k x ≡ here → m ≤ k → (0 < c → m ≤ x) → 0 < cond here 1 0 + c → m ≤ x
+lowest_at : (here : Bool) (m x k c : ℕ) → eqb k x ≡ here → m ≤ k → (0 < c → m ≤ x)
+    → 0 < cond here 1 0 + c → m ≤ x
 lowest_at true m x k c e low later there = omega (arith, low, eqb-true k x e)
 lowest_at false m x k c e low later there = later (omega (arith, there))
 
@@ -84,7 +91,8 @@ first_lowest m x ns all there = lowest m x (m ∷ ns) (and_from _ _ (le-leb m m 
 has_first : (x : ℕ) (ns : List ℕ) → 0 < count x (x ∷ ns)
 has_first x ns = omega (arith, sum_by-cons (one x) x ns, one_same x)
 
-same_numbers : (xs ys : List ℕ) → Rises xs → Rises ys → ((q : ℕ) → count q xs ≡ count q ys) → xs ≡ ys
+same_numbers : (xs ys : List ℕ) → Rises xs → Rises ys → ((q : ℕ) → count q xs ≡ count q ys)
+    → xs ≡ ys
 same_numbers [] [] up up' same = refl
 same_numbers [] (y ∷ ys) up up' same = absurd (omega (arith, same y, has_first y ys))
 same_numbers (x ∷ xs) [] up up' same = absurd (omega (arith, same x, has_first x xs))

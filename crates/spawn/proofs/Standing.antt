@@ -1,27 +1,21 @@
 -- Where an id stands: its place among all places, and the path of it.
-use Rattle.std.proofs.Common.{◌≡◌, ◌∙◌, ◌⊎◌, ℕ, Bool, true, false, not, cond, List, [], ◌∷◌, ◌++◌, map, Option, Some, None, is_some, slice_get, inl, inr, refl, sym, ap}
-use Rattle.std.proofs.lemmas.Bool.{true≢false, and_parts, not-true}
+use Rattle.std.proofs.Common.{◌≡◌, ◌∙◌, ℕ, true, false, List, [], Option, Some, None, is_some, refl}
+use Rattle.std.proofs.Common.{sym, ap}
 use Rattle.std.proofs.lemmas.Slice.Eq.{bytes_eq-Decides}
-use Rattle.std.specs.List.{filter}
 use Rattle.std.specs.Option.{option_map_or, option_and_then}
 use Rattle.std.specs.Str.{bytes_eq}
-use Rattle.ticket_items.proofs.Apart.{bytes_eq-same}
-use Rattle.ticket_items.proofs.Places.{is_some-find}
 use Rattle.ticket_rows.proofs.AtHome.{find-passes}
-use Rattle.ticket_rows.proofs.Below.{mem-node_ids, is_some-place_at}
-use Rattle.ticket_rows.proofs.NodePlaces.{nodes_from, node_places-rows, node_ids_distinct}
-use Rattle.ticket_tree.proofs.OnPlaces.{ids_of_places, stands_node}
-use Rattle.ticket_rows.proofs.ResourcePlaces.{resources_from, resource_places-rows, home_is}
-use Rattle.ticket_items.proofs.AtKey.{any_key}
-use Rattle.ticket_tree.proofs.Parents.{other_id}
+use Rattle.ticket_rows.proofs.NodePlaces.{node_places-rows, node_ids_distinct}
+use Rattle.ticket_tree.proofs.OnPlaces.{stands_node}
+use Rattle.ticket_rows.proofs.ResourcePlaces.{resource_places-rows, home_is}
 use Rattle.ticket_rows.specs.Homes.{home_of}
-use Rattle.ticket_items.specs.Ids.{mem, are_distinct}
-use Rattle.ticket_rows.specs.Place.{Place, node_place, resource_place, places, is_node, node_places, resource_places, place_at, below, is_below, home_at, path_of}
-use Rattle.ticket_rows.specs.Ticket.{IsValid, has_node, node_ids}
+use Rattle.ticket_items.specs.Ids.{mem}
+use Rattle.ticket_rows.specs.Place.{Place, places, node_places, resource_places, place_at, below}
+use Rattle.ticket_rows.specs.Place.{is_below, home_at}
+use Rattle.ticket_rows.specs.Ticket.{IsValid, has_node}
 use Rattle.ticket_items.specs.declared.node_row.NodeRow.{NodeRow}
-use Rattle.ticket_items.specs.declared.resource.Resource.{Resource}
 pub use Rattle.ticket_tree.proofs.ByKind.{found_among, ids_apart, place_of_node, place_of_resource}
-use Rattle.ticket_tree.proofs.ByKind.{HasHome, home_from}
+use Rattle.ticket_tree.proofs.ByKind.{home_from}
 
 -- ---- the node at which an id stands
 
@@ -39,17 +33,20 @@ some_of : {X : Type 0} (o : Option X) → is_some o ≡ true → (x : X) × (o �
 some_of None h = cc
 some_of (Some x) h = (x, refl)
 
-pub node_stands : (rows : List NodeRow) (x : List ℕ) → IsValid rows → has_node rows x ≡ true → StandsAt rows x x
+pub node_stands : (rows : List NodeRow) (x : List ℕ) → IsValid rows → has_node rows x ≡ true
+    → StandsAt rows x x
 node_stands rows x valid known =
     let found = some_of (place_at (node_places rows) x) (stands_node rows x ∙ known) in
     let there = place_of_node rows x found.0 valid found.1 in
     record { place = found.0; there = there; id = named (places rows) x found.0 there; below_as = λ n. sym (ap (λ o. option_map_or (below n) o false) found.1) }
 
-pub held_some : {X : Type 0} (f : Place → Option X) (o : Option Place) (h : X) → option_and_then f o ≡ Some h → (q : Place) × (o ≡ Some q) × (f q ≡ Some h)
+pub held_some : {X : Type 0} (f : Place → Option X) (o : Option Place) (h : X)
+    → option_and_then f o ≡ Some h → (q : Place) × (o ≡ Some q) × (f q ≡ Some h)
 held_some f None h e = cc
 held_some f (Some q) h e = (q, refl, e)
 
-pub resource_stands : (rows : List NodeRow) (x h : List ℕ) → IsValid rows → home_of rows x ≡ Some h → StandsAt rows x h
+pub resource_stands : (rows : List NodeRow) (x h : List ℕ) → IsValid rows → home_of rows x ≡ Some h
+    → StandsAt rows x h
 resource_stands rows x h valid known =
     let found = held_some home_at (place_at (resource_places rows) x) h (home_is rows x ∙ known) in
     let there = place_of_resource rows x found.0 valid found.1 in

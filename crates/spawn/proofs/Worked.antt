@@ -1,5 +1,5 @@
--- The definitions computed on a small job: a product with paper and sheets in its pool, whose printing takes paper and makes sheets,
--- and whose cutting takes the sheets.
+-- The definitions computed on a small job: a product with paper and sheets in its pool, whose
+-- printing takes paper and makes sheets, and whose cutting takes the sheets.
 use Rattle.std.proofs.Common.{◌≡◌, ℕ, List, [], ◌∷◌, map, Some, None, refl}
 use Rattle.std.specs.Fmt.{digits}
 use Rattle.std.specs.List.{filter}
@@ -10,7 +10,9 @@ use Rattle.ticket_tree.specs.PartView.{cut, part_row, part_thing}
 use Rattle.ticket_items.specs.declared.audit.Audit.TheVariants.{Spawned}
 use Rattle.ticket_items.specs.declared.link.Link.{Link}
 use Rattle.ticket_items.specs.declared.node_row.NodeRow.{NodeRow}
-use Rattle.ticket_items.specs.declared.refusal.Refusal.TheVariants.{UnknownNode, IsRoot, UnknownResource, NotLinked, NotHeld, TooManySpawns}
+use Rattle.ticket_items.specs.declared.refusal.Refusal.TheVariants.{UnknownNode, IsRoot}
+use Rattle.ticket_items.specs.declared.refusal.Refusal.TheVariants.{UnknownResource, NotLinked}
+use Rattle.ticket_items.specs.declared.refusal.Refusal.TheVariants.{NotHeld, TooManySpawns}
 use Rattle.ticket_items.specs.declared.resource.Resource.{Resource}
 use Rattle.ticket_items.specs.declared.spawn_status.SpawnStatus.TheVariants.{SpawnedRO, SpawnedRW}
 use Rattle.ticket_items.specs.declared.usage.Usage.TheVariants.{Input, Output}
@@ -60,7 +62,8 @@ cutting_links = refl
 product_links : ids_of (linked_outside (places rows) (codes "n0")) ≡ []
 product_links = refl
 
-printing_claims : ids_of (claim (places rows) (codes "n1") (codes "r2" ∷ [])) ≡ codes "r2" ∷ codes "n1" ∷ []
+printing_claims : ids_of (claim (places rows) (codes "n1") (codes "r2" ∷ []))
+    ≡ codes "r2" ∷ codes "n1" ∷ []
 printing_claims = refl
 
 -- ---- the spawn of the printing
@@ -68,7 +71,8 @@ printing_claims = refl
 abbrev first : SpawnRec
 first = record { id = 1; node = codes "n1"; worker = codes "press"; at = 100; rw = codes "r2" ∷ []; ro = paper ∷ []; phase = Out }
 
-first_record : new_record rows 1 (codes "n1") (codes "press") (codes "r2" ∷ codes "r2" ∷ []) 100 ≡ first
+first_record : new_record rows 1 (codes "n1") (codes "press") (codes "r2" ∷ codes "r2" ∷ []) 100
+    ≡ first
 first_record = refl
 
 abbrev told : List NodeRow
@@ -89,11 +93,15 @@ first_part : part_for job first ≡ record {
 }
 first_part = refl
 
--- the part shows the printing and its sheets, but neither the paper, which may be read alone, nor the product
-first_rows : map (part_row (part_for job first)) (codes "n1" ∷ codes "r2" ∷ codes "r1" ∷ codes "n0" ∷ []) ≡ row_in rows (codes "n1") ∷ row_in rows (codes "r2") ∷ None ∷ None ∷ []
+-- the part shows the printing and its sheets, but neither the paper, which may be read alone, nor
+-- the product
+first_rows : map (part_row (part_for job first))
+    (codes "n1" ∷ codes "r2" ∷ codes "r1" ∷ codes "n0" ∷ [])
+    ≡ row_in rows (codes "n1") ∷ row_in rows (codes "r2") ∷ None ∷ None ∷ []
 first_rows = refl
 
-first_sheets : part_thing (part_for job first) (codes "r2") ≡ Some (resource (codes "Component") (codes "Quantity"))
+first_sheets : part_thing (part_for job first) (codes "r2")
+    ≡ Some (resource (codes "Component") (codes "Quantity"))
 first_sheets = refl
 
 first_paper : part_thing (part_for job first) (codes "r1") ≡ None
@@ -120,7 +128,8 @@ unlinked_refused = refl
 number_refused : spawn_refusal rows [] 0 (codes "n1") (codes "r2" ∷ []) ≡ Some TooManySpawns
 number_refused = refl
 
-large_number_refused : spawn_refusal rows [] 1000000000 (codes "n1") (codes "r2" ∷ []) ≡ Some TooManySpawns
+large_number_refused : spawn_refusal rows [] 1000000000 (codes "n1") (codes "r2" ∷ [])
+    ≡ Some TooManySpawns
 large_number_refused = refl
 
 done : spawn_refusal rows [] 1 (codes "n1") (codes "r2" ∷ []) ≡ None

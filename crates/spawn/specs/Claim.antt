@@ -1,5 +1,5 @@
--- What a spawn of a node takes, by the places of a ticket (JDF 1.5, 4.4): the node with all that stands below it, and copies of
--- resources that it links from above.
+-- What a spawn of a node takes, by the places of a ticket (JDF 1.5, 4.4): the node with all that
+-- stands below it, and copies of resources that it links from above.
 use Rattle.std.specs.Prelude.{ℕ, ◌&&◌, ◌||◌, Bool, not, List, map}
 use Rattle.std.specs.List.{filter, list_any}
 use Rattle.std.specs.Str.{bytes_eq}
@@ -17,7 +17,8 @@ links x p = list_any (λ l. bytes_eq l.rref x) (links_of p.thing)
 abbrev pub is_linked_below : List Place → List ℕ → List ℕ → Bool
 is_linked_below tree n x = list_any (λ p. below n p && links x p) tree
 
--- whether a resource stands at the place that is linked outside the node n: n or a node below it links the resource, and its home is neither
+-- whether a resource stands at the place that is linked outside the node n: n or a node below it
+-- links the resource, and its home is neither
 abbrev pub is_linked_outside : List Place → List ℕ → Place → Bool
 is_linked_outside tree n p = not (is_node p) && not (below n p) && is_linked_below tree n p.id
 
@@ -32,7 +33,8 @@ linked_rw tree n rw = filter (λ p. mem p.id rw) (linked_outside tree n)
 abbrev pub linked_ro : List Place → List ℕ → List (List ℕ) → List Place
 linked_ro tree n rw = filter (λ p. not (mem p.id rw)) (linked_outside tree n)
 
--- whether the claim of a spawn of n has what stands at the place: the nodes below n, the resources at home there, and those whose copies may be changed
+-- whether the claim of a spawn of n has what stands at the place: the nodes below n, the resources
+-- at home there, and those whose copies may be changed
 abbrev pub is_claimed : List ℕ → List (List ℕ) → Place → Bool
 is_claimed n rw p = below n p || mem p.id rw
 

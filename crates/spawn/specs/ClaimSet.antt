@@ -1,4 +1,4 @@
--- Claims by sets, on a walk over the rows of a ticket, and the first of the ticket that two claims have.
+-- Claims by sets, on a walk over the rows of a ticket, and the first place that two claims have.
 use Rattle.std.specs.Prelude.{ℕ, ◌&&◌, ◌||◌, Bool, List, [], nat_lt, reverse, if◌then◌else◌}
 use Rattle.std.specs.List.{list_any}
 use Rattle.ticket_rows.specs.Place.{Place}
@@ -8,7 +8,7 @@ use Rattle.spawn.specs.IdSet.{is_in}
 use Rattle.spawn.specs.Parts.{way_from}
 use Rattle.spawn.specs.declared.claim_set.ClaimSet.{ClaimSet}
 
--- whether the claim has what stands at the place: one of its nodes is there or above, or it is one of the copies
+-- whether the claim has what stands at the place: at or below one of its nodes, or as a copy
 abbrev pub claims : ClaimSet → Place → Bool
 claims c p = list_any (is_in c.nodes) p.path || is_in c.copies p.id
 
@@ -16,9 +16,11 @@ claims c p = list_any (is_in c.nodes) p.path || is_in c.copies p.id
 abbrev pub both_claim : ClaimSet → ClaimSet → Place → Bool
 both_claim one other p = claims one p && claims other p
 
--- the depth of the topmost node on the way to a row that passes the test, by the same of the row before. Where none does it is 0
+-- the depth of the topmost node on the way to a row that passes the test, by the same of the row
+-- before. Where none does it is 0
 abbrev pub next_above : (List ℕ → Bool) → ℕ → NodeRow → ℕ
-next_above f above r = if nat_lt 0 above && nat_lt above r.depth then above else if f r.id then r.depth else 0
+next_above f above r =
+    if nat_lt 0 above && nat_lt above r.depth then above else if f r.id then r.depth else 0
 
 -- the claim, with the walk at the next row
 abbrev pub gone_to : NodeRow → ClaimSet → ClaimSet

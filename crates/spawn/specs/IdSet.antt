@@ -1,4 +1,4 @@
--- Sets of lent ids.
+-- Sets of borrowed ids.
 use Rattle.std.specs.Prelude.{◌≡◌, ℕ, Bool, List}
 use Rattle.std.specs.BTreeSet.{BTreeSet, contains_by}
 use Rattle.std.specs.Borrow.{Bor}

@@ -31,7 +31,8 @@ abbrev pub in_order : List ℕ → List ℕ
 in_order [] = []
 in_order (n ∷ ns) = put_in n (in_order ns)
 
--- what a resource shows: the strongest of its copies that are out, and the numbers of the spawns with which they went, in rising order
+-- what a resource shows: the strongest of its copies that are out, and the numbers of the spawns
+-- with which they went, in rising order
 abbrev pub mark : List SpawnRec → List ℕ → ResMark
 mark recs x =
     record {
@@ -44,6 +45,10 @@ mark recs x =
 abbrev pub marks : List NodeRow → List SpawnRec → Marks
 marks rows recs =
     record {
-      nodes = filter (λ n. list_any (λ r. bytes_eq r.node n) (out recs)) (ids_of (nodes_in (places rows)));
-      resources = map (mark recs) (filter (λ x. list_any (copies x) (out recs)) (ids_of (resources_in (places rows))));
+      nodes =
+          filter (λ n. list_any (λ r. bytes_eq r.node n) (out recs))
+          (ids_of (nodes_in (places rows)));
+      resources =
+          map (mark recs)
+          (filter (λ x. list_any (copies x) (out recs)) (ids_of (resources_in (places rows))));
     }

@@ -1,5 +1,6 @@
--- Tables of what is out: numbers of spawns under lent ids of resources.
-use Rattle.std.specs.Prelude.{ℕ, Bool, true, false, List, [], ◌∷◌, ◌++◌, if◌then◌else◌, unwrap_or, Option, Some, None}
+-- Tables of what is out: numbers of spawns under borrowed ids of resources.
+use Rattle.std.specs.Prelude.{ℕ, Bool, true, false, List, [], ◌∷◌, ◌++◌, if◌then◌else◌, unwrap_or}
+use Rattle.std.specs.Prelude.{Option, Some, None}
 use Rattle.std.specs.Borrow.{Bor}
 use Rattle.std.specs.BTreeMap.{BTreeMap, get_by}
 use Rattle.std.specs.Cmp.Lexicographic.{slice_cmp}
@@ -31,4 +32,10 @@ if_any (n ∷ ns) = Some (n ∷ ns)
 -- what a resource shows, by the set of those of which copies may be changed and by the table of all
 abbrev pub mark_in : IdSet → Numbers → List ℕ → Option ResMark
 mark_in changed numbers x =
-    option_map (λ ns. record { id = x; status = if is_in changed x then SpawnedRW else SpawnedRO; spawn_ids = in_order ns }) (numbers_in numbers x)
+    option_map
+    (λ ns. record {
+      id = x;
+      status = if is_in changed x then SpawnedRW else SpawnedRO;
+      spawn_ids = in_order ns;
+    })
+    (numbers_in numbers x)

@@ -1,4 +1,5 @@
--- The part that goes out with a spawn: the ticket's rows and resources of the claim as they stand, and what was copied to be read alone.
+-- The part that goes out with a spawn: the ticket's rows and resources of the claim as they stand,
+-- and what was copied to be read alone.
 use Rattle.std.specs.Prelude.{ℕ, ◌-◌, List, [], ◌∷◌, ◌++◌, length, map, drop, take, reverse}
 use Rattle.std.specs.List.{filter}
 use Rattle.std.specs.Option.{option_map_or}
@@ -18,7 +19,8 @@ above rows n = reverse (option_map_or (λ p. drop 1 p.path) (place_at (node_plac
 
 -- a node above, with its part in the job
 abbrev pub ancestor : List NodeRow → List ℕ → Ancestor
-ancestor rows a = record { node_id = a; job_part = option_map_or (λ r. r.job_part) (row_of rows a) [] }
+ancestor rows a =
+    record { node_id = a; job_part = option_map_or (λ r. r.job_part) (row_of rows a) [] }
 
 abbrev pub ancestors : List NodeRow → List ℕ → List Ancestor
 ancestors rows n = map (ancestor rows) (above rows n)
@@ -51,4 +53,6 @@ resources_among ids rows = filter (λ x. mem x.id ids) (resources rows)
 -- the part of a spawn
 abbrev pub part_for : Job → SpawnRec → Copied
 part_for t r =
-    copied t.job_id r.id (ancestors t.rows r.node) (map (lifted (length (above t.rows r.node))) (rows_below t.rows r.node)) (resources_among r.rw t.rows) r.ro
+    copied t.job_id r.id (ancestors t.rows r.node)
+    (map (lifted (length (above t.rows r.node))) (rows_below t.rows r.node))
+    (resources_among r.rw t.rows) r.ro

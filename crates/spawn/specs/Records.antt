@@ -1,5 +1,5 @@
 -- The records of spawns: which are out, and which are good.
-use Rattle.std.specs.Prelude.{◌≡◌, ℕ, Bool, true, false, List, map, is_some}
+use Rattle.std.specs.Prelude.{◌≡◌, Bool, true, false, List, map, is_some}
 use Rattle.ticket_rows.specs.Place.{fixed, fixed_at, places, node_places, up}
 use Rattle.ticket_items.specs.declared.node_row.NodeRow.{NodeRow}
 use Rattle.spawn.specs.Claim.{ids_of, linked_rw, linked_ro}
@@ -14,8 +14,9 @@ is_out_phase Merged = false
 abbrev pub is_out : SpawnRec → Bool
 is_out r = is_out_phase r.phase
 
--- a record is good in a ticket: its node stands below another; the copies that may be changed are linked outside the node, in ticket order;
--- and the copies to read are all others that are, in ticket order, each with the ticket's name and Class
+-- a record is good in a ticket: its node stands below another; the copies that may be changed are
+-- linked outside the node, in ticket order; and the copies to read are all others that are, in
+-- ticket order, each with the ticket's name and Class
 pub record IsGood (rows : List NodeRow) (r : SpawnRec) : Type 0 where
   pub has_parent : is_some (up (node_places rows) r.node) ≡ true
   pub rw : r.rw ≡ ids_of (linked_rw (places rows) r.node r.rw)

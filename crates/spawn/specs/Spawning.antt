@@ -12,7 +12,9 @@ use Rattle.ticket_items.specs.declared.audit.Audit.{Audit}
 use Rattle.ticket_items.specs.declared.audit.Audit.TheVariants.{Spawned}
 use Rattle.ticket_items.specs.declared.node_row.NodeRow.{NodeRow}
 use Rattle.ticket_items.specs.declared.refusal.Refusal.{Refusal}
-use Rattle.ticket_items.specs.declared.refusal.Refusal.TheVariants.{UnknownNode, IsRoot, UnknownResource, NotLinked, NotHeld, TooManySpawns}
+use Rattle.ticket_items.specs.declared.refusal.Refusal.TheVariants.{UnknownNode, IsRoot}
+use Rattle.ticket_items.specs.declared.refusal.Refusal.TheVariants.{UnknownResource, NotLinked}
+use Rattle.ticket_items.specs.declared.refusal.Refusal.TheVariants.{NotHeld, TooManySpawns}
 use Rattle.spawn.specs.Claim.{ids_of, claim, linked_outside, linked_rw, linked_ro}
 use Rattle.spawn.specs.Parts.{resources_among}
 use Rattle.spawn.specs.Table.{holding}
@@ -27,17 +29,23 @@ holding_claimed tree recs n rw = filter_map (holding recs) (claim tree n rw)
 
 -- the refusal for the first of the claim that the master doesn't hold
 abbrev pub not_held : List Place → List SpawnRec → List ℕ → List (List ℕ) → Option Refusal
-not_held tree recs n rw = option_map (λ r. NotHeld r.id) (slice_get (holding_claimed tree recs n rw) 0)
+not_held tree recs n rw =
+    option_map (λ r. NotHeld r.id) (slice_get (holding_claimed tree recs n rw) 0)
 
 -- why a spawn of the node n is refused, with copies of these resources that may be changed
-abbrev pub spawn_refusal : List NodeRow → List SpawnRec → ℕ → List ℕ → List (List ℕ) → Option Refusal
+abbrev pub spawn_refusal : List NodeRow → List SpawnRec → ℕ → List ℕ → List (List ℕ)
+    → Option Refusal
 spawn_refusal rows recs number n rw =
-    first_of (unless (has_node rows n) UnknownNode ∷ unless (is_some (up (node_places rows) n)) IsRoot ∷ unless (list_all (has_resource rows) rw) UnknownResource
-    ∷ unless (list_all (λ x. mem x (ids_of (linked_outside (places rows) n))) rw) NotLinked ∷ not_held (places rows) recs n rw ∷ unless (is_spawn_number number) TooManySpawns ∷ [])
+    first_of
+    (unless (has_node rows n) UnknownNode ∷ unless (is_some (up (node_places rows) n)) IsRoot
+    ∷ unless (list_all (has_resource rows) rw) UnknownResource
+    ∷ unless (list_all (λ x. mem x (ids_of (linked_outside (places rows) n))) rw) NotLinked
+    ∷ not_held (places rows) recs n rw ∷ unless (is_spawn_number number) TooManySpawns ∷ [])
 
 -- ---- what it makes
 
--- the record of a new spawn: `rw` as a set, in ticket order, and copies of the other resources linked outside the node
+-- the record of a new spawn: `rw` as a set, in ticket order, and copies of the other resources
+-- linked outside the node
 abbrev pub new_record : List NodeRow → ℕ → List ℕ → List ℕ → List (List ℕ) → ℕ → SpawnRec
 new_record rows number n worker rw at =
     record {
@@ -60,7 +68,8 @@ parent_of rows n = option_map_or (λ u. u) (up (node_places rows) n) []
 
 -- the audit that tells of a spawn (JDF 1.5, 3.11)
 abbrev pub spawned_audit : List NodeRow → SpawnRec → Audit
-spawned_audit rows r = Spawned r.at r.node (spawn_text r.id) (map (λ x. x.id) r.ro) r.rw (status_of rows r.node)
+spawned_audit rows r =
+    Spawned r.at r.node (spawn_text r.id) (map (λ x. x.id) r.ro) r.rw (status_of rows r.node)
 
 -- the ticket after a spawn: its audit stands last at the node's parent
 abbrev pub spawned : Job → SpawnRec → Job

@@ -1,5 +1,7 @@
--- The walk on which a record is compared with a ticket: what is left of the record's copies, as the resources of the ticket are met.
-use Rattle.std.specs.Prelude.{ℕ, ◌&&◌, Bool, true, false, List, [], ◌∷◌, Option, Some, None, if◌then◌else◌}
+-- The walk on which a record is compared with a ticket: what is left of the record's copies, as the
+-- resources of the ticket are met.
+use Rattle.std.specs.Prelude.{ℕ, ◌&&◌, Bool, true, false, List, [], ◌∷◌, Option, Some, None}
+use Rattle.std.specs.Prelude.{if◌then◌else◌}
 use Rattle.std.specs.Option.{option_map, option_and_then}
 use Rattle.std.specs.Str.{bytes_eq}
 use Rattle.ticket_items.specs.Ids.{mem}
@@ -16,16 +18,20 @@ abbrev pub behind : {X : Type 0} → (X → Bool) → List X → Option (List X)
 behind f [] = None
 behind f (x ∷ xs) = if f x then Some xs else None
 
--- the copies that weren't met yet: ids of those that may be changed, and those that may be read alone
+-- the copies that weren't met yet: ids of those to change, and those to read
 abbrev pub Left : Type 0
 Left = List (List ℕ) × List Resource
 
--- what is left behind a resource. One that the rows link is the next to change if it is among `rw`, and else the next to read
+-- behind a linked resource: the next to change where it is among `rw`, else the next to read
+abbrev pub met_linked : List (List ℕ) → Resource → Left → Option Left
+met_linked rw x left =
+    if mem x.id rw
+    then option_map (λ ids. (ids, left.1)) (behind (λ i. bytes_eq i x.id) left.0)
+    else option_map (λ copies. (left.0, copies)) (behind (λ y. are_same y x) left.1)
+
+-- what is left behind a resource, if the rows link it
 abbrev pub met : List NodeRow → List (List ℕ) → Resource → Left → Option Left
-met inside rw x left =
-    if is_linked inside x.id
-    then (if mem x.id rw then option_map (λ ids. (ids, left.1)) (behind (λ i. bytes_eq i x.id) left.0) else option_map (λ copies. (left.0, copies)) (behind (λ y. are_same y x) left.1))
-    else Some left
+met inside rw x left = if is_linked inside x.id then met_linked rw x left else Some left
 
 -- what is left behind these resources
 abbrev pub all_met : List NodeRow → List (List ℕ) → List Resource → Left → Option Left

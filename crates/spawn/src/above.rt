@@ -4,7 +4,7 @@ ghost use Rattle.std.specs.Prelude.{◌≡◌, ◌++◌, ◌∷◌, [], ◌-◌,
 ghost use Rattle.spawn.specs.Parts as parts;
 
 use std::alloc::{AllocError, Global};
-use ticket_tree::{Ancestor, NodeRow};
+use ticket_tree::{Ancestor, Duplicate, NodeRow};
 
 /// Goes on to a row, on the way from the root.
 fn go_to<'a>(way: &mut Vec<&'a NodeRow>, row: &'a NodeRow) -> Result<(), AllocError>

@@ -1,4 +1,4 @@
-//! Claims by the bounds of their rows, and which of two has the first of what a third wants.
+//! Claims by the bounds of their rows, and which of two has the first of what a third asks for.
 
 ghost use Rattle.std.specs.Prelude.{◌≡◌, ◌&&◌, true, false, Some, None, if◌then◌else◌};
 ghost use Rattle.ticket_rows.specs.Ticket.{ids_of};
@@ -37,7 +37,7 @@ impl<'a> Claim<'a> {
     }
 }
 
-/// Which of two claims has what stands under an id in the row of this number, where it is wanted:
+/// Which of two claims has what stands under an id in the row of this number, where it is asked for:
 /// true for the first, which goes before.
 fn which(want: &Claim<'_>, one: &Claim<'_>, other: &Claim<'_>, row: usize, id: &Id) -> Option<bool>
     ensures { result ≡ (if bounds.has want.now row id.now
@@ -91,8 +91,8 @@ fn first_in_row(
     }
 }
 
-/// Which of two claims has the first, in ticket order, of what a third wants and either has: true
-/// for the one, which goes before where both have it, false for the other.
+/// Which of two claims has the first, in ticket order, of what a third asks for and either has:
+/// true for the one, which goes before where both have it, false for the other.
 pub fn first_held(
     want: &Claim<'_>,
     one: &Claim<'_>,

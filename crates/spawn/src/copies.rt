@@ -11,7 +11,7 @@ ghost use Rattle.spawn.specs.Parts.{resources};
 use crate::id_set::{IdSet, has, linked_by, set_of};
 use crate::node_at::At;
 use std::alloc::{AllocError, Global};
-use ticket_tree::{Id, NodeRow, Resource};
+use ticket_tree::{Duplicate, Id, NodeRow, Resource};
 
 /// The resources of which the copies may be changed, and copies of the others, each in ticket
 /// order.

@@ -15,7 +15,7 @@ use crate::spawn_rec::SpawnRec;
 use ticket_tree::Ticket;
 
 /// Of the best spawn so far, if there is one, and the next: the one that has the first of what is
-/// wanted and either has.
+/// asked for and either has.
 fn earlier<'a>(
     ticket: &Ticket,
     want: &Claim<'_>,

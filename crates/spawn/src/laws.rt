@@ -33,9 +33,10 @@ pub fn a_part_stays_while_its_claim_does()
 {}
 
 /// An edit of what the master holds changes no claim of a good record that is out, and nothing that
-/// is linked outside its node.
+/// is linked outside its node; so the records go on to stand well beside the ticket.
 pub fn an_edit_keeps_claims()
-    ensures { law.EditKeepsClaims }
+    ensures claims { law.EditKeepsClaims }
+    ensures apart { law.EditKeepsApart }
 {}
 
 /// The part of a good record shows what the spawn claims as it stands in the ticket, and nothing

@@ -14,7 +14,8 @@ use crate::out_tables::{Numbers, copies_rw, numbers_of, records_out, spawned_nod
 use crate::spawn_rec::SpawnRec;
 use std::alloc::{AllocError, Global};
 use ticket_tree::{
-    Id, Items, Marks, NodeRow, Refusal, ResMark, Resource, SpawnId, SpawnIds, SpawnStatus, Ticket,
+    Duplicate, Id, Items, Marks, NodeRow, Refusal, ResMark, Resource, SpawnId, SpawnIds,
+    SpawnStatus, Ticket,
 };
 
 /// The copies that are out: the ids of those that may be changed, and the spawns with which each

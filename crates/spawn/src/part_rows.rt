@@ -7,7 +7,7 @@ ghost use Rattle.spawn.specs.Parts as parts;
 
 use crate::id_set::{IdSet, has, set_of};
 use std::alloc::{AllocError, Global};
-use ticket_tree::{Id, NodeRow, Resource};
+use ticket_tree::{Duplicate, Id, NodeRow, Resource};
 
 /// The rows, each so many levels higher.
 pub fn lifted_rows(alloc: Global, rows: &[NodeRow], levels: u32) -> Result<Vec<NodeRow>, AllocError>

@@ -99,7 +99,7 @@ fn check_held(ticket: &Ticket, records: &[SpawnRec], node: &Id, rw: &[Id]) -> Re
 }
 
 /// Why `spawn` would refuse a spawn of a node with copies of these resources that may be changed,
-/// want of memory aside: the first of `UnknownNode`, `IsRoot` (our own), `UnknownResource`,
+/// memory aside: the first of `UnknownNode`, `IsRoot` (our own), `UnknownResource`,
 /// `NotLinked` (a resource that no node there links, or that is at home there; JDF 1.5, 4.4),
 /// `NotHeld` with the spawn that holds the first of the claim, in ticket order, that the master
 /// doesn't hold, and `TooManySpawns` (a number that isn't one of 1 to 999,999,999; our own). Needs

@@ -1,10 +1,9 @@
 use crate::phase::Phase;
-use std::alloc::{AllocError, Global};
-use ticket_tree::{Id, Ids, Resources, SpawnId};
+use ticket_tree::{Duplicate, Id, Ids, Resources, SpawnId};
 
 /// What the owner of a ticket remembers of a spawn (JDF 1.5, 4.4). The record of a spawn that was
 /// merged keeps its fields.
-#[derive(Debug, Drop)]
+#[derive(Clone, Debug, Drop)]
 pub struct SpawnRec {
     pub id: SpawnId,
     /// The node that was spawned, with all below it.
@@ -21,7 +20,7 @@ pub struct SpawnRec {
 }
 
 impl SpawnRec {
-    ghost use Rattle.std.specs.Prelude.{◌≡◌, IfOk};
+    ghost use Rattle.std.specs.Prelude.{◌≡◌};
     ghost use Rattle.spawn.specs.Records as records;
 
     /// Whether its part is with another controller.
@@ -33,19 +32,10 @@ impl SpawnRec {
             Phase::Merged => false,
         }
     }
+}
 
-    /// An equal record.
-    pub fn copy(&self, alloc: Global) -> Result<SpawnRec, AllocError>
-        ensures { IfOk result (λ r. r ≡ self.now) }
-    {
-        Ok(SpawnRec {
-            id: self.id,
-            node: self.node.copy(alloc)?,
-            worker: self.worker.copy(alloc)?,
-            at: self.at,
-            rw: self.rw.copy(alloc)?,
-            ro: self.ro.copy(alloc)?,
-            phase: self.phase,
-        })
-    }
+impl Duplicate for SpawnRec {
+    ghost use Rattle.std.proofs.Common.{rules};
+
+    ghost equal = { Prim.search rules };
 }

@@ -12,7 +12,7 @@ use crate::node_at::{At, at_between};
 use crate::part_rows::{lifted_rows, resources_among};
 use crate::spawn_rec::SpawnRec;
 use std::alloc::Global;
-use ticket_tree::{Items, Name, Part, Refusal, Ticket};
+use ticket_tree::{Duplicate, Items, Name, Part, Refusal, Ticket};
 
 /// The part of a spawn of the node at which the rows are taken apart.
 fn part_at(alloc: Global, job: &Name, spawn: &SpawnRec, at: &At<'_>) -> Result<Part, Refusal>

@@ -18,7 +18,9 @@ use crate::phase::Phase;
 use crate::spawn_rec::SpawnRec;
 use crate::spawned_part::part_for;
 use std::alloc::{AllocError, Global};
-use ticket_tree::{Ancestor, Audit, Id, Ids, Items, Part, Refusal, Resource, SpawnId, Ticket};
+use ticket_tree::{
+    Ancestor, Audit, Duplicate, Id, Ids, Items, Part, Refusal, Resource, SpawnId, Ticket,
+};
 
 /// The record of a new spawn of a node that is there.
 fn new_record(
@@ -140,30 +142,36 @@ fn prepare(
     })
 }
 
-/// Puts a record last among the records, and an audit last at a node that is there.
+/// Puts the record of a spawn last among the records, and its audit last at the parent, which is
+/// there, and answers its part.
 fn enter(
     alloc: Global,
     ticket: &mut Ticket,
     records: &mut Vec<SpawnRec>,
-    spawn: SpawnRec,
-    parent: &Id,
-    audit: Audit,
-) -> Result<(), Refusal>
-    requires known { has_node ticket.old.rows parent.now ≡ true }
+    made: Prepared,
+) -> Result<Part, Refusal>
+    requires known { has_node ticket.old.rows made.parent ≡ true }
     ensures ticket { OnOk result (ticket.new
-        ≡ record ticket.old { rows = appended parent.now audit ticket.old.rows }) }
-    ensures records { OnOk result (records.new.items ≡ records.old.items ++ spawn ∷ []) }
+        ≡ record ticket.old { rows = appended made.parent made.audit ticket.old.rows }) }
+    ensures records { OnOk result (records.new.items ≡ records.old.items ++ made.spawn ∷ []) }
+    ensures part { IfOk result (λ p. p ≡ made.part) }
     ensures ticket_stays { OnErr result (ticket.new ≡ ticket.old) }
     ensures records_stay { OnErr result (records.new.items ≡ records.old.items) }
     ensures memory { IfErr result (λ e. e ≡ Refusal.Memory) }
 {
+    let Prepared {
+        spawn,
+        part,
+        parent,
+        audit,
+    } = made;
     let before = records.len();
     records.push(spawn)?;
-    let told = ticket.append(alloc, parent, audit);
-    if told.is_err() {
+    if let Err(refusal) = ticket.append(alloc, &parent, audit) {
         records.truncate(before);
+        return Err(refusal);
     }
-    told
+    Ok(part)
 }
 
 /// Spawns a node with all below it to a worker (JDF 1.5, 4.4), at a time in seconds since 1970: the
@@ -200,21 +208,10 @@ pub fn spawn(
     ensures ticket_stays { OnErr result (ticket.new ≡ ticket.old) }
     ensures records_stay { OnErr result (records.new.items ≡ records.old.items) }
 {
-    check_spawn(
-        alloc,
-        ticket,
-        records.as_slice(),
-        number,
-        &node,
-        rw.as_slice(),
-    )?;
+    let others = records.as_slice();
+    check_spawn(alloc, ticket, others, number, &node, rw.as_slice())?;
     let id = SpawnId::new(number)?;
-    let Prepared {
-        spawn,
-        part,
-        parent,
-        audit,
-    } = prepare(alloc, ticket, id, node, worker, rw.as_slice(), at)?;
-    enter(alloc, ticket, records, spawn, &parent, audit)?;
+    let made = prepare(alloc, ticket, id, node, worker, rw.as_slice(), at)?;
+    let part = enter(alloc, ticket, records, made)?;
     Ok((id, part))
 }

@@ -33,7 +33,7 @@ pub fn number_in(bytes: &[u8]) -> Result<u64, Refusal> {
         .ok_or(Refusal::NotProfile)
 }
 
-/// The record of the spawn that bytes name, if such a spawn went out. Refuses `BadId` where they
+/// The record of the spawn that bytes name, if that spawn went out. Refuses `BadId` where they
 /// name none.
 pub fn record_in<'a>(
     records: &'a [SpawnRec],

@@ -2,7 +2,7 @@
 
 use crate::arguments::{id_in, said};
 use std::alloc::Global;
-use ticket_tree::{Audit, Id, Name, Refusal, Text, Ticket};
+use ticket_tree::{Audit, Duplicate, Id, Name, Refusal, Text, Ticket};
 
 /// `complete ID`: puts a node back with the Status `Completed`, a note of the time 5, and the
 /// depth 1.

@@ -4,7 +4,7 @@ use crate::arguments::{id_in, number_in, said, text_in};
 use case_lines::word_and_text;
 use json_profile::{edit_of, text_of, ticket_value, value_of};
 use std::alloc::Global;
-use ticket_tree::{Audit, Edit, Refusal, Text, Ticket};
+use ticket_tree::{Audit, Duplicate, Edit, Refusal, Text, Ticket};
 
 fn edit_in(alloc: Global, text: &[u8]) -> Result<Edit, Refusal> {
     edit_of(alloc, &value_of(alloc, text)?)

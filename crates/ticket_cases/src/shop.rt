@@ -58,6 +58,7 @@ impl Answers for Shop {
             b"part_tree" => trees::part_tree(alloc, text),
             b"sound" => parts::sound(alloc, text),
             b"rows_of_part" => parts::rows_of_part(alloc, text),
+            b"edit_part" => parts::edit_part(alloc, text),
             _ => match self.ticket.as_mut() {
                 Some(ticket) => job_answer(alloc, ticket, &mut self.records, word, text),
                 None => Ok(Vec::from_slice(alloc, b"No job")?),

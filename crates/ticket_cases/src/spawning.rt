@@ -5,7 +5,7 @@ use json_profile::{number_under, part_value, text_of, text_under, value_of};
 use serde_json::Value;
 use spawn::{SpawnRec, is_good, may_spawn, part_for, spawn};
 use std::alloc::Global;
-use ticket_tree::{Id, Ids, Items, Part, Refusal, SpawnId, Ticket};
+use ticket_tree::{Duplicate, Id, Ids, Items, Part, Refusal, SpawnId, Ticket};
 
 /// What is asked for: a node, the worker that gets it, and the resources whose copies it may
 /// change.

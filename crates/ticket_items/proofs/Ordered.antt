@@ -1,5 +1,5 @@
 -- Pairs in the byte order of their names, set one after another. `below_middle` and `with_attr-last` are for the crates above, too.
-use Rattle.std.proofs.Common.{◌≡◌, ℕ, List, [], ◌∷◌, ◌++◌, Less, Greater, Ordering, refl, sym, ap, ◌∙◌, append_assoc, append-nil, subst}
+use Rattle.std.proofs.Common.{◌≡◌, ℕ, List, [], ◌∷◌, ◌++◌, Less, Greater, Ordering, refl, ap, ◌∙◌}
 use Rattle.std.specs.Cmp.Lexicographic.{slice_cmp, nat_list_cmp_total}
 use Rattle.std.specs.List.{AllByRecursion}
 use Rattle.std.specs.List.Sorted.{IsStrictlySortedBy}
@@ -22,16 +22,3 @@ pub with_attr-last : (done : Pairs) (p : List ℕ × List ℕ) (rest : Pairs) �
 unfolding IsStrictlySortedBy
 with_attr-last [] p rest h = refl
 with_attr-last (first ∷ done) p rest h = last_at _ p.0 p.1 first done refl (below_middle first.0 done p rest h.0) (with_attr-last done p rest h.1)
-
--- ---- a copy, pair by pair
-
-pub copy_none : (all left done : Pairs) → left ≡ all → done ≡ [] → done ++ left ≡ all
-copy_none all left done same none = ap (λ xs. xs ++ left) none ∙ same
-
-pub copy_more : (all left rest done new : Pairs) (p : List ℕ × List ℕ) → IsInOrder all → done ++ left ≡ all → left ≡ p ∷ rest → new ≡ with_attr p.0 p.1 done → new ++ rest ≡ all
-copy_more all left rest done new p ordered split step set =
-    let whole : done ++ p ∷ rest ≡ all = ap (λ xs. done ++ xs) (sym step) ∙ split in
-    ap (λ xs. xs ++ rest) (set ∙ with_attr-last done p rest (subst IsInOrder (sym whole) ordered)) ∙ append_assoc done (p ∷ []) rest ∙ whole
-
-pub copy_all : (all left done : Pairs) → done ++ left ≡ all → left ≡ [] → done ≡ all
-copy_all all left done split none = sym (append-nil done) ∙ ap (λ xs. done ++ xs) (sym none) ∙ split

@@ -1,5 +1,6 @@
 -- The number of a spawn, and its text.
-use Rattle.std.specs.Prelude.{ℕ, ◌+◌, ◌-◌, ◌*◌, ◌&&◌, ◌==◌, Bool, false, List, [], ◌∷◌, nat_lt, nat_le, if◌then◌else◌, Option, Some, None}
+use Rattle.std.specs.Prelude.{ℕ, ◌+◌, ◌-◌, ◌*◌, ◌&&◌, ◌==◌, Bool, false, List, [], ◌∷◌, nat_lt}
+use Rattle.std.specs.Prelude.{nat_le, if◌then◌else◌, Option, Some, None}
 use Rattle.std.specs.Fmt.{decimal}
 use Rattle.std.specs.List.{list_all}
 use Rattle.ticket_items.specs.Names.{is_digit}
@@ -8,7 +9,7 @@ use Rattle.ticket_items.specs.Names.{is_digit}
 abbrev pub is_spawn_number : ℕ → Bool
 is_spawn_number n = nat_le 1 n && nat_le n 999999999
 
--- the text of a spawn's number: the letter `S`, and the number in decimal digits without leading zeros
+-- the text of a spawn's number: the letter `S`, and the decimal digits without leading zeros
 abbrev pub spawn_text : ℕ → List ℕ
 spawn_text n = 83 ∷ decimal n
 
@@ -24,7 +25,8 @@ number_read n (d ∷ ds) = number_read (10 * n + (d - 48)) ds
 
 -- the spawn's number that digits write
 abbrev pub number_in : List ℕ → Option ℕ
-number_in ds = if is_numeral ds && is_spawn_number (number_read 0 ds) then Some (number_read 0 ds) else None
+number_in ds =
+    if is_numeral ds && is_spawn_number (number_read 0 ds) then Some (number_read 0 ds) else None
 
 -- the spawn's number that a text names: behind the letter `S`, in decimal digits
 abbrev pub spawn_of : List ℕ → Option ℕ

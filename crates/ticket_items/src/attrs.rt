@@ -1,3 +1,4 @@
+use crate::duplicate::Duplicate;
 use crate::name::Name;
 use crate::text::Text;
 use std::alloc::{AllocError, Global};
@@ -22,7 +23,7 @@ impl Model for Attrs {
 }
 
 impl Attrs {
-    ghost use Rattle.std.specs.Prelude.{◌≡◌, ◌↔◌, [], length, IsTrue, IfOk, OnOk, OnErr};
+    ghost use Rattle.std.specs.Prelude.{◌≡◌, ◌↔◌, [], length, IsTrue, OnOk, OnErr};
     ghost use Rattle.std.specs.Option.{option_copied};
     ghost use Rattle.ticket_items.specs.Attrs.{IsInOrder, text_at, with_attr};
 
@@ -65,19 +66,6 @@ impl Attrs {
         Ok(())
     }
 
-    /// Equal attributes.
-    pub fn copy(&self, alloc: Global) -> Result<Attrs, AllocError>
-        ensures { IfOk result (λ attrs. attrs ≡ self.now) }
-    {
-        let mut copied = Attrs::new(alloc);
-        for (name, text) in self.iter() {
-            let copied_name = name.copy(alloc)?;
-            let copied_text = text.copy(alloc)?;
-            copied.set(copied_name, copied_text)?;
-        }
-        Ok(copied)
-    }
-
     /// The names with their texts, in byte order of the names.
     pub fn iter(&self) -> Iter<'_, Name, Text>
         ensures rest { result ≡ self.now }
@@ -85,4 +73,19 @@ impl Attrs {
     {
         self.pairs.iter()
     }
+}
+
+impl Clone for Attrs {
+    ghost use Rattle.std.specs.Prelude.{◌≡◌};
+
+    ghost is_clone = { λ attrs copied. copied ≡ attrs };
+
+    fn clone(&self) -> Result<Attrs, AllocError> {
+        let pairs = self.pairs.clone()?;
+        Ok(Attrs { pairs })
+    }
+}
+
+impl Duplicate for Attrs {
+    ghost equal = { λ _ _ same. same };
 }

@@ -1,7 +1,7 @@
 ghost use Rattle.std.specs.Prelude.{◌≡◌};
 ghost use Rattle.ticket_items.specs.Ids.{mem};
 
-use crate::items::Items;
+use crate::duplicate::Duplicate;
 use crate::refusal::Refusal;
 use crate::rules::is_name;
 use std::alloc::{AllocError, Global};
@@ -9,7 +9,7 @@ use std::hash::{Hash, Hasher};
 use std::marker::Model;
 
 /// The id of a node, a resource or a controller: 1 to 64 characters of `A-Z a-z 0-9 _ . -`, of
-/// which the first is a letter or `_` (JDF 1.5, 3.1 wants an XML ID; the limits are our own).
+/// which the first is a letter or `_` (JDF 1.5, 3.1 asks for an XML ID; the limits are our own).
 #[derive(Debug, Drop)]
 pub struct Id {
     text: String,
@@ -58,14 +58,6 @@ impl Id {
     {
         self.text.as_str()
     }
-
-    /// An equal id.
-    pub fn copy(&self, alloc: Global) -> Result<Id, AllocError>
-        ensures { IfOk result (λ id. id ≡ self.now) }
-    {
-        let text = String::from_str(alloc, self.as_str())?;
-        Ok(Id { text })
-    }
 }
 
 /// Whether an id is among these.
@@ -75,19 +67,19 @@ pub fn is_among(ids: &[Id], id: &Id) -> bool
     ids.iter().any(|other| *other == *id)
 }
 
-impl Items<Id> {
-    ghost use Rattle.std.specs.Prelude.{◌≡◌, IfOk};
+impl Clone for Id {
+    ghost use Rattle.std.specs.Prelude.{◌≡◌};
 
-    /// An equal list.
-    pub fn copy(&self, alloc: Global) -> Result<Items<Id>, AllocError>
-        ensures { IfOk result (λ all. all ≡ self.now) }
-    {
-        let mut copied = Vec::with_capacity(alloc, self.as_slice().len())?;
-        for item in self.as_slice() {
-            copied.push(item.copy(alloc)?)?;
-        }
-        Ok(Items::new(copied))
+    ghost is_clone = { λ id copied. copied ≡ id };
+
+    fn clone(&self) -> Result<Id, AllocError> {
+        let text = self.text.clone()?;
+        Ok(Id { text })
     }
+}
+
+impl Duplicate for Id {
+    ghost equal = { λ _ _ same. same };
 }
 
 impl PartialEq for Id {

@@ -1,5 +1,6 @@
 use crate::ancestor::Ancestor;
 use crate::audit::Audit;
+use crate::duplicate::{Duplicate, copies};
 use crate::id::Id;
 use crate::link::Link;
 use crate::res_mark::ResMark;
@@ -76,4 +77,19 @@ impl<T: Drop> Items<T> {
         self.items.push(item)?;
         Ok(())
     }
+}
+
+impl<T: Duplicate> Clone for Items<T> {
+    ghost use Rattle.std.specs.Prelude.{◌≡◌};
+
+    ghost is_clone = { λ items copied. copied ≡ items };
+
+    fn clone(&self) -> Result<Items<T>, AllocError> {
+        let items = copies(*self.items.allocator(), self.items.as_slice())?;
+        Ok(Items { items })
+    }
+}
+
+impl<T: Duplicate> Duplicate for Items<T> {
+    ghost equal = { λ _ _ same. same };
 }

@@ -5,6 +5,7 @@
 mod ancestor;
 mod attrs;
 mod audit;
+mod duplicate;
 mod edit;
 mod id;
 mod items;
@@ -25,6 +26,7 @@ mod usage;
 pub use ancestor::Ancestor;
 pub use attrs::Attrs;
 pub use audit::Audit;
+pub use duplicate::{Duplicate, copies};
 pub use edit::Edit;
 pub use id::{Id, is_among};
 pub use items::{Ancestors, Audits, Ids, Items, Links, ResMarks, Resources, SpawnIds};

@@ -1,3 +1,4 @@
+use crate::duplicate::Duplicate;
 use crate::refusal::Refusal;
 use crate::rules::is_name;
 use std::alloc::{AllocError, Global};
@@ -48,14 +49,21 @@ impl Name {
     {
         self.text.as_str()
     }
+}
 
-    /// An equal name.
-    pub fn copy(&self, alloc: Global) -> Result<Name, AllocError>
-        ensures { IfOk result (λ name. name ≡ self.now) }
-    {
-        let text = String::from_str(alloc, self.as_str())?;
+impl Clone for Name {
+    ghost use Rattle.std.specs.Prelude.{◌≡◌};
+
+    ghost is_clone = { λ name copied. copied ≡ name };
+
+    fn clone(&self) -> Result<Name, AllocError> {
+        let text = self.text.clone()?;
         Ok(Name { text })
     }
+}
+
+impl Duplicate for Name {
+    ghost equal = { λ _ _ same. same };
 }
 
 impl PartialEq for Name {
@@ -101,7 +109,8 @@ impl PartialOrd for Name {
 
     ghost partial_cmp = { as_partial_cmp (slice_cmp nat_cmp) };
 
-    ghost laws = { partial_order_from_own_ties (Prim.search (comparing, rules)) (Prim.search (comparing, rules)) };
+    ghost laws = { partial_order_from_own_ties (Prim.search (comparing, rules))
+        (Prim.search (comparing, rules)) };
 
     fn partial_cmp(&self, other: &Name) -> Option<Ordering> {
         Some(self.cmp(other))

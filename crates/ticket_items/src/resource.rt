@@ -1,14 +1,15 @@
 use crate::attrs::Attrs;
+use crate::duplicate::Duplicate;
 use crate::id::Id;
 use crate::items::Items;
 use crate::name::Name;
 use crate::pool::{place_in, place_in_from};
 use crate::text::Text;
-use std::alloc::{AllocError, Global};
+use std::alloc::AllocError;
 
 /// A resource of a node's pool (JDF 1.5, 3.8): what a node needs or makes, such as paper, plates or
 /// printed sheets.
-#[derive(Debug, Drop)]
+#[derive(Clone, Debug, Drop)]
 pub struct Resource {
     pub id: Id,
     /// The name of the resource's element, such as `Media`.
@@ -18,25 +19,14 @@ pub struct Resource {
     pub attrs: Attrs,
 }
 
-impl Resource {
-    ghost use Rattle.std.specs.Prelude.{◌≡◌, IfOk};
+impl Duplicate for Resource {
+    ghost use Rattle.std.proofs.Common.{rules};
 
-    /// An equal resource.
-    pub fn copy(&self, alloc: Global) -> Result<Resource, AllocError>
-        ensures { IfOk result (λ resource. resource ≡ self.now) }
-    {
-        Ok(Resource {
-            id: self.id.copy(alloc)?,
-            name: self.name.copy(alloc)?,
-            class: self.class.copy(alloc)?,
-            status: self.status.copy(alloc)?,
-            attrs: self.attrs.copy(alloc)?,
-        })
-    }
+    ghost equal = { Prim.search rules };
 }
 
 impl Items<Resource> {
-    ghost use Rattle.std.specs.Prelude.{◌≡◌, true, map, IfOk, IfSome, OnOk, OnErr};
+    ghost use Rattle.std.specs.Prelude.{◌≡◌, true, map, IfSome, OnOk, OnErr};
     ghost use Rattle.std.specs.List.{position};
     ghost use Rattle.std.specs.Str.{bytes_eq};
     ghost use Rattle.ticket_items.specs.Attrs.{with_attr};
@@ -81,16 +71,5 @@ impl Items<Resource> {
                 place
             }
         }
-    }
-
-    /// An equal list.
-    pub fn copy(&self, alloc: Global) -> Result<Items<Resource>, AllocError>
-        ensures { IfOk result (λ all. all ≡ self.now) }
-    {
-        let mut copied = Vec::with_capacity(alloc, self.as_slice().len())?;
-        for item in self.as_slice() {
-            copied.push(item.copy(alloc)?)?;
-        }
-        Ok(Items::new(copied))
     }
 }

@@ -3,8 +3,8 @@ ghost use Rattle.std.specs.List.{list_all};
 ghost use Rattle.ticket_items.specs.Names.{is_digit};
 ghost use Rattle.ticket_items.specs.SpawnId as spawns;
 
+use crate::duplicate::Duplicate;
 use crate::id::Id;
-use crate::items::Items;
 use crate::refusal::Refusal;
 use crate::rules::is_digit;
 use std::alloc::{AllocError, Global};
@@ -131,17 +131,8 @@ impl SpawnId {
     }
 }
 
-impl Items<SpawnId> {
-    ghost use Rattle.std.specs.Prelude.{◌≡◌, IfOk};
+impl Duplicate for SpawnId {
+    ghost use Rattle.std.proofs.Common.{rules};
 
-    /// An equal list.
-    pub fn copy(&self, alloc: Global) -> Result<Items<SpawnId>, AllocError>
-        ensures { IfOk result (λ all. all ≡ self.now) }
-    {
-        let mut copied = Vec::with_capacity(alloc, self.as_slice().len())?;
-        for item in self.as_slice() {
-            copied.push(*item)?;
-        }
-        Ok(Items::new(copied))
-    }
+    ghost equal = { Prim.search rules };
 }

@@ -1,3 +1,4 @@
+use crate::duplicate::Duplicate;
 use crate::refusal::Refusal;
 use crate::rules::is_text;
 use std::alloc::{AllocError, Global};
@@ -45,14 +46,21 @@ impl Text {
     {
         self.text.as_str()
     }
+}
 
-    /// An equal text.
-    pub fn copy(&self, alloc: Global) -> Result<Text, AllocError>
-        ensures { IfOk result (λ t. t ≡ self.now) }
-    {
-        let text = String::from_str(alloc, self.as_str())?;
+impl Clone for Text {
+    ghost use Rattle.std.specs.Prelude.{◌≡◌};
+
+    ghost is_clone = { λ text copied. copied ≡ text };
+
+    fn clone(&self) -> Result<Text, AllocError> {
+        let text = self.text.clone()?;
         Ok(Text { text })
     }
+}
+
+impl Duplicate for Text {
+    ghost equal = { λ _ _ same. same };
 }
 
 impl PartialEq for Text {

@@ -1,10 +1,14 @@
 -- Where look-ups answer alike, an edit is refused alike.
-use Rattle.std.proofs.Common.{◌≡◌, ◌∙◌, ℕ, Bool, not, List, [], ◌∷◌, refl, ap}
+use Rattle.std.proofs.Common.{◌≡◌, ◌∙◌, ℕ, not, List, [], ◌∷◌, refl, ap}
 use Rattle.ticket_rows.specs.EditRefusal.{Lookups, unknown_refusal, later_refusal, edit_refusal}
 use Rattle.ticket_rows.specs.Ticket.{is_reserved, unless, first_of}
 use Rattle.ticket_items.specs.declared.edit.Edit.{Edit}
-use Rattle.ticket_items.specs.declared.edit.Edit.TheVariants.{SetStatus, SetAttr, SetResStatus, SetResAttr, Note, AddNode, AddResource, AddLink}
-use Rattle.ticket_items.specs.declared.refusal.Refusal.TheVariants.{UnknownNode, UnknownResource, ReservedStatus, DuplicateId, TooDeep, UnresolvedLink}
+use Rattle.ticket_items.specs.declared.edit.Edit.TheVariants.{SetStatus, SetAttr, SetResStatus}
+use Rattle.ticket_items.specs.declared.edit.Edit.TheVariants.{SetResAttr, Note, AddNode}
+use Rattle.ticket_items.specs.declared.edit.Edit.TheVariants.{AddResource, AddLink}
+use Rattle.ticket_items.specs.declared.refusal.Refusal.TheVariants.{UnknownNode, UnknownResource}
+use Rattle.ticket_items.specs.declared.refusal.Refusal.TheVariants.{ReservedStatus, DuplicateId}
+use Rattle.ticket_items.specs.declared.refusal.Refusal.TheVariants.{TooDeep, UnresolvedLink}
 
 -- they say the same of each id
 pub record AreAlike (a b : Lookups) : Type 0 where
@@ -14,7 +18,8 @@ pub record AreAlike (a b : Lookups) : Type 0 where
   pub rooms : (x : List ℕ) → a.has_room x ≡ b.has_room x
   pub homes : (x y : List ℕ) → a.reaches x y ≡ b.reaches x y
 
-pub unknown_alike : (e : Edit) (a b : Lookups) → AreAlike a b → unknown_refusal e a ≡ unknown_refusal e b
+pub unknown_alike : (e : Edit) (a b : Lookups) → AreAlike a b
+    → unknown_refusal e a ≡ unknown_refusal e b
 unknown_alike (SetStatus node status) a b alike = ap (λ k. unless k UnknownNode) (alike.nodes node)
 unknown_alike (SetAttr node name value) a b alike = ap (λ k. unless k UnknownNode) (alike.nodes node)
 unknown_alike (SetResStatus resource status) a b alike = ap (λ k. unless k UnknownResource) (alike.resources resource)

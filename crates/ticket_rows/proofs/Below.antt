@@ -1,17 +1,25 @@
 -- The rows of the nodes below a node are a run: the node's own row, and the deeper ones behind it.
-use Rattle.std.proofs.Common.{◌≡◌, ℕ, zero, suc, ◌+◌, ◌-◌, ◌<◌, ◌≤◌, ◌&&◌, ◌||◌, Bool, true, false, not, cond, List, [], ◌∷◌, ◌++◌, length, drop, Option, Some, None, refl, sym, ap, ◌∙◌, subst, arith, ltb, leb, nat_le, nat_lt, is_some, one-add, add-one, zero-add, slice_get}
-use Rattle.std.proofs.lemmas.Bool.{true≢false, and_parts, and_from, or_parts, ltb-true, ltb-false, leb-true, leb-false, lt-ltb, le-ltb, le-leb, lt-leb, eqb-true, not-true, and_left, or_from}
-use Rattle.std.proofs.lemmas.List.{length-append, length-drop, append_assoc, drop-append-le, drop-drop, drop_at}
+use Rattle.std.proofs.Common.{◌≡◌, ℕ, zero, suc, ◌+◌, ◌-◌, ◌<◌, ◌≤◌, ◌&&◌, ◌||◌, Bool, true, false}
+use Rattle.std.proofs.Common.{not, cond, List, [], ◌∷◌, ◌++◌, length, drop, Option, Some, None}
+use Rattle.std.proofs.Common.{refl, sym, ap, ◌∙◌, subst, arith, ltb, leb, nat_le, nat_lt, is_some}
+use Rattle.std.proofs.Common.{one-add, add-one, zero-add, slice_get}
+use Rattle.std.proofs.lemmas.Bool.{true≢false, and_parts, and_from, or_parts, ltb-true, ltb-false}
+use Rattle.std.proofs.lemmas.Bool.{leb-true, leb-false, lt-ltb, le-ltb, le-leb, lt-leb, eqb-true}
+use Rattle.std.proofs.lemmas.Bool.{not-true, and_left, or_from}
+use Rattle.std.proofs.lemmas.List.{length-append, length-drop, append_assoc, drop-append-le}
+use Rattle.std.proofs.lemmas.List.{drop-drop, drop_at}
 use Rattle.std.specs.List.{position, position_or_len}
 use Rattle.std.specs.Option.{option_map, option_map_or}
 use Rattle.std.specs.Str.{bytes_eq}
 use Rattle.std.proofs.lemmas.Slice.Eq.{bytes_eq-Decides}
-use Rattle.ticket_items.proofs.Places.{position-cons, below_length, passes_at_position, none_at_position}
+use Rattle.ticket_items.proofs.Places.{position-cons, below_length, passes_at_position}
+use Rattle.ticket_items.proofs.Places.{none_at_position}
 use Rattle.ticket_items.proofs.Apart.{mem-append, bytes_eq-same, or_true}
 use Rattle.ticket_items.specs.Ids.{mem, are_distinct}
 use Rattle.ticket_rows.specs.Outline.{goes_on, is_outline}
 use Rattle.ticket_rows.proofs.NodePlaces.{nodes_from, node_places-rows, node_ids_distinct}
-use Rattle.ticket_rows.specs.Place.{path_of, node_place, node_places, place_at, Place, below, is_below, BoundsNodesBelow}
+use Rattle.ticket_rows.specs.Place.{path_of, node_place, node_places, place_at, Place, below}
+use Rattle.ticket_rows.specs.Place.{is_below, BoundsNodesBelow}
 use Rattle.ticket_rows.specs.Ticket.{depths, node_ids, row_of, IsValid}
 use Rattle.ticket_items.specs.declared.node_row.NodeRow.{NodeRow}
 
@@ -31,10 +39,12 @@ abbrev pub Follows : Path → List NodeRow → Type 0
 Follows before [] = Unit {0}
 Follows before (r ∷ rows) = (1 ≤ r.depth) × (r.depth ≤ suc (length before)) × Follows (path_of before r) rows
 
-pub length-path_of : (before : Path) (r : NodeRow) → 1 ≤ r.depth → r.depth ≤ suc (length before) → length (path_of before r) ≡ r.depth
+pub length-path_of : (before : Path) (r : NodeRow) → 1 ≤ r.depth → r.depth ≤ suc (length before)
+    → length (path_of before r) ≡ r.depth
 length-path_of before r low high = omega (arith, length-drop (length before - (r.depth - 1)) before)
 
-follows_on : (before : Path) (rows : List NodeRow) → goes_on (length before) (depths rows) ≡ true → Follows before rows
+follows_on : (before : Path) (rows : List NodeRow) → goes_on (length before) (depths rows) ≡ true
+    → Follows before rows
 follows_on before [] h = tt
 follows_on before (r ∷ rows) h =
     let parts = and_parts _ _ h in
@@ -57,7 +67,9 @@ Follows-outline (r ∷ rows) h =
 -- ---- rows that aren't below x
 
 -- an id that is neither on the way nor in the rows is on no path
-pub never : (x : List ℕ) (before : Path) (rows : List NodeRow) → mem x before ≡ false → mem x (node_ids rows) ≡ false → (k : ℕ) (p : Place) → slice_get (nodes_from before rows) k ≡ Some p → below x p ≡ false
+pub never : (x : List ℕ) (before : Path) (rows : List NodeRow) → mem x before ≡ false
+    → mem x (node_ids rows) ≡ false → (k : ℕ) (p : Place)
+    → slice_get (nodes_from before rows) k ≡ Some p → below x p ≡ false
 never x before [] off out k p h = cc
 never x before (r ∷ rows) off out zero p h =
     let parts = or_parts (bytes_eq r.id x) (mem x (node_ids rows)) out in
@@ -74,7 +86,9 @@ abbrev pub run_length : ℕ → List NodeRow → ℕ
 run_length depth rows = position_or_len (λ r. nat_le r.depth depth) rows
 
 -- what leads up from a row no deeper than x is above x
-pub above_x : (x : List ℕ) (front up : Path) (r : NodeRow) → mem x up ≡ false → r.depth ≤ suc (length up) → mem x (drop (length (front ++ x ∷ up) - (r.depth - 1)) (front ++ x ∷ up)) ≡ false
+pub above_x : (x : List ℕ) (front up : Path) (r : NodeRow) → mem x up ≡ false
+    → r.depth ≤ suc (length up)
+    → mem x (drop (length (front ++ x ∷ up) - (r.depth - 1)) (front ++ x ∷ up)) ≡ false
 above_x x front up r off shallow =
     let long : length (front ++ x ∷ up) ≡ length front + suc (length up) = length-append front (x ∷ up) in
     let more : ℕ = length up - (r.depth - 1) in
@@ -84,7 +98,8 @@ above_x x front up r off shallow =
 
 -- what leads up from a deeper row still has x, and what leads from it
 pub below_x : (x : List ℕ) (front up : Path) (r : NodeRow) → suc (length up) < r.depth
-    → path_of (front ++ x ∷ up) r ≡ (r.id ∷ drop (length (front ++ x ∷ up) - (r.depth - 1)) front) ++ x ∷ up
+    → path_of (front ++ x ∷ up) r
+    ≡ (r.id ∷ drop (length (front ++ x ∷ up) - (r.depth - 1)) front) ++ x ∷ up
 below_x x front up r deep =
     let long : length (front ++ x ∷ up) ≡ length front + suc (length up) = length-append front (x ∷ up) in
     ap (λ xs. r.id ∷ xs) (drop-append-le (length (front ++ x ∷ up) - (r.depth - 1)) front (x ∷ up) (omega arith))
@@ -101,8 +116,11 @@ suc_lt_at false k n e = le-ltb (suc k) (1 + n) (omega (arith, ltb-false k n e))
 abbrev Behind : List ℕ → Path → Path → List NodeRow → ℕ → Type 0
 Behind x front up rows run = (k : ℕ) (p : Place) → slice_get (nodes_from (front ++ x ∷ up) rows) k ≡ Some p → below x p ≡ nat_lt k run
 
-behind_row : (shallow : Bool) (x : List ℕ) (front up : Path) (r : NodeRow) (rows : List NodeRow) → leb r.depth (suc (length up)) ≡ shallow → mem x up ≡ false → mem x (node_ids (r ∷ rows)) ≡ false
-    → ((front' : Path) → Behind x front' up rows (run_length (suc (length up)) rows)) → Behind x front up (r ∷ rows) (cond (not shallow) (1 + run_length (suc (length up)) rows) 0)
+behind_row : (shallow : Bool) (x : List ℕ) (front up : Path) (r : NodeRow) (rows : List NodeRow)
+    → leb r.depth (suc (length up)) ≡ shallow → mem x up ≡ false
+    → mem x (node_ids (r ∷ rows)) ≡ false
+    → ((front' : Path) → Behind x front' up rows (run_length (suc (length up)) rows))
+    → Behind x front up (r ∷ rows) (cond (not shallow) (1 + run_length (suc (length up)) rows) 0)
 behind_row true x front up r rows e off out later zero p h =
     let parts = or_parts (bytes_eq r.id x) (mem x (node_ids rows)) out in
     let same : node_place r (path_of (front ++ x ∷ up) r) ≡ p = cc in
@@ -119,8 +137,10 @@ behind_row false x front up r rows e off out later (suc k) p h =
     let kept : Path = r.id ∷ drop (length (front ++ x ∷ up) - (r.depth - 1)) front in
     later kept k p (subst (λ path. slice_get (nodes_from path rows) k ≡ Some p) (below_x x front up r (leb-false _ _ e)) h) ∙ sym (suc_lt_at _ k (run_length (suc (length up)) rows) refl)
 
--- behind x, whose parent's path is up: x is on the paths of the deeper rows that follow, and on no others
-pub behind : (x : List ℕ) (front up : Path) (rows : List NodeRow) → mem x up ≡ false → mem x (node_ids rows) ≡ false → Behind x front up rows (run_length (suc (length up)) rows)
+-- behind x, whose parent's path is up: x is on the paths of the deeper rows that follow, and on no
+-- others
+pub behind : (x : List ℕ) (front up : Path) (rows : List NodeRow) → mem x up ≡ false
+    → mem x (node_ids rows) ≡ false → Behind x front up rows (run_length (suc (length up)) rows)
 behind x front up [] off out k p h = cc
 behind x front up (r ∷ rows) off out k p h =
     let out_later : mem x (node_ids rows) ≡ false = (or_parts (bytes_eq r.id x) (mem x (node_ids rows)) out).1 in
@@ -139,7 +159,9 @@ RunOf (r ∷ rows) x (suc from) (suc to) = (bytes_eq r.id x ≡ false) × RunOf 
 abbrev pub Exact : Path → List NodeRow → List ℕ → ℕ → ℕ → Type 0
 Exact before rows x from to = (k : ℕ) (p : Place) → slice_get (nodes_from before rows) k ≡ Some p → below x p ≡ (nat_le from k && nat_lt k to)
 
-root_exact : (before : Path) (r : NodeRow) (rows : List NodeRow) (x : List ℕ) (to : ℕ) → Follows before (r ∷ rows) → mem x before ≡ false → are_distinct (node_ids (r ∷ rows)) ≡ true → RunOf (r ∷ rows) x zero to → Exact before (r ∷ rows) x zero to
+root_exact : (before : Path) (r : NodeRow) (rows : List NodeRow) (x : List ℕ) (to : ℕ)
+    → Follows before (r ∷ rows) → mem x before ≡ false → are_distinct (node_ids (r ∷ rows)) ≡ true
+    → RunOf (r ∷ rows) x zero to → Exact before (r ∷ rows) x zero to
 root_exact before r rows x to follows off apart run zero p h =
     let same : node_place r (path_of before r) ≡ p = cc in
     let up : Path = drop (length before - (r.depth - 1)) before in
@@ -157,7 +179,9 @@ root_exact before r rows x to follows off apart run (suc k) p h =
     behind x [] up rows above out k p named ∙ ap (λ d. ltb k (run_length d rows)) deep
     ∙ sym (ap (λ b. b && ltb (suc k) to) starts ∙ ap (ltb (suc k)) (run.1 ∙ sym (one-add (run_length r.depth rows))) ∙ suc_lt_at _ k (run_length r.depth rows) refl)
 
-pub run_exact : (before : Path) (rows : List NodeRow) (x : List ℕ) (from to : ℕ) → Follows before rows → mem x before ≡ false → are_distinct (node_ids rows) ≡ true → RunOf rows x from to → Exact before rows x from to
+pub run_exact : (before : Path) (rows : List NodeRow) (x : List ℕ) (from to : ℕ)
+    → Follows before rows → mem x before ≡ false → are_distinct (node_ids rows) ≡ true
+    → RunOf rows x from to → Exact before rows x from to
 run_exact before [] x from to follows off apart run k p h = absurd run
 run_exact before (r ∷ rows) x zero to follows off apart run k p h = root_exact before r rows x to follows off apart run k p h
 run_exact before (r ∷ rows) x (suc from) zero follows off apart run k p h = absurd run
@@ -172,8 +196,14 @@ run_exact before (r ∷ rows) x (suc from) (suc to) follows off apart run (suc k
 -- ---- what the code finds is the run
 
 -- where x stands first, the deeper rows behind it make the run
-run_of_row : (here : Bool) (later : Option ℕ) (r : NodeRow) (rows : List NodeRow) (x : List ℕ) (k n : ℕ) (s : NodeRow) → bytes_eq r.id x ≡ here → cond here (Some 0) (option_map suc later) ≡ Some k → slice_get (r ∷ rows) k ≡ Some s
-    → n ≡ run_length s.depth (drop k rows) → ((j : ℕ) → later ≡ Some j → slice_get rows j ≡ Some s → n ≡ run_length s.depth (drop (suc j) rows) → RunOf rows x j (suc (j + n))) → RunOf (r ∷ rows) x k (suc (k + n))
+run_of_row : (here : Bool) (later : Option ℕ) (r : NodeRow) (rows : List NodeRow) (x : List ℕ)
+    (k n : ℕ) (s : NodeRow)
+    → bytes_eq r.id x ≡ here → cond here (Some 0) (option_map suc later) ≡ Some k
+    → slice_get (r ∷ rows) k ≡ Some s
+    → n ≡ run_length s.depth (drop k rows)
+    → ((j : ℕ) → later ≡ Some j → slice_get rows j ≡ Some s
+    → n ≡ run_length s.depth (drop (suc j) rows) → RunOf rows x j (suc (j + n)))
+    → RunOf (r ∷ rows) x k (suc (k + n))
 run_of_row true later r rows x zero n s e found at run go =
     let same : r ≡ s = cc in
     ((bytes_eq-Decides r.id x).0 e, ap suc (zero-add n ∙ run ∙ ap (λ y. run_length y.depth rows) (sym same)))
@@ -187,14 +217,17 @@ run_of_row false (Some j) r rows x (suc k) n s e found at run go =
     let longer : suc (k + n) ≡ suc k + n = omega arith in
     (e, subst (λ i. RunOf rows x k i) longer rest)
 
-pub run_of : (rows : List NodeRow) (x : List ℕ) (k n : ℕ) (s : NodeRow) → position (λ r. bytes_eq r.id x) rows ≡ Some k → slice_get rows k ≡ Some s → n ≡ run_length s.depth (drop (suc k) rows) → RunOf rows x k (suc (k + n))
+pub run_of : (rows : List NodeRow) (x : List ℕ) (k n : ℕ) (s : NodeRow)
+    → position (λ r. bytes_eq r.id x) rows ≡ Some k → slice_get rows k ≡ Some s
+    → n ≡ run_length s.depth (drop (suc k) rows) → RunOf rows x k (suc (k + n))
 run_of [] x k n s found at run = cc
 run_of (r ∷ rows) x k n s found at run =
     run_of_row (bytes_eq r.id x) (position (λ y. bytes_eq y.id x) rows) r rows x k n s refl (sym (position-cons (λ y. bytes_eq y.id x) r rows) ∙ found) at run (λ j f a e. run_of rows x j n s f a e)
 
 -- ---- the place of an id
 
-same_at : {X Y : Type 0} (b : Bool) (x : X) (y : Y) (o : Option X) (q : Option Y) → is_some o ≡ is_some q → is_some (cond b (Some x) o) ≡ is_some (cond b (Some y) q)
+same_at : {X Y : Type 0} (b : Bool) (x : X) (y : Y) (o : Option X) (q : Option Y)
+    → is_some o ≡ is_some q → is_some (cond b (Some x) o) ≡ is_some (cond b (Some y) q)
 same_at true x y o q h = refl
 same_at false x y o q h = h
 
@@ -202,8 +235,11 @@ same_at false x y o q h = h
 abbrev pub HasPlace : Path → List NodeRow → List ℕ → ℕ → Type 0
 HasPlace before rows a k = (p : Place) × (slice_get (nodes_from before rows) k ≡ Some p) × (place_at (nodes_from before rows) a ≡ Some p)
 
-place_of_row : (here : Bool) (later : Option ℕ) (before : Path) (r : NodeRow) (rows : List NodeRow) (a : List ℕ) (k : ℕ) → bytes_eq r.id a ≡ here → cond here (Some 0) (option_map suc later) ≡ Some k
-    → ((j : ℕ) → later ≡ Some j → HasPlace (path_of before r) rows a j) → HasPlace before (r ∷ rows) a k
+place_of_row : (here : Bool) (later : Option ℕ) (before : Path) (r : NodeRow) (rows : List NodeRow)
+    (a : List ℕ) (k : ℕ)
+    → bytes_eq r.id a ≡ here → cond here (Some 0) (option_map suc later) ≡ Some k
+    → ((j : ℕ) → later ≡ Some j → HasPlace (path_of before r) rows a j)
+    → HasPlace before (r ∷ rows) a k
 place_of_row true later before r rows a zero e found go =
     (node_place r (path_of before r), refl, ap (λ b. cond b (Some (node_place r (path_of before r))) (place_at (nodes_from (path_of before r) rows) a)) e)
 place_of_row true later before r rows a (suc k) e found go = cc
@@ -214,19 +250,23 @@ place_of_row false (Some j) before r rows a (suc k) e found go =
     let rest : HasPlace (path_of before r) rows a k = subst (HasPlace (path_of before r) rows a) next (go j refl) in
     (rest.0, rest.1, ap (λ b. cond b (Some (node_place r (path_of before r))) (place_at (nodes_from (path_of before r) rows) a)) e ∙ rest.2)
 
-pub place_found : (before : Path) (rows : List NodeRow) (a : List ℕ) (k : ℕ) → position (λ r. bytes_eq r.id a) rows ≡ Some k → HasPlace before rows a k
+pub place_found : (before : Path) (rows : List NodeRow) (a : List ℕ) (k : ℕ)
+    → position (λ r. bytes_eq r.id a) rows ≡ Some k → HasPlace before rows a k
 place_found before [] a k found = cc
 place_found before (r ∷ rows) a k found =
     place_of_row (bytes_eq r.id a) (position (λ y. bytes_eq y.id a) rows) before r rows a k refl (sym (position-cons (λ y. bytes_eq y.id a) r rows) ∙ found) (place_found (path_of before r) rows a)
 
 -- the places are there for the rows
-pub is_some-place_at : (before : Path) (rows : List NodeRow) (a : List ℕ) → is_some (place_at (nodes_from before rows) a) ≡ is_some (row_of rows a)
+pub is_some-place_at : (before : Path) (rows : List NodeRow) (a : List ℕ)
+    → is_some (place_at (nodes_from before rows) a) ≡ is_some (row_of rows a)
 is_some-place_at before [] a = refl
 is_some-place_at before (r ∷ rows) a = same_at (bytes_eq r.id a) _ _ _ _ (is_some-place_at (path_of before r) rows a)
 
 -- ---- what `subtree` and `is_below` answer
 
-pub bounds : (rows later : List NodeRow) (x : List ℕ) (k n : ℕ) (s : NodeRow) → later ≡ drop (k + 1) rows → IsValid rows → position (λ r. bytes_eq r.id x) rows ≡ Some k → slice_get rows k ≡ Some s
+pub bounds : (rows later : List NodeRow) (x : List ℕ) (k n : ℕ) (s : NodeRow)
+    → later ≡ drop (k + 1) rows → IsValid rows → position (λ r. bytes_eq r.id x) rows ≡ Some k
+    → slice_get rows k ≡ Some s
     → n ≡ run_length s.depth later → n ≤ length later → BoundsNodesBelow rows x k (k + 1 + n)
 bounds rows later x k n s behind_k valid found at run fits =
     let within : k < length rows = below_length (λ r. bytes_eq r.id x) rows k found in
@@ -240,17 +280,20 @@ bounds rows later x k n s behind_k valid found at run fits =
           (ap (λ nodes. slice_get nodes j) (sym (node_places-rows rows)) ∙ there);
     }
 
-some_at : {X : Type 0} (b : Bool) (x : X) (o : Option X) (c : Bool) → c ≡ is_some o → (b || c) ≡ is_some (cond b (Some x) o)
+some_at : {X : Type 0} (b : Bool) (x : X) (o : Option X) (c : Bool) → c ≡ is_some o
+    → (b || c) ≡ is_some (cond b (Some x) o)
 some_at true x o c h = refl
 some_at false x o c h = h
 
 -- the node_ids of the rows are those that are found
-pub mem-node_ids : (rows : List NodeRow) (x : List ℕ) → mem x (node_ids rows) ≡ is_some (row_of rows x)
+pub mem-node_ids : (rows : List NodeRow) (x : List ℕ)
+    → mem x (node_ids rows) ≡ is_some (row_of rows x)
 mem-node_ids [] x = refl
 mem-node_ids (r ∷ rows) x = some_at (bytes_eq r.id x) r (row_of rows x) _ (mem-node_ids rows x)
 
 -- an id is below those on its path
-pub is_below-place : (rows : List NodeRow) (a b : List ℕ) (k : ℕ) → (h : HasPlace [] rows a k) → is_below (node_places rows) a b ≡ below b h.0
+pub is_below-place : (rows : List NodeRow) (a b : List ℕ) (k : ℕ) → (h : HasPlace [] rows a k)
+    → is_below (node_places rows) a b ≡ below b h.0
 is_below-place rows a b k h = ap (λ nodes. is_below nodes a b) (node_places-rows rows) ∙ ap (λ o. option_map_or (below b) o false) h.2
 
 none_from_is_some : {X : Type 0} (o : Option X) → is_some o ≡ false → o ≡ None
@@ -258,23 +301,29 @@ none_from_is_some None h = refl
 none_from_is_some (Some x) h = absurd (true≢false h)
 
 -- an unknown id is below none
-pub below_none : (rows : List NodeRow) (a b : List ℕ) → position (λ r. bytes_eq r.id a) rows ≡ None → is_below (node_places rows) a b ≡ false
+pub below_none : (rows : List NodeRow) (a b : List ℕ) → position (λ r. bytes_eq r.id a) rows ≡ None
+    → is_below (node_places rows) a b ≡ false
 below_none rows a b none =
     ap (λ nodes. is_below nodes a b) (node_places-rows rows)
     ∙ ap (λ o. option_map_or (below b) o false) (none_from_is_some (place_at (nodes_from [] rows) a) (is_some-place_at [] rows a ∙ ap is_some (none_at_position (λ r. bytes_eq r.id a) rows none)))
 
-below_unknown_at : (rows : List NodeRow) (a b : List ℕ) (o : Option ℕ) → position (λ r. bytes_eq r.id a) rows ≡ o → mem b (node_ids rows) ≡ false → is_below (node_places rows) a b ≡ false
+below_unknown_at : (rows : List NodeRow) (a b : List ℕ) (o : Option ℕ)
+    → position (λ r. bytes_eq r.id a) rows ≡ o → mem b (node_ids rows) ≡ false
+    → is_below (node_places rows) a b ≡ false
 below_unknown_at rows a b None e out = below_none rows a b e
 below_unknown_at rows a b (Some k) e out =
     let h = place_found [] rows a k e in
     is_below-place rows a b k h ∙ never b [] rows refl out k h.0 h.1
 
 -- nothing is below an unknown id
-pub below_unknown : (rows : List NodeRow) (a b : List ℕ) → is_some (row_of rows b) ≡ false → is_below (node_places rows) a b ≡ false
+pub below_unknown : (rows : List NodeRow) (a b : List ℕ) → is_some (row_of rows b) ≡ false
+    → is_below (node_places rows) a b ≡ false
 below_unknown rows a b none = below_unknown_at rows a b _ refl (mem-node_ids rows b ∙ none)
 
 -- a known id is below those whose rows bound it
-pub below_bounds : (rows : List NodeRow) (a b : List ℕ) (k from to : ℕ) → position (λ r. bytes_eq r.id a) rows ≡ Some k → BoundsNodesBelow rows b from to → is_below (node_places rows) a b ≡ (nat_le from k && nat_lt k to)
+pub below_bounds : (rows : List NodeRow) (a b : List ℕ) (k from to : ℕ)
+    → position (λ r. bytes_eq r.id a) rows ≡ Some k → BoundsNodesBelow rows b from to
+    → is_below (node_places rows) a b ≡ (nat_le from k && nat_lt k to)
 below_bounds rows a b k from to found bounds =
     let h = place_found [] rows a k found in
     is_below-place rows a b k h ∙ bounds.exact k h.0 (ap (λ nodes. slice_get nodes k) (node_places-rows rows) ∙ h.1)

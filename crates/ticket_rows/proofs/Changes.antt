@@ -1,8 +1,10 @@
 -- A change of each row that keeps where it stands: the rows stay a ticket.
-use Rattle.std.proofs.Common.{◌≡◌, ℕ, zero, suc, ◌-◌, ◌&&◌, ◌||◌, Bool, true, false, not, cond, List, [], ◌∷◌, ◌++◌, map, length, drop, Option, Some, None, refl, sym, ap, ◌∙◌, set, get_or, slice_get, nat_le}
+use Rattle.std.proofs.Common.{◌≡◌, ℕ, zero, suc, ◌-◌, ◌&&◌, Bool, true, false, not, cond, List, []}
+use Rattle.std.proofs.Common.{◌∷◌, ◌++◌, map, length, drop, Option, Some, None, refl, sym, ap, ◌∙◌}
+use Rattle.std.proofs.Common.{set, get_or, slice_get, nat_le}
 use Rattle.std.proofs.lemmas.Bool.{and_parts, and_from, or_parts, cond_both}
-use Rattle.std.specs.List.{find, flat_map, list_all, position}
-use Rattle.std.specs.Option.{option_map, option_map_or}
+use Rattle.std.specs.List.{flat_map, list_all, position}
+use Rattle.std.specs.Option.{option_map}
 use Rattle.std.specs.Str.{bytes_eq}
 use Rattle.std.proofs.lemmas.Option.{slice_get-get_or}
 use Rattle.ticket_items.proofs.Places.{position-cons, below_length}
@@ -14,13 +16,12 @@ use Rattle.ticket_rows.proofs.AtHome.{holds, any-map, home_of-cons}
 use Rattle.ticket_items.proofs.AtKey.{write_at_key, at_key-none}
 use Rattle.ticket_rows.proofs.NodePlaces.{node_ids_distinct}
 use Rattle.ticket_rows.proofs.LinkWalk.{resolves, are_resolved_from, links_same, resolved_walk}
-use Rattle.ticket_rows.specs.Homes.{homes, home_of}
+use Rattle.ticket_rows.specs.Homes.{home_of}
 use Rattle.ticket_items.specs.Ids.{mem, are_distinct}
 use Rattle.ticket_rows.specs.Outline.{is_outline}
 use Rattle.ticket_rows.specs.Place.{path_of}
 use Rattle.ticket_rows.specs.Ticket.{IsValid, ids, ids_of, is_reserved, max_depth}
 use Rattle.ticket_items.specs.declared.audit.Audit.TheVariants.{Notification}
-use Rattle.ticket_items.specs.declared.link.Link.{Link}
 use Rattle.ticket_items.specs.declared.resource.Resource.{Resource}
 use Rattle.ticket_items.specs.declared.node_row.NodeRow.{NodeRow}
 
@@ -52,15 +53,19 @@ keeps-at_id x f keeps =
       status = λ r free. cond_both (bytes_eq r.id x) (f r) r (λ s. not (is_reserved s.status) ≡ true) (λ _. keeps.status r free) (λ _. free);
     }
 
-map-kept : {Y : Type 0} (h : NodeRow → Y) (g : NodeRow → NodeRow) (rows : List NodeRow) → ((r : NodeRow) → h (g r) ≡ h r) → map h (map g rows) ≡ map h rows
+map-kept : {Y : Type 0} (h : NodeRow → Y) (g : NodeRow → NodeRow) (rows : List NodeRow)
+    → ((r : NodeRow) → h (g r) ≡ h r) → map h (map g rows) ≡ map h rows
 map-kept h g [] keeps = refl
 map-kept h g (r ∷ rows) keeps = ap (λ y. y ∷ map h (map g rows)) (keeps r) ∙ ap (λ ys. h r ∷ ys) (map-kept h g rows keeps)
 
-flat-kept : {Y : Type 0} (h : NodeRow → List Y) (g : NodeRow → NodeRow) (rows : List NodeRow) → ((r : NodeRow) → h (g r) ≡ h r) → flat_map h (map g rows) ≡ flat_map h rows
+flat-kept : {Y : Type 0} (h : NodeRow → List Y) (g : NodeRow → NodeRow) (rows : List NodeRow)
+    → ((r : NodeRow) → h (g r) ≡ h r) → flat_map h (map g rows) ≡ flat_map h rows
 flat-kept h g [] keeps = refl
 flat-kept h g (r ∷ rows) keeps = ap (λ ys. ys ++ flat_map h (map g rows)) (keeps r) ∙ ap (λ ys. h r ++ ys) (flat-kept h g rows keeps)
 
-all-kept : (p : NodeRow → Bool) (g : NodeRow → NodeRow) (rows : List NodeRow) → ((r : NodeRow) → p r ≡ true → p (g r) ≡ true) → list_all p rows ≡ true → list_all p (map g rows) ≡ true
+all-kept : (p : NodeRow → Bool) (g : NodeRow → NodeRow) (rows : List NodeRow)
+    → ((r : NodeRow) → p r ≡ true → p (g r) ≡ true) → list_all p rows ≡ true
+    → list_all p (map g rows) ≡ true
 all-kept p g [] keeps h = refl
 all-kept p g (r ∷ rows) keeps h =
     let parts = and_parts _ _ h in
@@ -68,7 +73,8 @@ all-kept p g (r ∷ rows) keeps h =
 
 -- ---- homes
 
-home_of-kept : (g : NodeRow → NodeRow) (rows : List NodeRow) (x : List ℕ) → KeepsTicket g → home_of (map g rows) x ≡ home_of rows x
+home_of-kept : (g : NodeRow → NodeRow) (rows : List NodeRow) (x : List ℕ) → KeepsTicket g
+    → home_of (map g rows) x ≡ home_of rows x
 home_of-kept g [] x keeps = refl
 home_of-kept g (r ∷ rows) x keeps =
     home_of-cons x (g r) (map g rows)
@@ -79,11 +85,15 @@ home_of-kept g (r ∷ rows) x keeps =
 
 -- ---- links
 
-path-kept : (g : NodeRow → NodeRow) (before : List (List ℕ)) (r : NodeRow) → KeepsTicket g → path_of before (g r) ≡ path_of before r
+path-kept : (g : NodeRow → NodeRow) (before : List (List ℕ)) (r : NodeRow) → KeepsTicket g
+    → path_of before (g r) ≡ path_of before r
 path-kept g before r keeps =
     ap (λ i. i ∷ drop (length before - ((g r).depth - 1)) before) (keeps.id r) ∙ ap (λ d. r.id ∷ drop (length before - (d - 1)) before) (keeps.depth r)
 
-resolved-kept : (g : NodeRow → NodeRow) (old new : List NodeRow) (before : List (List ℕ)) (rows : List NodeRow) → KeepsTicket g → ((x : List ℕ) → home_of new x ≡ home_of old x) → are_resolved_from new before (map g rows) ≡ are_resolved_from old before rows
+resolved-kept : (g : NodeRow → NodeRow) (old new : List NodeRow) (before : List (List ℕ))
+    (rows : List NodeRow)
+    → KeepsTicket g → ((x : List ℕ) → home_of new x ≡ home_of old x)
+    → are_resolved_from new before (map g rows) ≡ are_resolved_from old before rows
 resolved-kept g old new before [] keeps same = refl
 resolved-kept g old new before (r ∷ rows) keeps same =
     ap (λ path. list_all (resolves new path) (g r).links && are_resolved_from new path (map g rows)) (path-kept g before r keeps)
@@ -96,7 +106,8 @@ resolved-kept g old new before (r ∷ rows) keeps same =
 ids_of-kept : (g : NodeRow → NodeRow) (r : NodeRow) → KeepsTicket g → ids_of (g r) ≡ ids_of r
 ids_of-kept g r keeps = ap (λ i. i ∷ map (λ x. x.id) (g r).resources) (keeps.id r) ∙ ap (λ is. r.id ∷ is) (keeps.pool r)
 
-pub IsValid-kept : (g : NodeRow → NodeRow) (rows : List NodeRow) → KeepsTicket g → IsValid rows → IsValid (map g rows)
+pub IsValid-kept : (g : NodeRow → NodeRow) (rows : List NodeRow) → KeepsTicket g → IsValid rows
+    → IsValid (map g rows)
 IsValid-kept g rows keeps valid =
     record {
       tree = ap is_outline (map-kept (λ r. r.depth) g rows keeps.depth) ∙ valid.tree;
@@ -106,41 +117,53 @@ IsValid-kept g rows keeps valid =
       resolved = resolved_walk (map g rows) ∙ resolved-kept g rows (map g rows) [] rows keeps (λ x. home_of-kept g rows x keeps) ∙ sym (resolved_walk rows) ∙ valid.resolved;
     }
 
-pub IsValid-with_row : (x : List ℕ) (f : NodeRow → NodeRow) (rows : List NodeRow) → KeepsTicket f → IsValid rows → IsValid (with_row x f rows)
+pub IsValid-with_row : (x : List ℕ) (f : NodeRow → NodeRow) (rows : List NodeRow) → KeepsTicket f
+    → IsValid rows → IsValid (with_row x f rows)
 IsValid-with_row x f rows keeps valid = IsValid-kept (at_id x f) rows (keeps-at_id x f keeps) valid
 
 -- ---- the edits
 
-pub keeps-SetStatus : (status : List ℕ) → is_reserved status ≡ false → KeepsTicket (λ r. record r { status = status })
+pub keeps-SetStatus : (status : List ℕ) → is_reserved status ≡ false
+    → KeepsTicket (λ r. record r { status = status })
 keeps-SetStatus status free = record { id = λ r. refl; depth = λ r. refl; pool = λ r. refl; links = λ r. refl; status = λ r _. ap not free }
 
-pub keeps-SetAttr : (name value : List ℕ) → KeepsTicket (λ r. record r { attrs = with_attr name value r.attrs })
+pub keeps-SetAttr : (name value : List ℕ)
+    → KeepsTicket (λ r. record r { attrs = with_attr name value r.attrs })
 keeps-SetAttr name value = record { id = λ r. refl; depth = λ r. refl; pool = λ r. refl; links = λ r. refl; status = λ r h. h }
 
-pub keeps-Note : (at : ℕ) (text : List ℕ) → KeepsTicket (λ r. record r { audits = r.audits ++ Notification at text ∷ [] })
+pub keeps-Note : (at : ℕ) (text : List ℕ)
+    → KeepsTicket (λ r. record r { audits = r.audits ++ Notification at text ∷ [] })
 keeps-Note at text = record { id = λ r. refl; depth = λ r. refl; pool = λ r. refl; links = λ r. refl; status = λ r h. h }
 
-pool-kept : (x : List ℕ) (f : Resource → Resource) (pool : List Resource) → ((y : Resource) → (f y).id ≡ y.id) → map (λ y. y.id) (with_item x f pool) ≡ map (λ y. y.id) pool
+pool-kept : (x : List ℕ) (f : Resource → Resource) (pool : List Resource)
+    → ((y : Resource) → (f y).id ≡ y.id)
+    → map (λ y. y.id) (with_item x f pool) ≡ map (λ y. y.id) pool
 pool-kept x f [] keeps = refl
 pool-kept x f (y ∷ pool) keeps =
     ap (λ i. i ∷ map (λ z. z.id) (with_item x f pool)) (cond_same (λ z. z.id) (bytes_eq y.id x) (f y) y (keeps y)) ∙ ap (λ is. y.id ∷ is) (pool-kept x f pool keeps)
 
-pub keeps-resources : (x : List ℕ) (f : Resource → Resource) → ((y : Resource) → (f y).id ≡ y.id) → KeepsTicket (λ r. record r { resources = with_item x f r.resources })
+pub keeps-resources : (x : List ℕ) (f : Resource → Resource) → ((y : Resource) → (f y).id ≡ y.id)
+    → KeepsTicket (λ r. record r { resources = with_item x f r.resources })
 keeps-resources x f keeps = record { id = λ r. refl; depth = λ r. refl; pool = λ r. pool-kept x f r.resources keeps; links = λ r. refl; status = λ r h. h }
 
-pub IsValid-with_resource : (x : List ℕ) (f : Resource → Resource) (rows : List NodeRow) → ((y : Resource) → (f y).id ≡ y.id) → IsValid rows → IsValid (with_resource x f rows)
+pub IsValid-with_resource : (x : List ℕ) (f : Resource → Resource) (rows : List NodeRow)
+    → ((y : Resource) → (f y).id ≡ y.id) → IsValid rows → IsValid (with_resource x f rows)
 IsValid-with_resource x f rows keeps valid = IsValid-kept (λ r. record r { resources = with_item x f r.resources }) rows (keeps-resources x f keeps) valid
 
 -- ---- a write at the place that was found
 
 -- a write of f at the place that was found among the rows as they were seen
-pub change_at : (x : List ℕ) (f : NodeRow → NodeRow) (rows seen : List NodeRow) (k : ℕ) (s : NodeRow) → seen ≡ rows → are_distinct (ids rows) ≡ true → position (λ r. bytes_eq r.id x) seen ≡ Some k → s ≡ get_or rows k s → set rows k (f s) ≡ with_row x f rows
+pub change_at : (x : List ℕ) (f : NodeRow → NodeRow) (rows seen : List NodeRow) (k : ℕ)
+    (s : NodeRow)
+    → seen ≡ rows → are_distinct (ids rows) ≡ true → position (λ r. bytes_eq r.id x) seen ≡ Some k
+    → s ≡ get_or rows k s → set rows k (f s) ≡ with_row x f rows
 change_at x f rows seen k s same apart found is = write_at_key (λ r. r.id) x f rows seen k s same (node_ids_distinct rows apart) found is
 
 -- ---- a write in the pool that was found
 
 -- the ids of a pool are apart
-pub pool_apart : (rows : List NodeRow) (k : ℕ) (r : NodeRow) → are_distinct (ids rows) ≡ true → slice_get rows k ≡ Some r → are_distinct (map (λ y. y.id) r.resources) ≡ true
+pub pool_apart : (rows : List NodeRow) (k : ℕ) (r : NodeRow) → are_distinct (ids rows) ≡ true
+    → slice_get rows k ≡ Some r → are_distinct (map (λ y. y.id) r.resources) ≡ true
 pool_apart [] k r apart at = cc
 pool_apart (s ∷ rows) zero r apart at =
     let same : s ≡ r = cc in
@@ -148,7 +171,8 @@ pool_apart (s ∷ rows) zero r apart at =
 pool_apart (s ∷ rows) (suc k) r apart at = pool_apart rows k r (later_distinct (map (λ y. y.id) s.resources) (ids rows) (and_parts _ _ apart).1) at
 
 -- an id that isn't there changes no resource
-pub with_resource-none : (x : List ℕ) (f : Resource → Resource) (rows : List NodeRow) → mem x (ids rows) ≡ false → with_resource x f rows ≡ rows
+pub with_resource-none : (x : List ℕ) (f : Resource → Resource) (rows : List NodeRow)
+    → mem x (ids rows) ≡ false → with_resource x f rows ≡ rows
 with_resource-none x f [] out = refl
 with_resource-none x f (r ∷ rows) out =
     let parts = or_parts (bytes_eq r.id x) _ out in
@@ -158,8 +182,14 @@ with_resource-none x f (r ∷ rows) out =
 abbrev with_pool : List ℕ → (Resource → Resource) → NodeRow → NodeRow
 with_pool x f r = record r { resources = with_item x f r.resources }
 
-set_pool : (here : Bool) (later : Option ℕ) (x : List ℕ) (f : Resource → Resource) (r : NodeRow) (rows : List NodeRow) (k : ℕ) (s : NodeRow) → holds x r ≡ here → cond here (Some 0) (option_map suc later) ≡ Some k → slice_get (r ∷ rows) k ≡ Some s
-    → are_distinct (map (λ y. y.id) r.resources ++ ids rows) ≡ true → ((j : ℕ) → later ≡ Some j → slice_get rows j ≡ Some s → set rows j (with_pool x f s) ≡ with_resource x f rows) → set (r ∷ rows) k (with_pool x f s) ≡ with_resource x f (r ∷ rows)
+set_pool : (here : Bool) (later : Option ℕ) (x : List ℕ) (f : Resource → Resource) (r : NodeRow)
+    (rows : List NodeRow) (k : ℕ) (s : NodeRow)
+    → holds x r ≡ here → cond here (Some 0) (option_map suc later) ≡ Some k
+    → slice_get (r ∷ rows) k ≡ Some s
+    → are_distinct (map (λ y. y.id) r.resources ++ ids rows) ≡ true
+    → ((j : ℕ) → later ≡ Some j → slice_get rows j ≡ Some s
+    → set rows j (with_pool x f s) ≡ with_resource x f rows)
+    → set (r ∷ rows) k (with_pool x f s) ≡ with_resource x f (r ∷ rows)
 set_pool true later x f r rows zero s e found at apart go =
     let same : r ≡ s = cc in
     ap (λ t. with_pool x f t ∷ rows) (sym same) ∙ ap (λ rs. with_pool x f r ∷ rs) (sym (with_resource-none x f rows (other_part x (map (λ y. y.id) r.resources) (ids rows) apart (any-map x r.resources ∙ e))))
@@ -171,17 +201,24 @@ set_pool false (Some j) x f r rows (suc k) s e found at apart go =
     let rest : set rows k (with_pool x f s) ≡ with_resource x f rows = ap (λ i. set rows i (with_pool x f s)) next ∙ go j refl (ap (slice_get rows) (sym next) ∙ at) in
     ap (λ rs. r ∷ rs) rest ∙ ap (λ pool. record r { resources = pool } ∷ with_resource x f rows) (sym (at_key-none (λ y. y.id) x f r.resources (any-map x r.resources ∙ e)))
 
-set-with_resource : (x : List ℕ) (f : Resource → Resource) (rows : List NodeRow) (k : ℕ) (s : NodeRow) → are_distinct (ids rows) ≡ true → position (holds x) rows ≡ Some k → slice_get rows k ≡ Some s → set rows k (with_pool x f s) ≡ with_resource x f rows
+set-with_resource : (x : List ℕ) (f : Resource → Resource) (rows : List NodeRow) (k : ℕ)
+    (s : NodeRow)
+    → are_distinct (ids rows) ≡ true → position (holds x) rows ≡ Some k → slice_get rows k ≡ Some s
+    → set rows k (with_pool x f s) ≡ with_resource x f rows
 set-with_resource x f [] k s apart found at = cc
 set-with_resource x f (r ∷ rows) k s apart found at =
     let parts = and_parts _ _ apart in
     set_pool (holds x r) (position (holds x) rows) x f r rows k s refl (sym (position-cons (holds x) r rows) ∙ found) at parts.1 (λ j e a. set-with_resource x f rows j s (later_distinct (map (λ y. y.id) r.resources) (ids rows) parts.1) e a)
 
 -- the row at the place that was found among the rows as they were seen
-pub home_at_place : (x : List ℕ) (rows seen : List NodeRow) (k : ℕ) (s : NodeRow) → seen ≡ rows → position (holds x) seen ≡ Some k → s ≡ get_or rows k s → slice_get rows k ≡ Some s
+pub home_at_place : (x : List ℕ) (rows seen : List NodeRow) (k : ℕ) (s : NodeRow) → seen ≡ rows
+    → position (holds x) seen ≡ Some k → s ≡ get_or rows k s → slice_get rows k ≡ Some s
 home_at_place x rows seen k s same found is =
     slice_get-get_or rows k s (below_length (holds x) rows k (ap (position (holds x)) (sym same) ∙ found)) ∙ ap Some (sym is)
 
-pub change_pool_at : (x : List ℕ) (f : Resource → Resource) (rows seen : List NodeRow) (k : ℕ) (s : NodeRow) → seen ≡ rows → are_distinct (ids rows) ≡ true → position (holds x) seen ≡ Some k → s ≡ get_or rows k s → set rows k (with_pool x f s) ≡ with_resource x f rows
+pub change_pool_at : (x : List ℕ) (f : Resource → Resource) (rows seen : List NodeRow) (k : ℕ)
+    (s : NodeRow)
+    → seen ≡ rows → are_distinct (ids rows) ≡ true → position (holds x) seen ≡ Some k
+    → s ≡ get_or rows k s → set rows k (with_pool x f s) ≡ with_resource x f rows
 change_pool_at x f rows seen k s same apart found is =
     set-with_resource x f rows k s apart (ap (position (holds x)) (sym same) ∙ found) (home_at_place x rows seen k s same found is)

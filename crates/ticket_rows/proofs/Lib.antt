@@ -10,6 +10,7 @@ pub mod NewNode
 pub mod NewResource
 pub mod NodePlaces
 pub mod OneRows
+pub mod PartEdits
 pub mod Reasons
 pub mod ResourcePlaces
 pub mod Table

@@ -1,5 +1,6 @@
 -- The calls that change one row keep a ticket valid.
-use Rattle.std.proofs.Common.{◌≡◌, ℕ, Bool, true, false, not, cond, List, [], ◌∷◌, ◌++◌, map, Option, Some, None, refl, sym, ap, ◌∙◌, subst}
+use Rattle.std.proofs.Common.{◌≡◌, ℕ, Bool, true, false, not, cond, List, [], ◌∷◌, ◌++◌, map, Some}
+use Rattle.std.proofs.Common.{refl, sym, ap, ◌∙◌, subst}
 use Rattle.std.proofs.lemmas.Bool.{and_parts, not-true}
 use Rattle.std.proofs.lemmas.Slice.Eq.{bytes_eq-Decides}
 use Rattle.std.specs.List.{find}
@@ -7,12 +8,12 @@ use Rattle.std.specs.Str.{bytes_eq}
 use Rattle.ticket_items.proofs.AtKey.{at_key, at_key-none}
 use Rattle.ticket_rows.proofs.Changes.{KeepsTicket, IsValid-with_row, IsValid-with_resource}
 use Rattle.ticket_rows.proofs.NodePlaces.{node_ids_distinct}
-use Rattle.ticket_rows.specs.Edit.{with_row, with_resource}
+use Rattle.ticket_rows.specs.Edit.{with_resource}
 use Rattle.ticket_items.specs.Resource.{with_item}
 use Rattle.ticket_items.specs.Ids.{mem, are_distinct}
 use Rattle.ticket_rows.specs.OneRow.{MayReplaceNode, replaced_node, replaced_resource}
 use Rattle.ticket_rows.specs.Place.{links_of}
-use Rattle.ticket_rows.specs.Ticket.{IsValid, is_reserved, node_ids, row_of}
+use Rattle.ticket_rows.specs.Ticket.{IsValid, is_reserved}
 use Rattle.ticket_items.specs.declared.audit.Audit.{Audit}
 use Rattle.ticket_items.specs.declared.node_row.NodeRow.{NodeRow}
 use Rattle.ticket_items.specs.declared.resource.Resource.{Resource}
@@ -33,7 +34,8 @@ ids-over [] olds = refl
 ids-over (x ∷ news) [] = refl
 ids-over (x ∷ news) (y ∷ olds) = ap (λ is. y.id ∷ is) (ids-over news olds)
 
-over-same : (news olds : List Resource) → map (λ x. x.id) news ≡ map (λ x. x.id) olds → over news olds ≡ news
+over-same : (news olds : List Resource) → map (λ x. x.id) news ≡ map (λ x. x.id) olds
+    → over news olds ≡ news
 over-same [] [] same = refl
 over-same [] (y ∷ olds) same = cc
 over-same (x ∷ news) [] same = cc
@@ -49,14 +51,21 @@ kept_row row r = record row { id = r.id; depth = r.depth; resources = over row.r
 keeps-kept_row : (row : NodeRow) → is_reserved row.status ≡ false → KeepsTicket (kept_row row)
 keeps-kept_row row free = record { id = λ r. refl; depth = λ r. refl; pool = λ r. ids-over row.resources r.resources; links = λ r. refl; status = λ r _. ap not free }
 
-kept_row-same : (row old : NodeRow) → row.id ≡ old.id → map (λ x. x.id) row.resources ≡ map (λ x. x.id) old.resources → row.links ≡ old.links → record row { depth = old.depth } ≡ kept_row row old
+kept_row-same : (row old : NodeRow) → row.id ≡ old.id
+    → map (λ x. x.id) row.resources ≡ map (λ x. x.id) old.resources → row.links ≡ old.links
+    → record row { depth = old.depth } ≡ kept_row row old
 kept_row-same row old id pool links =
     ap (λ i. record row { id = i; depth = old.depth }) id
     ∙ ap (λ xs. record row { id = old.id; depth = old.depth; resources = xs }) (sym (over-same row.resources old.resources pool))
     ∙ ap (λ ls. record row { id = old.id; depth = old.depth; resources = over row.resources old.resources; links = ls }) links
 
-changed_here : {X : Type 0} (key : X → List ℕ) (b : Bool) (x : List ℕ) (f g : X → X) (y old : X) (ys : List X) → bytes_eq (key y) x ≡ b → cond b (Some y) (find (λ z. bytes_eq (key z) x) ys) ≡ Some old → mem (key y) (map key ys) ≡ false
-    → (bytes_eq (key old) x ≡ true → f old ≡ g old) → (find (λ z. bytes_eq (key z) x) ys ≡ Some old → at_key key x f ys ≡ at_key key x g ys) → cond b (f y) y ∷ at_key key x f ys ≡ cond b (g y) y ∷ at_key key x g ys
+changed_here : {X : Type 0} (key : X → List ℕ) (b : Bool) (x : List ℕ) (f g : X → X) (y old : X)
+    (ys : List X)
+    → bytes_eq (key y) x ≡ b → cond b (Some y) (find (λ z. bytes_eq (key z) x) ys) ≡ Some old
+    → mem (key y) (map key ys) ≡ false
+    → (bytes_eq (key old) x ≡ true → f old ≡ g old)
+    → (find (λ z. bytes_eq (key z) x) ys ≡ Some old → at_key key x f ys ≡ at_key key x g ys)
+    → cond b (f y) y ∷ at_key key x f ys ≡ cond b (g y) y ∷ at_key key x g ys
 changed_here key true x f g y old ys e found out same later =
     let here : y ≡ old = cc in
     let none : mem x (map key ys) ≡ false = ap (λ i. mem i (map key ys)) (sym ((bytes_eq-Decides (key y) x).0 e)) ∙ out in
@@ -64,13 +73,16 @@ changed_here key true x f g y old ys e found out same later =
 changed_here key false x f g y old ys e found out same later = ap (λ zs. y ∷ zs) (later found)
 
 -- two changes of what has the key are one where they make the same of it
-pub at_key-same : {X : Type 0} (key : X → List ℕ) (x : List ℕ) (f g : X → X) (ys : List X) (old : X) → find (λ z. bytes_eq (key z) x) ys ≡ Some old → are_distinct (map key ys) ≡ true → (bytes_eq (key old) x ≡ true → f old ≡ g old) → at_key key x f ys ≡ at_key key x g ys
+pub at_key-same : {X : Type 0} (key : X → List ℕ) (x : List ℕ) (f g : X → X) (ys : List X) (old : X)
+    → find (λ z. bytes_eq (key z) x) ys ≡ Some old → are_distinct (map key ys) ≡ true
+    → (bytes_eq (key old) x ≡ true → f old ≡ g old) → at_key key x f ys ≡ at_key key x g ys
 at_key-same key x f g [] old found apart same = refl
 at_key-same key x f g (y ∷ ys) old found apart same =
     let parts = and_parts _ _ apart in
     changed_here key (bytes_eq (key y) x) x f g y old ys refl found (not-true _ parts.0) same (λ there. at_key-same key x f g ys old there parts.1 same)
 
-pub IsValid-replaced_node : (rows : List NodeRow) (row : NodeRow) → MayReplaceNode rows row → IsValid rows → IsValid (replaced_node row rows)
+pub IsValid-replaced_node : (rows : List NodeRow) (row : NodeRow) → MayReplaceNode rows row
+    → IsValid rows → IsValid (replaced_node row rows)
 IsValid-replaced_node rows row may valid =
     subst IsValid
     (sym (at_key-same (λ r. r.id) row.id (λ r. record row { depth = r.depth }) (kept_row row) rows may.old may.there (node_ids_distinct rows valid.distinct)
@@ -79,20 +91,24 @@ IsValid-replaced_node rows row may valid =
 
 -- ---- a resource in the place of another
 
-same_at : (b : Bool) (x y : Resource) → bytes_eq y.id x.id ≡ b → cond b x y ≡ cond b (record x { id = y.id }) y
+same_at : (b : Bool) (x y : Resource) → bytes_eq y.id x.id ≡ b
+    → cond b x y ≡ cond b (record x { id = y.id }) y
 same_at true x y e = ap (λ i. record x { id = i }) (sym ((bytes_eq-Decides y.id x.id).0 e))
 same_at false x y e = refl
 
-with_item-same : (x : Resource) (pool : List Resource) → with_item x.id (λ _. x) pool ≡ with_item x.id (λ y. record x { id = y.id }) pool
+with_item-same : (x : Resource) (pool : List Resource)
+    → with_item x.id (λ _. x) pool ≡ with_item x.id (λ y. record x { id = y.id }) pool
 with_item-same x [] = refl
 with_item-same x (y ∷ pool) =
     ap (λ z. z ∷ with_item x.id (λ _. x) pool) (same_at (bytes_eq y.id x.id) x y refl) ∙ ap (λ zs. cond (bytes_eq y.id x.id) (record x { id = y.id }) y ∷ zs) (with_item-same x pool)
 
-pub with_resource-same : (x : Resource) (rows : List NodeRow) → with_resource x.id (λ _. x) rows ≡ with_resource x.id (λ y. record x { id = y.id }) rows
+pub with_resource-same : (x : Resource) (rows : List NodeRow)
+    → with_resource x.id (λ _. x) rows ≡ with_resource x.id (λ y. record x { id = y.id }) rows
 with_resource-same x [] = refl
 with_resource-same x (r ∷ rows) =
     ap (λ pool. record r { resources = pool } ∷ with_resource x.id (λ _. x) rows) (with_item-same x r.resources)
     ∙ ap (λ rs. record r { resources = with_item x.id (λ y. record x { id = y.id }) r.resources } ∷ rs) (with_resource-same x rows)
 
-pub IsValid-replaced_resource : (rows : List NodeRow) (x : Resource) → IsValid rows → IsValid (replaced_resource x rows)
+pub IsValid-replaced_resource : (rows : List NodeRow) (x : Resource) → IsValid rows
+    → IsValid (replaced_resource x rows)
 IsValid-replaced_resource rows x valid = subst IsValid (sym (with_resource-same x rows)) (IsValid-with_resource x.id (λ y. record x { id = y.id }) rows (λ y. refl) valid)

@@ -1,5 +1,6 @@
 -- The edits of a ticket, on its rows: what each is refused for, and what it does.
-use Rattle.std.specs.Prelude.{ℕ, suc, ◌&&◌, Bool, true, false, not, ◌++◌, List, [], ◌∷◌, map, if◌then◌else◌, nat_lt, Option, Some, None}
+use Rattle.std.specs.Prelude.{ℕ, suc, ◌&&◌, Bool, true, false, not, ◌++◌, List, [], ◌∷◌, map}
+use Rattle.std.specs.Prelude.{if◌then◌else◌, nat_lt, Option, Some, None}
 use Rattle.std.specs.List.{list_any}
 use Rattle.std.specs.Option.{option_map_or}
 use Rattle.std.specs.Str.{bytes_eq}
@@ -12,7 +13,9 @@ use Rattle.ticket_rows.specs.EditRefusal.{Lookups, edit_refusal, no_node, no_res
 use Rattle.ticket_rows.specs.Ticket.{Job, has_node, ids, max_depth, row_of}
 use Rattle.ticket_items.specs.declared.audit.Audit.TheVariants.{Notification}
 use Rattle.ticket_items.specs.declared.edit.Edit.{Edit}
-use Rattle.ticket_items.specs.declared.edit.Edit.TheVariants.{SetStatus, SetAttr, SetResStatus, SetResAttr, Note, AddNode, AddResource, AddLink}
+use Rattle.ticket_items.specs.declared.edit.Edit.TheVariants.{SetStatus, SetAttr, SetResStatus}
+use Rattle.ticket_items.specs.declared.edit.Edit.TheVariants.{SetResAttr, Note, AddNode}
+use Rattle.ticket_items.specs.declared.edit.Edit.TheVariants.{AddResource, AddLink}
 use Rattle.ticket_items.specs.declared.node_row.NodeRow.{NodeRow}
 use Rattle.ticket_items.specs.declared.refusal.Refusal.{Refusal}
 use Rattle.ticket_items.specs.declared.resource.Resource.{Resource}
@@ -32,47 +35,28 @@ target (AddLink node link) = node
 
 -- whether the target is read as a node's id, and not as a resource's
 abbrev pub is_of_node : Edit → Bool
-is_of_node (SetStatus node status) = true
-is_of_node (SetAttr node name value) = true
 is_of_node (SetResStatus resource status) = false
 is_of_node (SetResAttr resource name value) = false
-is_of_node (Note node text) = true
-is_of_node (AddNode node id kind job_part status) = true
-is_of_node (AddResource node resource) = true
-is_of_node (AddLink node link) = true
+is_of_node e = true
 
 -- whether it adds to the tree: a node, a resource or a link
 abbrev pub is_structural : Edit → Bool
-is_structural (SetStatus node status) = false
-is_structural (SetAttr node name value) = false
-is_structural (SetResStatus resource status) = false
-is_structural (SetResAttr resource name value) = false
-is_structural (Note node text) = false
 is_structural (AddNode node id kind job_part status) = true
 is_structural (AddResource node resource) = true
 is_structural (AddLink node link) = true
+is_structural e = false
 
--- whether it puts anything more into the ticket. Another Status takes the place of the one that was there
+-- whether it puts anything more into the ticket, which another Status doesn't
 abbrev pub grows : Edit → Bool
 grows (SetStatus node status) = false
-grows (SetAttr node name value) = true
 grows (SetResStatus resource status) = false
-grows (SetResAttr resource name value) = true
-grows (Note node text) = true
-grows (AddNode node id kind job_part status) = true
-grows (AddResource node resource) = true
-grows (AddLink node link) = true
+grows e = true
 
 -- the id that it puts into the ticket
 abbrev pub added_id : Edit → Option (List ℕ)
-added_id (SetStatus node status) = None
-added_id (SetAttr node name value) = None
-added_id (SetResStatus resource status) = None
-added_id (SetResAttr resource name value) = None
-added_id (Note node text) = None
 added_id (AddNode node id kind job_part status) = Some id
 added_id (AddResource node resource) = Some resource.id
-added_id (AddLink node link) = None
+added_id e = None
 
 -- ---- what it is refused for
 
@@ -86,7 +70,14 @@ reaches rows node x = option_map_or (is_below (node_places rows) node) (home_of 
 
 -- what rows are asked before an edit
 abbrev pub lookups : List NodeRow → Lookups
-lookups rows = record { has_node = has_node rows; has_resource = has_resource rows; has_id = λ x. mem x (ids rows); has_room = has_room rows; reaches = reaches rows }
+lookups rows =
+    record {
+      has_node = has_node rows;
+      has_resource = has_resource rows;
+      has_id = λ x. mem x (ids rows);
+      has_room = has_room rows;
+      reaches = reaches rows;
+    }
 
 -- why an edit is refused, if it is
 abbrev pub refusal_of : Edit → List NodeRow → Option Refusal
@@ -107,20 +98,24 @@ with_row x f rows = map (λ (r : NodeRow). if bytes_eq r.id x then f r else r) r
 
 -- the rows, with f of each resource of that id
 abbrev pub with_resource : List ℕ → (Resource → Resource) → List NodeRow → List NodeRow
-with_resource x f rows = map (λ (r : NodeRow). record r { resources = with_item x f r.resources }) rows
+with_resource x f rows =
+    map (λ (r : NodeRow). record r { resources = with_item x f r.resources }) rows
 
 -- a list, with a new one behind the last that passes, and last where none does
 abbrev pub behind_last : {X : Type 0} → (X → Bool) → X → List X → List X
 behind_last p new [] = new ∷ []
-behind_last p new (x ∷ xs) = if p x && not (list_any p xs) then x ∷ new ∷ xs else x ∷ behind_last p new xs
+behind_last p new (x ∷ xs) =
+    if p x && not (list_any p xs) then x ∷ new ∷ xs else x ∷ behind_last p new xs
 
 -- how deep a node stands
 abbrev pub depth_of : List NodeRow → List ℕ → ℕ
 depth_of rows x = option_map_or (λ r. r.depth) (row_of rows x) 0
 
--- the rows, with a new one as the last child of the node of that id, one deeper than it: behind the last that stands below it
+-- the rows, with a new one as the last child of the node of that id, one deeper than it: behind the
+-- last that stands below it
 abbrev pub with_child : List ℕ → (ℕ → NodeRow) → List NodeRow → List NodeRow
-with_child x new rows = behind_last (λ r. is_below (node_places rows) r.id x) (new (suc (depth_of rows x))) rows
+with_child x new rows =
+    behind_last (λ r. is_below (node_places rows) r.id x) (new (suc (depth_of rows x))) rows
 
 -- a node at a depth, with no attributes, pools or audits
 abbrev pub bare_row : List ℕ → List ℕ → List ℕ → List ℕ → ℕ → NodeRow
@@ -131,28 +126,25 @@ bare_row id kind job_part status depth =
 abbrev pub node_after : Edit → ℕ → NodeRow → NodeRow
 node_after (SetStatus node status) at r = record r { status = status }
 node_after (SetAttr node name value) at r = record r { attrs = with_attr name value r.attrs }
-node_after (SetResStatus resource status) at r = r
-node_after (SetResAttr resource name value) at r = r
 node_after (Note node text) at r = record r { audits = r.audits ++ Notification at text ∷ [] }
-node_after (AddNode node id kind job_part status) at r = r
 node_after (AddResource node resource) at r = record r { resources = r.resources ++ resource ∷ [] }
 node_after (AddLink node link) at r = record r { links = r.links ++ link ∷ [] }
+node_after e at r = r
 
 -- what an edit makes of the resource that it changes
 abbrev pub resource_after : Edit → Resource → Resource
-resource_after (SetStatus node status) y = y
-resource_after (SetAttr node name value) y = y
 resource_after (SetResStatus resource status) y = record y { status = status }
-resource_after (SetResAttr resource name value) y = record y { attrs = with_attr name value y.attrs }
-resource_after (Note node text) y = y
-resource_after (AddNode node id kind job_part status) y = y
-resource_after (AddResource node resource) y = y
-resource_after (AddLink node link) y = y
+resource_after (SetResAttr resource name value) y =
+    record y { attrs = with_attr name value y.attrs }
+resource_after e y = y
 
 -- the rows after an edit at a time that isn't refused
 abbrev pub edited_rows : Edit → ℕ → List NodeRow → List NodeRow
-edited_rows (AddNode node id kind job_part status) at rows = with_child node (bare_row id kind job_part status) rows
-edited_rows e at rows = if is_of_node e then with_row (target e) (node_after e at) rows else with_resource (target e) (resource_after e) rows
+edited_rows (AddNode node id kind job_part status) at rows =
+    with_child node (bare_row id kind job_part status) rows
+edited_rows e at rows =
+    if is_of_node e then with_row (target e) (node_after e at) rows
+    else with_resource (target e) (resource_after e) rows
 
 -- the ticket after an edit that isn't refused
 abbrev pub edited : Edit → ℕ → Job → Job

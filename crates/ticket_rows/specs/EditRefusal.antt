@@ -2,12 +2,17 @@
 use Rattle.std.specs.Prelude.{ℕ, Bool, not, List, [], ◌∷◌, Option, None}
 use Rattle.ticket_rows.specs.Ticket.{is_reserved, unless, first_of}
 use Rattle.ticket_items.specs.declared.edit.Edit.{Edit}
-use Rattle.ticket_items.specs.declared.edit.Edit.TheVariants.{SetStatus, SetAttr, SetResStatus, SetResAttr, Note, AddNode, AddResource, AddLink}
+use Rattle.ticket_items.specs.declared.edit.Edit.TheVariants.{SetStatus, SetAttr, SetResStatus}
+use Rattle.ticket_items.specs.declared.edit.Edit.TheVariants.{SetResAttr, Note, AddNode}
+use Rattle.ticket_items.specs.declared.edit.Edit.TheVariants.{AddResource, AddLink}
 use Rattle.ticket_items.specs.declared.refusal.Refusal.{Refusal}
-use Rattle.ticket_items.specs.declared.refusal.Refusal.TheVariants.{UnknownNode, UnknownResource, ReservedStatus, DuplicateId, TooDeep, UnresolvedLink}
+use Rattle.ticket_items.specs.declared.refusal.Refusal.TheVariants.{UnknownNode, UnknownResource}
+use Rattle.ticket_items.specs.declared.refusal.Refusal.TheVariants.{ReservedStatus, DuplicateId}
+use Rattle.ticket_items.specs.declared.refusal.Refusal.TheVariants.{TooDeep, UnresolvedLink}
 
--- what a ticket is asked before an edit: whether a node has an id, whether a resource has it, whether either has, whether a child
--- of a node stands no deeper than 32, and whether a resource's home is a node or above it
+-- what a ticket is asked before an edit: whether a node has an id, whether a resource has it,
+-- whether either has, whether a child of a node stands no deeper than 32, and whether a resource's
+-- home is a node or above it
 pub record Lookups : Type 0 where
   pub has_node : List ℕ → Bool
   pub has_resource : List ℕ → Bool
@@ -35,13 +40,13 @@ unknown_refusal (AddLink node link) at = first_of (no_node node at ∷ no_resour
 -- the first of all other reasons
 abbrev pub later_refusal : Edit → Lookups → Option Refusal
 later_refusal (SetStatus node status) at = unless (not (is_reserved status)) ReservedStatus
-later_refusal (SetAttr node name value) at = None
-later_refusal (SetResStatus resource status) at = None
-later_refusal (SetResAttr resource name value) at = None
-later_refusal (Note node text) at = None
-later_refusal (AddNode node id kind job_part status) at = first_of (unless (not (is_reserved status)) ReservedStatus ∷ unless (not (at.has_id id)) DuplicateId ∷ unless (at.has_room node) TooDeep ∷ [])
+later_refusal (AddNode node id kind job_part status) at =
+    first_of
+    (unless (not (is_reserved status)) ReservedStatus ∷ unless (not (at.has_id id)) DuplicateId
+    ∷ unless (at.has_room node) TooDeep ∷ [])
 later_refusal (AddResource node resource) at = unless (not (at.has_id resource.id)) DuplicateId
 later_refusal (AddLink node link) at = unless (at.reaches node link.rref) UnresolvedLink
+later_refusal e at = None
 
 -- why an edit is refused, if it is: what isn't there comes first
 abbrev pub edit_refusal : Edit → Lookups → Option Refusal

@@ -1,4 +1,4 @@
--- A table of homes: ids of nodes under ids of resources, both lent.
+-- A table of homes: ids of nodes under ids of resources, both borrowed.
 use Rattle.std.specs.Prelude.{ℕ, Bool, List, if◌then◌else◌, Option, Some, None}
 use Rattle.std.specs.Borrow.{Bor}
 use Rattle.std.specs.BTreeMap.{BTreeMap, get_by}

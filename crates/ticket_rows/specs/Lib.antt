@@ -1,4 +1,5 @@
 pub mod Outline
+pub mod PartEdit
 pub mod Homes
 pub mod HomeTable
 pub mod Ticket

@@ -1,4 +1,5 @@
--- The calls that change one row: an audit put at a node, and a node or a resource put in the place of the one of its id.
+-- The calls that change one row: an audit put at a node, and a node or a resource put in the place
+-- of the one of its id.
 use Rattle.std.specs.Prelude.{◌≡◌, ℕ, false, List, [], ◌∷◌, ◌++◌, map, Some}
 use Rattle.ticket_rows.specs.Edit.{with_row, with_resource}
 use Rattle.ticket_rows.specs.Homes.{resource_of}
@@ -20,7 +21,8 @@ replaced_node row rows = with_row row.id (λ r. record row { depth = r.depth }) 
 abbrev pub replaced_resource : Resource → List NodeRow → List NodeRow
 replaced_resource x rows = with_resource x.id (λ _. x) rows
 
--- a row may take the place of the one of its id: nothing differs of what no worker may change, nor do the ids of resources, in their order, and the new Status isn't `Spawned`
+-- a row may take the place of the one of its id: nothing differs of what no worker may change, nor
+-- do the ids of resources, in their order, and the new Status isn't `Spawned`
 pub record MayReplaceNode (rows : List NodeRow) (row : NodeRow) : Type 0 where
   pub old : NodeRow
   pub there : row_of rows row.id ≡ Some old

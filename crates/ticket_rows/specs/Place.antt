@@ -1,5 +1,7 @@
--- The plain ticket, read off the rows: where each node and each resource stands, and what of it may change, by its id.
-use Rattle.std.specs.Prelude.{◌≡◌, ℕ, zero, suc, ◌-◌, ◌≤◌, ◌&&◌, Bool, true, false, not, List, [], ◌∷◌, ◌++◌, length, drop, map, nat_le, nat_lt, Option, Some, slice_get}
+-- The plain ticket, read off the rows: where each node and each resource stands, and what of it may
+-- change, by its id.
+use Rattle.std.specs.Prelude.{◌≡◌, ℕ, zero, suc, ◌-◌, ◌≤◌, ◌&&◌, Bool, true, false, not, List, []}
+use Rattle.std.specs.Prelude.{◌∷◌, ◌++◌, length, drop, map, nat_le, nat_lt, Option, Some, slice_get}
 use Rattle.std.specs.List.{find, filter, flat_map, list_all}
 use Rattle.std.specs.Option.{option_map, option_and_then, option_map_or}
 use Rattle.std.specs.Str.{bytes_eq}
@@ -10,12 +12,13 @@ use Rattle.ticket_items.specs.declared.link.Link.{Link}
 use Rattle.ticket_items.specs.declared.node_row.NodeRow.{NodeRow}
 use Rattle.ticket_items.specs.declared.resource.Resource.{Resource}
 
--- what stands at a place, and what of it never changes but by a new link: a node's Type, job part and links, or a resource's name and Class
+-- what stands at a place, and what of it never changes but by a new link: a node's Type, job part
+-- and links, or a resource's name and Class
 pub data Thing : Type 0 where
   node : List ℕ → List ℕ → List Link → Thing
   resource : List ℕ → List ℕ → Thing
 
--- where a node or a resource stands. A node's path leads from itself to the root, a resource has its home's
+-- where a node or a resource stands: a node's path leads to the root, a resource has its home's
 pub record Place : Type 0 where
   pub id : List ℕ
   pub path : List (List ℕ)
@@ -31,7 +34,8 @@ pub record Row : Type 0 where
 abbrev pub last_of : {X : Type 0} → ℕ → List X → List X
 last_of n xs = drop (length xs - n) xs
 
--- the path of a row: itself, and the last depth - 1 ids of the path of the row before it, which lead from its parent to the root
+-- the path of a row: itself, and the last depth - 1 ids of the path of the row before it, which
+-- lead from its parent to the root
 abbrev pub path_of : List (List ℕ) → NodeRow → List (List ℕ)
 path_of before r = r.id ∷ last_of (r.depth - 1) before
 
@@ -62,7 +66,8 @@ places_of r path = node_place r path ∷ map (resource_place path) r.resources
 
 abbrev pub places_from : List (List ℕ) → List NodeRow → List Place
 places_from before [] = []
-places_from before (r ∷ rows) = places_of r (path_of before r) ++ places_from (path_of before r) rows
+places_from before (r ∷ rows) =
+    places_of r (path_of before r) ++ places_from (path_of before r) rows
 
 -- the places of a ticket, in ticket order
 abbrev pub places : List NodeRow → List Place
@@ -125,7 +130,8 @@ preorder (suc levels) tree n = n ∷ flat_map (preorder levels tree) (kids tree 
 pub record BoundsNodesBelow (rows : List NodeRow) (x : List ℕ) (from to : ℕ) : Type 0 where
   pub node : option_map (λ r. r.id) (slice_get rows from) ≡ Some x
   pub end : to ≤ length rows
-  pub exact : (k : ℕ) (p : Place) → slice_get (node_places rows) k ≡ Some p → below x p ≡ (nat_le from k && nat_lt k to)
+  pub exact : (k : ℕ) (p : Place) → slice_get (node_places rows) k ≡ Some p
+      → below x p ≡ (nat_le from k && nat_lt k to)
 
 -- ---- resources and links
 
@@ -143,7 +149,8 @@ links_of (resource name class) = []
 
 -- whether each link of what stands at the place names a resource whose home it is, or is below
 abbrev pub are_links_above : List Place → Place → Bool
-are_links_above resources p = list_all (λ l. option_map_or (λ h. below h p) (home resources l.rref) false) (links_of p.thing)
+are_links_above resources p =
+    list_all (λ l. option_map_or (λ h. below h p) (home resources l.rref) false) (links_of p.thing)
 
 -- ---- what may change
 

@@ -1,5 +1,6 @@
 -- A ticket by its rows: a job id, and each node with its depth, in preorder.
-use Rattle.std.specs.Prelude.{◌≡◌, ℕ, Bool, true, false, not, List, [], ◌∷◌, map, codes, nat_le, Option, Some, None, is_some}
+use Rattle.std.specs.Prelude.{◌≡◌, ℕ, Bool, true, false, not, List, [], ◌∷◌, map, codes, nat_le}
+use Rattle.std.specs.Prelude.{Option, Some, None, is_some}
 use Rattle.std.specs.List.{find, flat_map, list_all}
 use Rattle.std.specs.Str.{bytes_eq}
 use Rattle.ticket_items.specs.Ids.{are_distinct}
@@ -7,7 +8,9 @@ use Rattle.ticket_rows.specs.Outline.{is_outline}
 use Rattle.ticket_rows.specs.Place.{are_links_above, places, resource_places}
 use Rattle.ticket_items.specs.declared.node_row.NodeRow.{NodeRow}
 use Rattle.ticket_items.specs.declared.refusal.Refusal.{Refusal}
-use Rattle.ticket_items.specs.declared.refusal.Refusal.TheVariants.{NotATree, ReservedStatus, DuplicateId, TooDeep, UnresolvedLink}
+use Rattle.ticket_items.specs.declared.refusal.Refusal.TheVariants.{NotATree, ReservedStatus}
+use Rattle.ticket_items.specs.declared.refusal.Refusal.TheVariants.{DuplicateId, TooDeep}
+use Rattle.ticket_items.specs.declared.refusal.Refusal.TheVariants.{UnresolvedLink}
 
 -- a job as its ticket tells it: the job's id, and the nodes in preorder
 pub record Job : Type 0 where
@@ -50,12 +53,12 @@ are_unreserved rows = list_all (λ r. not (is_reserved r.status)) rows
 abbrev pub are_shallow : List NodeRow → Bool
 are_shallow rows = list_all (λ r. nat_le r.depth max_depth) rows
 
--- whether each link of each node names a resource whose home is that node or above it (JDF 1.5, 3.9)
+-- whether each link names a resource whose home is the linking node or above it (JDF 1.5, 3.9)
 abbrev pub are_resolved : List NodeRow → Bool
 are_resolved rows = list_all (are_links_above (resource_places rows)) (places rows)
 
--- rows that are a ticket: a tree, no node's Status is `Spawned`, each id stands once, no node is deeper than 32, and each link's
--- resource stands in the pool of the linking node or of one above it
+-- rows that are a ticket: a tree, no node's Status is `Spawned`, each id stands once, no node is
+-- deeper than 32, and each link is resolved
 pub record IsValid (rows : List NodeRow) : Type 0 where
   pub tree : is_outline (depths rows) ≡ true
   pub unreserved : are_unreserved rows ≡ true
@@ -77,5 +80,7 @@ first_of (Some e ∷ rest) = Some e
 -- what is wrong with rows, the first in this order
 abbrev pub fault_of : List NodeRow → Option Refusal
 fault_of rows =
-    first_of (unless (is_outline (depths rows)) NotATree ∷ unless (are_unreserved rows) ReservedStatus ∷ unless (are_distinct (ids rows)) DuplicateId ∷ unless (are_shallow rows) TooDeep
+    first_of
+    (unless (is_outline (depths rows)) NotATree ∷ unless (are_unreserved rows) ReservedStatus
+    ∷ unless (are_distinct (ids rows)) DuplicateId ∷ unless (are_shallow rows) TooDeep
     ∷ unless (are_resolved rows) UnresolvedLink ∷ [])

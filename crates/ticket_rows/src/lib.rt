@@ -8,6 +8,7 @@ mod growing_edits;
 mod known_rows;
 mod last_place;
 pub mod one_row;
+pub mod part_edits;
 pub mod pools;
 pub mod resolved;
 pub mod rows;

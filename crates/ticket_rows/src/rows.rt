@@ -1,7 +1,7 @@
 //! The nodes of a ticket in preorder, and what is found among them.
 
 ghost use Rattle.std.specs.Prelude.{◌≡◌, ◌+◌, ◌<◌, ◌≤◌, ◌&&◌, ◌==◌, false, true, length, nat_le};
-ghost use Rattle.std.specs.Prelude.{suc, IfOk, IfSome};
+ghost use Rattle.std.specs.Prelude.{suc, IfSome};
 ghost use Rattle.std.specs.List.{position, position_or_len};
 ghost use Rattle.std.specs.Option.{option_copied};
 ghost use Rattle.std.specs.Prelude.{Some, drop, is_some, slice_get};
@@ -14,7 +14,6 @@ ghost use Rattle.ticket_rows.specs.Ticket.{IsValid, depths, has_node, node_ids, 
 ghost use Rattle.ticket_rows.specs.Ticket as valid;
 ghost use Rattle.ticket_items.specs.declared.node_row.NodeRow.{NodeRow};
 
-use std::alloc::{AllocError, Global};
 use ticket_items::{Id, Name, NodeRow};
 
 /// The Status that only a spawned node shows (JDF 1.5, 4.4).
@@ -73,17 +72,6 @@ pub fn are_shallow(rows: &[NodeRow]) -> bool
     ensures { result ≡ valid.are_shallow rows.now }
 {
     rows.iter().all(|row| row.depth <= MAX_DEPTH)
-}
-
-/// Equal rows.
-pub fn copy(alloc: Global, rows: &[NodeRow]) -> Result<Vec<NodeRow>, AllocError>
-    ensures { IfOk result (λ copied. copied.items ≡ rows.now) }
-{
-    let mut copied = Vec::with_capacity(alloc, rows.len())?;
-    for row in rows {
-        copied.push(row.copy(alloc)?)?;
-    }
-    Ok(copied)
 }
 
 /// The row of a node.

@@ -1,15 +1,17 @@
-//! The edits that set something of one row.
+//! The edits that set something of one row. They want the ids to be distinct, so that one row alone
+//! has the id; rows that are valid stay so.
 
-ghost use Rattle.std.specs.Prelude.{◌≡◌, OnOk, OnErr, IfErr, IfNone, IfSome, IsOk};
+ghost use Rattle.std.specs.Prelude.{◌≡◌, true, OnOk, OnErr, IfErr, IfNone, IfSome, IsOk};
+ghost use Rattle.ticket_items.specs.Ids.{are_distinct};
 ghost use Rattle.ticket_rows.specs.Edit.{edited_rows, refusal_of};
-ghost use Rattle.ticket_rows.specs.Ticket.{IsValid};
+ghost use Rattle.ticket_rows.specs.Ticket.{IsValid, ids};
 
 use crate::known_rows::{known_home, known_node, open_to_status};
 use ticket_items::{Audit, Edit, Id, Name, NodeRow, Refusal, Text};
 
 /// Gives a node another Status.
 pub fn set_status(rows: &mut Vec<NodeRow>, node: &Id, status: Name) -> Result<(), Refusal>
-    requires { IsValid rows.old.items }
+    requires { are_distinct (ids rows.old.items) ≡ true }
     ensures ok { OnOk result (rows.new.items
         ≡ edited_rows (Edit.SetStatus node.now status) 0 rows.old.items) }
     ensures err { OnErr result (rows.new.items ≡ rows.old.items) }
@@ -17,7 +19,7 @@ pub fn set_status(rows: &mut Vec<NodeRow>, node: &Id, status: Name) -> Result<()
         (λ e. result ≡ Err e) }
     ensures memory { IfNone (refusal_of (Edit.SetStatus node.now status) rows.old.items)
         (IsOk result) }
-    ensures valid { IsValid rows.new.items }
+    ensures valid { IsValid rows.old.items → IsValid rows.new.items }
 {
     let place = open_to_status(rows.as_slice(), node, &status)?;
     rows[place].status = status;
@@ -26,7 +28,7 @@ pub fn set_status(rows: &mut Vec<NodeRow>, node: &Id, status: Name) -> Result<()
 
 /// Gives a node an attribute.
 pub fn set_attr(rows: &mut Vec<NodeRow>, node: &Id, name: Name, value: Text) -> Result<(), Refusal>
-    requires { IsValid rows.old.items }
+    requires { are_distinct (ids rows.old.items) ≡ true }
     ensures ok { OnOk result (rows.new.items
         ≡ edited_rows (Edit.SetAttr node.now name value) 0 rows.old.items) }
     ensures err { OnErr result (rows.new.items ≡ rows.old.items) }
@@ -34,7 +36,7 @@ pub fn set_attr(rows: &mut Vec<NodeRow>, node: &Id, name: Name, value: Text) -> 
         (λ e. result ≡ Err e) }
     ensures memory { IfNone (refusal_of (Edit.SetAttr node.now name value) rows.old.items)
         (IfErr result (λ e. e ≡ Refusal.Memory)) }
-    ensures valid { IsValid rows.new.items }
+    ensures valid { IsValid rows.old.items → IsValid rows.new.items }
 {
     let place = known_node(rows.as_slice(), node)?;
     rows[place].attrs.set(name, value)?;
@@ -47,7 +49,7 @@ pub fn set_resource_status(
     resource: &Id,
     status: Name,
 ) -> Result<(), Refusal>
-    requires { IsValid rows.old.items }
+    requires { are_distinct (ids rows.old.items) ≡ true }
     ensures ok { OnOk result (rows.new.items
         ≡ edited_rows (Edit.SetResStatus resource.now status) 0 rows.old.items) }
     ensures err { OnErr result (rows.new.items ≡ rows.old.items) }
@@ -55,7 +57,7 @@ pub fn set_resource_status(
         (λ e. result ≡ Err e) }
     ensures memory { IfNone (refusal_of (Edit.SetResStatus resource.now status) rows.old.items)
         (IsOk result) }
-    ensures valid { IsValid rows.new.items }
+    ensures valid { IsValid rows.old.items → IsValid rows.new.items }
 {
     let home = known_home(rows.as_slice(), resource)?;
     rows[home].resources.set_status(resource, status);
@@ -69,7 +71,7 @@ pub fn set_resource_attr(
     name: Name,
     value: Text,
 ) -> Result<(), Refusal>
-    requires { IsValid rows.old.items }
+    requires { are_distinct (ids rows.old.items) ≡ true }
     ensures ok { OnOk result (rows.new.items
         ≡ edited_rows (Edit.SetResAttr resource.now name value) 0 rows.old.items) }
     ensures err { OnErr result (rows.new.items ≡ rows.old.items) }
@@ -77,7 +79,7 @@ pub fn set_resource_attr(
         (λ e. result ≡ Err e) }
     ensures memory { IfNone (refusal_of (Edit.SetResAttr resource.now name value) rows.old.items)
         (IfErr result (λ e. e ≡ Refusal.Memory)) }
-    ensures valid { IsValid rows.new.items }
+    ensures valid { IsValid rows.old.items → IsValid rows.new.items }
 {
     let home = known_home(rows.as_slice(), resource)?;
     rows[home].resources.set_attr(resource, name, value)?;
@@ -86,7 +88,7 @@ pub fn set_resource_attr(
 
 /// Puts a note at a node.
 pub fn note(rows: &mut Vec<NodeRow>, node: &Id, text: Text, at: u64) -> Result<(), Refusal>
-    requires { IsValid rows.old.items }
+    requires { are_distinct (ids rows.old.items) ≡ true }
     ensures ok { OnOk result (rows.new.items
         ≡ edited_rows (Edit.Note node.now text) at rows.old.items) }
     ensures err { OnErr result (rows.new.items ≡ rows.old.items) }
@@ -94,7 +96,7 @@ pub fn note(rows: &mut Vec<NodeRow>, node: &Id, text: Text, at: u64) -> Result<(
         (λ e. result ≡ Err e) }
     ensures memory { IfNone (refusal_of (Edit.Note node.now text) rows.old.items)
         (IfErr result (λ e. e ≡ Refusal.Memory)) }
-    ensures valid { IsValid rows.new.items }
+    ensures valid { IsValid rows.old.items → IsValid rows.new.items }
 {
     let place = known_node(rows.as_slice(), node)?;
     rows[place].audits.push(Audit::Notification { at, text })?;

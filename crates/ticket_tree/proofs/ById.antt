@@ -1,12 +1,14 @@
 -- An edit makes of the rows by id what it makes of them on the plain ticket.
-use Rattle.std.proofs.Common.{◌≡◌, ℕ, ◌||◌, Bool, true, false, not, cond, List, [], ◌∷◌, ◌++◌, map, Option, Some, None, refl, sym, ap, ◌∙◌}
+use Rattle.std.proofs.Common.{◌≡◌, ℕ, ◌||◌, Bool, true, false, cond, List, [], ◌∷◌, ◌++◌, map}
+use Rattle.std.proofs.Common.{Option, Some, None, refl, sym, ap, ◌∙◌}
 use Rattle.std.proofs.lemmas.Bool.{true≢false, and_parts, or_parts, not-true, or_from}
 use Rattle.std.proofs.lemmas.List.{map-append}
 use Rattle.std.proofs.lemmas.Slice.Eq.{bytes_eq-Decides}
 use Rattle.std.specs.List.{find, flat_map}
 use Rattle.std.specs.Option.{option_map}
 use Rattle.std.specs.Str.{bytes_eq}
-use Rattle.ticket_items.proofs.Apart.{mem-append, bytes_eq-symm, or_true, later_part, later_distinct}
+use Rattle.ticket_items.proofs.Apart.{mem-append, bytes_eq-symm, or_true, later_part}
+use Rattle.ticket_items.proofs.Apart.{later_distinct}
 use Rattle.ticket_items.proofs.AtKey.{at_key, at_key-none}
 use Rattle.ticket_rows.specs.Edit.{with_row, with_resource}
 use Rattle.ticket_items.specs.Resource.{with_item}
@@ -32,16 +34,21 @@ key_kept : (b : Bool) (g : Row → Row) (l : Line) → (cond b (line_with g l) l
 key_kept true g l = refl
 key_kept false g l = refl
 
-row_changed : (b : Bool) (g : Row → Row) (l : Line) → (cond b (line_with g l) l).1 ≡ cond b (g l.1) l.1
+row_changed : (b : Bool) (g : Row → Row) (l : Line)
+    → (cond b (line_with g l) l).1 ≡ cond b (g l.1) l.1
 row_changed true g l = refl
 row_changed false g l = refl
 
-touch_at : (here is : Bool) (g : Row → Row) (r s : Row) (later old : Option Row) → (here ≡ true → s ≡ cond is (g r) r) → later ≡ cond is (option_map g old) old → cond here (Some s) later ≡ cond is (option_map g (cond here (Some r) old)) (cond here (Some r) old)
+touch_at : (here is : Bool) (g : Row → Row) (r s : Row) (later old : Option Row)
+    → (here ≡ true → s ≡ cond is (g r) r) → later ≡ cond is (option_map g old) old
+    → cond here (Some s) later
+    ≡ cond is (option_map g (cond here (Some r) old)) (cond here (Some r) old)
 touch_at true true g r s later old row rest = ap Some (row refl)
 touch_at true false g r s later old row rest = ap Some (row refl)
 touch_at false is g r s later old row rest = rest
 
-pub line_cond : (b : Bool) (l : Line) (o : Option Line) → option_map (λ k. k.1) (cond b (Some l) o) ≡ cond b (Some l.1) (option_map (λ k. k.1) o)
+pub line_cond : (b : Bool) (l : Line) (o : Option Line)
+    → option_map (λ k. k.1) (cond b (Some l) o) ≡ cond b (Some l.1) (option_map (λ k. k.1) o)
 line_cond true l o = refl
 line_cond false l o = refl
 
@@ -49,7 +56,8 @@ touch_none : (is : Bool) (g : Row → Row) → None ≡ cond is (option_map g No
 touch_none true g = refl
 touch_none false g = refl
 
-pub row_at-touched : (x : List ℕ) (g : Row → Row) (ls : List Line) (y : List ℕ) → row_at (at_key (λ l. l.0) x (line_with g) ls) y ≡ touch x g (row_at ls) y
+pub row_at-touched : (x : List ℕ) (g : Row → Row) (ls : List Line) (y : List ℕ)
+    → row_at (at_key (λ l. l.0) x (line_with g) ls) y ≡ touch x g (row_at ls) y
 row_at-touched x g [] y = touch_none (bytes_eq x y) g
 row_at-touched x g (l ∷ ls) y =
     let is : Bool = bytes_eq l.0 x in
@@ -69,34 +77,42 @@ pool_ids r = map (λ y. y.id) r.resources
 abbrev pub resource_ids : List NodeRow → List (List ℕ)
 resource_ids rows = flat_map pool_ids rows
 
-no_resource_id : (x : List ℕ) (rows : List NodeRow) → mem x (ids rows) ≡ false → mem x (resource_ids rows) ≡ false
+no_resource_id : (x : List ℕ) (rows : List NodeRow) → mem x (ids rows) ≡ false
+    → mem x (resource_ids rows) ≡ false
 no_resource_id x [] out = refl
 no_resource_id x (r ∷ rows) out =
     let parts = or_parts (bytes_eq r.id x) _ out in
     let own = or_parts (mem x (pool_ids r)) (mem x (ids rows)) (sym (mem-append x (pool_ids r) (ids rows)) ∙ parts.1) in
     mem-append x (pool_ids r) (resource_ids rows) ∙ or_from _ _ own.0 (no_resource_id x rows own.1)
 
-among_at : (b : Bool) (x : List ℕ) (own rest : List (List ℕ)) (c : Bool) → (b || c) ≡ true → (c ≡ true → mem x rest ≡ true) → (b || mem x (own ++ rest)) ≡ true
+among_at : (b : Bool) (x : List ℕ) (own rest : List (List ℕ)) (c : Bool) → (b || c) ≡ true
+    → (c ≡ true → mem x rest ≡ true) → (b || mem x (own ++ rest)) ≡ true
 among_at true x own rest c there later = refl
 among_at false x own rest c there later = mem-append x own rest ∙ ap (λ b. mem x own || b) (later there) ∙ or_true (mem x own)
 
-pub among_ids : (x : List ℕ) (rows : List NodeRow) → mem x (node_ids rows) ≡ true → mem x (ids rows) ≡ true
+pub among_ids : (x : List ℕ) (rows : List NodeRow) → mem x (node_ids rows) ≡ true
+    → mem x (ids rows) ≡ true
 among_ids x [] there = there
 among_ids x (r ∷ rows) there = among_at (bytes_eq r.id x) x (pool_ids r) (ids rows) (mem x (node_ids rows)) there (among_ids x rows)
 
-first_other : (b : Bool) (x y : List ℕ) (xs ys : List (List ℕ)) → bytes_eq y x ≡ b → mem y (xs ++ ys) ≡ false → mem x ys ≡ true → b ≡ false
+first_other : (b : Bool) (x y : List ℕ) (xs ys : List (List ℕ)) → bytes_eq y x ≡ b
+    → mem y (xs ++ ys) ≡ false → mem x ys ≡ true → b ≡ false
 first_other true x y xs ys e out there =
     absurd (true≢false (sym there ∙ ap (λ z. mem z ys) (sym ((bytes_eq-Decides y x).0 e)) ∙ later_part y xs ys out))
 first_other false x y xs ys e out there = refl
 
-pub first_out : (x : List ℕ) (xs ys : List (List ℕ)) → are_distinct (xs ++ ys) ≡ true → mem x ys ≡ true → mem x xs ≡ false
+pub first_out : (x : List ℕ) (xs ys : List (List ℕ)) → are_distinct (xs ++ ys) ≡ true
+    → mem x ys ≡ true → mem x xs ≡ false
 first_out x [] ys apart there = refl
 first_out x (y ∷ xs) ys apart there =
     let parts = and_parts _ _ apart in
     or_from _ _ (first_other (bytes_eq y x) x y xs ys refl (not-true _ parts.0) there) (first_out x xs ys parts.1 there)
 
-kinds_at : (b : Bool) (x : List ℕ) (r : NodeRow) (rows : List NodeRow) → bytes_eq r.id x ≡ b → (mem r.id (pool_ids r ++ ids rows) ≡ false) × (are_distinct (pool_ids r ++ ids rows) ≡ true) → (b || mem x (node_ids rows)) ≡ true
-    → (mem x (node_ids rows) ≡ true → mem x (resource_ids rows) ≡ false) → mem x (pool_ids r ++ resource_ids rows) ≡ false
+kinds_at : (b : Bool) (x : List ℕ) (r : NodeRow) (rows : List NodeRow) → bytes_eq r.id x ≡ b
+    → (mem r.id (pool_ids r ++ ids rows) ≡ false) × (are_distinct (pool_ids r ++ ids rows) ≡ true)
+    → (b || mem x (node_ids rows)) ≡ true
+    → (mem x (node_ids rows) ≡ true → mem x (resource_ids rows) ≡ false)
+    → mem x (pool_ids r ++ resource_ids rows) ≡ false
 kinds_at true x r rows e parts there go =
     let named : r.id ≡ x = (bytes_eq-Decides r.id x).0 e in
     let out : mem x (pool_ids r ++ ids rows) ≡ false = ap (λ y. mem y (pool_ids r ++ ids rows)) (sym named) ∙ parts.0 in
@@ -106,7 +122,8 @@ kinds_at false x r rows e parts there go =
     mem-append x (pool_ids r) (resource_ids rows) ∙ or_from _ _ (first_out x (pool_ids r) (ids rows) parts.1 (among_ids x rows there)) (go there)
 
 -- where all ids are apart, a node's id is no resource's
-pub node_no_resource : (x : List ℕ) (rows : List NodeRow) → are_distinct (ids rows) ≡ true → mem x (node_ids rows) ≡ true → mem x (resource_ids rows) ≡ false
+pub node_no_resource : (x : List ℕ) (rows : List NodeRow) → are_distinct (ids rows) ≡ true
+    → mem x (node_ids rows) ≡ true → mem x (resource_ids rows) ≡ false
 node_no_resource x [] apart there = refl
 node_no_resource x (r ∷ rows) apart there =
     let parts = and_parts _ _ apart in
@@ -117,16 +134,20 @@ or_out true c h there = absurd (true≢false (sym there ∙ h refl))
 or_out false c h there = refl
 
 -- and a resource's is no node's
-pub resource_no_node : (x : List ℕ) (rows : List NodeRow) → are_distinct (ids rows) ≡ true → mem x (resource_ids rows) ≡ true → mem x (node_ids rows) ≡ false
+pub resource_no_node : (x : List ℕ) (rows : List NodeRow) → are_distinct (ids rows) ≡ true
+    → mem x (resource_ids rows) ≡ true → mem x (node_ids rows) ≡ false
 resource_no_node x rows apart there = or_out (mem x (node_ids rows)) (mem x (resource_ids rows)) (node_no_resource x rows apart) there
 
 -- ---- a change of a node's row
 
-pub keys_of_pool : (pool : List Resource) → map (λ l. l.0) (map {B = Line} (λ y. (y.id, resource_row y)) pool) ≡ map (λ y. y.id) pool
+pub keys_of_pool : (pool : List Resource)
+    → map (λ l. l.0) (map {B = Line} (λ y. (y.id, resource_row y)) pool) ≡ map (λ y. y.id) pool
 keys_of_pool [] = refl
 keys_of_pool (y ∷ pool) = ap (λ is. y.id ∷ is) (keys_of_pool pool)
 
-at_key-append : (x : List ℕ) (g : Row → Row) (xs ys : List Line) → at_key (λ l. l.0) x (line_with g) (xs ++ ys) ≡ at_key (λ l. l.0) x (line_with g) xs ++ at_key (λ l. l.0) x (line_with g) ys
+at_key-append : (x : List ℕ) (g : Row → Row) (xs ys : List Line)
+    → at_key (λ l. l.0) x (line_with g) (xs ++ ys)
+    ≡ at_key (λ l. l.0) x (line_with g) xs ++ at_key (λ l. l.0) x (line_with g) ys
 at_key-append x g xs ys = map-append (λ l. cond (bytes_eq l.0 x) (line_with g l) l) xs ys
 
 -- f changes of a row what g changes of its plain row, and leaves its id and its pool
@@ -138,12 +159,16 @@ pub record ChangesAs (f : NodeRow → NodeRow) (g : Row → Row) : Type 0 where
 abbrev pub pool_lines : List Resource → List Line
 pool_lines pool = map (λ y. (y.id, resource_row y)) pool
 
-node_line : (b : Bool) (f : NodeRow → NodeRow) (g : Row → Row) (r : NodeRow) → ChangesAs f g → lines_of (cond b (f r) r) ≡ cond b (line_with g (r.id, node_row r)) (r.id, node_row r) ∷ pool_lines r.resources
+node_line : (b : Bool) (f : NodeRow → NodeRow) (g : Row → Row) (r : NodeRow) → ChangesAs f g
+    → lines_of (cond b (f r) r)
+    ≡ cond b (line_with g (r.id, node_row r)) (r.id, node_row r) ∷ pool_lines r.resources
 node_line true f g r alike =
     ap (λ i. (i, node_row (f r)) ∷ pool_lines (f r).resources) (alike.id r) ∙ ap (λ pool. (r.id, node_row (f r)) ∷ pool_lines pool) (alike.pool r) ∙ ap (λ row. (r.id, row) ∷ pool_lines r.resources) (alike.row r)
 node_line false f g r alike = refl
 
-pub lines-with_row : (x : List ℕ) (f : NodeRow → NodeRow) (g : Row → Row) (rows : List NodeRow) → ChangesAs f g → mem x (resource_ids rows) ≡ false → lines (with_row x f rows) ≡ at_key (λ l. l.0) x (line_with g) (lines rows)
+pub lines-with_row : (x : List ℕ) (f : NodeRow → NodeRow) (g : Row → Row) (rows : List NodeRow)
+    → ChangesAs f g → mem x (resource_ids rows) ≡ false
+    → lines (with_row x f rows) ≡ at_key (λ l. l.0) x (line_with g) (lines rows)
 lines-with_row x f g [] alike out = refl
 lines-with_row x f g (r ∷ rows) alike out =
     let parts = or_parts (mem x (pool_ids r)) (mem x (resource_ids rows)) (sym (mem-append x (pool_ids r) (resource_ids rows)) ∙ out) in
@@ -157,16 +182,25 @@ lines-with_row x f g (r ∷ rows) alike out =
 
 -- ---- a change of a resource
 
-pool_line : (b : Bool) (f : Resource → Resource) (g : Row → Row) (y : Resource) → (f y).id ≡ y.id → resource_row (f y) ≡ g (resource_row y) → ((cond b (f y) y).id, resource_row (cond b (f y) y)) ≡ cond b (line_with g (y.id, resource_row y)) (y.id, resource_row y)
+pool_line : (b : Bool) (f : Resource → Resource) (g : Row → Row) (y : Resource) → (f y).id ≡ y.id
+    → resource_row (f y) ≡ g (resource_row y)
+    → ((cond b (f y) y).id, resource_row (cond b (f y) y))
+    ≡ cond b (line_with g (y.id, resource_row y)) (y.id, resource_row y)
 pool_line true f g y id row = ap (λ i. (i, resource_row (f y))) id ∙ ap (λ r. (y.id, r)) row
 pool_line false f g y id row = refl
 
-lines_of_pool : (x : List ℕ) (f : Resource → Resource) (g : Row → Row) (pool : List Resource) → ((y : Resource) → (f y).id ≡ y.id) → ((y : Resource) → resource_row (f y) ≡ g (resource_row y)) → pool_lines (with_item x f pool) ≡ at_key (λ l. l.0) x (line_with g) (pool_lines pool)
+lines_of_pool : (x : List ℕ) (f : Resource → Resource) (g : Row → Row) (pool : List Resource)
+    → ((y : Resource) → (f y).id ≡ y.id)
+    → ((y : Resource) → resource_row (f y) ≡ g (resource_row y))
+    → pool_lines (with_item x f pool) ≡ at_key (λ l. l.0) x (line_with g) (pool_lines pool)
 lines_of_pool x f g [] id row = refl
 lines_of_pool x f g (y ∷ pool) id row =
     ap (λ l. l ∷ pool_lines (with_item x f pool)) (pool_line (bytes_eq y.id x) f g y (id y) (row y)) ∙ ap (λ ls. cond (bytes_eq y.id x) (line_with g (y.id, resource_row y)) (y.id, resource_row y) ∷ ls) (lines_of_pool x f g pool id row)
 
-pub lines-with_resource : (x : List ℕ) (f : Resource → Resource) (g : Row → Row) (rows : List NodeRow) → ((y : Resource) → (f y).id ≡ y.id) → ((y : Resource) → resource_row (f y) ≡ g (resource_row y)) → mem x (node_ids rows) ≡ false
+pub lines-with_resource : (x : List ℕ) (f : Resource → Resource) (g : Row → Row)
+    (rows : List NodeRow)
+    → ((y : Resource) → (f y).id ≡ y.id)
+    → ((y : Resource) → resource_row (f y) ≡ g (resource_row y)) → mem x (node_ids rows) ≡ false
     → lines (with_resource x f rows) ≡ at_key (λ l. l.0) x (line_with g) (lines rows)
 lines-with_resource x f g [] id row out = refl
 lines-with_resource x f g (r ∷ rows) id row out =

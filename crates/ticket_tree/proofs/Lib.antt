@@ -3,6 +3,7 @@ pub mod ByKind
 pub mod LookUps
 pub mod OnPlaces
 pub mod Parents
+pub mod PartEdits
 pub mod Pieces
 pub mod Plain
 pub mod PlainEdits

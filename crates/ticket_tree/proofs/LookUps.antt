@@ -1,9 +1,10 @@
 -- The look-ups on rows are look-ups on places and on rows by id.
-use Rattle.std.proofs.Common.{◌≡◌, ◌∙◌, ℕ, ◌||◌, Bool, true, false, not, cond, List, [], ◌∷◌, ◌++◌, map, Option, Some, None, is_some, refl, sym, ap}
-use Rattle.std.proofs.lemmas.Bool.{true≢false, and_parts, or_parts, not-true, or_from}
+use Rattle.std.proofs.Common.{◌≡◌, ◌∙◌, ℕ, ◌||◌, Bool, true, false, not, cond, List, [], ◌∷◌, ◌++◌}
+use Rattle.std.proofs.Common.{map, Option, Some, None, is_some, refl, sym, ap}
+use Rattle.std.proofs.lemmas.Bool.{true≢false, and_parts, or_parts, not-true}
 use Rattle.std.proofs.lemmas.Slice.Eq.{bytes_eq-Decides}
 use Rattle.std.specs.List.{find, list_any}
-use Rattle.std.specs.Option.{option_map, option_map_or}
+use Rattle.std.specs.Option.{option_map}
 use Rattle.std.specs.Str.{bytes_eq}
 use Rattle.ticket_items.proofs.Apart.{mem-append, later_distinct, or_true}
 use Rattle.ticket_items.proofs.AtKey.{any_key}
@@ -14,84 +15,129 @@ use Rattle.ticket_rows.proofs.NodePlaces.{nodes_from, node_places-rows, node_ids
 use Rattle.ticket_rows.proofs.Below.{mem-node_ids}
 use Rattle.ticket_rows.proofs.ResourcePlaces.{resources_from, resource_places-rows, home_is}
 use Rattle.ticket_rows.specs.Homes.{resource_of}
-use Rattle.ticket_rows.specs.Place.{Place, path_of, node_place, resource_place, Row, node_row, resource_row, places, is_node, node_places, resource_places, place_at, home, home_at, lines, row_in}
-use Rattle.ticket_rows.specs.Ticket.{IsValid, ids, node_ids, row_of}
+use Rattle.ticket_rows.specs.Place.{Place, path_of, node_place, resource_place, Row, node_row}
+use Rattle.ticket_rows.specs.Place.{resource_row, places, is_node, place_at, home, lines}
+use Rattle.ticket_rows.specs.Ticket.{ids, node_ids, row_of}
 use Rattle.ticket_items.specs.declared.node_row.NodeRow.{NodeRow}
 use Rattle.ticket_items.specs.declared.resource.Resource.{Resource}
-use Rattle.ticket_tree.proofs.ById.{Line, row_at, line_cond, pool_ids, pool_lines, resource_ids, keys_of_pool, among_ids, first_out, node_no_resource}
-use Rattle.ticket_tree.proofs.ByKind.{found_among, found_by_kind, ids_apart, place_of_node, place_of_resource, home_from}
+use Rattle.ticket_tree.proofs.ById.{Line, row_at, line_cond, pool_ids, pool_lines, among_ids}
+use Rattle.ticket_tree.proofs.ById.{first_out}
+use Rattle.ticket_tree.proofs.ByKind.{found_by_kind, place_of_node, place_of_resource, home_from}
 use Rattle.ticket_tree.proofs.OnPlaces.{stands_node, stands_resource, stands_somewhere}
 use Rattle.ticket_tree.proofs.PlainOneRow.{resource_of-cons}
-use Rattle.ticket_tree.proofs.PlainRows.{keys_of_lines, mem-resource_ids}
-use Rattle.ticket_tree.specs.Laws.{IsNodeAt, IsResourceAt, NodeIsAtPlace, ResourceIsAtPlace, HomeIsAtPlace, NodesAmongPlaces, ResourcesAmongPlaces, PlacesByKind, StandsWithRow, PathIsHomes}
+use Rattle.ticket_tree.proofs.PlainRows.{keys_of_lines}
+use Rattle.ticket_tree.specs.Laws.{NodeIsAtPlace, ResourceIsAtPlace, HomeIsAtPlace}
+use Rattle.ticket_tree.specs.Laws.{NodesAmongPlaces, ResourcesAmongPlaces, PlacesByKind}
+use Rattle.ticket_tree.specs.Laws.{StandsWithRow, PathIsHomes}
 
 -- ---- places
 
-node_here : (b : Bool) (before : List (List ℕ)) (s : NodeRow) (rows : List NodeRow) (x : List ℕ) (r : NodeRow) → cond b (Some s) (row_of rows x) ≡ Some r
-    → (row_of rows x ≡ Some r → (path : List (List ℕ)) × (place_at (nodes_from (path_of before s) rows) x ≡ Some (node_place r path)))
-    → (path : List (List ℕ)) × (cond b (Some (node_place s (path_of before s))) (place_at (nodes_from (path_of before s) rows) x) ≡ Some (node_place r path))
+node_here : (b : Bool) (before : List (List ℕ)) (s : NodeRow) (rows : List NodeRow) (x : List ℕ)
+    (r : NodeRow)
+    → cond b (Some s) (row_of rows x) ≡ Some r
+    → (row_of rows x ≡ Some r
+    → (path : List (List ℕ)) × (place_at (nodes_from (path_of before s) rows) x
+    ≡ Some (node_place r path)))
+    → (path : List (List ℕ))
+    × (cond b (Some (node_place s (path_of before s)))
+    (place_at (nodes_from (path_of before s) rows) x)
+    ≡ Some (node_place r path))
 node_here true before s rows x r found go = (path_of before s, ap (option_map (λ t. node_place t (path_of before s))) found)
 node_here false before s rows x r found go = go found
 
-node_at : (before : List (List ℕ)) (rows : List NodeRow) (x : List ℕ) (r : NodeRow) → row_of rows x ≡ Some r → (path : List (List ℕ)) × (place_at (nodes_from before rows) x ≡ Some (node_place r path))
+node_at : (before : List (List ℕ)) (rows : List NodeRow) (x : List ℕ) (r : NodeRow)
+    → row_of rows x ≡ Some r
+    → (path : List (List ℕ)) × (place_at (nodes_from before rows) x ≡ Some (node_place r path))
 node_at before [] x r found = cc
 node_at before (s ∷ rows) x r found = node_here (bytes_eq s.id x) before s rows x r found (node_at (path_of before s) rows x r)
 
-pool_here : (b : Bool) (path : List (List ℕ)) (z : Resource) (pool : List Resource) (rest : List Place) (x : List ℕ) (y : Resource) → cond b (Some z) (in_pool x pool) ≡ Some y
-    → (in_pool x pool ≡ Some y → place_at (map (resource_place path) pool ++ rest) x ≡ Some (resource_place path y)) → cond b (Some (resource_place path z)) (place_at (map (resource_place path) pool ++ rest) x) ≡ Some (resource_place path y)
+pool_here : (b : Bool) (path : List (List ℕ)) (z : Resource) (pool : List Resource)
+    (rest : List Place) (x : List ℕ) (y : Resource)
+    → cond b (Some z) (in_pool x pool) ≡ Some y
+    → (in_pool x pool ≡ Some y
+    → place_at (map (resource_place path) pool ++ rest) x ≡ Some (resource_place path y))
+    → cond b (Some (resource_place path z)) (place_at (map (resource_place path) pool ++ rest) x)
+    ≡ Some (resource_place path y)
 pool_here true path z pool rest x y found go = ap (option_map (resource_place path)) found
 pool_here false path z pool rest x y found go = go found
 
-place_in_pool : (path : List (List ℕ)) (pool : List Resource) (rest : List Place) (x : List ℕ) (y : Resource) → in_pool x pool ≡ Some y → place_at (map (resource_place path) pool ++ rest) x ≡ Some (resource_place path y)
+place_in_pool : (path : List (List ℕ)) (pool : List Resource) (rest : List Place) (x : List ℕ)
+    (y : Resource)
+    → in_pool x pool ≡ Some y
+    → place_at (map (resource_place path) pool ++ rest) x ≡ Some (resource_place path y)
 place_in_pool path [] rest x y found = cc
 place_in_pool path (z ∷ pool) rest x y found = pool_here (bytes_eq z.id x) path z pool rest x y found (place_in_pool path pool rest x y)
 
-place_behind_pool : (path : List (List ℕ)) (pool : List Resource) (rest : List Place) (x : List ℕ) → list_any (λ z. bytes_eq z.id x) pool ≡ false → place_at (map (resource_place path) pool ++ rest) x ≡ place_at rest x
+place_behind_pool : (path : List (List ℕ)) (pool : List Resource) (rest : List Place) (x : List ℕ)
+    → list_any (λ z. bytes_eq z.id x) pool ≡ false
+    → place_at (map (resource_place path) pool ++ rest) x ≡ place_at rest x
 place_behind_pool path [] rest x none = refl
 place_behind_pool path (z ∷ pool) rest x none =
     let parts = or_parts (bytes_eq z.id x) (list_any (λ w. bytes_eq w.id x) pool) none in
     ap (λ b. cond b (Some (resource_place path z)) (place_at (map (resource_place path) pool ++ rest) x)) parts.0 ∙ place_behind_pool path pool rest x parts.1
 
-resource_here : (b : Bool) (before : List (List ℕ)) (s : NodeRow) (rows : List NodeRow) (x : List ℕ) (y : Resource) → list_any (λ z. bytes_eq z.id x) s.resources ≡ b → cond b (in_pool x s.resources) (resource_of rows x) ≡ Some y
-    → (resource_of rows x ≡ Some y → (path : List (List ℕ)) × (place_at (resources_from (path_of before s) rows) x ≡ Some (resource_place path y)))
-    → (path : List (List ℕ)) × (place_at (map (resource_place (path_of before s)) s.resources ++ resources_from (path_of before s) rows) x ≡ Some (resource_place path y))
+resource_here : (b : Bool) (before : List (List ℕ)) (s : NodeRow) (rows : List NodeRow) (x : List ℕ)
+    (y : Resource)
+    → list_any (λ z. bytes_eq z.id x) s.resources ≡ b
+    → cond b (in_pool x s.resources) (resource_of rows x) ≡ Some y
+    → (resource_of rows x ≡ Some y
+    → (path : List (List ℕ)) × (place_at (resources_from (path_of before s) rows) x
+    ≡ Some (resource_place path y)))
+    → (path : List (List ℕ))
+    × (place_at
+    (map (resource_place (path_of before s)) s.resources ++ resources_from
+    (path_of before s) rows) x
+    ≡ Some (resource_place path y))
 resource_here true before s rows x y e found go = (path_of before s, place_in_pool (path_of before s) s.resources (resources_from (path_of before s) rows) x y found)
 resource_here false before s rows x y e found go =
     let later = go found in
     (later.0, place_behind_pool (path_of before s) s.resources (resources_from (path_of before s) rows) x e ∙ later.1)
 
-resource_at : (before : List (List ℕ)) (rows : List NodeRow) (x : List ℕ) (y : Resource) → resource_of rows x ≡ Some y → (path : List (List ℕ)) × (place_at (resources_from before rows) x ≡ Some (resource_place path y))
+resource_at : (before : List (List ℕ)) (rows : List NodeRow) (x : List ℕ) (y : Resource)
+    → resource_of rows x ≡ Some y
+    → (path : List (List ℕ))
+    × (place_at (resources_from before rows) x ≡ Some (resource_place path y))
 resource_at before [] x y found = cc
 resource_at before (s ∷ rows) x y found =
     resource_here (list_any (λ z. bytes_eq z.id x) s.resources) before s rows x y refl (sym (resource_of-cons x s rows) ∙ found) (resource_at (path_of before s) rows x y)
 
 -- ---- rows by id
 
-row_behind_pool : (x : List ℕ) (pool : List Resource) (rest : List Line) → list_any (λ z. bytes_eq z.id x) pool ≡ false → row_at (pool_lines pool ++ rest) x ≡ row_at rest x
+row_behind_pool : (x : List ℕ) (pool : List Resource) (rest : List Line)
+    → list_any (λ z. bytes_eq z.id x) pool ≡ false
+    → row_at (pool_lines pool ++ rest) x ≡ row_at rest x
 row_behind_pool x [] rest none = refl
 row_behind_pool x (z ∷ pool) rest none =
     let parts = or_parts (bytes_eq z.id x) (list_any (λ w. bytes_eq w.id x) pool) none in
     line_cond (bytes_eq z.id x) (z.id, resource_row z) (find (λ l. bytes_eq l.0 x) (pool_lines pool ++ rest))
     ∙ ap (λ b. cond b (Some (resource_row z)) (row_at (pool_lines pool ++ rest) x)) parts.0 ∙ row_behind_pool x pool rest parts.1
 
-row_here : (b : Bool) (z : Resource) (o : Option Resource) (y : Resource) (rest : Option Row) → cond b (Some z) o ≡ Some y → (o ≡ Some y → rest ≡ Some (resource_row y)) → cond b (Some (resource_row z)) rest ≡ Some (resource_row y)
+row_here : (b : Bool) (z : Resource) (o : Option Resource) (y : Resource) (rest : Option Row)
+    → cond b (Some z) o ≡ Some y → (o ≡ Some y → rest ≡ Some (resource_row y))
+    → cond b (Some (resource_row z)) rest ≡ Some (resource_row y)
 row_here true z o y rest found go = ap (option_map resource_row) found
 row_here false z o y rest found go = go found
 
-row_in_pool : (x : List ℕ) (pool : List Resource) (rest : List Line) (y : Resource) → in_pool x pool ≡ Some y → row_at (pool_lines pool ++ rest) x ≡ Some (resource_row y)
+row_in_pool : (x : List ℕ) (pool : List Resource) (rest : List Line) (y : Resource)
+    → in_pool x pool ≡ Some y → row_at (pool_lines pool ++ rest) x ≡ Some (resource_row y)
 row_in_pool x [] rest y found = cc
 row_in_pool x (z ∷ pool) rest y found =
     line_cond (bytes_eq z.id x) (z.id, resource_row z) (find (λ l. bytes_eq l.0 x) (pool_lines pool ++ rest))
     ∙ row_here (bytes_eq z.id x) z (in_pool x pool) y (row_at (pool_lines pool ++ rest) x) found (row_in_pool x pool rest y)
 
 -- a row whose id isn't the first one's, nor in the first one's pool
-row_later : (s : NodeRow) (rows : List NodeRow) (x : List ℕ) → bytes_eq s.id x ≡ false → list_any (λ z. bytes_eq z.id x) s.resources ≡ false → row_at (lines (s ∷ rows)) x ≡ row_at (lines rows) x
+row_later : (s : NodeRow) (rows : List NodeRow) (x : List ℕ) → bytes_eq s.id x ≡ false
+    → list_any (λ z. bytes_eq z.id x) s.resources ≡ false
+    → row_at (lines (s ∷ rows)) x ≡ row_at (lines rows) x
 row_later s rows x other none =
     line_cond (bytes_eq s.id x) (s.id, node_row s) (find (λ l. bytes_eq l.0 x) (pool_lines s.resources ++ lines rows))
     ∙ ap (λ b. cond b (Some (node_row s)) (row_at (pool_lines s.resources ++ lines rows) x)) other ∙ row_behind_pool x s.resources (lines rows) none
 
-node_row_here : (b : Bool) (s : NodeRow) (rows : List NodeRow) (x : List ℕ) (r : NodeRow) → bytes_eq s.id x ≡ b → are_distinct (pool_ids s ++ ids rows) ≡ true → cond b (Some s) (row_of rows x) ≡ Some r
-    → (row_of rows x ≡ Some r → row_at (lines rows) x ≡ Some (node_row r)) → row_at (lines (s ∷ rows)) x ≡ Some (node_row r)
+node_row_here : (b : Bool) (s : NodeRow) (rows : List NodeRow) (x : List ℕ) (r : NodeRow)
+    → bytes_eq s.id x ≡ b → are_distinct (pool_ids s ++ ids rows) ≡ true
+    → cond b (Some s) (row_of rows x) ≡ Some r
+    → (row_of rows x ≡ Some r → row_at (lines rows) x ≡ Some (node_row r))
+    → row_at (lines (s ∷ rows)) x ≡ Some (node_row r)
 node_row_here true s rows x r e apart found go =
     line_cond (bytes_eq s.id x) (s.id, node_row s) (find (λ l. bytes_eq l.0 x) (pool_lines s.resources ++ lines rows))
     ∙ ap (λ b. cond b (Some (node_row s)) (row_at (pool_lines s.resources ++ lines rows) x)) e ∙ ap (option_map node_row) found
@@ -100,14 +146,16 @@ node_row_here false s rows x r e apart found go =
     let none : list_any (λ z. bytes_eq z.id x) s.resources ≡ false = sym (any-map x s.resources) ∙ first_out x (pool_ids s) (ids rows) apart (among_ids x rows there) in
     row_later s rows x e none ∙ go found
 
-node_row_at : (rows : List NodeRow) (x : List ℕ) (r : NodeRow) → are_distinct (ids rows) ≡ true → row_of rows x ≡ Some r → row_at (lines rows) x ≡ Some (node_row r)
+node_row_at : (rows : List NodeRow) (x : List ℕ) (r : NodeRow) → are_distinct (ids rows) ≡ true
+    → row_of rows x ≡ Some r → row_at (lines rows) x ≡ Some (node_row r)
 node_row_at [] x r apart found = cc
 node_row_at (s ∷ rows) x r apart found =
     let parts = and_parts _ _ apart in
     node_row_here (bytes_eq s.id x) s rows x r refl parts.1 found (node_row_at rows x r (later_distinct (pool_ids s) (ids rows) parts.1))
 
 -- an id among others isn't the one that isn't
-other_one : (b : Bool) (s x : List ℕ) (xs : List (List ℕ)) → bytes_eq s x ≡ b → mem s xs ≡ false → mem x xs ≡ true → b ≡ false
+other_one : (b : Bool) (s x : List ℕ) (xs : List (List ℕ)) → bytes_eq s x ≡ b → mem s xs ≡ false
+    → mem x xs ≡ true → b ≡ false
 other_one true s x xs e out there = absurd (true≢false (sym there ∙ ap (λ i. mem i xs) (sym ((bytes_eq-Decides s x).0 e)) ∙ out))
 other_one false s x xs e out there = refl
 
@@ -115,19 +163,25 @@ in_ids : (b : Bool) (x : List ℕ) (xs : List (List ℕ)) → mem x xs ≡ true 
 in_ids true x xs there = refl
 in_ids false x xs there = there
 
-among_here : (b : Bool) (x : List ℕ) (s : NodeRow) (rows : List NodeRow) (y : Resource) → list_any (λ z. bytes_eq z.id x) s.resources ≡ b → cond b (in_pool x s.resources) (resource_of rows x) ≡ Some y
+among_here : (b : Bool) (x : List ℕ) (s : NodeRow) (rows : List NodeRow) (y : Resource)
+    → list_any (λ z. bytes_eq z.id x) s.resources ≡ b
+    → cond b (in_pool x s.resources) (resource_of rows x) ≡ Some y
     → (resource_of rows x ≡ Some y → mem x (ids rows) ≡ true) → mem x (ids (s ∷ rows)) ≡ true
 among_here true x s rows y e found go =
     in_ids (bytes_eq s.id x) x (pool_ids s ++ ids rows) (mem-append x (pool_ids s) (ids rows) ∙ ap (λ b. b || mem x (ids rows)) (any-map x s.resources ∙ e))
 among_here false x s rows y e found go =
     in_ids (bytes_eq s.id x) x (pool_ids s ++ ids rows) (mem-append x (pool_ids s) (ids rows) ∙ ap (λ b. mem x (pool_ids s) || b) (go found) ∙ or_true (mem x (pool_ids s)))
 
-resource_among : (x : List ℕ) (rows : List NodeRow) (y : Resource) → resource_of rows x ≡ Some y → mem x (ids rows) ≡ true
+resource_among : (x : List ℕ) (rows : List NodeRow) (y : Resource) → resource_of rows x ≡ Some y
+    → mem x (ids rows) ≡ true
 resource_among x [] y found = cc
 resource_among x (s ∷ rows) y found = among_here (list_any (λ z. bytes_eq z.id x) s.resources) x s rows y refl (sym (resource_of-cons x s rows) ∙ found) (resource_among x rows y)
 
-resource_row_here : (b : Bool) (s : NodeRow) (rows : List NodeRow) (x : List ℕ) (y : Resource) → list_any (λ z. bytes_eq z.id x) s.resources ≡ b → mem s.id (pool_ids s ++ ids rows) ≡ false → cond b (in_pool x s.resources) (resource_of rows x) ≡ Some y
-    → (resource_of rows x ≡ Some y → row_at (lines rows) x ≡ Some (resource_row y)) → row_at (lines (s ∷ rows)) x ≡ Some (resource_row y)
+resource_row_here : (b : Bool) (s : NodeRow) (rows : List NodeRow) (x : List ℕ) (y : Resource)
+    → list_any (λ z. bytes_eq z.id x) s.resources ≡ b → mem s.id (pool_ids s ++ ids rows) ≡ false
+    → cond b (in_pool x s.resources) (resource_of rows x) ≡ Some y
+    → (resource_of rows x ≡ Some y → row_at (lines rows) x ≡ Some (resource_row y))
+    → row_at (lines (s ∷ rows)) x ≡ Some (resource_row y)
 resource_row_here true s rows x y e alone found go =
     let there : mem x (pool_ids s ++ ids rows) ≡ true = mem-append x (pool_ids s) (ids rows) ∙ ap (λ b. b || mem x (ids rows)) (any-map x s.resources ∙ e) in
     line_cond (bytes_eq s.id x) (s.id, node_row s) (find (λ l. bytes_eq l.0 x) (pool_lines s.resources ++ lines rows))
@@ -137,7 +191,8 @@ resource_row_here false s rows x y e alone found go =
     let there : mem x (pool_ids s ++ ids rows) ≡ true = mem-append x (pool_ids s) (ids rows) ∙ ap (λ b. mem x (pool_ids s) || b) (resource_among x rows y found) ∙ or_true (mem x (pool_ids s)) in
     row_later s rows x (other_one (bytes_eq s.id x) s.id x (pool_ids s ++ ids rows) refl alone there) e ∙ go found
 
-resource_row_at : (rows : List NodeRow) (x : List ℕ) (y : Resource) → are_distinct (ids rows) ≡ true → resource_of rows x ≡ Some y → row_at (lines rows) x ≡ Some (resource_row y)
+resource_row_at : (rows : List NodeRow) (x : List ℕ) (y : Resource) → are_distinct (ids rows) ≡ true
+    → resource_of rows x ≡ Some y → row_at (lines rows) x ≡ Some (resource_row y)
 resource_row_at [] x y apart found = cc
 resource_row_at (s ∷ rows) x y apart found =
     let parts = and_parts _ _ apart in

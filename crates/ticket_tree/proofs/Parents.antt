@@ -1,23 +1,29 @@
 -- Each node but the root has one parent, and its path is itself and then its parent's path.
-use Rattle.std.proofs.Common.{◌≡◌, ◌⊎◌, inl, inr, ℕ, zero, suc, ◌-◌, ◌≤◌, ◌&&◌, ◌||◌, Bool, true, false, cond, List, [], ◌∷◌, map, length, drop, Option, Some, None, refl, sym, ap, ◌∙◌, arith, is_some, slice_get, subst}
+use Rattle.std.proofs.Common.{◌≡◌, ◌⊎◌, inl, inr, ℕ, zero, suc, ◌-◌, ◌≤◌, ◌&&◌, ◌||◌, Bool, true}
+use Rattle.std.proofs.Common.{false, cond, List, [], ◌∷◌, map, length, drop, Option, Some, None}
+use Rattle.std.proofs.Common.{refl, sym, ap, ◌∙◌, arith, is_some, slice_get, subst}
 use Rattle.std.proofs.lemmas.Bool.{true≢false, and_parts, or_from, leb-true, eqb-true, not-true}
 use Rattle.std.proofs.lemmas.List.{length-drop}
 use Rattle.std.proofs.lemmas.Slice.Eq.{bytes_eq-Decides}
 use Rattle.std.specs.Option.{option_and_then, option_map_or}
 use Rattle.std.specs.Str.{bytes_eq}
 use Rattle.ticket_items.proofs.Apart.{bytes_eq-same}
-use Rattle.ticket_rows.proofs.Below.{Path, mem-drop, Follows, Follows-outline, length-path_of, is_some-place_at, mem-node_ids}
+use Rattle.ticket_rows.proofs.Below.{Path, mem-drop, Follows, Follows-outline, length-path_of}
+use Rattle.ticket_rows.proofs.Below.{is_some-place_at, mem-node_ids}
 use Rattle.ticket_items.specs.Ids.{mem, are_distinct}
-use Rattle.ticket_tree.specs.Laws.{IsRootAt, HasParentAt, OneParentEach, DepthIsPathLength, BelowByParent}
+use Rattle.ticket_tree.specs.Laws.{IsRootAt, HasParentAt, OneParentEach, DepthIsPathLength}
+use Rattle.ticket_tree.specs.Laws.{BelowByParent}
 use Rattle.ticket_rows.specs.Outline.{goes_on}
 use Rattle.ticket_rows.proofs.NodePlaces.{nodes_from, node_places-rows, node_ids_distinct}
-use Rattle.ticket_rows.specs.Place.{Place, node_place, node_places, place_at, below, is_below, parent, up, path_of}
+use Rattle.ticket_rows.specs.Place.{Place, node_place, place_at, below, is_below, parent, up}
+use Rattle.ticket_rows.specs.Place.{path_of}
 use Rattle.ticket_rows.specs.Ticket.{IsValid, node_ids, depths}
 use Rattle.ticket_items.specs.declared.node_row.NodeRow.{NodeRow}
 
 -- ---- depths are lengths of paths
 
-lengths : (before : Path) (rows : List NodeRow) → Follows before rows → map (λ p. length p.path) (nodes_from before rows) ≡ depths rows
+lengths : (before : Path) (rows : List NodeRow) → Follows before rows
+    → map (λ p. length p.path) (nodes_from before rows) ≡ depths rows
 lengths before [] follows = refl
 lengths before (r ∷ rows) follows =
     ap (λ n. n ∷ map (λ p. length p.path) (nodes_from (path_of before r) rows)) (length-path_of before r follows.0 follows.1)
@@ -33,13 +39,16 @@ abbrev pub AreNew : Path → List NodeRow → Type 0
 AreNew before rows = (y : List ℕ) → mem y (node_ids rows) ≡ true → mem y before ≡ false
 
 -- an id that stands later isn't this one
-later_id : (b : Bool) (x y : List ℕ) (xs : Path) → bytes_eq x y ≡ b → mem x xs ≡ false → mem y xs ≡ true → bytes_eq x y ≡ false
+later_id : (b : Bool) (x y : List ℕ) (xs : Path) → bytes_eq x y ≡ b → mem x xs ≡ false
+    → mem y xs ≡ true → bytes_eq x y ≡ false
 later_id true x y xs e out there =
     let same : x ≡ y = (bytes_eq-Decides x y).0 e in
     absurd (true≢false (sym there ∙ ap (λ i. mem i xs) (sym same) ∙ out))
 later_id false x y xs e out there = e
 
-pub other_id : (r : NodeRow) (rows : List NodeRow) (y : List ℕ) → are_distinct (node_ids (r ∷ rows)) ≡ true → mem y (node_ids rows) ≡ true → bytes_eq r.id y ≡ false
+pub other_id : (r : NodeRow) (rows : List NodeRow) (y : List ℕ)
+    → are_distinct (node_ids (r ∷ rows)) ≡ true → mem y (node_ids rows) ≡ true
+    → bytes_eq r.id y ≡ false
 other_id r rows y apart there = later_id (bytes_eq r.id y) r.id y (node_ids rows) refl (not-true _ (and_parts _ _ apart).0) there
 
 -- what stands later stands there
@@ -47,10 +56,13 @@ pub there_later : (b c : Bool) → c ≡ true → (b || c) ≡ true
 there_later true c h = refl
 there_later false c h = h
 
-pub here_new : (before : Path) (r : NodeRow) (rows : List NodeRow) → AreNew before (r ∷ rows) → mem r.id before ≡ false
+pub here_new : (before : Path) (r : NodeRow) (rows : List NodeRow) → AreNew before (r ∷ rows)
+    → mem r.id before ≡ false
 here_new before r rows new = new r.id (ap (λ b. b || mem r.id (node_ids rows)) (bytes_eq-same r.id))
 
-pub later_new : (before : Path) (r : NodeRow) (rows : List NodeRow) → are_distinct (node_ids (r ∷ rows)) ≡ true → AreNew before (r ∷ rows) → AreNew (path_of before r) rows
+pub later_new : (before : Path) (r : NodeRow) (rows : List NodeRow)
+    → are_distinct (node_ids (r ∷ rows)) ≡ true → AreNew before (r ∷ rows)
+    → AreNew (path_of before r) rows
 later_new before r rows apart new y there =
     or_from _ _ (other_id r rows y apart there) (mem-drop y (length before - (r.depth - 1)) before (new y (there_later (bytes_eq r.id y) (mem y (node_ids rows)) there)))
 
@@ -78,7 +90,9 @@ record ParentIn (tree : List Place) (x : List ℕ) (p : Place) : Type 0 where
   above : up tree x ≡ Some parent.id
   once : mem x parent.path ≡ false
 
-here_parent : (tree : List Place) (x : List ℕ) (r : NodeRow) (ys : Path) (p : Place) → 1 ≤ length ys → IsWayUp tree ys → r.id ≡ x → node_place r (r.id ∷ ys) ≡ p → place_at tree x ≡ Some p → mem x ys ≡ false → ParentIn tree x p
+here_parent : (tree : List Place) (x : List ℕ) (r : NodeRow) (ys : Path) (p : Place) → 1 ≤ length ys
+    → IsWayUp tree ys → r.id ≡ x → node_place r (r.id ∷ ys) ≡ p → place_at tree x ≡ Some p
+    → mem x ys ≡ false → ParentIn tree x p
 here_parent tree x r [] p long way named same found out =
     let never : ⊥ = omega arith in
     absurd never
@@ -92,17 +106,28 @@ here_parent tree x r (y ∷ ys) p long way named same found out =
       once = ap (mem x) way.2 ∙ out;
     }
 
-finds_later : (tree : List Place) (before : Path) (r : NodeRow) (rows : List NodeRow) → are_distinct (node_ids (r ∷ rows)) ≡ true → FindsAll tree (nodes_from before (r ∷ rows)) → FindsAll tree (nodes_from (path_of before r) rows)
+finds_later : (tree : List Place) (before : Path) (r : NodeRow) (rows : List NodeRow)
+    → are_distinct (node_ids (r ∷ rows)) ≡ true → FindsAll tree (nodes_from before (r ∷ rows))
+    → FindsAll tree (nodes_from (path_of before r) rows)
 finds_later tree before r rows apart finds y p found =
     let there : mem y (node_ids rows) ≡ true = mem-node_ids rows y ∙ sym (is_some-place_at (path_of before r) rows y) ∙ ap is_some found in
     finds y p (ap (λ b. cond b (Some (node_place r (path_of before r))) (place_at (nodes_from (path_of before r) rows) y)) (other_id r rows y apart there) ∙ found)
 
-finds_here : (tree : List Place) (before : Path) (r : NodeRow) (rows : List NodeRow) → FindsAll tree (nodes_from before (r ∷ rows)) → place_at tree r.id ≡ Some (node_place r (path_of before r))
+finds_here : (tree : List Place) (before : Path) (r : NodeRow) (rows : List NodeRow)
+    → FindsAll tree (nodes_from before (r ∷ rows))
+    → place_at tree r.id ≡ Some (node_place r (path_of before r))
 finds_here tree before r rows finds =
     finds r.id _ (ap (λ b. cond b (Some (node_place r (path_of before r))) (place_at (nodes_from (path_of before r) rows) r.id)) (bytes_eq-same r.id))
 
-parent_row : (here : Bool) (tree : List Place) (before : Path) (r : NodeRow) (rows : List NodeRow) (x : List ℕ) (p : Place) → bytes_eq r.id x ≡ here → 2 ≤ r.depth → r.depth ≤ suc (length before) → AreNew before (r ∷ rows) → IsWayUp tree before → FindsAll tree (nodes_from before (r ∷ rows))
-    → cond here (Some (node_place r (path_of before r))) (place_at (nodes_from (path_of before r) rows) x) ≡ Some p → (place_at (nodes_from (path_of before r) rows) x ≡ Some p → ParentIn tree x p) → ParentIn tree x p
+parent_row : (here : Bool) (tree : List Place) (before : Path) (r : NodeRow) (rows : List NodeRow)
+    (x : List ℕ) (p : Place)
+    → bytes_eq r.id x ≡ here → 2 ≤ r.depth → r.depth ≤ suc (length before)
+    → AreNew before (r ∷ rows) → IsWayUp tree before → FindsAll tree (nodes_from before (r ∷ rows))
+    → cond here (Some (node_place r (path_of before r)))
+    (place_at (nodes_from (path_of before r) rows) x)
+    ≡ Some p
+    → (place_at (nodes_from (path_of before r) rows) x ≡ Some p → ParentIn tree x p)
+    → ParentIn tree x p
 parent_row true tree before r rows x p e low high new way finds found later =
     let n : ℕ = length before - (r.depth - 1) in
     let same : node_place r (path_of before r) ≡ p = cc in
@@ -113,7 +138,9 @@ parent_row true tree before r rows x p e low high new way finds found later =
     here_parent tree x r (drop n before) p long (way_up-drop tree n before way) named same at_x out
 parent_row false tree before r rows x p e low high new way finds found later = later found
 
-parents : (tree : List Place) (before : Path) (rows : List NodeRow) → goes_on (length before) (depths rows) ≡ true → are_distinct (node_ids rows) ≡ true → AreNew before rows → IsWayUp tree before → FindsAll tree (nodes_from before rows)
+parents : (tree : List Place) (before : Path) (rows : List NodeRow)
+    → goes_on (length before) (depths rows) ≡ true → are_distinct (node_ids rows) ≡ true
+    → AreNew before rows → IsWayUp tree before → FindsAll tree (nodes_from before rows)
     → (x : List ℕ) (p : Place) → place_at (nodes_from before rows) x ≡ Some p → ParentIn tree x p
 parents tree before [] goes apart new way finds x p found = cc
 parents tree before (r ∷ rows) goes apart new way finds x p found =
@@ -133,8 +160,13 @@ drop_none : (n : ℕ) → drop {A = List ℕ} n [] ≡ []
 drop_none zero = refl
 drop_none (suc n) = refl
 
-root_row : (here : Bool) (r : NodeRow) (rows : List NodeRow) (x : List ℕ) (p : Place) → bytes_eq r.id x ≡ here → cond here (Some (node_place r (path_of [] r))) (place_at (nodes_from (path_of [] r) rows) x) ≡ Some p
-    → (place_at (nodes_from (path_of [] r) rows) x ≡ Some p → ParentIn (nodes_from [] (r ∷ rows)) x p) → IsRootAt (nodes_from [] (r ∷ rows)) x p ⊎ HasParentAt (nodes_from [] (r ∷ rows)) x p
+root_row : (here : Bool) (r : NodeRow) (rows : List NodeRow) (x : List ℕ) (p : Place)
+    → bytes_eq r.id x ≡ here
+    → cond here (Some (node_place r (path_of [] r))) (place_at (nodes_from (path_of [] r) rows) x)
+    ≡ Some p
+    → (place_at (nodes_from (path_of [] r) rows) x ≡ Some p
+    → ParentIn (nodes_from [] (r ∷ rows)) x p)
+    → IsRootAt (nodes_from [] (r ∷ rows)) x p ⊎ HasParentAt (nodes_from [] (r ∷ rows)) x p
 root_row true r rows x p e found later =
     let same : node_place r (path_of [] r) ≡ p = cc in
     let named : r.id ≡ x = (bytes_eq-Decides r.id x).0 e in
@@ -174,14 +206,18 @@ one_parent_each rows valid = subst OneParentIn (sym (node_places-rows rows)) (on
 abbrev ByParent : List Place → List ℕ → List ℕ → Bool
 ByParent tree a b = is_some (place_at tree a) && (bytes_eq a b || option_map_or (λ u. is_below tree u b) (up tree a) false)
 
-below_root : (rows : List NodeRow) (a b : List ℕ) (p : Place) → place_at (nodes_from [] rows) a ≡ Some p → IsRootAt (nodes_from [] rows) a p → is_below (nodes_from [] rows) a b ≡ ByParent (nodes_from [] rows) a b
+below_root : (rows : List NodeRow) (a b : List ℕ) (p : Place)
+    → place_at (nodes_from [] rows) a ≡ Some p → IsRootAt (nodes_from [] rows) a p
+    → is_below (nodes_from [] rows) a b ≡ ByParent (nodes_from [] rows) a b
 below_root rows a b p found root =
     let none : up (nodes_from [] rows) a ≡ None = ap (option_and_then parent) found ∙ ap (λ zs. slice_get zs 1) root.path in
     ap (λ o. option_map_or (below b) o false) found ∙ ap (mem b) root.path
     ∙ sym (ap (λ o. is_some o && (bytes_eq a b || option_map_or (λ u. is_below (nodes_from [] rows) u b) (up (nodes_from [] rows) a) false)) found
     ∙ ap (λ o. bytes_eq a b || option_map_or (λ u. is_below (nodes_from [] rows) u b) o false) none)
 
-below_child : (rows : List NodeRow) (a b : List ℕ) (p : Place) → place_at (nodes_from [] rows) a ≡ Some p → HasParentAt (nodes_from [] rows) a p → is_below (nodes_from [] rows) a b ≡ ByParent (nodes_from [] rows) a b
+below_child : (rows : List NodeRow) (a b : List ℕ) (p : Place)
+    → place_at (nodes_from [] rows) a ≡ Some p → HasParentAt (nodes_from [] rows) a p
+    → is_below (nodes_from [] rows) a b ≡ ByParent (nodes_from [] rows) a b
 below_child rows a b p found has =
     let higher : is_below (nodes_from [] rows) has.parent.id b ≡ mem b has.parent.path = ap (λ o. option_map_or (below b) o false) has.there in
     ap (λ o. option_map_or (below b) o false) found ∙ ap (mem b) has.path
@@ -189,11 +225,16 @@ below_child rows a b p found has =
     ∙ ap (λ o. bytes_eq a b || option_map_or (λ u. is_below (nodes_from [] rows) u b) o false) has.above
     ∙ ap (λ c. bytes_eq a b || c) higher)
 
-below_found : (rows : List NodeRow) (a b : List ℕ) (p : Place) → place_at (nodes_from [] rows) a ≡ Some p → IsRootAt (nodes_from [] rows) a p ⊎ HasParentAt (nodes_from [] rows) a p → is_below (nodes_from [] rows) a b ≡ ByParent (nodes_from [] rows) a b
+below_found : (rows : List NodeRow) (a b : List ℕ) (p : Place)
+    → place_at (nodes_from [] rows) a ≡ Some p
+    → IsRootAt (nodes_from [] rows) a p ⊎ HasParentAt (nodes_from [] rows) a p
+    → is_below (nodes_from [] rows) a b ≡ ByParent (nodes_from [] rows) a b
 below_found rows a b p found (inl root) = below_root rows a b p found root
 below_found rows a b p found (inr has) = below_child rows a b p found has
 
-below_at : (rows : List NodeRow) (a b : List ℕ) (o : Option Place) → place_at (nodes_from [] rows) a ≡ o → IsValid rows → is_below (nodes_from [] rows) a b ≡ ByParent (nodes_from [] rows) a b
+below_at : (rows : List NodeRow) (a b : List ℕ) (o : Option Place)
+    → place_at (nodes_from [] rows) a ≡ o → IsValid rows
+    → is_below (nodes_from [] rows) a b ≡ ByParent (nodes_from [] rows) a b
 below_at rows a b None e valid =
     ap (λ o. option_map_or (below b) o false) e
     ∙ sym (ap (λ o. is_some o && (bytes_eq a b || option_map_or (λ u. is_below (nodes_from [] rows) u b) (up (nodes_from [] rows) a) false)) e)

@@ -1,24 +1,26 @@
 -- Each edit of the rows makes of the places what it makes of them on the plain ticket.
-use Rattle.std.proofs.Common.{◌≡◌, ℕ, true, List, [], ◌∷◌, ◌++◌, Option, Some, None, is_some, refl, sym, ap, ◌∙◌}
+use Rattle.std.proofs.Common.{◌≡◌, ℕ, true, List, [], ◌∷◌, ◌++◌, Option, Some, None, is_some, refl}
+use Rattle.std.proofs.Common.{sym, ap, ◌∙◌}
 use Rattle.std.proofs.lemmas.Bool.{true≢false}
 use Rattle.std.specs.Option.{option_map_or}
 use Rattle.ticket_rows.proofs.Below.{Follows-outline, is_some-place_at}
-use Rattle.ticket_rows.proofs.Growing.{add_link}
 use Rattle.ticket_rows.proofs.NewNode.{walked_child}
-use Rattle.ticket_rows.proofs.NewResource.{add_resource}
 use Rattle.ticket_rows.proofs.NodePlaces.{nodes_from, node_places-rows, node_ids_distinct}
 use Rattle.ticket_tree.proofs.PlainNode.{places-add_node}
-use Rattle.ticket_tree.proofs.PlainPlaces.{places-with_row, places-with_resource, places-add_link, places-add_resource}
+use Rattle.ticket_tree.proofs.PlainPlaces.{places-with_row, places-with_resource, places-add_link}
+use Rattle.ticket_tree.proofs.PlainPlaces.{places-add_resource}
 use Rattle.ticket_tree.proofs.PlainRows.{apart_node, link_known}
 use Rattle.ticket_rows.proofs.Reasons.{child_new, resource_known}
 use Rattle.ticket_items.specs.Attrs.{with_attr}
 use Rattle.ticket_rows.specs.Edit.{bare_row, behind_last}
 use Rattle.ticket_tree.specs.Laws.{EditOfPlaces}
-use Rattle.ticket_rows.specs.Place.{Place, node, resource_place, places, node_places, place_at, below}
+use Rattle.ticket_rows.specs.Place.{Place, node, resource_place, places, place_at, below}
 use Rattle.ticket_tree.specs.PlainEdit.{is_at, path_at}
 use Rattle.ticket_rows.specs.Ticket.{has_node}
 use Rattle.ticket_items.specs.declared.audit.Audit.TheVariants.{Notification}
-use Rattle.ticket_items.specs.declared.edit.Edit.TheVariants.{SetStatus, SetAttr, SetResStatus, SetResAttr, Note, AddNode, AddResource, AddLink}
+use Rattle.ticket_items.specs.declared.edit.Edit.TheVariants.{SetStatus, SetAttr, SetResStatus}
+use Rattle.ticket_items.specs.declared.edit.Edit.TheVariants.{SetResAttr, Note, AddNode}
+use Rattle.ticket_items.specs.declared.edit.Edit.TheVariants.{AddResource, AddLink}
 use Rattle.ticket_items.specs.declared.node_row.NodeRow.{NodeRow}
 
 -- the place of a node that is there
@@ -26,10 +28,12 @@ some_of : (o : Option Place) → is_some o ≡ true → (p : Place) × (o ≡ So
 some_of None there = absurd (true≢false (sym there))
 some_of (Some p) there = (p, refl)
 
-there : (rows : List NodeRow) (n : List ℕ) → has_node rows n ≡ true → (p : Place) × (place_at (nodes_from [] rows) n ≡ Some p)
+there : (rows : List NodeRow) (n : List ℕ) → has_node rows n ≡ true
+    → (p : Place) × (place_at (nodes_from [] rows) n ≡ Some p)
 there rows n known = some_of (place_at (nodes_from [] rows) n) (is_some-place_at [] rows n ∙ known)
 
-path_there : (rows : List NodeRow) (n : List ℕ) (p : Place) → place_at (nodes_from [] rows) n ≡ Some p → path_at (places rows) n ≡ p.path
+path_there : (rows : List NodeRow) (n : List ℕ) (p : Place)
+    → place_at (nodes_from [] rows) n ≡ Some p → path_at (places rows) n ≡ p.path
 path_there rows n p found = ap (λ nodes. option_map_or (λ q. q.path) (place_at nodes n) []) (node_places-rows rows) ∙ ap (λ o. option_map_or (λ q. q.path) o []) found
 
 pub edit_of_places : EditOfPlaces

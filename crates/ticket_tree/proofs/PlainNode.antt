@@ -1,6 +1,8 @@
 -- A new node, seen on the places: it stands behind the last place below its parent.
-use Rattle.std.proofs.Common.{◌≡◌, ℕ, suc, ◌+◌, ◌-◌, ◌≤◌, ◌||◌, Bool, true, false, not, cond, List, [], ◌∷◌, ◌++◌, length, drop, map, Some, refl, sym, ap, ◌∙◌, arith, nat_lt}
-use Rattle.std.proofs.lemmas.Bool.{and_parts, and_from, or_parts, not-true, or_from, ltb-true, ltb-false}
+use Rattle.std.proofs.Common.{◌≡◌, ℕ, suc, ◌+◌, ◌-◌, ◌≤◌, ◌||◌, Bool, true, false, cond, List, []}
+use Rattle.std.proofs.Common.{◌∷◌, ◌++◌, length, drop, map, Some, refl, sym, ap, ◌∙◌, arith, nat_lt}
+use Rattle.std.proofs.lemmas.Bool.{and_parts, and_from, or_parts, not-true, or_from, ltb-true}
+use Rattle.std.proofs.lemmas.Bool.{ltb-false}
 use Rattle.std.proofs.lemmas.List.{length-append, drop_at}
 use Rattle.std.proofs.lemmas.List.Folds.{list_any-append}
 use Rattle.std.proofs.lemmas.Slice.Eq.{bytes_eq-Decides}
@@ -10,10 +12,12 @@ use Rattle.ticket_items.proofs.Apart.{mem-append, bytes_eq-same, or_true}
 use Rattle.ticket_rows.proofs.Below.{Follows, length-path_of, mem-drop, above_x, below_x}
 use Rattle.ticket_rows.proofs.NewNode.{Bare, behind_deeper, child_walk, path_skips}
 use Rattle.ticket_rows.proofs.NodePlaces.{nodes_from}
-use Rattle.ticket_tree.proofs.PlainPlaces.{behind_or_first, behind_last-pass, behind_or_first-pass, behind_or_first-none, behind_last-skip}
+use Rattle.ticket_tree.proofs.PlainPlaces.{behind_or_first, behind_last-pass, behind_or_first-pass}
+use Rattle.ticket_tree.proofs.PlainPlaces.{behind_or_first-none, behind_last-skip}
 use Rattle.ticket_rows.specs.Edit.{behind_last}
 use Rattle.ticket_items.specs.Ids.{mem, are_distinct}
-use Rattle.ticket_rows.specs.Place.{Place, node_place, resource_place, places_of, places_from, place_at, below, path_of}
+use Rattle.ticket_rows.specs.Place.{Place, node_place, resource_place, places_of, places_from}
+use Rattle.ticket_rows.specs.Place.{place_at, below, path_of}
 use Rattle.ticket_rows.specs.Ticket.{node_ids}
 use Rattle.ticket_items.specs.declared.node_row.NodeRow.{NodeRow}
 use Rattle.ticket_items.specs.declared.resource.Resource.{Resource}
@@ -23,15 +27,18 @@ Path = List (List ℕ)
 
 -- ---- what is below, and what isn't
 
-pool_below : (n : List ℕ) (path : Path) (xs : List Resource) → mem n path ≡ true → list_all (below n) (map (resource_place path) xs) ≡ true
+pool_below : (n : List ℕ) (path : Path) (xs : List Resource) → mem n path ≡ true
+    → list_all (below n) (map (resource_place path) xs) ≡ true
 pool_below n path [] on = refl
 pool_below n path (x ∷ xs) on = and_from _ _ on (pool_below n path xs on)
 
-pool_beside : (n : List ℕ) (path : Path) (xs : List Resource) → mem n path ≡ false → list_any (below n) (map (resource_place path) xs) ≡ false
+pool_beside : (n : List ℕ) (path : Path) (xs : List Resource) → mem n path ≡ false
+    → list_any (below n) (map (resource_place path) xs) ≡ false
 pool_beside n path [] off = refl
 pool_beside n path (x ∷ xs) off = or_from _ _ off (pool_beside n path xs off)
 
-none_below : (n : List ℕ) (before : Path) (rows : List NodeRow) → mem n before ≡ false → mem n (node_ids rows) ≡ false → list_any (below n) (places_from before rows) ≡ false
+none_below : (n : List ℕ) (before : Path) (rows : List NodeRow) → mem n before ≡ false
+    → mem n (node_ids rows) ≡ false → list_any (below n) (places_from before rows) ≡ false
 none_below n before [] off out = refl
 none_below n before (r ∷ rows) off out =
     let parts = or_parts (bytes_eq r.id n) (mem n (node_ids rows)) out in
@@ -40,14 +47,16 @@ none_below n before (r ∷ rows) off out =
 
 -- ---- the new node's path
 
-new_path : (n : List ℕ) (front up : Path) (row : NodeRow) → row.depth ≡ suc (suc (length up)) → path_of (front ++ n ∷ up) row ≡ row.id ∷ n ∷ up
+new_path : (n : List ℕ) (front up : Path) (row : NodeRow) → row.depth ≡ suc (suc (length up))
+    → path_of (front ++ n ∷ up) row ≡ row.id ∷ n ∷ up
 new_path n front up row deep =
     let long : length (front ++ n ∷ up) ≡ length front + suc (length up) = length-append front (n ∷ up) in
     let cut : length (front ++ n ∷ up) - (row.depth - 1) ≡ length front = omega arith in
     ap (λ k. row.id ∷ drop k (front ++ n ∷ up)) cut ∙ ap (λ ys. row.id ∷ ys) (drop_at front (n ∷ up) (length front) refl)
 
 -- the places of a row without resources
-bare_places : (row : NodeRow) (path : Path) (rest : List Place) → row.resources ≡ [] → places_of row path ++ rest ≡ node_place row path ∷ rest
+bare_places : (row : NodeRow) (path : Path) (rest : List Place) → row.resources ≡ []
+    → places_of row path ++ rest ≡ node_place row path ∷ rest
 bare_places row path rest bare = ap (λ xs. (node_place row path ∷ map (resource_place path) xs) ++ rest) bare
 
 -- ---- behind the node's row
@@ -56,9 +65,15 @@ abbrev Lands : List ℕ → Path → Path → NodeRow → List NodeRow → Type 
 Lands n front up row rows =
     behind_or_first (below n) (node_place row (row.id ∷ n ∷ up)) (places_from (front ++ n ∷ up) rows) ≡ places_from (front ++ n ∷ up) (behind_deeper (suc (length up)) row rows)
 
-lands_row : (b : Bool) (n : List ℕ) (front up : Path) (row r : NodeRow) (rows : List NodeRow) → nat_lt (suc (length up)) r.depth ≡ b → row.depth ≡ suc (suc (length up)) → row.resources ≡ [] → mem n up ≡ false → (bytes_eq r.id n ≡ false) × (mem n (node_ids rows) ≡ false)
-    → ((front' : Path) → path_of (front ++ n ∷ up) r ≡ front' ++ n ∷ up → Lands n front' up row rows)
-    → behind_or_first (below n) (node_place row (row.id ∷ n ∷ up)) (places_from (front ++ n ∷ up) (r ∷ rows)) ≡ places_from (front ++ n ∷ up) (cond b (r ∷ behind_deeper (suc (length up)) row rows) (row ∷ r ∷ rows))
+lands_row : (b : Bool) (n : List ℕ) (front up : Path) (row r : NodeRow) (rows : List NodeRow)
+    → nat_lt (suc (length up)) r.depth ≡ b → row.depth ≡ suc (suc (length up)) → row.resources ≡ []
+    → mem n up ≡ false → (bytes_eq r.id n ≡ false) × (mem n (node_ids rows) ≡ false)
+    → ((front' : Path) → path_of (front ++ n ∷ up) r ≡ front' ++ n ∷ up
+    → Lands n front' up row rows)
+    → behind_or_first (below n) (node_place row (row.id ∷ n ∷ up))
+    (places_from (front ++ n ∷ up) (r ∷ rows))
+    ≡ places_from (front ++ n ∷ up)
+    (cond b (r ∷ behind_deeper (suc (length up)) row rows) (row ∷ r ∷ rows))
 lands_row true n front up row r rows e deep bare off out go =
     let path : Path = path_of (front ++ n ∷ up) r in
     let kept : Path = r.id ∷ drop (length (front ++ n ∷ up) - (r.depth - 1)) front in
@@ -82,7 +97,9 @@ lands_row false n front up row r rows e deep bare off out go =
     ∙ ap (λ p. node_place row p ∷ places_of r (path_of (path_of (front ++ n ∷ up) row) r) ++ places_from (path_of (path_of (front ++ n ∷ up) row) r) rows) (sym (new_path n front up row deep))
     ∙ sym (bare_places row (path_of (front ++ n ∷ up) row) (places_from (path_of (front ++ n ∷ up) row) (r ∷ rows)) bare)
 
-lands : (n : List ℕ) (front up : Path) (row : NodeRow) (rows : List NodeRow) → row.depth ≡ suc (suc (length up)) → row.resources ≡ [] → mem n up ≡ false → mem n (node_ids rows) ≡ false → Lands n front up row rows
+lands : (n : List ℕ) (front up : Path) (row : NodeRow) (rows : List NodeRow)
+    → row.depth ≡ suc (suc (length up)) → row.resources ≡ [] → mem n up ≡ false
+    → mem n (node_ids rows) ≡ false → Lands n front up row rows
 lands n front up row [] deep bare off out =
     ap (λ p. node_place row p ∷ []) (sym (new_path n front up row deep)) ∙ sym (bare_places row (path_of (front ++ n ∷ up) row) [] bare)
 lands n front up row (r ∷ rows) deep bare off out =
@@ -102,9 +119,20 @@ pub record IsBare (id kind job_part : List ℕ) (new : Bare) : Type 0 where
   pub named : (d : ℕ) → (new d).id ≡ id
 
 -- below the row of the node itself
-lands_here : (before : Path) (r : NodeRow) (new : Bare) (rows : List NodeRow) (id kind job_part : List ℕ) → IsBare id kind job_part new → length (path_of before r) ≡ r.depth → mem r.id before ≡ false → mem r.id (node_ids rows) ≡ false
-    → places_of r (path_of before r) ++ places_from (path_of before r) (behind_deeper r.depth (new (suc r.depth)) rows)
-    ≡ behind_last (below r.id) (record { id = id; path = id ∷ path_of before r; thing = Rattle.ticket_rows.specs.Place.node kind job_part [] }) (places_of r (path_of before r) ++ places_from (path_of before r) rows)
+lands_here : (before : Path) (r : NodeRow) (new : Bare) (rows : List NodeRow)
+    (id kind job_part : List ℕ)
+    → IsBare id kind job_part new → length (path_of before r) ≡ r.depth → mem r.id before ≡ false
+    → mem r.id (node_ids rows) ≡ false
+    → places_of r (path_of before r)
+    ++ places_from (path_of before r) (behind_deeper r.depth (new (suc r.depth)) rows)
+    ≡ behind_last (below r.id)
+    (record {
+      id = id;
+      path = id
+          ∷ path_of before r;
+      thing = Rattle.ticket_rows.specs.Place.node kind job_part [];
+    })
+    (places_of r (path_of before r) ++ places_from (path_of before r) rows)
 lands_here before r new rows id kind job_part bare long off out =
     let up : Path = drop (length before - (r.depth - 1)) before in
     let path : Path = path_of before r in
@@ -119,11 +147,32 @@ lands_here before r new rows id kind job_part bare long off out =
     ∙ ap (λ ps. map (resource_place path) r.resources ++ ps)
     (ap (λ p. behind_or_first (below r.id) p (places_from path rows)) (sym same) ∙ landed ∙ ap (λ d. places_from path (behind_deeper d row rows)) long)))
 
-child_row : (b : Bool) (n : List ℕ) (before : Path) (r : NodeRow) (new : Bare) (rows : List NodeRow) (id kind job_part : List ℕ) (p : Place) → bytes_eq r.id n ≡ b → IsBare id kind job_part new → length (path_of before r) ≡ r.depth → mem n before ≡ false → mem r.id (node_ids rows) ≡ false
-    → cond b (Some (node_place r (path_of before r))) (place_at (nodes_from (path_of before r) rows) n) ≡ Some p
-    → (mem n (path_of before r) ≡ false → place_at (nodes_from (path_of before r) rows) n ≡ Some p → places_from (path_of before r) (child_walk n new rows) ≡ behind_last (below n) (record { id = id; path = id ∷ p.path; thing = Rattle.ticket_rows.specs.Place.node kind job_part [] }) (places_from (path_of before r) rows))
-    → places_of r (path_of before r) ++ places_from (path_of before r) (cond b (behind_deeper r.depth (new (suc r.depth)) rows) (child_walk n new rows))
-    ≡ behind_last (below n) (record { id = id; path = id ∷ p.path; thing = Rattle.ticket_rows.specs.Place.node kind job_part [] }) (places_of r (path_of before r) ++ places_from (path_of before r) rows)
+child_row : (b : Bool) (n : List ℕ) (before : Path) (r : NodeRow) (new : Bare) (rows : List NodeRow)
+    (id kind job_part : List ℕ) (p : Place)
+    → bytes_eq r.id n ≡ b → IsBare id kind job_part new → length (path_of before r) ≡ r.depth
+    → mem n before ≡ false → mem r.id (node_ids rows) ≡ false
+    → cond b (Some (node_place r (path_of before r)))
+    (place_at (nodes_from (path_of before r) rows) n)
+    ≡ Some p
+    → (mem n (path_of before r) ≡ false → place_at (nodes_from (path_of before r) rows) n ≡ Some p
+    → places_from (path_of before r) (child_walk n new rows) ≡ behind_last (below n) (record {
+      id = id;
+      path = id
+          ∷ p.path;
+      thing = Rattle.ticket_rows.specs.Place.node kind job_part [];
+    }) (places_from
+    (path_of before r) rows))
+    → places_of r (path_of before r)
+    ++ places_from (path_of before r)
+    (cond b (behind_deeper r.depth (new (suc r.depth)) rows) (child_walk n new rows))
+    ≡ behind_last (below n)
+    (record {
+      id = id;
+      path = id
+          ∷ p.path;
+      thing = Rattle.ticket_rows.specs.Place.node kind job_part [];
+    })
+    (places_of r (path_of before r) ++ places_from (path_of before r) rows)
 child_row true n before r new rows id kind job_part p e bare long off alone found go =
     let named : r.id ≡ n = (bytes_eq-Decides r.id n).0 e in
     let same : node_place r (path_of before r) ≡ p = some_same (node_place r (path_of before r)) p found in
@@ -136,8 +185,19 @@ child_row false n before r new rows id kind job_part p e bare long off alone fou
     ap (λ ps. places_of r path ++ ps) (go here found)
     ∙ sym (behind_last-skip (below n) (record { id = id; path = id ∷ p.path; thing = Rattle.ticket_rows.specs.Place.node kind job_part [] }) (places_of r path) (places_from path rows) (or_from _ _ here (pool_beside n path r.resources here)))
 
-pub places-add_node : (n : List ℕ) (new : Bare) (id kind job_part : List ℕ) (p : Place) (before : Path) (rows : List NodeRow) → IsBare id kind job_part new → mem n before ≡ false → are_distinct (node_ids rows) ≡ true → Follows before rows → place_at (nodes_from before rows) n ≡ Some p
-    → places_from before (child_walk n new rows) ≡ behind_last (below n) (record { id = id; path = id ∷ p.path; thing = Rattle.ticket_rows.specs.Place.node kind job_part [] }) (places_from before rows)
+pub places-add_node : (n : List ℕ) (new : Bare) (id kind job_part : List ℕ) (p : Place)
+    (before : Path) (rows : List NodeRow)
+    → IsBare id kind job_part new → mem n before ≡ false → are_distinct (node_ids rows) ≡ true
+    → Follows before rows → place_at (nodes_from before rows) n ≡ Some p
+    → places_from before (child_walk n new rows)
+    ≡ behind_last (below n)
+    (record {
+      id = id;
+      path = id
+          ∷ p.path;
+      thing = Rattle.ticket_rows.specs.Place.node kind job_part [];
+    })
+    (places_from before rows)
 places-add_node n new id kind job_part p before [] bare off apart follows found = cc
 places-add_node n new id kind job_part p before (r ∷ rows) bare off apart follows found =
     let parts = and_parts _ _ apart in

@@ -1,16 +1,19 @@
 -- Each edit of the rows, seen on the rows by id.
-use Rattle.std.proofs.Common.{◌≡◌, ℕ, suc, ◌||◌, Bool, true, false, not, cond, List, [], ◌∷◌, ◌++◌, map, Option, Some, None, refl, sym, ap, ◌∙◌, append_assoc}
+use Rattle.std.proofs.Common.{◌≡◌, ℕ, suc, ◌||◌, Bool, true, false, not, cond, List, [], ◌∷◌, ◌++◌}
+use Rattle.std.proofs.Common.{map, Option, Some, None, refl, sym, ap, ◌∙◌, append_assoc}
 use Rattle.std.proofs.lemmas.Bool.{true≢false, and_parts, or_parts, not-true}
 use Rattle.std.proofs.lemmas.List.{map-append}
 use Rattle.std.proofs.lemmas.Grind.{flat_map-append}
 use Rattle.std.proofs.lemmas.Slice.Eq.{bytes_eq-Decides}
-use Rattle.std.specs.List.{find, flat_map, list_any}
+use Rattle.std.specs.List.{find, list_any}
 use Rattle.std.specs.Option.{option_map}
 use Rattle.std.specs.Str.{bytes_eq}
 use Rattle.ticket_items.proofs.Apart.{mem-append, bytes_eq-symm}
 use Rattle.ticket_rows.proofs.AtHome.{holds, any-map}
-use Rattle.ticket_items.proofs.AtKey.{at_key, at_key-none}
-use Rattle.ticket_tree.proofs.ById.{Line, row_at, line_cond, keys_of_pool, row_at-touched, pool_ids, resource_ids, node_no_resource, resource_no_node, ChangesAs, lines-with_row, lines-with_resource}
+use Rattle.ticket_items.proofs.AtKey.{at_key-none}
+use Rattle.ticket_tree.proofs.ById.{Line, row_at, line_cond, keys_of_pool, row_at-touched, pool_ids}
+use Rattle.ticket_tree.proofs.ById.{resource_ids, node_no_resource, resource_no_node, ChangesAs}
+use Rattle.ticket_tree.proofs.ById.{lines-with_row, lines-with_resource}
 use Rattle.ticket_rows.proofs.Growing.{add_link, kept_here}
 use Rattle.ticket_rows.proofs.NewNode.{has_child, child_walk, walked_child}
 use Rattle.ticket_rows.proofs.NewResource.{add_resource}
@@ -24,22 +27,29 @@ use Rattle.ticket_items.specs.Ids.{mem, are_distinct}
 use Rattle.ticket_tree.specs.Laws.{EditOfRows}
 use Rattle.ticket_rows.specs.Place.{Row, node_row, resource_row, lines_of, lines, row_in}
 use Rattle.ticket_tree.specs.PlainEdit.{touch, with_line}
-use Rattle.ticket_rows.specs.Ticket.{IsValid, has_node, ids, ids_of, node_ids, is_reserved, unless, first_of}
+use Rattle.ticket_rows.specs.Ticket.{IsValid, has_node, ids, ids_of, node_ids, is_reserved, unless}
+use Rattle.ticket_rows.specs.Ticket.{first_of}
 use Rattle.ticket_items.specs.declared.audit.Audit.TheVariants.{Notification}
-use Rattle.ticket_items.specs.declared.edit.Edit.TheVariants.{SetStatus, SetAttr, SetResStatus, SetResAttr, Note, AddNode, AddResource, AddLink}
+use Rattle.ticket_items.specs.declared.edit.Edit.TheVariants.{SetStatus, SetAttr, SetResStatus}
+use Rattle.ticket_items.specs.declared.edit.Edit.TheVariants.{SetResAttr, Note, AddNode}
+use Rattle.ticket_items.specs.declared.edit.Edit.TheVariants.{AddResource, AddLink}
 use Rattle.ticket_items.specs.declared.link.Link.{Link}
 use Rattle.ticket_items.specs.declared.node_row.NodeRow.{NodeRow}
-use Rattle.ticket_items.specs.declared.refusal.Refusal.TheVariants.{UnknownNode, UnknownResource, ReservedStatus, UnresolvedLink}
+use Rattle.ticket_items.specs.declared.refusal.Refusal.TheVariants.{UnknownNode, UnknownResource}
+use Rattle.ticket_items.specs.declared.refusal.Refusal.TheVariants.{ReservedStatus, UnresolvedLink}
 use Rattle.ticket_items.specs.declared.resource.Resource.{Resource}
 
 -- ---- one line more
 
-swap : (a b : Bool) (m l : Row) (o : Option Row) → (a ≡ true → b ≡ false) → cond a (Some m) (cond b (Some l) o) ≡ cond b (Some l) (cond a (Some m) o)
+swap : (a b : Bool) (m l : Row) (o : Option Row) → (a ≡ true → b ≡ false)
+    → cond a (Some m) (cond b (Some l) o) ≡ cond b (Some l) (cond a (Some m) o)
 swap true true m l o apart = absurd (true≢false (apart refl))
 swap true false m l o apart = refl
 swap false b m l o apart = refl
 
-row_at-grown : (front : List Line) (l : Line) (back : List Line) (y : List ℕ) → mem l.0 (map (λ k. k.0) (front ++ back)) ≡ false → row_at (front ++ l ∷ back) y ≡ with_line l.0 l.1 (row_at (front ++ back)) y
+row_at-grown : (front : List Line) (l : Line) (back : List Line) (y : List ℕ)
+    → mem l.0 (map (λ k. k.0) (front ++ back)) ≡ false
+    → row_at (front ++ l ∷ back) y ≡ with_line l.0 l.1 (row_at (front ++ back)) y
 row_at-grown [] l back y out = line_cond (bytes_eq l.0 y) l (find (λ k. bytes_eq k.0 y) back)
 row_at-grown (m ∷ front) l back y out =
     let parts = or_parts (bytes_eq m.0 l.0) _ out in
@@ -54,7 +64,9 @@ keys_of_lines [] = refl
 keys_of_lines (r ∷ rows) =
     map-append (λ l. l.0) (lines_of r) (lines rows) ∙ ap (λ is. (r.id ∷ is) ++ map (λ l. l.0) (lines rows)) (keys_of_pool r.resources) ∙ ap (λ is. ids_of r ++ is) (keys_of_lines rows)
 
-grown : (old new : List Line) (l : Line) (front back : List Line) (y : List ℕ) → old ≡ front ++ back → new ≡ front ++ l ∷ back → mem l.0 (map (λ k. k.0) old) ≡ false → row_at new y ≡ with_line l.0 l.1 (row_at old) y
+grown : (old new : List Line) (l : Line) (front back : List Line) (y : List ℕ) → old ≡ front ++ back
+    → new ≡ front ++ l ∷ back → mem l.0 (map (λ k. k.0) old) ≡ false
+    → row_at new y ≡ with_line l.0 l.1 (row_at old) y
 grown old new l front back y was now out =
     ap (λ ls. row_at ls y) now ∙ row_at-grown front l back y (ap (λ ls. mem l.0 (map (λ k. k.0) ls)) (sym was) ∙ out) ∙ ap (λ ls. with_line l.0 l.1 (row_at ls) y) (sym was)
 
@@ -63,9 +75,12 @@ grown old new l front back y was now out =
 abbrev LinesGrow : Line → List Line → List Line → Type 0
 LinesGrow l old new = (front : List Line) × (back : List Line) × (old ≡ front ++ back) × (new ≡ front ++ l ∷ back)
 
-grow_row : (b : Bool) (n : List ℕ) (x : Resource) (r : NodeRow) (rows : List NodeRow) → bytes_eq r.id n ≡ b → mem r.id (node_ids rows) ≡ false → (b || mem n (node_ids rows)) ≡ true
-    → (mem n (node_ids rows) ≡ true → LinesGrow (x.id, resource_row x) (lines rows) (lines (with_row n (add_resource x) rows)))
-    → LinesGrow (x.id, resource_row x) (lines (r ∷ rows)) (lines_of (cond b (add_resource x r) r) ++ lines (with_row n (add_resource x) rows))
+grow_row : (b : Bool) (n : List ℕ) (x : Resource) (r : NodeRow) (rows : List NodeRow)
+    → bytes_eq r.id n ≡ b → mem r.id (node_ids rows) ≡ false → (b || mem n (node_ids rows)) ≡ true
+    → (mem n (node_ids rows) ≡ true
+    → LinesGrow (x.id, resource_row x) (lines rows) (lines (with_row n (add_resource x) rows)))
+    → LinesGrow (x.id, resource_row x) (lines (r ∷ rows))
+    (lines_of (cond b (add_resource x r) r) ++ lines (with_row n (add_resource x) rows))
 grow_row true n x r rows e alone there go =
     let named : r.id ≡ n = (bytes_eq-Decides r.id n).0 e in
     let same : with_row n (add_resource x) rows ≡ rows = at_key-none (λ s. s.id) n (add_resource x) rows (ap (λ y. mem y (node_ids rows)) (sym named) ∙ alone) in (
@@ -79,7 +94,9 @@ grow_row false n x r rows e alone there go =
     let h = go there in
     (lines_of r ++ h.0, h.1, ap (λ ls. lines_of r ++ ls) h.2 ∙ sym (append_assoc (lines_of r) h.0 h.1), ap (λ ls. lines_of r ++ ls) h.3 ∙ sym (append_assoc (lines_of r) h.0 ((x.id, resource_row x) ∷ h.1)))
 
-resource_grows : (n : List ℕ) (x : Resource) (rows : List NodeRow) → are_distinct (node_ids rows) ≡ true → mem n (node_ids rows) ≡ true → LinesGrow (x.id, resource_row x) (lines rows) (lines (with_row n (add_resource x) rows))
+resource_grows : (n : List ℕ) (x : Resource) (rows : List NodeRow)
+    → are_distinct (node_ids rows) ≡ true → mem n (node_ids rows) ≡ true
+    → LinesGrow (x.id, resource_row x) (lines rows) (lines (with_row n (add_resource x) rows))
 resource_grows n x [] apart there = absurd (true≢false (sym there))
 resource_grows n x (r ∷ rows) apart there =
     let parts = and_parts _ _ apart in
@@ -88,7 +105,8 @@ resource_grows n x (r ∷ rows) apart there =
 -- ---- a new node
 
 node_grows : (x id kind job_part status : List ℕ) (rows : List NodeRow) → has_node rows x ≡ true
-    → LinesGrow (id, record { status = status; attrs = []; audits = [] }) (lines rows) (lines (child_walk x (bare_row id kind job_part status) rows))
+    → LinesGrow (id, record { status = status; attrs = []; audits = [] }) (lines rows)
+    (lines (child_walk x (bare_row id kind job_part status) rows))
 node_grows x id kind job_part status rows there =
     let h = has_child x (bare_row id kind job_part status) rows there in
     let n : NodeRow = bare_row id kind job_part status (suc h.0.depth) in
@@ -96,7 +114,8 @@ node_grows x id kind job_part status rows there =
 
 -- ---- a new link
 
-link_lines : (n : List ℕ) (rows : List NodeRow) (f : NodeRow → NodeRow) → ((r : NodeRow) → lines_of (f r) ≡ lines_of r) → lines (with_row n f rows) ≡ lines rows
+link_lines : (n : List ℕ) (rows : List NodeRow) (f : NodeRow → NodeRow)
+    → ((r : NodeRow) → lines_of (f r) ≡ lines_of r) → lines (with_row n f rows) ≡ lines rows
 link_lines n [] f same = refl
 link_lines n (r ∷ rows) f same = ap (λ ls. ls ++ lines (with_row n f rows)) (kept_here (bytes_eq r.id n) lines_of f r (same r)) ∙ ap (λ ls. lines_of r ++ ls) (link_lines n rows f same)
 
@@ -107,7 +126,8 @@ touch_nothing false o = refl
 
 -- ---- what is known where an edit isn't refused
 
-known_first : (a r : Bool) → first_of (unless a UnknownNode ∷ unless (not r) ReservedStatus ∷ []) ≡ None → a ≡ true
+known_first : (a r : Bool)
+    → first_of (unless a UnknownNode ∷ unless (not r) ReservedStatus ∷ []) ≡ None → a ≡ true
 known_first true r e = refl
 known_first false r e = cc
 
@@ -119,30 +139,44 @@ held_only : (a : Bool) → first_of (unless a UnknownResource ∷ None ∷ []) �
 held_only true e = refl
 held_only false e = cc
 
-pub mem-resource_ids : (x : List ℕ) (rows : List NodeRow) → mem x (resource_ids rows) ≡ list_any (holds x) rows
+pub mem-resource_ids : (x : List ℕ) (rows : List NodeRow)
+    → mem x (resource_ids rows) ≡ list_any (holds x) rows
 mem-resource_ids x [] = refl
 mem-resource_ids x (r ∷ rows) =
     mem-append x (pool_ids r) (resource_ids rows) ∙ ap (λ b. b || mem x (resource_ids rows)) (any-map x r.resources) ∙ ap (λ b. holds x r || b) (mem-resource_ids x rows)
 
-pub apart_node : (rows : List NodeRow) (x : List ℕ) → IsValid rows → has_node rows x ≡ true → mem x (resource_ids rows) ≡ false
+pub apart_node : (rows : List NodeRow) (x : List ℕ) → IsValid rows → has_node rows x ≡ true
+    → mem x (resource_ids rows) ≡ false
 apart_node rows x valid known = node_no_resource x rows valid.distinct (node_among rows x known)
 
-pub apart_resource : (rows : List NodeRow) (x : List ℕ) → IsValid rows → has_resource rows x ≡ true → mem x (node_ids rows) ≡ false
+pub apart_resource : (rows : List NodeRow) (x : List ℕ) → IsValid rows → has_resource rows x ≡ true
+    → mem x (node_ids rows) ≡ false
 apart_resource rows x valid known = resource_no_node x rows valid.distinct (mem-resource_ids x rows ∙ has_resource-any rows x ∙ known)
 
-known_of_three : (a b c : Bool) → first_of (first_of (unless a UnknownNode ∷ unless b UnknownResource ∷ []) ∷ unless c UnresolvedLink ∷ []) ≡ None → a ≡ true
+known_of_three : (a b c : Bool)
+    → first_of
+    (first_of (unless a UnknownNode ∷ unless b UnknownResource ∷ []) ∷ unless c UnresolvedLink ∷ [])
+    ≡ None
+    → a ≡ true
 known_of_three true b c e = refl
 known_of_three false b c e = cc
 
-pub link_known : (rows : List NodeRow) (node : List ℕ) (link : Link) → refusal_of (AddLink node link) rows ≡ None → has_node rows node ≡ true
+pub link_known : (rows : List NodeRow) (node : List ℕ) (link : Link)
+    → refusal_of (AddLink node link) rows ≡ None → has_node rows node ≡ true
 link_known rows node link none = known_of_three (has_node rows node) (has_resource rows link.rref) (reaches rows node link.rref) none
 
 -- ---- the law
 
-pub changed_node : (x : List ℕ) (f : NodeRow → NodeRow) (g : Row → Row) (rows : List NodeRow) (y : List ℕ) → ChangesAs f g → mem x (resource_ids rows) ≡ false → row_in (with_row x f rows) y ≡ touch x g (row_in rows) y
+pub changed_node : (x : List ℕ) (f : NodeRow → NodeRow) (g : Row → Row) (rows : List NodeRow)
+    (y : List ℕ)
+    → ChangesAs f g → mem x (resource_ids rows) ≡ false
+    → row_in (with_row x f rows) y ≡ touch x g (row_in rows) y
 changed_node x f g rows y alike out = ap (λ ls. row_at ls y) (lines-with_row x f g rows alike out) ∙ row_at-touched x g (lines rows) y
 
-pub changed_resource : (x : List ℕ) (f : Resource → Resource) (g : Row → Row) (rows : List NodeRow) (y : List ℕ) → ((z : Resource) → (f z).id ≡ z.id) → ((z : Resource) → resource_row (f z) ≡ g (resource_row z)) → mem x (node_ids rows) ≡ false
+pub changed_resource : (x : List ℕ) (f : Resource → Resource) (g : Row → Row) (rows : List NodeRow)
+    (y : List ℕ)
+    → ((z : Resource) → (f z).id ≡ z.id)
+    → ((z : Resource) → resource_row (f z) ≡ g (resource_row z)) → mem x (node_ids rows) ≡ false
     → row_in (with_resource x f rows) y ≡ touch x g (row_in rows) y
 changed_resource x f g rows y id row out = ap (λ ls. row_at ls y) (lines-with_resource x f g rows id row out) ∙ row_at-touched x g (lines rows) y
 

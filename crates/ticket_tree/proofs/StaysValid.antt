@@ -2,15 +2,21 @@
 use Rattle.std.proofs.Common.{◌++◌, ◌∷◌, [], refl}
 use Rattle.ticket_items.specs.Attrs.{with_attr}
 use Rattle.ticket_items.specs.declared.audit.Audit.TheVariants.{Notification}
-use Rattle.ticket_items.specs.declared.edit.Edit.TheVariants.{SetStatus, SetAttr, SetResStatus, SetResAttr, Note, AddNode, AddResource, AddLink}
-use Rattle.ticket_rows.proofs.Changes.{IsValid-with_row, IsValid-with_resource, keeps-SetStatus, keeps-SetAttr, keeps-Note}
+use Rattle.ticket_items.specs.declared.edit.Edit.TheVariants.{SetStatus, SetAttr, SetResStatus}
+use Rattle.ticket_items.specs.declared.edit.Edit.TheVariants.{SetResAttr, Note, AddNode}
+use Rattle.ticket_items.specs.declared.edit.Edit.TheVariants.{AddResource, AddLink}
+use Rattle.ticket_rows.proofs.Changes.{IsValid-with_row, IsValid-with_resource, keeps-SetStatus}
+use Rattle.ticket_rows.proofs.Changes.{keeps-SetAttr, keeps-Note}
 use Rattle.ticket_rows.proofs.Growing.{IsValid-add_link}
 use Rattle.ticket_rows.proofs.NewNode.{IsValid-add_node}
 use Rattle.ticket_rows.proofs.NewResource.{IsValid-add_resource}
 use Rattle.ticket_rows.proofs.NodePlaces.{node_ids_distinct}
-use Rattle.ticket_rows.proofs.OneRows.{keeps-append, IsValid-replaced_node, IsValid-replaced_resource}
-use Rattle.ticket_rows.proofs.Reasons.{status_free, child_new, resource_known, resource_new, link_reached, node_among}
-use Rattle.ticket_tree.specs.Laws.{EditIsValid, AppendIsValid, ReplacedNodeIsValid, ReplacedResourceIsValid}
+use Rattle.ticket_rows.proofs.OneRows.{keeps-append, IsValid-replaced_node}
+use Rattle.ticket_rows.proofs.OneRows.{IsValid-replaced_resource}
+use Rattle.ticket_rows.proofs.Reasons.{status_free, child_new, resource_known, resource_new}
+use Rattle.ticket_rows.proofs.Reasons.{link_reached, node_among}
+use Rattle.ticket_tree.specs.Laws.{EditIsValid, AppendIsValid, ReplacedNodeIsValid}
+use Rattle.ticket_tree.specs.Laws.{ReplacedResourceIsValid}
 
 pub edit_is_valid : EditIsValid
 edit_is_valid (SetStatus n status) at rows valid free = IsValid-with_row n (λ r. record r { status = status }) rows (keeps-SetStatus status (status_free rows n status free)) valid

@@ -2,10 +2,12 @@
 use Rattle.std.proofs.Common.{◌≡◌, ℕ, true, false, List, [], ◌∷◌, ◌++◌, map, Some, None, refl}
 use Rattle.std.specs.Prelude.{codes}
 use Rattle.ticket_items.specs.Names.{is_name}
-use Rattle.ticket_rows.specs.Place.{node_places, resource_places, home, is_below, up, kids, preorder}
+use Rattle.ticket_rows.specs.Place.{node_places, resource_places, home, is_below, up, kids}
+use Rattle.ticket_rows.specs.Place.{preorder}
 use Rattle.ticket_rows.specs.Ticket.{fault_of, ids, node_ids}
 use Rattle.ticket_rows.specs.Edit.{refusal_of, edited_rows, bare_row}
-use Rattle.ticket_items.specs.declared.edit.Edit.TheVariants.{SetStatus, SetResStatus, Note, AddNode, AddLink}
+use Rattle.ticket_items.specs.declared.edit.Edit.TheVariants.{SetStatus, SetResStatus, Note}
+use Rattle.ticket_items.specs.declared.edit.Edit.TheVariants.{AddNode, AddLink}
 use Rattle.ticket_rows.specs.Homes.{home_of}
 use Rattle.ticket_rows.specs.OneRow.{appended, replaced_node, replaced_resource}
 use Rattle.ticket_tree.specs.Part.{copied, is_sound}
@@ -18,7 +20,9 @@ use Rattle.ticket_items.specs.declared.resource.Resource.{Resource}
 use Rattle.ticket_items.specs.declared.usage.Usage.{Usage}
 use Rattle.ticket_items.specs.declared.usage.Usage.TheVariants.{Input, Output}
 use Rattle.ticket_items.specs.declared.node_row.NodeRow.{NodeRow}
-use Rattle.ticket_items.specs.declared.refusal.Refusal.TheVariants.{UnknownNode, UnknownResource, ReservedStatus, NotATree, DuplicateId, UnresolvedLink}
+use Rattle.ticket_items.specs.declared.refusal.Refusal.TheVariants.{UnknownNode, UnknownResource}
+use Rattle.ticket_items.specs.declared.refusal.Refusal.TheVariants.{ReservedStatus, NotATree}
+use Rattle.ticket_items.specs.declared.refusal.Refusal.TheVariants.{DuplicateId, UnresolvedLink}
 
 abbrev row : List ℕ → ℕ → NodeRow
 row id depth = record { id = id; depth = depth; kind = codes "Product"; job_part = codes "p"; status = codes "Waiting"; attrs = []; resources = []; links = []; audits = [] }
@@ -30,7 +34,10 @@ sample = row (codes "a") 1 ∷ row (codes "b") 2 ∷ row (codes "c") 3 ∷ row (
 valid : fault_of sample ≡ None
 valid = refl
 
-e_path : map (λ p. p.path) (node_places sample) ≡ (codes "a" ∷ []) ∷ (codes "b" ∷ codes "a" ∷ []) ∷ (codes "c" ∷ codes "b" ∷ codes "a" ∷ []) ∷ (codes "d" ∷ codes "b" ∷ codes "a" ∷ []) ∷ (codes "e" ∷ codes "d" ∷ codes "b" ∷ codes "a" ∷ []) ∷ (codes "f" ∷ codes "a" ∷ []) ∷ []
+e_path : map (λ p. p.path) (node_places sample)
+    ≡ (codes "a" ∷ []) ∷ (codes "b" ∷ codes "a" ∷ []) ∷ (codes "c" ∷ codes "b" ∷ codes "a" ∷ [])
+    ∷ (codes "d" ∷ codes "b" ∷ codes "a" ∷ []) ∷ (codes "e" ∷ codes "d" ∷ codes "b" ∷ codes "a" ∷ [])
+    ∷ (codes "f" ∷ codes "a" ∷ []) ∷ []
 e_path = refl
 
 e_below_b : is_below (node_places sample) (codes "e") (codes "b") ≡ true
@@ -109,38 +116,55 @@ no_paper_home = refl
 place_home : home (resource_places product) (codes "r2") ≡ Some (codes "n0")
 place_home = refl
 
-id_of_both : fault_of (node_with (codes "n0") 1 (item (codes "n0") (codes "Media") ∷ []) [] ∷ []) ≡ Some DuplicateId
+id_of_both : fault_of (node_with (codes "n0") 1 (item (codes "n0") (codes "Media") ∷ []) [] ∷ [])
+    ≡ Some DuplicateId
 id_of_both = refl
 
 -- a resource of a sibling's pool is out of reach
-beside : fault_of (node_with (codes "n0") 1 [] [] ∷ node_with (codes "n1") 2 [] (use_of (codes "r3") Input ∷ []) ∷ node_with (codes "n2") 2 (item (codes "r3") (codes "Component") ∷ []) [] ∷ []) ≡ Some UnresolvedLink
+beside : fault_of
+    (node_with (codes "n0") 1 [] [] ∷ node_with (codes "n1") 2 [] (use_of (codes "r3") Input ∷ [])
+    ∷ node_with (codes "n2") 2 (item (codes "r3") (codes "Component") ∷ []) [] ∷ [])
+    ≡ Some UnresolvedLink
 beside = refl
 
 -- the refusals of edits, in their order
-unknown_resource : refusal_of (SetResStatus (codes "r9") (codes "InUse")) product ≡ Some UnknownResource
+unknown_resource : refusal_of (SetResStatus (codes "r9") (codes "InUse")) product
+    ≡ Some UnknownResource
 unknown_resource = refl
 
-node_no_resource : refusal_of (SetResStatus (codes "n1") (codes "InUse")) product ≡ Some UnknownResource
+node_no_resource : refusal_of (SetResStatus (codes "n1") (codes "InUse")) product
+    ≡ Some UnknownResource
 node_no_resource = refl
 
-spawned_first : refusal_of (AddNode (codes "n0") (codes "n1") (codes "Folding") (codes "p3") (codes "Spawned")) product ≡ Some ReservedStatus
+spawned_first : refusal_of
+    (AddNode (codes "n0") (codes "n1") (codes "Folding") (codes "p3") (codes "Spawned")) product
+    ≡ Some ReservedStatus
 spawned_first = refl
 
-twice_added : refusal_of (AddNode (codes "n0") (codes "r1") (codes "Folding") (codes "p3") (codes "Waiting")) product ≡ Some DuplicateId
+twice_added : refusal_of
+    (AddNode (codes "n0") (codes "r1") (codes "Folding") (codes "p3") (codes "Waiting")) product
+    ≡ Some DuplicateId
 twice_added = refl
 
-linked_unknown : refusal_of (AddLink (codes "n1") (use_of (codes "r9") Input)) product ≡ Some UnknownResource
+linked_unknown : refusal_of (AddLink (codes "n1") (use_of (codes "r9") Input)) product
+    ≡ Some UnknownResource
 linked_unknown = refl
 
 -- a new node is the third child, with nothing in it
-third_child : edited_rows (AddNode (codes "n0") (codes "n3") (codes "Folding") (codes "p3") (codes "Waiting")) 5 product ≡ product ++ bare_row (codes "n3") (codes "Folding") (codes "p3") (codes "Waiting") 2 ∷ []
+third_child : edited_rows
+    (AddNode (codes "n0") (codes "n3") (codes "Folding") (codes "p3") (codes "Waiting")) 5 product
+    ≡ product ++ bare_row (codes "n3") (codes "Folding") (codes "p3") (codes "Waiting") 2 ∷ []
 third_child = refl
 
 -- a new child of a node with others below it stands behind them
-behind_others : node_ids (edited_rows (AddNode (codes "b") (codes "g") (codes "Folding") (codes "p3") (codes "Waiting")) 5 sample) ≡ codes "a" ∷ codes "b" ∷ codes "c" ∷ codes "d" ∷ codes "e" ∷ codes "g" ∷ codes "f" ∷ []
+behind_others : node_ids
+    (edited_rows
+    (AddNode (codes "b") (codes "g") (codes "Folding") (codes "p3") (codes "Waiting")) 5 sample)
+    ≡ codes "a" ∷ codes "b" ∷ codes "c" ∷ codes "d" ∷ codes "e" ∷ codes "g" ∷ codes "f" ∷ []
 behind_others = refl
 
-noted : map (λ r. r.audits) (edited_rows (Note (codes "n1") (codes "washed up")) 7 product) ≡ [] ∷ (Notification 7 (codes "washed up") ∷ []) ∷ [] ∷ []
+noted : map (λ r. r.audits) (edited_rows (Note (codes "n1") (codes "washed up")) 7 product)
+    ≡ [] ∷ (Notification 7 (codes "washed up") ∷ []) ∷ [] ∷ []
 noted = refl
 
 -- ---- a part: the printing, with its sheets to change and its paper to read
@@ -164,7 +188,8 @@ part_sound : is_sound (copied (codes "J1") 1 above (printing ∷ []) sheets pape
 part_sound = refl
 
 -- its row once more, below itself
-row_twice : fault_of (with_copies (printing ∷ record printing { depth = 2 } ∷ []) sheets paper) ≡ Some DuplicateId
+row_twice : fault_of (with_copies (printing ∷ record printing { depth = 2 } ∷ []) sheets paper)
+    ≡ Some DuplicateId
 row_twice = refl
 
 -- without the paper
@@ -174,10 +199,15 @@ no_paper = refl
 from_nowhere : is_sound (copied (codes "J1") 1 [] (printing ∷ []) sheets paper) ≡ false
 from_nowhere = refl
 
-below_itself : is_sound (copied (codes "J1") 1 (record { node_id = codes "n1"; job_part = codes "p0" } ∷ []) (printing ∷ []) sheets paper) ≡ false
+below_itself : is_sound
+    (copied (codes "J1") 1 (record { node_id = codes "n1"; job_part = codes "p0" } ∷ [])
+    (printing ∷ []) sheets paper)
+    ≡ false
 below_itself = refl
 
-unlinked : is_sound (copied (codes "J1") 1 above (printing ∷ []) (sheets ++ item (codes "r3") (codes "Ink") ∷ []) paper) ≡ false
+unlinked : is_sound
+    (copied (codes "J1") 1 above (printing ∷ []) (sheets ++ item (codes "r3") (codes "Ink") ∷ []) paper)
+    ≡ false
 unlinked = refl
 
 -- ---- spawn ids by their texts
@@ -206,13 +236,18 @@ spawn_small = refl
 -- ---- the calls that change one row
 
 -- the audit stands last
-audited : map (λ r. r.audits) (appended (codes "n1") (Notification 8 (codes "dried")) (edited_rows (Note (codes "n1") (codes "washed up")) 7 product))
+audited : map (λ r. r.audits)
+    (appended (codes "n1") (Notification 8 (codes "dried"))
+    (edited_rows (Note (codes "n1") (codes "washed up")) 7 product))
     ≡ [] ∷ (Notification 7 (codes "washed up") ∷ Notification 8 (codes "dried") ∷ []) ∷ [] ∷ []
 audited = refl
 
 -- the depth stays
-put_back : replaced_node (record printing { status = codes "Completed" }) product ≡ edited_rows (SetStatus (codes "n1") (codes "Completed")) 5 product
+put_back : replaced_node (record printing { status = codes "Completed" }) product
+    ≡ edited_rows (SetStatus (codes "n1") (codes "Completed")) 5 product
 put_back = refl
 
-used : replaced_resource (record (item (codes "r2") (codes "Component")) { status = codes "InUse" }) product ≡ edited_rows (SetResStatus (codes "r2") (codes "InUse")) 5 product
+used : replaced_resource
+    (record (item (codes "r2") (codes "Component")) { status = codes "InUse" }) product
+    ≡ edited_rows (SetResStatus (codes "r2") (codes "InUse")) 5 product
 used = refl

@@ -1,16 +1,21 @@
--- A part: a node of a ticket with all below it, taken out as a ticket of its own, with copies of the resources that it links from above.
-use Rattle.std.specs.Prelude.{ℕ, ◌+◌, ◌&&◌, Bool, not, List, ◌++◌, length, map, nat_le, nat_lt}
+-- A part: a node of a ticket with all below it, taken out as a ticket of its own, with copies of
+-- the resources that it links from above.
+use Rattle.std.specs.Prelude.{ℕ, ◌+◌, ◌&&◌, Bool, not, List, ◌++◌, length, map, nat_le, nat_lt, Option}
 use Rattle.std.specs.List.{list_all, list_any}
 use Rattle.std.specs.Str.{bytes_eq}
 use Rattle.ticket_items.specs.Ids.{mem, are_distinct}
 use Rattle.ticket_items.specs.Resource.{resource_ids}
+use Rattle.ticket_rows.specs.Edit.{edited_rows}
+use Rattle.ticket_rows.specs.PartEdit.{edited_copies, part_refusal}
 use Rattle.ticket_rows.specs.Ticket.{ids, max_depth}
 use Rattle.ticket_items.specs.declared.ancestor.Ancestor.{Ancestor}
+use Rattle.ticket_items.specs.declared.edit.Edit.{Edit}
 use Rattle.ticket_items.specs.declared.node_row.NodeRow.{NodeRow}
+use Rattle.ticket_items.specs.declared.refusal.Refusal.{Refusal}
 use Rattle.ticket_items.specs.declared.resource.Resource.{Resource}
 
--- what was copied out of a ticket: for which job and spawn, from under which nodes, the rows in preorder, and the resources
--- that may be changed and those that may be read alone
+-- what was copied out of a ticket: for which job and spawn, from under which nodes, the rows in
+-- preorder, and the resources that may be changed and those that may be read alone
 pub record Copied : Type 0 where
   pub job_id : List ℕ
   pub spawn_id : ℕ
@@ -19,8 +24,27 @@ pub record Copied : Type 0 where
   pub rw : List Resource
   pub ro : List Resource
 
-abbrev pub copied : List ℕ → ℕ → List Ancestor → List NodeRow → List Resource → List Resource → Copied
-copied job_id spawn_id ancestors rows rw ro = record { job_id = job_id; spawn_id = spawn_id; ancestors = ancestors; rows = rows; rw = rw; ro = ro }
+abbrev pub copied : List ℕ → ℕ → List Ancestor → List NodeRow → List Resource → List Resource
+    → Copied
+copied job_id spawn_id ancestors rows rw ro =
+    record {
+      job_id = job_id;
+      spawn_id = spawn_id;
+      ancestors = ancestors;
+      rows = rows;
+      rw = rw;
+      ro = ro;
+    }
+
+-- ---- edits that aren't structural
+
+-- why an edit is refused, if it is
+abbrev pub refusal_of_part : Edit → Copied → Option Refusal
+refusal_of_part e p = part_refusal e p.rows p.rw
+
+-- the part after an edit at a time that isn't refused
+abbrev pub edited_part : Edit → ℕ → Copied → Copied
+edited_part e at p = record p { rows = edited_rows e at p.rows; rw = edited_copies e p.rw }
 
 -- ---- what makes a part sound
 
@@ -41,7 +65,8 @@ are_apart xs ys = list_all (λ x. not (mem x ys)) xs
 
 -- whether the ancestors' ids differ from each other and from all ids of the part
 abbrev pub are_ancestors_new : List Ancestor → List (List ℕ) → Bool
-are_ancestors_new ancestors others = are_distinct (ancestor_ids ancestors) && are_apart (ancestor_ids ancestors) others
+are_ancestors_new ancestors others =
+    are_distinct (ancestor_ids ancestors) && are_apart (ancestor_ids ancestors) others
 
 -- whether no node would be deeper than 32 below this many ancestors
 abbrev pub are_shallow_below : ℕ → List NodeRow → Bool
@@ -55,7 +80,10 @@ is_linked rows x = list_any (λ r. list_any (λ l. bytes_eq l.rref x) r.links) r
 abbrev pub are_linked : List NodeRow → List Resource → Bool
 are_linked rows pool = list_all (λ x. is_linked rows x.id) pool
 
--- whether a part can have come from a ticket: it has ancestors, its nodes aren't too deep below them, their ids are new, and each copy is linked
+-- whether a part can have come from a ticket: it has ancestors, its nodes aren't too deep below
+-- them, their ids are new, and each copy is linked
 abbrev pub is_sound : Copied → Bool
 is_sound p =
-    has_ancestors p.ancestors && are_shallow_below (length p.ancestors) p.rows && are_ancestors_new p.ancestors (part_ids p.rows p.rw p.ro) && are_linked p.rows p.rw && are_linked p.rows p.ro
+    has_ancestors p.ancestors && are_shallow_below (length p.ancestors) p.rows
+    && are_ancestors_new p.ancestors (part_ids p.rows p.rw p.ro) && are_linked p.rows p.rw
+    && are_linked p.rows p.ro

@@ -6,11 +6,12 @@ use Rattle.ticket_rows.specs.Place.{Place, Thing, Row, places, place_at, row_in}
 use Rattle.ticket_tree.specs.Part.{Copied}
 use Rattle.ticket_items.specs.declared.node_row.NodeRow.{NodeRow}
 
--- what a worker may change of a part, as rows: the part's rows, with the copies that may be changed behind the root's own resources
+-- what a worker may change of a part, as rows: the part's rows, with the copies that may be changed
+-- behind the root's own resources
 abbrev pub own_rows : Copied → List NodeRow
 own_rows p = with_copies p.rows p.rw []
 
--- the row of an id in a part: of a node, of a resource at home there, or of a copy that may be changed
+-- the row of an id in a part: of a node, of a resource at home there, or of a copy to change
 abbrev pub part_row : Copied → List ℕ → Option Row
 part_row p x = row_in (own_rows p) x
 

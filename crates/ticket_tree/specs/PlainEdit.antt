@@ -1,15 +1,20 @@
 -- The edits of the plain ticket: of its places, and of its rows by id.
-use Rattle.std.specs.Prelude.{ℕ, ◌++◌, Bool, false, List, [], ◌∷◌, length, map, nat_lt, if◌then◌else◌, Option, Some, is_some}
+use Rattle.std.specs.Prelude.{ℕ, ◌++◌, Bool, false, List, [], ◌∷◌, length, map, nat_lt}
+use Rattle.std.specs.Prelude.{if◌then◌else◌, Option, Some, is_some}
 use Rattle.std.specs.Option.{option_map, option_map_or}
 use Rattle.std.specs.Str.{bytes_eq}
 use Rattle.ticket_items.specs.Attrs.{with_attr}
 use Rattle.ticket_rows.specs.Edit.{target, behind_last}
 use Rattle.ticket_rows.specs.EditRefusal.{Lookups, edit_refusal}
-use Rattle.ticket_rows.specs.Place.{Place, Thing, node, resource, Row, place_at, nodes_in, resources_in, below, is_below, home, home_at, resource_place, resource_row}
+use Rattle.ticket_rows.specs.Place.{Place, Thing, node, resource, Row, place_at, nodes_in}
+use Rattle.ticket_rows.specs.Place.{resources_in, below, is_below, home, home_at, resource_place}
+use Rattle.ticket_rows.specs.Place.{resource_row}
 use Rattle.ticket_rows.specs.Ticket.{max_depth}
 use Rattle.ticket_items.specs.declared.audit.Audit.TheVariants.{Notification}
 use Rattle.ticket_items.specs.declared.edit.Edit.{Edit}
-use Rattle.ticket_items.specs.declared.edit.Edit.TheVariants.{SetStatus, SetAttr, SetResStatus, SetResAttr, Note, AddNode, AddResource, AddLink}
+use Rattle.ticket_items.specs.declared.edit.Edit.TheVariants.{SetStatus, SetAttr, SetResStatus}
+use Rattle.ticket_items.specs.declared.edit.Edit.TheVariants.{SetResAttr, Note, AddNode}
+use Rattle.ticket_items.specs.declared.edit.Edit.TheVariants.{AddResource, AddLink}
 use Rattle.ticket_items.specs.declared.link.Link.{Link}
 use Rattle.ticket_items.specs.declared.refusal.Refusal.{Refusal}
 
@@ -21,15 +26,24 @@ stands tree x = is_some (place_at tree x)
 
 -- whether the path of a child of the node is no longer than 32
 abbrev pub has_room_below : List Place → List ℕ → Bool
-has_room_below tree n = option_map_or (λ p. nat_lt (length p.path) max_depth) (place_at (nodes_in tree) n) false
+has_room_below tree n =
+    option_map_or (λ p. nat_lt (length p.path) max_depth) (place_at (nodes_in tree) n) false
 
 -- whether the home of a resource is the node or above it
 abbrev pub is_home_above : List Place → List ℕ → List ℕ → Bool
-is_home_above tree n x = option_map_or (is_below (nodes_in tree) n) (home (resources_in tree) x) false
+is_home_above tree n x =
+    option_map_or (is_below (nodes_in tree) n) (home (resources_in tree) x) false
 
 -- what places are asked before an edit
 abbrev pub plain_lookups : List Place → Lookups
-plain_lookups tree = record { has_node = stands (nodes_in tree); has_resource = stands (resources_in tree); has_id = stands tree; has_room = has_room_below tree; reaches = is_home_above tree }
+plain_lookups tree =
+    record {
+      has_node = stands (nodes_in tree);
+      has_resource = stands (resources_in tree);
+      has_id = stands tree;
+      has_room = has_room_below tree;
+      reaches = is_home_above tree;
+    }
 
 -- why an edit is refused, if it is
 abbrev pub plain_refusal : Edit → List Place → Option Refusal
@@ -51,14 +65,14 @@ with_link link (node kind job_part links) = node kind job_part (links ++ link �
 with_link link (resource name class) = resource name class
 
 abbrev pub plain_places : Edit → List Place → List Place
-plain_places (SetStatus n status) tree = tree
-plain_places (SetAttr n name value) tree = tree
-plain_places (SetResStatus x status) tree = tree
-plain_places (SetResAttr x name value) tree = tree
-plain_places (Note n text) tree = tree
-plain_places (AddNode n id kind job_part status) tree = behind_last (below n) (record { id = id; path = id ∷ path_at tree n; thing = node kind job_part [] }) tree
+plain_places (AddNode n id kind job_part status) tree =
+    behind_last (below n)
+    (record { id = id; path = id ∷ path_at tree n; thing = node kind job_part [] }) tree
 plain_places (AddResource n x) tree = behind_last (is_at n) (resource_place (path_at tree n) x) tree
-plain_places (AddLink n link) tree = map (λ (p : Place). if bytes_eq p.id n then record p { thing = with_link link p.thing } else p) tree
+plain_places (AddLink n link) tree =
+    map
+    (λ (p : Place). if bytes_eq p.id n then record p { thing = with_link link p.thing } else p) tree
+plain_places e tree = tree
 
 -- ---- what it makes of the rows by id
 
@@ -69,9 +83,7 @@ plain_changed (SetAttr n name value) at r = record r { attrs = with_attr name va
 plain_changed (SetResStatus x status) at r = record r { status = status }
 plain_changed (SetResAttr x name value) at r = record r { attrs = with_attr name value r.attrs }
 plain_changed (Note n text) at r = record r { audits = r.audits ++ Notification at text ∷ [] }
-plain_changed (AddNode n id kind job_part status) at r = r
-plain_changed (AddResource n x) at r = r
-plain_changed (AddLink n link) at r = r
+plain_changed e at r = r
 
 -- the rows by id, with f of the row of one id
 abbrev pub touch : List ℕ → (Row → Row) → (List ℕ → Option Row) → List ℕ → Option Row
@@ -86,6 +98,7 @@ abbrev pub or_row : Option Row → Option Row → Option Row
 or_row known other = option_map_or Some known other
 
 abbrev pub plain_rows : Edit → ℕ → (List ℕ → Option Row) → List ℕ → Option Row
-plain_rows (AddNode n id kind job_part status) at rows = with_line id (record { status = status; attrs = []; audits = [] }) rows
+plain_rows (AddNode n id kind job_part status) at rows =
+    with_line id (record { status = status; attrs = []; audits = [] }) rows
 plain_rows (AddResource n x) at rows = with_line x.id (resource_row x) rows
 plain_rows e at rows = touch (target e) (plain_changed e at) rows

@@ -98,3 +98,12 @@ pub fn path_of_a_resource_is_its_homes()
 pub fn places_and_rows_determine_a_ticket()
     ensures { law.PlacesAndRowsDetermine }
 {}
+
+/// An edit of a part is that edit of its rows with the copies that may be changed: it is refused
+/// for the same, leaves a part, moves nothing, and changes the row of its target alone.
+pub fn edit_of_a_part_is_the_plain_edit()
+    ensures refused { law.PartRefusalIsOfOwnRows }
+    ensures valid { law.PartEditIsValid }
+    ensures places { law.PartEditOfPlaces }
+    ensures rows { law.PartEditOfRows }
+{}

@@ -10,8 +10,9 @@ mod ticket;
 pub use part::Part;
 pub use ticket::Ticket;
 pub use ticket_items::{
-    Ancestor, Ancestors, Attrs, Audit, Audits, Edit, Id, Ids, Items, Link, Links, MAX_TEXT_BYTES,
-    Marks, Name, NodeRow, Refusal, ResMark, ResMarks, Resource, Resources, SpawnId, SpawnIds,
-    SpawnStatus, Text, Usage, is_name, is_text,
+    Ancestor, Ancestors, Attrs, Audit, Audits, Duplicate, Edit, Id, Ids, Items, Link, Links,
+    MAX_TEXT_BYTES, Marks, Name, NodeRow, Refusal, ResMark, ResMarks, Resource, Resources, SpawnId,
+    SpawnIds, SpawnStatus, Text, Usage, is_name, is_text,
 };
 pub use ticket_rows::Rows;
+pub use ticket_rows::part_edits::is_structural;

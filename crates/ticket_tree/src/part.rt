@@ -1,10 +1,17 @@
+ghost use Rattle.std.specs.Prelude.{◌≡◌, ◌⊎◌, Some, OnOk, IfErr};
+ghost use Rattle.ticket_rows.specs.Copies.{with_copies};
+ghost use Rattle.ticket_rows.specs.Ticket.{IsValid, fault_of};
+
 use crate::soundness;
 use std::alloc::{AllocError, Global};
 use std::marker::Model;
-use ticket_items::{Ancestor, Ancestors, Name, NodeRow, Refusal, Resource, Resources, SpawnId};
+use ticket_items::{
+    Ancestor, Ancestors, Duplicate, Edit, Name, NodeRow, Refusal, Resource, Resources, SpawnId,
+    copies,
+};
 use ticket_rows::distinct::are_distinct_with;
 use ticket_rows::resolved::are_resolved_with;
-use ticket_rows::{Rows, rows};
+use ticket_rows::{Rows, part_edits, rows};
 
 /// A part of a ticket, which a spawn gives to another controller (JDF 1.5, 4.4): a node with all
 /// below it as a ticket of its own, the nodes that it stood under, and copies of the resources that
@@ -27,15 +34,58 @@ impl Model for Part {
 
     ghost Value = { Copied };
 
-    ghost view = { λ a. record { job_id = a.job; spawn_id = a.spawn_id; ancestors = a.ancestors; rows = a.rows.items; rw = a.rw; ro = a.ro } };
+    ghost view = { λ a. record {
+      job_id = a.job;
+      spawn_id = a.spawn_id;
+      ancestors = a.ancestors;
+      rows = a.rows.items;
+      rw = a.rw;
+      ro = a.ro;
+    } };
 
     ghost invariant = { λ a. IsValid (with_copies a.rows.items a.rw a.ro) };
 }
 
+/// Refuses the first fault that rows have with copies as resources of the root. The first two,
+/// `NotATree` and `ReservedStatus`, need no memory.
+fn check_rows(
+    alloc: Global,
+    rows: &[NodeRow],
+    rw: &[Resource],
+    ro: &[Resource],
+) -> Result<(), Refusal>
+    ensures valid { OnOk result (IsValid (with_copies rows.now rw.now ro.now)) }
+    ensures err { IfErr result
+        (λ e. (e ≡ Refusal.Memory) ⊎ (fault_of (with_copies rows.now rw.now ro.now) ≡ Some e)) }
+    ensures not_a_tree { fault_of (with_copies rows.now rw.now ro.now) ≡ Some Refusal.NotATree
+        → result ≡ Err Refusal.NotATree }
+    ensures reserved { fault_of (with_copies rows.now rw.now ro.now) ≡ Some Refusal.ReservedStatus
+        → result ≡ Err Refusal.ReservedStatus }
+{
+    if !rows::is_outline(rows) {
+        return Err(Refusal::NotATree);
+    }
+    if !rows::are_unreserved(rows) {
+        return Err(Refusal::ReservedStatus);
+    }
+    if !are_distinct_with(alloc, rows, rw, ro)? {
+        return Err(Refusal::DuplicateId);
+    }
+    if !rows::are_shallow(rows) {
+        return Err(Refusal::TooDeep);
+    }
+    if !are_resolved_with(alloc, rows, rw, ro)? {
+        return Err(Refusal::UnresolvedLink);
+    }
+    Ok(())
+}
+
 impl Part {
-    ghost use Rattle.std.specs.Prelude.{◌≡◌, ◌⊎◌, Some, OnOk, IfOk, IfErr};
+    ghost use Rattle.std.specs.Prelude.{◌≡◌, ◌⊎◌, Some, false, OnOk, OnErr, IfOk, IfErr, IfNone};
+    ghost use Rattle.std.specs.Prelude.{IfSome, IsOk};
     ghost use Rattle.ticket_tree.specs.Part as part;
     ghost use Rattle.ticket_rows.specs.Copies.{with_copies};
+    ghost use Rattle.ticket_rows.specs.Edit.{grows, is_structural};
     ghost use Rattle.ticket_rows.specs.Ticket.{IsValid, fault_of};
 
     /// The part of a job with these nodes in preorder, the root at depth 1, and these copies.
@@ -60,43 +110,10 @@ impl Part {
         ensures reserved { fault_of (with_copies rows.items rw ro) ≡ Some Refusal.ReservedStatus
             → result ≡ Err Refusal.ReservedStatus }
     {
-        if !rows::is_outline(rows.as_slice()) {
-            return Err(Refusal::NotATree);
-        }
-        if !rows::are_unreserved(rows.as_slice()) {
-            return Err(Refusal::ReservedStatus);
-        }
-        if !are_distinct_with(alloc, rows.as_slice(), rw.as_slice(), ro.as_slice())? {
-            return Err(Refusal::DuplicateId);
-        }
-        if !rows::are_shallow(rows.as_slice()) {
-            return Err(Refusal::TooDeep);
-        }
-        if !are_resolved_with(alloc, rows.as_slice(), rw.as_slice(), ro.as_slice())? {
-            return Err(Refusal::UnresolvedLink);
-        }
+        check_rows(alloc, rows.as_slice(), rw.as_slice(), ro.as_slice())?;
         Ok(Part {
             job,
             spawn_id,
-            ancestors,
-            rows,
-            rw,
-            ro,
-        })
-    }
-
-    /// An equal part.
-    pub fn copy(&self, alloc: Global) -> Result<Part, AllocError>
-        ensures { IfOk result (λ p. p ≡ self.now) }
-    {
-        let job = self.job.copy(alloc)?;
-        let ancestors = self.ancestors.copy(alloc)?;
-        let rows = rows::copy(alloc, self.rows.as_slice())?;
-        let rw = self.rw.copy(alloc)?;
-        let ro = self.ro.copy(alloc)?;
-        Ok(Part {
-            job,
-            spawn_id: self.spawn_id,
             ancestors,
             rows,
             rw,
@@ -164,6 +181,24 @@ impl Part {
             && soundness::are_linked(rows, ro)
     }
 
+    /// Does an edit that adds no node, resource or link, at a time in seconds since 1970: of a node,
+    /// of a resource of its pools, or of a copy that may be changed. Refuses the first of
+    /// `UnknownNode` or `UnknownResource` (the latter also for a copy that may be read alone) and
+    /// `ReservedStatus`, which need no memory, and then `Memory`; never `Memory` where the edit
+    /// gives another Status. A refusal changes nothing.
+    pub fn apply(&mut self, _alloc: Global, edit: Edit, at: u64) -> Result<(), Refusal>
+        requires { is_structural edit ≡ false }
+        ensures ok { OnOk result (self.new ≡ part.edited_part edit at self.old) }
+        ensures err { OnErr result (self.new ≡ self.old) }
+        ensures refused { IfSome (part.refusal_of_part edit self.old) (λ e. result ≡ Err e) }
+        ensures memory { IfNone (part.refusal_of_part edit self.old)
+            (IfErr result (λ e. e ≡ Refusal.Memory)) }
+        ensures in_place { grows edit ≡ false
+            → IfNone (part.refusal_of_part edit self.old) (IsOk result) }
+    {
+        part_edits::apply(&mut self.rows, &mut self.rw, edit, at)
+    }
+
     /// Its nodes, and the copies that may be changed, by themselves. With its other copies they are
     /// still a valid ticket. Needs no memory.
     pub fn into_rows(self) -> (Vec<NodeRow>, Vec<Resource>)
@@ -174,4 +209,25 @@ impl Part {
         let Part { rows, rw, .. } = self;
         (rows, rw.into_vec())
     }
+}
+
+impl Clone for Part {
+    ghost use Rattle.std.specs.Prelude.{◌≡◌};
+
+    ghost is_clone = { λ part copied. copied ≡ part };
+
+    fn clone(&self) -> Result<Part, AllocError> {
+        Ok(Part {
+            job: self.job.clone()?,
+            spawn_id: self.spawn_id,
+            ancestors: self.ancestors.clone()?,
+            rows: copies(*self.rows.allocator(), self.rows.as_slice())?,
+            rw: self.rw.clone()?,
+            ro: self.ro.clone()?,
+        })
+    }
+}
+
+impl Duplicate for Part {
+    ghost equal = { λ _ _ same. same };
 }

@@ -1,6 +1,6 @@
 use std::alloc::{AllocError, Global};
 use std::marker::Model;
-use ticket_items::{Audit, Edit, Id, Name, NodeRow, Refusal, Resource};
+use ticket_items::{Audit, Duplicate, Edit, Id, Name, NodeRow, Refusal, Resource, copies};
 use ticket_rows::distinct::are_distinct;
 use ticket_rows::resolved::are_resolved;
 use ticket_rows::{LastPlace, Rows, edits, one_row, pools, rows};
@@ -73,19 +73,6 @@ impl Ticket {
         })
     }
 
-    /// An equal ticket.
-    pub fn copy(&self, alloc: Global) -> Result<Ticket, AllocError>
-        ensures { IfOk result (λ t. t ≡ self.now) }
-    {
-        let job = self.job.copy(alloc)?;
-        let rows = rows::copy(alloc, self.rows.as_slice())?;
-        Ok(Ticket {
-            job,
-            rows,
-            last: LastPlace::front(),
-        })
-    }
-
     /// The job's id.
     pub fn job(&self) -> &Name
         ensures { result.now ≡ self.now.job_id }
@@ -139,7 +126,7 @@ impl Ticket {
         rows::is_below(self.rows.as_slice(), lower, upper)
     }
 
-    /// Why `apply` would refuse an edit, want of memory aside: the first of these. `SetStatus`:
+    /// Why `apply` would refuse an edit, memory aside: the first of these. `SetStatus`:
     /// `UnknownNode`, `ReservedStatus`; `SetAttr`, `Note`: `UnknownNode`; `SetResStatus`,
     /// `SetResAttr`: `UnknownResource`; `AddNode`: `UnknownNode`, `ReservedStatus`, `DuplicateId`,
     /// `TooDeep`; `AddResource`: `UnknownNode`, `DuplicateId`; `AddLink`: `UnknownNode`,
@@ -198,4 +185,22 @@ impl Ticket {
     {
         one_row::replace_resource(&mut self.rows, &mut self.last, resource);
     }
+}
+
+impl Clone for Ticket {
+    ghost use Rattle.std.specs.Prelude.{◌≡◌};
+
+    ghost is_clone = { λ ticket copied. copied ≡ ticket };
+
+    fn clone(&self) -> Result<Ticket, AllocError> {
+        Ok(Ticket {
+            job: self.job.clone()?,
+            rows: copies(*self.rows.allocator(), self.rows.as_slice())?,
+            last: LastPlace::front(),
+        })
+    }
+}
+
+impl Duplicate for Ticket {
+    ghost equal = { λ _ _ same. same };
 }

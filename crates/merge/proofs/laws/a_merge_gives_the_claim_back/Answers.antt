@@ -1,4 +1,5 @@
-use Rattle.merge.proofs.MergedHolders.{merge_keeps_apart, merged_claim_is_masters, merge_keeps_others}
+use Rattle.merge.proofs.MergedHolders.{merge_keeps_apart, merged_claim_is_masters}
+use Rattle.merge.proofs.MergedHolders.{merge_keeps_others}
 use Rattle.merge.proofs.laws.a_merge_gives_the_claim_back.Goals as goal
 
 pub returns-clause-apart : goal.returns-clause-apart

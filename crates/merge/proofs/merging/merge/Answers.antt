@@ -1,7 +1,8 @@
 use Rattle.std.proofs.Common.{◌∙◌, refl, sym, ap, subst}
 use Rattle.ticket_rows.specs.Ticket.{Job}
 use Rattle.spawn.specs.Spawning.{parent_of}
-use Rattle.merge.proofs.Returning.{part_nodes, part_copies, nodes_told, copies_told, put_told, parent_of_out}
+use Rattle.merge.proofs.Returning.{part_nodes, part_copies, nodes_told, copies_told, put_told}
+use Rattle.merge.proofs.Returning.{parent_of_out}
 use Rattle.merge.specs.Put.{merged_audit}
 use Rattle.merge.specs.Putting.{MayTakeNodes, MayTakeResources, with_nodes, with_resources}
 use Rattle.merge.proofs.merging.merge.Goals as goal

@@ -2,7 +2,7 @@ use Rattle.std.proofs.Common.{◌∙◌, sym, ap}
 use Rattle.std.specs.List.{list_all}
 use Rattle.std.specs.Option.{option_copied}
 use Rattle.ticket_rows.specs.Homes.{has_resource}
-use Rattle.spawn.proofs.Refused.{Named, by_number, is_held, may_be, not_linked, outside_told}
+use Rattle.spawn.proofs.Checked.{Named, by_number, is_held, may_be, not_linked, outside_told}
 use Rattle.spawn.proofs.checking.refusal_by_sets.Goals as goal
 
 pub returns-then-not-branch-2 : goal.returns-then-not-branch-2

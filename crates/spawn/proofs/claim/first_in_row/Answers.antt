@@ -1,5 +1,5 @@
 use Rattle.std.proofs.Common.{◌∙◌, ap}
-use Rattle.spawn.proofs.Firsts.{in_row_later}
+use Rattle.spawn.proofs.Winner.{in_row_later}
 use Rattle.spawn.specs.Bounds.{first_held, has}
 use Rattle.spawn.proofs.claim.first_in_row.Goals as goal
 

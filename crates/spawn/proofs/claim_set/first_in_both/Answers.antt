@@ -3,7 +3,8 @@ use Rattle.std.specs.List.{find}
 use Rattle.std.specs.Option.{option_map}
 use Rattle.ticket_rows.proofs.Below.{Follows-outline}
 use Rattle.ticket_rows.specs.Ticket.{ids_of}
-use Rattle.spawn.proofs.FirstInBoth.{AtRow, both_here, at_start, at_more, row_passed, row_decides, no_row_left}
+use Rattle.spawn.proofs.FirstInBoth.{AtRow, both_here, at_start, at_more, row_passed, row_decides}
+use Rattle.spawn.proofs.FirstInBoth.{no_row_left}
 use Rattle.spawn.specs.ClaimSet.{spot_of}
 use Rattle.spawn.proofs.claim_set.first_in_both.Goals as goal
 

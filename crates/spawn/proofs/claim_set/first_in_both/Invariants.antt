@@ -5,7 +5,8 @@ use Rattle.spawn.proofs.FirstInBoth.{AtRow, path_at}
 use Rattle.spawn.specs.ClaimSet.{both_claim}
 use Rattle.spawn.proofs.claim_set.first_in_both.Given as goal
 
--- the walks are at the last of the rows so far, and both have nothing of these: the later ones decide
+-- the walks are at the last of the rows so far, and both have nothing of these: the later ones
+-- decide
 abbrev pub invariant-loop-number : goal.invariant-loop-number
 invariant-loop-number l =
     record {

@@ -3,7 +3,7 @@ use Rattle.std.proofs.lemmas.List.{map-append}
 use Rattle.std.specs.List.{filter}
 use Rattle.ticket_items.specs.Resource.{resource_ids}
 use Rattle.ticket_items.specs.declared.resource.Resource.{Resource}
-use Rattle.spawn.proofs.Copying.{kept_more, gains}
+use Rattle.spawn.proofs.RowsBelow.{kept_more, gains}
 use Rattle.spawn.specs.Parts.{resources}
 use Rattle.spawn.proofs.copies.push_rows.Goals as goal
 

@@ -1,6 +1,6 @@
 use Rattle.std.proofs.Common.{◌∙◌, sym, ap}
 use Rattle.std.specs.Option.{option_map, option_and_then}
-use Rattle.spawn.proofs.Meeting.{all_met-append}
+use Rattle.spawn.proofs.GoodWalk.{all_met-append}
 use Rattle.spawn.specs.Parts.{resources}
 use Rattle.spawn.specs.Walk.{all_met}
 use Rattle.spawn.proofs.good.left_of.Goals as goal

@@ -1,6 +1,6 @@
 use Rattle.std.proofs.Common.{◌∙◌, ap}
 use Rattle.std.specs.Option.{option_map}
-use Rattle.spawn.proofs.Meeting.{met_more, met_none}
+use Rattle.spawn.proofs.GoodWalk.{met_more, met_none}
 use Rattle.spawn.specs.Walk.{all_met}
 use Rattle.spawn.proofs.good.meet_rows.Goals as goal
 

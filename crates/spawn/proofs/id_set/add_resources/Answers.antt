@@ -3,7 +3,7 @@ use Rattle.std.specs.List.{list_any}
 use Rattle.std.specs.Str.{bytes_eq}
 use Rattle.ticket_rows.specs.Homes.{has_resource}
 use Rattle.ticket_items.specs.declared.resource.Resource.{Resource}
-use Rattle.spawn.proofs.IdSets.{resources_more, same_set}
+use Rattle.spawn.proofs.LinkedOutside.{resources_more, same_set}
 use Rattle.spawn.proofs.id_set.add_resources.Goals as goal
 
 pub loop-row-preserved : goal.loop-row-preserved

@@ -1,9 +1,10 @@
-use Rattle.std.proofs.Common.{◌≡◌, ◌∙◌, ◌-◌, ◌≤◌, length, nat_lt, is_some, take, drop, slice_get, sym, ap, subst}
+use Rattle.std.proofs.Common.{◌≡◌, ◌∙◌, ◌-◌, ◌≤◌, length, nat_lt, is_some, take, drop, slice_get}
+use Rattle.std.proofs.Common.{sym, ap, subst}
 use Rattle.std.specs.Option.{option_map}
 use Rattle.ticket_rows.specs.Place.{node_places, up}
 use Rattle.spawn.specs.At.{IsAt}
 use Rattle.spawn.specs.Parts.{rows_below}
-use Rattle.spawn.proofs.AtNode.{some_too, between_is, parent_is, apart_is}
+use Rattle.spawn.proofs.PartFor.{some_too, between_is, parent_is, apart_is}
 use Rattle.spawn.proofs.node_at.node_at.Goals as goal
 
 pub returns-clause-known : goal.returns-clause-known

@@ -1,7 +1,7 @@
 use Rattle.std.proofs.Common.{◌∙◌, ◌+◌, ◌||◌, ap, take}
 use Rattle.std.specs.List.{list_any}
 use Rattle.ticket_items.specs.Ids.{mem}
-use Rattle.spawn.proofs.IdSets.{same_set}
+use Rattle.spawn.proofs.LinkedOutside.{same_set}
 use Rattle.spawn.proofs.OutSteps.{any_more, spawns_in}
 use Rattle.spawn.specs.Marking as marking
 use Rattle.spawn.proofs.out_tables.copies_rw.Goals as goal

@@ -1,7 +1,7 @@
 use Rattle.std.proofs.Common.{◌∙◌, ◌+◌, ◌||◌, ap, take}
 use Rattle.std.specs.List.{list_any}
 use Rattle.std.specs.Str.{bytes_eq}
-use Rattle.spawn.proofs.IdSets.{same_set}
+use Rattle.spawn.proofs.LinkedOutside.{same_set}
 use Rattle.spawn.proofs.OutSteps.{any_more, spawns_in}
 use Rattle.spawn.specs.declared.spawn_rec.SpawnRec.{SpawnRec}
 use Rattle.spawn.proofs.out_tables.spawned_nodes.Goals as goal

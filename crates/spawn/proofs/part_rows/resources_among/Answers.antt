@@ -2,7 +2,7 @@ use Rattle.std.proofs.Common.{◌∙◌, ◌++◌, take, sym, ap}
 use Rattle.std.specs.List.{filter}
 use Rattle.ticket_items.specs.Ids.{mem}
 use Rattle.spawn.specs.Parts.{resources_among}
-use Rattle.spawn.proofs.Copying.{among_more}
+use Rattle.spawn.proofs.RowsBelow.{among_more}
 use Rattle.spawn.proofs.part_rows.resources_among.Goals as goal
 
 pub loop-row-preserved : goal.loop-row-preserved

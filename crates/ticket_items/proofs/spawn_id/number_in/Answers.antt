@@ -1,5 +1,4 @@
 use Rattle.std.proofs.Common.{◌∙◌, sym, ap}
-use Rattle.std.proofs.lemmas.Bool.{not-true, not-false}
 use Rattle.ticket_items.proofs.SpawnTexts.{none_parsed, some_parsed}
 use Rattle.ticket_items.specs.SpawnId as spawns
 use Rattle.ticket_items.proofs.spawn_id.number_in.Goals as goal

@@ -29,6 +29,14 @@ pub returns-in-SetResAttr-clause-refused : goal.returns-in-SetResAttr-clause-ref
 returns-in-SetResAttr-clause-refused c =
     subst (λ e. IfSome (refusal_of e c.args.rows.now.items) (λ r. c.set_resource_attr.result ≡ Err r)) (sym c.in-SetResAttr.is) c.set_resource_attr.ensures.refused
 
+pub returns-in-Note-clause-refused : goal.returns-in-Note-clause-refused
+returns-in-Note-clause-refused c =
+    subst (λ e. IfSome (refusal_of e c.args.rows.now.items) (λ r. c.note.result ≡ Err r)) (sym c.in-Note.is) c.note.ensures.refused
+
+pub returns-in-AddResource-clause-refused : goal.returns-in-AddResource-clause-refused
+returns-in-AddResource-clause-refused c =
+    subst (λ e. IfSome (refusal_of e c.args.rows.now.items) (λ r. c.add_resource.result ≡ Err r)) (sym c.in-AddResource.is) c.add_resource.ensures.refused
+
 pub returns-in-AddNode-clause-refused : goal.returns-in-AddNode-clause-refused
 returns-in-AddNode-clause-refused c =
     subst (λ e. IfSome (refusal_of e c.args.rows.now.items) (λ r. c.add_node.result ≡ Err r)) (sym c.in-AddNode.is) c.add_node.ensures.refused
@@ -60,11 +68,3 @@ returns-in-AddResource-clause-in_place c still = absurd (true≢false (sym (ap g
 
 pub returns-in-AddLink-clause-in_place : goal.returns-in-AddLink-clause-in_place
 returns-in-AddLink-clause-in_place c still = absurd (true≢false (sym (ap grows c.in-AddLink.is) ∙ still))
-
-pub returns-in-Note-clause-refused : goal.returns-in-Note-clause-refused
-returns-in-Note-clause-refused c =
-    subst (λ e. IfSome (refusal_of e c.args.rows.now.items) (λ r. c.note.result ≡ Err r)) (sym c.in-Note.is) c.note.ensures.refused
-
-pub returns-in-AddResource-clause-refused : goal.returns-in-AddResource-clause-refused
-returns-in-AddResource-clause-refused c =
-    subst (λ e. IfSome (refusal_of e c.args.rows.now.items) (λ r. c.add_resource.result ≡ Err r)) (sym c.in-AddResource.is) c.add_resource.ensures.refused

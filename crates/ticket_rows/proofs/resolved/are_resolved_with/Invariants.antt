@@ -1,4 +1,4 @@
-use Rattle.std.proofs.Common.{◌≡◌, ℕ, List, drop, reverse}
+use Rattle.std.proofs.Common.{◌≡◌, drop, reverse}
 use Rattle.ticket_items.proofs.Apart.{texts_of}
 use Rattle.ticket_rows.specs.Copies.{with_copies}
 use Rattle.ticket_rows.specs.Ticket.{are_resolved}

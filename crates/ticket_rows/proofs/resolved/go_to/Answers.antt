@@ -1,4 +1,4 @@
-use Rattle.std.proofs.Common.{◌∙◌, ◌∷◌, [], ◌++◌, ◌-◌, ap, sym, take, map}
+use Rattle.std.proofs.Common.{◌∙◌, ◌∷◌, [], ◌++◌, ◌-◌, ap, sym, take}
 use Rattle.std.proofs.lemmas.List.{map_push, take-map}
 use Rattle.ticket_items.proofs.Apart.{texts_of}
 use Rattle.ticket_rows.proofs.resolved.go_to.Goals as goal

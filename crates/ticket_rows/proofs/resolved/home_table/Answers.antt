@@ -1,7 +1,7 @@
 use Rattle.std.proofs.Common.{◌∙◌, ap, sym}
-use Rattle.ticket_rows.proofs.Copies.{home-copies, homes_put}
+use Rattle.ticket_rows.proofs.Copies.{homes_put}
 use Rattle.ticket_rows.proofs.Table.{empty_home}
-use Rattle.ticket_rows.specs.HomeTable.{home_in, or_here, or_known}
+use Rattle.ticket_rows.specs.HomeTable.{home_in, or_here}
 use Rattle.ticket_rows.specs.Homes.{home_of}
 use Rattle.ticket_items.specs.Ids.{mem}
 use Rattle.ticket_items.specs.Resource.{resource_ids}

@@ -1,4 +1,5 @@
-use Rattle.ticket_tree.proofs.StaysValid.{edit_is_valid, append_is_valid, replaced_node_is_valid, replaced_resource_is_valid}
+use Rattle.ticket_tree.proofs.StaysValid.{edit_is_valid, append_is_valid, replaced_node_is_valid}
+use Rattle.ticket_tree.proofs.StaysValid.{replaced_resource_is_valid}
 use Rattle.ticket_tree.proofs.laws.changes_leave_a_ticket.Goals as goal
 
 pub returns-clause-edits : goal.returns-clause-edits

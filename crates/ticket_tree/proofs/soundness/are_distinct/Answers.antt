@@ -1,4 +1,4 @@
-use Rattle.std.proofs.Common.{◌≡◌, ◌∙◌, ◌+◌, ◌&&◌, not, drop, get_or, sym, ap}
+use Rattle.std.proofs.Common.{◌∙◌, ◌+◌, ◌&&◌, not, drop, get_or, sym, ap}
 use Rattle.std.proofs.lemmas.List.{take_rest}
 use Rattle.std.specs.List.{list_any}
 use Rattle.std.specs.Str.{bytes_eq}

@@ -1,5 +1,5 @@
 use Rattle.std.proofs.Common.{refl}
-use Rattle.spawn.proofs.Firsts.{unknown_bounds}
+use Rattle.spawn.proofs.Winner.{unknown_bounds}
 use Rattle.spawn.proofs.claim.Claim.of.Goals as goal
 
 pub returns-in-None-clause-bounds : goal.returns-in-None-clause-bounds

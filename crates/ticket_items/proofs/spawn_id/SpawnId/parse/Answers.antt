@@ -1,4 +1,4 @@
-use Rattle.std.proofs.Common.{◌≡◌, ◌∙◌, sym, ap}
+use Rattle.std.proofs.Common.{sym, ap}
 use Rattle.ticket_items.proofs.SpawnTexts.{spawn_of-spawn_text, spawn_of-Some}
 use Rattle.ticket_items.specs.SpawnId.{spawn_of}
 use Rattle.ticket_items.proofs.spawn_id.SpawnId.parse.Goals as goal

@@ -1,6 +1,0 @@
-use Rattle.std.proofs.Common.{◌≡◌, take}
-use Rattle.ticket_items.proofs.id.Items+Id.copy.Given as goal
-
--- the ids so far are copied
-abbrev pub invariant-loop-item : goal.invariant-loop-item
-invariant-loop-item l = l.copied.items ≡ take l.item-index l.item-items
