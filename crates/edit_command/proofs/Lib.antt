@@ -1,3 +1,4 @@
 pub mod Calls
 pub mod Documents
 pub mod Runs
+mod Worked

@@ -1,5 +1,6 @@
 -- The input of `edit`: a time, edits and a ticket.
-use Rattle.std.specs.Prelude.{◌≡◌, ℕ, ◌⊎◌, ◌&&◌, Bool, List, [], ◌∷◌, codes, Option, Some, None, Result, Err}
+use Rattle.std.specs.Prelude.{◌≡◌, ℕ, ◌⊎◌, ◌&&◌, Bool, List, [], ◌∷◌, codes, Option, Some, None}
+use Rattle.std.specs.Prelude.{Result, Err}
 use Rattle.std.specs.List.{list_all}
 use Rattle.std.specs.Option.{option_map_or, option_and_then}
 use Rattle.std.specs.Str.{IsUtf8}
@@ -9,11 +10,13 @@ use Rattle.serde_json.specs.Read.{read}
 use Rattle.ticket_rows.specs.Ticket.{Job, unless, first_of}
 use Rattle.ticket_items.specs.declared.edit.Edit.{Edit}
 use Rattle.ticket_items.specs.declared.refusal.Refusal.{Refusal}
-use Rattle.ticket_items.specs.declared.refusal.Refusal.TheVariants.{BadId, BadText, NotJson, NotProfile, Memory}
+use Rattle.ticket_items.specs.declared.refusal.Refusal.TheVariants.{BadId, BadText, NotJson}
+use Rattle.ticket_items.specs.declared.refusal.Refusal.TheVariants.{NotProfile, Memory}
 use Rattle.json_form.specs.Draft.{RawTicket, ticket_draft}
 use Rattle.json_form.specs.EditDraft.{edit_draft}
 use Rattle.json_form.specs.Listed.{each}
-use Rattle.json_form.specs.Form.{has_names, has_texts, edit_has_names, edit_has_texts, built_fault, sound}
+use Rattle.json_form.specs.Form.{has_names, has_texts, edit_has_names, edit_has_texts, built_fault}
+use Rattle.json_form.specs.Form.{sound}
 use Rattle.json_form.specs.Read.{◌>>=◌, provided, has_only, number_under}
 
 -- edits to be done at a time, in seconds since 1970, to a ticket
@@ -51,16 +54,19 @@ document_draft d = do
   ticket ← ticket_under d
   Some (record { at = at; edits = edits; ticket = ticket })
 
--- whether all ids and names, and all texts, of the edits and the ticket are such
+-- whether all ids and names, and all texts, of the edits and the ticket are valid
 abbrev pub document_has_names : RawDocument → Bool
 document_has_names doc = list_all edit_has_names doc.edits && has_names doc.ticket
 
 abbrev pub document_has_texts : RawDocument → Bool
 document_has_texts doc = list_all edit_has_texts doc.edits && has_texts doc.ticket
 
--- what is wrong with a draft: each fault is looked for in the edits and the ticket alike before the next one is
+-- what is wrong with a draft: each fault of the edits or the ticket before the next one of either
 abbrev pub document_fault : RawDocument → Option Refusal
-document_fault doc = first_of (unless (document_has_names doc) BadId ∷ unless (document_has_texts doc) BadText ∷ built_fault doc.ticket ∷ [])
+document_fault doc =
+    first_of
+    (unless (document_has_names doc) BadId ∷ unless (document_has_texts doc) BadText
+    ∷ built_fault doc.ticket ∷ [])
 
 -- the document of a draft
 abbrev pub document_of : RawDocument → Document
@@ -68,7 +74,9 @@ document_of doc = record { at = doc.at; edits = doc.edits; ticket = doc.ticket.j
 
 -- the document that JSON data is, or its first refusal
 abbrev pub document_read : Data → Result Document Refusal
-document_read d = option_map_or (λ doc. sound (document_fault doc) (document_of doc)) (document_draft d) (Err NotProfile)
+document_read d =
+    option_map_or (λ doc. sound (document_fault doc) (document_of doc)) (document_draft d)
+    (Err NotProfile)
 
 -- the bytes are JSON that is read so
 pub record IsReadAs (input : List ℕ) (answer : Result Document Refusal) : Type 0 where
@@ -77,6 +85,7 @@ pub record IsReadAs (input : List ℕ) (answer : Result Document Refusal) : Type
   pub json : read input ≡ Some value
   pub form : document_read value ≡ answer
 
--- why an input is refused: it is no JSON, or this is the first refusal of its data, or memory is wanting
+-- why an input is refused: no JSON, the first refusal of its data, or memory ran out
 abbrev pub IsRefusalOf : List ℕ → Refusal → Type 0
-IsRefusalOf input e = ((e ≡ NotJson) × (IsUtf8 input → read input ≡ None)) ⊎ (IsReadAs input (Err e) ⊎ (e ≡ Memory))
+IsRefusalOf input e =
+    ((e ≡ NotJson) × (IsUtf8 input → read input ≡ None)) ⊎ (IsReadAs input (Err e) ⊎ (e ≡ Memory))

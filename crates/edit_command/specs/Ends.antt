@@ -5,10 +5,12 @@ use Rattle.ticket_items.specs.declared.refusal.Refusal.TheVariants.{Memory}
 use Rattle.edit_command.specs.Document.{IsRefusalOf}
 use Rattle.edit_command.specs.Fault.{fault_line, fault_status}
 use Rattle.edit_command.specs.Run.{IsOutput, done_status}
-use Rattle.edit_command.specs.Streams.{Use, IsUntouched, Reads, IsInput, HasFailedReading, Writes, WritesFront}
+use Rattle.edit_command.specs.Streams.{Use, IsUntouched, Reads, IsInput, HasFailedReading, Writes}
+use Rattle.edit_command.specs.Streams.{WritesFront}
 use Rattle.edit_command.specs.declared.input.TheConstants.{MAX_INPUT_BYTES}
 use Rattle.edit_command.specs.declared.fault.Fault.{Fault}
-use Rattle.edit_command.specs.declared.fault.Fault.TheVariants.{Refused, TooLarge, ReadFailed, WriteFailed}
+use Rattle.edit_command.specs.declared.fault.Fault.TheVariants.{Refused, TooLarge, ReadFailed}
+use Rattle.edit_command.specs.declared.fault.Fault.TheVariants.{WriteFailed}
 
 -- the output of the input was written, which tells whether an edit was refused
 pub record Edits (input output : Use) (refused : Bool) : Type 0 where
@@ -18,9 +20,11 @@ pub record Edits (input output : Use) (refused : Bool) : Type 0 where
   pub is_output : IsOutput bytes text refused
   pub written : Writes output text
 
--- memory was wanting, or the input is refused for what it is
+-- memory ran out, or the input is refused for what it is
 abbrev pub IsRefused : Use → Refusal → Type 0
-IsRefused input e = ((e ≡ Memory) × (input.after.failures ≡ input.before.failures)) ⊎ ((bytes : List ℕ) × IsInput input bytes × IsRefusalOf bytes e)
+IsRefused input e =
+    ((e ≡ Memory) × (input.after.failures ≡ input.before.failures))
+    ⊎ ((bytes : List ℕ) × IsInput input bytes × IsRefusalOf bytes e)
 
 -- more was read than may be
 abbrev pub IsTooLarge : Use → Type 0
@@ -31,7 +35,9 @@ abbrev pub GivesUp : Fault → Use → Use → Type 0
 GivesUp (Refused e) input output = IsRefused input e × IsUntouched output
 GivesUp TooLarge input output = IsTooLarge input × IsUntouched output
 GivesUp ReadFailed input output = HasFailedReading input × IsUntouched output
-GivesUp WriteFailed input output = (bytes : List ℕ) × (text : List ℕ) × (refused : Bool) × IsInput input bytes × IsOutput bytes text refused × WritesFront output text
+GivesUp WriteFailed input output =
+    (bytes : List ℕ) × (text : List ℕ) × (refused : Bool) × IsInput input bytes
+    × IsOutput bytes text refused × WritesFront output text
 
 -- the fault's line was told, or a front of it where a write failed
 abbrev pub Tells : Fault → Use → Type 0
@@ -40,5 +46,7 @@ Tells fault told = Writes told (fault_line fault) ⊎ WritesFront told (fault_li
 -- the output was written and nothing told; or it was given up, and the fault told
 abbrev pub Ends : Use → Use → Use → ℕ → Type 0
 Ends input output told status =
-    ((refused : Bool) × Edits input output refused × IsUntouched told × (status ≡ done_status refused))
-    ⊎ ((fault : Fault) × GivesUp fault input output × Tells fault told × (status ≡ fault_status fault))
+    ((refused : Bool) × Edits input output refused × IsUntouched told
+    × (status ≡ done_status refused))
+    ⊎ ((fault : Fault) × GivesUp fault input output × Tells fault told
+    × (status ≡ fault_status fault))

@@ -4,7 +4,8 @@ use Rattle.ticket_items.specs.declared.refusal.Refusal.{Refusal}
 use Rattle.ticket_items.specs.declared.refusal.Refusal.TheVariants.{Memory}
 use Rattle.ticket_items.specs.Refusal.{number_of, name_of}
 use Rattle.edit_command.specs.declared.fault.Fault.{Fault}
-use Rattle.edit_command.specs.declared.fault.Fault.TheVariants.{Refused, TooLarge, ReadFailed, WriteFailed}
+use Rattle.edit_command.specs.declared.fault.Fault.TheVariants.{Refused, TooLarge, ReadFailed}
+use Rattle.edit_command.specs.declared.fault.Fault.TheVariants.{WriteFailed}
 
 -- a fault's number and name, and the exit status
 pub record Told : Type 0 where
@@ -12,7 +13,7 @@ pub record Told : Type 0 where
   pub name : List ℕ
   pub status : ℕ
 
--- 1 where memory was wanting, 3 for any other refusal
+-- 1 where memory ran out, 3 for any other refusal
 abbrev pub refusal_status : Refusal → ℕ
 refusal_status Memory = 1
 refusal_status _ = 3

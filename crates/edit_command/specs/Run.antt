@@ -1,5 +1,6 @@
 -- What `edit` does with a document, and what it writes.
-use Rattle.std.specs.Prelude.{◌≡◌, ℕ, Bool, List, [], ◌∷◌, ◌++◌, codes, Option, Some, None, is_some, Ok, ◌⊎◌, if◌then◌else◌}
+use Rattle.std.specs.Prelude.{◌≡◌, ℕ, Bool, List, [], ◌∷◌, ◌++◌, codes, Option, Some, None, is_some}
+use Rattle.std.specs.Prelude.{Ok, ◌⊎◌, if◌then◌else◌}
 use Rattle.std.specs.List.{flat_map, list_any}
 use Rattle.serde_json.specs.Written.{compact_text}
 use Rattle.ticket_rows.specs.Edit.{refusal_of, edited}
@@ -13,9 +14,10 @@ use Rattle.edit_command.specs.Fault.{refusal_line}
 
 -- ---- one edit
 
--- an edit is refused as the ticket says, and done otherwise, unless memory is wanting
+-- an edit is refused as the ticket says, and done otherwise, unless memory ran out
 abbrev pub IsOutcome : Edit → Job → Option Refusal → Type 0
-IsOutcome e t outcome = (outcome ≡ refusal_of e t.rows) ⊎ ((outcome ≡ Some Memory) × (refusal_of e t.rows ≡ None))
+IsOutcome e t outcome =
+    (outcome ≡ refusal_of e t.rows) ⊎ ((outcome ≡ Some Memory) × (refusal_of e t.rows ≡ None))
 
 -- the ticket after an edit: a refusal changes nothing
 abbrev pub after : Option Refusal → Edit → ℕ → Job → Job
@@ -34,7 +36,8 @@ abbrev pub Runs : Job → ℕ → List Edit → List (Option Refusal) → Job �
 Runs t at [] [] end = t ≡ end
 Runs t at [] (o ∷ outcomes) end = ⊥
 Runs t at (e ∷ edits) [] end = ⊥
-Runs t at (e ∷ edits) (o ∷ outcomes) end = IsOutcome e t o × Runs (after o e at t) at edits outcomes end
+Runs t at (e ∷ edits) (o ∷ outcomes) end =
+    IsOutcome e t o × Runs (after o e at t) at edits outcomes end
 
 -- a line for each edit
 abbrev pub lines : List (Option Refusal) → List ℕ
@@ -44,8 +47,9 @@ lines outcomes = flat_map edit_line outcomes
 abbrev pub has_refusal : List (Option Refusal) → Bool
 has_refusal outcomes = list_any is_some outcomes
 
--- the edits have outcomes that leave this ticket; their lines were appended, and this tells whether one was refused
-pub record IsRun (start : Job) (at : ℕ) (edits : List Edit) (old new : List ℕ) (end : Job) (refused : Bool) : Type 0 where
+-- the edits leave this ticket, their lines were appended, and this tells whether one was refused
+pub record IsRun (start : Job) (at : ℕ) (edits : List Edit) (old new : List ℕ) (end : Job)
+    (refused : Bool) : Type 0 where
   pub outcomes : List (Option Refusal)
   pub runs : Runs start at edits outcomes end
   pub text : new ≡ old ++ lines outcomes
@@ -53,18 +57,17 @@ pub record IsRun (start : Job) (at : ℕ) (edits : List Edit) (old new : List �
 
 -- ---- what is written
 
--- the edits of a document have outcomes that leave this ticket; these are their lines, and this tells whether one was refused
-pub record IsEdited (document : Document) (text : List ℕ) (end : Job) (refused : Bool) : Type 0 where
-  pub outcomes : List (Option Refusal)
-  pub runs : Runs document.ticket document.at document.edits outcomes end
-  pub written : text ≡ lines outcomes
-  pub status : refused ≡ has_refusal outcomes
+-- the edits of a document have outcomes that leave this ticket; these are their lines, and this
+-- tells whether one was refused
+abbrev pub IsEdited : Document → List ℕ → Job → Bool → Type 0
+IsEdited document text end refused =
+    IsRun document.ticket document.at document.edits [] text end refused
 
 -- the ticket's text, and the end of its line
 abbrev pub ticket_text : Job → List ℕ
 ticket_text t = compact_text (ticket_data t) ++ 10 ∷ []
 
--- for this document this is written: each edit's line in turn, and the text of the ticket that they leave
+-- what is written for a document: each edit's line, and the text of the ticket that they leave
 pub record IsRunOf (document : Document) (text : List ℕ) (refused : Bool) : Type 0 where
   pub outcomes : List (Option Refusal)
   pub end : Job
@@ -74,18 +77,20 @@ pub record IsRunOf (document : Document) (text : List ℕ) (refused : Bool) : Ty
 
 -- for this input, read as a document, this is written
 abbrev pub IsOutput : List ℕ → List ℕ → Bool → Type 0
-IsOutput input text refused = (document : Document) × IsReadAs input (Ok document) × IsRunOf document text refused
+IsOutput input text refused =
+    (document : Document) × IsReadAs input (Ok document) × IsRunOf document text refused
 
 -- the exit status where the output was written: 1 where an edit was refused
 abbrev pub done_status : Bool → ℕ
 done_status refused = if refused then 1 else 0
 
--- ---- where memory is never wanting
+-- ---- where memory never runs out
 
 -- the outcomes as the ticket says
 abbrev pub outcomes_of : Job → ℕ → List Edit → List (Option Refusal)
 outcomes_of t at [] = []
-outcomes_of t at (e ∷ edits) = refusal_of e t.rows ∷ outcomes_of (after (refusal_of e t.rows) e at t) at edits
+outcomes_of t at (e ∷ edits) =
+    refusal_of e t.rows ∷ outcomes_of (after (refusal_of e t.rows) e at t) at edits
 
 -- the ticket that the edits leave
 abbrev pub end_of : Job → ℕ → List Edit → Job
@@ -94,13 +99,15 @@ end_of t at (e ∷ edits) = end_of (after (refusal_of e t.rows) e at t) at edits
 
 -- the text that is written for a document
 abbrev pub output_of : Document → List ℕ
-output_of doc = lines (outcomes_of doc.ticket doc.at doc.edits) ++ ticket_text (end_of doc.ticket doc.at doc.edits)
+output_of doc =
+    lines (outcomes_of doc.ticket doc.at doc.edits)
+    ++ ticket_text (end_of doc.ticket doc.at doc.edits)
 
 -- the exit status for a document
 abbrev pub status_of : Document → ℕ
 status_of doc = done_status (has_refusal (outcomes_of doc.ticket doc.at doc.edits))
 
--- no edit was refused for want of memory
-abbrev pub NoneWanted : List (Option Refusal) → Type 0
-NoneWanted [] = Unit {0}
-NoneWanted (o ∷ outcomes) = (o ≡ Some Memory → ⊥) × NoneWanted outcomes
+-- no edit was refused as out of memory
+abbrev pub NoneOutOfMemory : List (Option Refusal) → Type 0
+NoneOutOfMemory [] = Unit {0}
+NoneOutOfMemory (o ∷ outcomes) = (o ≡ Some Memory → ⊥) × NoneOutOfMemory outcomes

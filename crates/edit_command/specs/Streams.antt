@@ -4,7 +4,7 @@ use Rattle.std.specs.Io.KnownBytes.{Appends, Consumes, IsAtEnd}
 use Rattle.counted.specs.Counts.{Counts}
 use Rattle.edit_command.specs.declared.input.TheConstants.{MAX_INPUT_BYTES, MAX_INTERRUPTIONS}
 
--- the bytes that a reader has left or a writer holds, where these are known, and the counts of its calls
+-- the bytes that a reader has left or a writer holds, where known, and the counts of its calls
 pub record Stream : Type 0 where
   pub bytes : Option (List ℕ)
   pub calls : ℕ
@@ -17,7 +17,13 @@ pub record Use : Type 0 where
   pub after : Stream
 
 abbrev pub stream : {T : Type 0} → (T → Option (List ℕ)) → Counts T → Stream
-stream known c = record { bytes = known c.inner; calls = c.calls; failures = c.failures; interruptions = c.interruptions }
+stream known c =
+    record {
+      bytes = known c.inner;
+      calls = c.calls;
+      failures = c.failures;
+      interruptions = c.interruptions;
+    }
 
 abbrev pub used : {T : Type 0} → (T → Option (List ℕ)) → Counts T → Counts T → Use
 used known old new = record { before = stream known old; after = stream known new }
@@ -45,7 +51,8 @@ pub record IsInput (u : Use) (bytes : List ℕ) : Type 0 where
 
 -- a read failed, or one more was interrupted than are made again
 abbrev pub HasFailedReading : Use → Type 0
-HasFailedReading u = HasFailed u ⊎ (u.after.interruptions ≡ u.before.interruptions + MAX_INTERRUPTIONS + 1)
+HasFailedReading u =
+    HasFailed u ⊎ (u.after.interruptions ≡ u.before.interruptions + MAX_INTERRUPTIONS + 1)
 
 -- ---- writing
 

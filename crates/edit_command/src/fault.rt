@@ -60,7 +60,7 @@ pub fn refusal_line(refusal: Refusal) -> &'static str
 }
 
 impl Fault {
-    /// The exit status of the program that gave up: 1 for want of memory, 3 for what was given to
+    /// The exit status of the program that gave up: 1 where memory ran out, 3 for what was given to
     /// it, 4 for a read or a write that failed.
     pub fn status(self) -> u8
         ensures { result ≡ faults.fault_status self }

@@ -8,7 +8,7 @@ use json_profile::{
 };
 use serde_json::Value;
 use std::alloc::Global;
-use ticket_tree::{Edit, Marks, Part, Refusal, Ticket};
+use ticket_tree::{Duplicate, Edit, Marks, Part, Refusal, Ticket};
 
 /// Answers a text of a form with what is written for a copy of what it was read as.
 #[derive(Drop)]

@@ -2,9 +2,9 @@ ghost use Rattle.std.specs.Prelude.{true};
 ghost use Rattle.json_forms.specs.Again.{ancestor_again};
 ghost use Rattle.json_forms.specs.Ancestors as ancestors;
 
+use crate::borrowed::Borrowed;
 use crate::draft::Draft;
 use crate::form::Form;
-use crate::lent::Lent;
 use crate::member::has_only;
 use crate::object::put;
 use crate::one_member::under;
@@ -17,8 +17,8 @@ use ticket_items::{Ancestor, Id, Name, Refusal};
 /// for its id and its part in the job.
 #[derive(Drop)]
 pub struct AncestorDraft<'a> {
-    pub node_id: Lent<'a, Id>,
-    pub job_part: Lent<'a, Name>,
+    pub node_id: Borrowed<'a, Id>,
+    pub job_part: Borrowed<'a, Name>,
 }
 
 impl Form for Ancestor {

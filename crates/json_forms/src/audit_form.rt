@@ -5,10 +5,10 @@ ghost use Rattle.serde_json.specs.View.{view};
 ghost use Rattle.json_forms.specs.Again.{audit_again};
 ghost use Rattle.json_forms.specs.Audits as audits;
 
+use crate::borrowed::Borrowed;
 use crate::draft::Draft;
 use crate::drafts::Drafts;
 use crate::form::Form;
-use crate::lent::Lent;
 use crate::member::{has_only, text_under};
 use crate::object::{put, put_text};
 use crate::one_member::under;
@@ -37,21 +37,21 @@ const MERGED_MEMBERS: &[&str] = &["MergeID", "Name", "TimeStamp", "jRef", "rRefs
 pub enum AuditDraft<'a> {
     Notification {
         at: u64,
-        text: Lent<'a, Text>,
+        text: Borrowed<'a, Text>,
     },
     Spawned {
         at: u64,
-        jref: Lent<'a, Id>,
-        spawn_id: Lent<'a, Id>,
-        ro: Drafts<Lent<'a, Id>>,
-        rw: Drafts<Lent<'a, Id>>,
-        status: Lent<'a, Name>,
+        jref: Borrowed<'a, Id>,
+        spawn_id: Borrowed<'a, Id>,
+        ro: Drafts<Borrowed<'a, Id>>,
+        rw: Drafts<Borrowed<'a, Id>>,
+        status: Borrowed<'a, Name>,
     },
     Merged {
         at: u64,
-        jref: Lent<'a, Id>,
-        merge_id: Lent<'a, Id>,
-        overwritten: Drafts<Lent<'a, Id>>,
+        jref: Borrowed<'a, Id>,
+        merge_id: Borrowed<'a, Id>,
+        overwritten: Drafts<Borrowed<'a, Id>>,
     },
 }
 

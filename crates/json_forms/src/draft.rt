@@ -7,7 +7,7 @@ use serde_json::Value;
 use std::alloc::Global;
 use ticket_items::Refusal;
 
-/// What a value is by its members and their kinds alone, before names and texts are looked at.
+/// What a value is by its members and their kinds alone, before names and texts are checked.
 pub trait Draft<'a>: Drop {
     /// What is built of the draft.
     type Whole: Form;

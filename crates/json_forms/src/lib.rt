@@ -1,15 +1,15 @@
 //! What a type is as a JSON value: how it is read by way of a draft, and how it is written. Reading
-//! and writing of lists, members and wholes are proved here once, over any such type.
+//! and writing of lists, members and wholes are proved here once, over any of these types.
 #![tactic(auto)]
 
 mod ancestor_form;
 mod audit_form;
+mod borrowed;
 mod draft;
 mod drafts;
 mod form;
 mod id_form;
 mod items_form;
-mod lent;
 mod link_form;
 mod listed;
 mod member;
@@ -26,11 +26,11 @@ mod written;
 
 pub use ancestor_form::AncestorDraft;
 pub use audit_form::AuditDraft;
+pub use borrowed::Borrowed;
 pub use draft::Draft;
 pub use drafts::Drafts;
 pub use form::Form;
 pub use items_form::values_of;
-pub use lent::Lent;
 pub use link_form::LinkDraft;
 pub use listed::{items_under, pool_items};
 pub use member::{has_only, number_under, text_under};

@@ -2,9 +2,9 @@ ghost use Rattle.std.specs.Prelude.{true};
 ghost use Rattle.json_forms.specs.Again.{link_again};
 ghost use Rattle.json_forms.specs.Links as links;
 
+use crate::borrowed::Borrowed;
 use crate::draft::Draft;
 use crate::form::Form;
-use crate::lent::Lent;
 use crate::member::has_only;
 use crate::object::put;
 use crate::one_member::under;
@@ -17,7 +17,7 @@ use ticket_items::{Id, Link, Refusal, Usage};
 /// resource's id.
 #[derive(Drop)]
 pub struct LinkDraft<'a> {
-    pub rref: Lent<'a, Id>,
+    pub rref: Borrowed<'a, Id>,
     pub usage: Usage,
 }
 

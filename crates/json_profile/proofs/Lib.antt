@@ -8,3 +8,4 @@ pub mod RoundTrip
 pub mod Shape
 mod Worked
 mod WorkedParts
+mod WorkedTickets

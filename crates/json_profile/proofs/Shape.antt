@@ -90,8 +90,12 @@ part_root_nests job spawn ancestors r kids = omega (arith, ancestors_low ancesto
 low_from : (n k d : ℕ) → n ≤ max 4 (2 + k) → d ≤ 32 → k + 2 * d ≤ 66 → n + 2 * d ≤ 68
 low_from n k d nests within low = omega arith
 
-root_within : (n d : ℕ) → n + 2 * d ≤ 68 → n ≤ 127
+root_within : (n d : ℕ) → n + 2 * d ≤ 68 → n ≤ 68
 root_within n d low = omega arith
+
+-- which leaves room in the levels that are read
+pub readable : (n : ℕ) → n ≤ 68 → n ≤ 127
+readable n low = omega arith
 
 -- each level of nodes has two of JSON, and the pools of the deepest four
 abbrev AreLow : List Tree → Type 0
@@ -126,21 +130,21 @@ trees_low (r ∷ rows) shallow =
     (low_from _ (items_depth (children d (trees rows))) d (node_nests r (children d (trees rows))) (leb-true _ _ parts.0) kids, others_low d (trees rows) rest)
 
 -- a root of any form above such trees
-nests_within : (root : Data) (d : ℕ) (rows : List RawRow) → raws_are_shallow rows ≡ true → d ≤ 32 → depth root ≤ max 4 (2 + items_depth (children d (trees rows))) → depth root ≤ 127
+nests_within : (root : Data) (d : ℕ) (rows : List RawRow) → raws_are_shallow rows ≡ true → d ≤ 32 → depth root ≤ max 4 (2 + items_depth (children d (trees rows))) → depth root ≤ 68
 nests_within root d rows shallow within nests =
     let kids : items_depth (children d (trees rows)) + 2 * d ≤ 66 = children_low d (trees rows) within (trees_low rows shallow) in
     root_within _ d (low_from _ (items_depth (children d (trees rows))) d nests within kids)
 
-job_data_nests : (job : List ℕ) (rows : List RawRow) → raws_are_shallow rows ≡ true → depth (job_data job rows) ≤ 127
+job_data_nests : (job : List ℕ) (rows : List RawRow) → raws_are_shallow rows ≡ true → depth (job_data job rows) ≤ 68
 job_data_nests job [] shallow = omega arith
 job_data_nests job (r ∷ rows) shallow =
     let parts = and_parts _ _ shallow in
     nests_within (job_data job (r ∷ rows)) r.row.depth rows parts.1 (leb-true _ _ parts.0) (root_nests job r (children r.row.depth (trees rows)))
 
 pub shown_data_nests : (marks : Marks) (t : Job) → are_shallow t.rows ≡ true → depth (shown_data marks t) ≤ 127
-shown_data_nests marks t shallow = job_data_nests t.job_id (marked_rows marks t.rows) (shallow-marked marks t.rows ∙ shallow)
+shown_data_nests marks t shallow = readable _ (job_data_nests t.job_id (marked_rows marks t.rows) (shallow-marked marks t.rows ∙ shallow))
 
-rows_data_nests : (job spawn : List ℕ) (ancestors : List Ancestor) (rows : List NodeRow) (changes reads : List Resource) → are_shallow rows ≡ true → depth (rows_data job spawn ancestors rows changes reads) ≤ 127
+rows_data_nests : (job spawn : List ℕ) (ancestors : List Ancestor) (rows : List NodeRow) (changes reads : List Resource) → are_shallow rows ≡ true → depth (rows_data job spawn ancestors rows changes reads) ≤ 68
 rows_data_nests job spawn ancestors [] changes reads shallow = omega arith
 rows_data_nests job spawn ancestors (r ∷ rows) changes reads shallow =
     let parts = and_parts _ _ shallow in
@@ -152,5 +156,5 @@ shallow_copies : (rows : List NodeRow) (changes reads : List Resource) → are_s
 shallow_copies [] changes reads = refl
 shallow_copies (r ∷ rows) changes reads = refl
 
-pub part_data_nests : (p : Copied) → are_shallow (with_copies p.rows p.rw p.ro) ≡ true → depth (part_data p) ≤ 127
-part_data_nests p shallow = rows_data_nests p.job_id (spawn_text p.spawn_id) p.ancestors p.rows p.rw p.ro (sym (shallow_copies p.rows p.rw p.ro) ∙ shallow)
+pub part_data_low : (p : Copied) → are_shallow (with_copies p.rows p.rw p.ro) ≡ true → depth (part_data p) ≤ 68
+part_data_low p shallow = rows_data_nests p.job_id (spawn_text p.spawn_id) p.ancestors p.rows p.rw p.ro (sym (shallow_copies p.rows p.rw p.ro) ∙ shallow)

@@ -92,12 +92,14 @@ fn spawn_id(alloc: Global, part: &Part) -> Result<Id, AllocError>
     spawn.to_id(alloc)
 }
 
-/// A part as a value, which `part_of` reads as that part.
+/// A part as a value, which `part_of` reads as that part. It leaves room in the 127 levels that are
+/// read, so that it can stand in a larger document.
 pub fn part_value(alloc: Global, part: &Part) -> Result<Value, AllocError>
     ensures value { IfOk result (λ v. view v ≡ part_data part.now) }
     ensures again { IfOk result (λ v. part_read (view v) ≡ Ok part.now) }
     ensures plain { IfOk result (λ v. has_float (view v) ≡ false) }
     ensures nests { IfOk result (λ v. depth (view v) ≤ max_depth) }
+    ensures low { IfOk result (λ v. depth (view v) ≤ 68) }
 {
     let spawn = spawn_id(alloc, part)?;
     let rows = rows_of(alloc, part.rows())?;

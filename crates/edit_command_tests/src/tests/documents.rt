@@ -65,6 +65,69 @@ const EACH_KIND: Row = Row {
     ..REFUSED_EDIT
 };
 
+/// Documents, and how a run over each ends.
+const ROWS: [Row; 14] = [
+    NOTHING,
+    NEW_NODE,
+    EACH_KIND,
+    Row {
+        edits: r#"{"Edit":"AddNode","ID":"n1","JobPartID":"p3","Node":"n0","Status":"Waiting","Type":"Folding"}"#,
+        lines: "Refused 2 DuplicateId\n",
+        ..REFUSED_EDIT
+    },
+    Row {
+        edits: r#"{"Edit":"SetStatus","Node":"n9","Status":"Spawned"},{"Edit":"SetStatus","Node":"n1","Status":"Spawned"}"#,
+        lines: "Refused 10 UnknownNode\nRefused 5 ReservedStatus\n",
+        ..REFUSED_EDIT
+    },
+    Row {
+        edits: r#"{"Edit":"SetResStatus","Resource":"r9","Status":"InUse"}"#,
+        lines: "Refused 11 UnknownResource\n",
+        ..REFUSED_EDIT
+    },
+    Row {
+        of: (r#""ID":"r1""#, r#""ID":"n0""#),
+        lines: "Refused 2 DuplicateId\n",
+        ..REFUSED_DOCUMENT
+    },
+    Row {
+        of: (r#""rRef":"r2"}"#, r#""rRef":"r9"}"#),
+        lines: "Refused 3 UnresolvedLink\n",
+        ..REFUSED_DOCUMENT
+    },
+    Row {
+        of: (r#""Status":"Waiting""#, r#""Status":"Spawned""#),
+        lines: "Refused 5 ReservedStatus\n",
+        ..REFUSED_DOCUMENT
+    },
+    Row {
+        of: ("NotSpawned", "SpawnedRO"),
+        lines: "Refused 5 ReservedStatus\n",
+        ..REFUSED_DOCUMENT
+    },
+    Row {
+        of: (r#""ID":"n1""#, r#""ID":"9x""#),
+        lines: "Refused 1 BadId\n",
+        ..REFUSED_DOCUMENT
+    },
+    Row {
+        of: (r#""ID":"n1""#, r#""Foo":0,"ID":"9x""#),
+        lines: "Refused 41 NotProfile\n",
+        ..REFUSED_DOCUMENT
+    },
+    Row {
+        edits: r#"{"Edit":"Note","Node":"1n","Text":""}"#,
+        of: ("NotSpawned", "SpawnedRO"),
+        lines: "Refused 1 BadId\n",
+        ..REFUSED_DOCUMENT
+    },
+    Row {
+        of: (r#""JDF":[{"#, r#""JDF":["#),
+        lines: "Refused 40 NotJson\n",
+        ..REFUSED_DOCUMENT
+    },
+];
+
 /// A document of edits at the time 5.
 fn document(alloc: Global, edits: &str, ticket: &str) -> Result<String, AllocError> {
     format!(in alloc; "{{\"At\":5,\"Edits\":[{edits}],\"Ticket\":{ticket}}}")
@@ -112,68 +175,7 @@ fn ends_so(alloc: Global, row: &Row) -> Result<bool, AllocError> {
 
 #[test]
 fn edits_documents(rt: HostRuntime) -> Result<(), Fail> {
-    let rows = [
-        NOTHING,
-        NEW_NODE,
-        EACH_KIND,
-        Row {
-            edits: r#"{"Edit":"AddNode","ID":"n1","JobPartID":"p3","Node":"n0","Status":"Waiting","Type":"Folding"}"#,
-            lines: "Refused 2 DuplicateId\n",
-            ..REFUSED_EDIT
-        },
-        Row {
-            edits: r#"{"Edit":"SetStatus","Node":"n9","Status":"Spawned"},{"Edit":"SetStatus","Node":"n1","Status":"Spawned"}"#,
-            lines: "Refused 10 UnknownNode\nRefused 5 ReservedStatus\n",
-            ..REFUSED_EDIT
-        },
-        Row {
-            edits: r#"{"Edit":"SetResStatus","Resource":"r9","Status":"InUse"}"#,
-            lines: "Refused 11 UnknownResource\n",
-            ..REFUSED_EDIT
-        },
-        Row {
-            of: (r#""ID":"r1""#, r#""ID":"n0""#),
-            lines: "Refused 2 DuplicateId\n",
-            ..REFUSED_DOCUMENT
-        },
-        Row {
-            of: (r#""rRef":"r2"}"#, r#""rRef":"r9"}"#),
-            lines: "Refused 3 UnresolvedLink\n",
-            ..REFUSED_DOCUMENT
-        },
-        Row {
-            of: (r#""Status":"Waiting""#, r#""Status":"Spawned""#),
-            lines: "Refused 5 ReservedStatus\n",
-            ..REFUSED_DOCUMENT
-        },
-        Row {
-            of: ("NotSpawned", "SpawnedRO"),
-            lines: "Refused 5 ReservedStatus\n",
-            ..REFUSED_DOCUMENT
-        },
-        Row {
-            of: (r#""ID":"n1""#, r#""ID":"9x""#),
-            lines: "Refused 1 BadId\n",
-            ..REFUSED_DOCUMENT
-        },
-        Row {
-            of: (r#""ID":"n1""#, r#""Foo":0,"ID":"9x""#),
-            lines: "Refused 41 NotProfile\n",
-            ..REFUSED_DOCUMENT
-        },
-        Row {
-            edits: r#"{"Edit":"Note","Node":"1n","Text":""}"#,
-            of: ("NotSpawned", "SpawnedRO"),
-            lines: "Refused 1 BadId\n",
-            ..REFUSED_DOCUMENT
-        },
-        Row {
-            of: (r#""JDF":[{"#, r#""JDF":["#),
-            lines: "Refused 40 NotJson\n",
-            ..REFUSED_DOCUMENT
-        },
-    ];
-    for (number, row) in rows.iter().enumerate() {
+    for (number, row) in ROWS.iter().enumerate() {
         assert!(rt; ends_so(rt.alloc(), row)?, "row {number}");
     }
     Ok(())

@@ -1,4 +1,5 @@
-use Rattle.std.proofs.Common.{◌≡◌, ℕ, ◌+◌, ◌-◌, ◌<◌, ◌≤◌, ◌++◌, length, take, refl, ◌∙◌, arith, inl, rules, length-append}
+use Rattle.std.proofs.Common.{◌+◌, ◌-◌, ◌<◌, ◌++◌, length, take, ◌∙◌, arith, inl, rules}
+use Rattle.std.proofs.Common.{length-append}
 use Rattle.std.proofs.KnownBytes.{Consumes-trans}
 use Rattle.edit_command.proofs.Calls.{call_failed, was_failure}
 use Rattle.edit_command.proofs.input.read_input.Goals as goal

@@ -1,4 +1,5 @@
--- What was read so far is the input, within the limit, and no read failed. Each turn reads some more or is interrupted.
+-- What was read so far is the input, within the limit, and no read failed. Each turn reads some
+-- more or is interrupted.
 use Rattle.std.proofs.Common.{◌≡◌, ◌<◌, ◌≤◌, ◌-◌, ◌+◌, vec_len}
 use Rattle.edit_command.specs.Streams.{used, Reads}
 use Rattle.edit_command.proofs.input.read_input.Given as goal

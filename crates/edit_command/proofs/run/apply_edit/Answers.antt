@@ -1,4 +1,5 @@
-use Rattle.std.proofs.Common.{◌≡◌, ◌∙◌, ◌⊎◌, inl, inr, ap, sym, subst, refl, Option, None, Some, Result, Err, IfErr, IfNone, IfSome}
+use Rattle.std.proofs.Common.{◌≡◌, ◌∙◌, ◌⊎◌, inl, inr, ap, sym, subst, refl, Option, None, Some}
+use Rattle.std.proofs.Common.{Result, Err, IfErr, IfNone, IfSome}
 use Rattle.std.specs.Prelude.{⊤}
 use Rattle.std.specs.Result.{result_err}
 use Rattle.ticket_items.specs.declared.refusal.Refusal.{Refusal}

@@ -8,7 +8,7 @@ use Rattle.edit_command.proofs.Documents.{list_all-at}
 use Rattle.edit_command.proofs.Runs.{run_more, run_all}
 use Rattle.edit_command.proofs.run.run_edits.Goals as goal
 
--- what is answered for want of memory
+-- what is answered where memory runs out
 kept_memory : {X : Type 0} (r : Result X Refusal) (e : Refusal) → IsErrAnd r (λ f. f ≡ e) → e ≡ Memory → IfErr r (λ f. f ≡ Memory)
 kept_memory (Ok x) e same memory = tt
 kept_memory (Err f) e same memory = same ∙ memory

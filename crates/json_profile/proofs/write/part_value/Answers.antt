@@ -7,7 +7,7 @@ use Rattle.json_form.specs.Form.{row_has_names, row_has_texts}
 use Rattle.json_form.specs.PartForm.{part_read}
 use Rattle.json_writer.specs.PartWritten.{rows_data}
 use Rattle.json_profile.proofs.PartAgain.{IsKnown, part_again}
-use Rattle.json_profile.proofs.Shape.{part_data_plain, part_data_nests}
+use Rattle.json_profile.proofs.Shape.{part_data_plain, part_data_low, readable}
 use Rattle.json_profile.proofs.write.part_value.Goals as goal
 
 pub returns : goal.returns
@@ -26,9 +26,11 @@ returns c =
       copy_names = written.copy_names;
       copy_texts = written.copy_texts;
     } in
+    let low = part_data_low p c.rows.ensures.valid.shallow in
     record {
       value = seen;
       again = ap part_read seen ∙ part_again p known;
       plain = ap has_float seen ∙ part_data_plain p;
-      nests = subst (λ d. depth d ≤ 127) (sym seen) (part_data_nests p c.rows.ensures.valid.shallow);
+      nests = subst (λ d. depth d ≤ 127) (sym seen) (readable _ low);
+      low = subst (λ d. depth d ≤ 68) (sym seen) low;
     }
