@@ -1,0 +1,9 @@
+pub mod Fronts
+pub mod IdTexts
+pub mod PartRead
+pub mod RoundTrip
+pub mod Saying
+pub mod Shape
+pub mod Tests
+mod Worked
+mod WorkedCommands

@@ -1,0 +1,65 @@
+-- What is known of a part that data is read as.
+use Rattle.std.proofs.Common.{◌≡◌, ℕ, Bool, true, false, List, [], ◌∷◌, Option, Some, None, Ok, Err, refl, ap, ◌∙◌, is_some, unwrap_or}
+use Rattle.std.proofs.lemmas.Bool.{and_parts}
+use Rattle.std.specs.Option.{option_map_or}
+use Rattle.serde_json.specs.Data.{Data}
+use Rattle.json_forms.specs.Judged.{sound}
+use Rattle.json_form.specs.PartDraft.{RawPart, part_draft}
+use Rattle.json_form.specs.PartForm.{has_names, has_texts, built_fault, part_fault, copied, part_read}
+use Rattle.ticket_items.proofs.SpawnTexts.{spawn_of-Some}
+use Rattle.ticket_items.specs.SpawnId.{spawn_of, spawn_text}
+use Rattle.ticket_items.specs.declared.refusal.Refusal.{Refusal}
+use Rattle.ticket_items.specs.declared.refusal.Refusal.TheVariants.{NotProfile, BadId, BadText}
+use Rattle.ticket_rows.specs.Ticket.{unless, first_of}
+use Rattle.ticket_tree.specs.Part.{Copied}
+
+-- nothing is wrong
+pub record HasNoFault (a b : Bool) (o : Option Refusal) : Type 0 where
+  pub names : a ≡ true
+  pub texts : b ≡ true
+  pub built : o ≡ None
+
+no_fault : (a b : Bool) (o : Option Refusal) → first_of (unless a BadId ∷ unless b BadText ∷ o ∷ []) ≡ None → HasNoFault a b o
+no_fault true true None h = record { names = refl; texts = refl; built = refl }
+no_fault true true (Some e) h = cc
+no_fault true false o h = cc
+no_fault false b o h = cc
+
+pub no_fault-back : (a b : Bool) (o : Option Refusal) → HasNoFault a b o → first_of (unless a BadId ∷ unless b BadText ∷ o ∷ []) ≡ None
+no_fault-back true true None h = refl
+no_fault-back true true (Some e) h = cc h.built
+no_fault-back true false o h = cc h.texts
+no_fault-back false b o h = cc h.names
+
+-- the draft of which the part is made
+pub record IsReadOf (d : Data) (p : Copied) : Type 0 where
+  pub raw : RawPart
+  pub drafted : part_draft d ≡ Some raw
+  pub faultless : HasNoFault (has_names raw) (has_texts raw) (built_fault raw)
+  pub same : copied raw ≡ p
+
+sound_at : (raw : RawPart) (p : Copied) (f : Option Refusal) → part_fault raw ≡ f → sound f (copied raw) ≡ Ok p → (part_fault raw ≡ None) × (copied raw ≡ p)
+sound_at raw p None e h = (e, cc)
+sound_at raw p (Some r) e h = cc
+
+read_at : (d : Data) (p : Copied) (o : Option RawPart) → part_draft d ≡ o → option_map_or (λ raw. sound (part_fault raw) (copied raw)) o (Err NotProfile) ≡ Ok p → IsReadOf d p
+read_at d p None e h = cc
+read_at d p (Some raw) e h =
+    let parts = sound_at raw p (part_fault raw) refl h in
+    record { raw = raw; drafted = e; faultless = no_fault _ _ _ parts.0; same = parts.1 }
+
+pub read_of : (d : Data) (p : Copied) → part_read d ≡ Ok p → IsReadOf d p
+read_of d p h = read_at d p (part_draft d) refl h
+
+-- ---- the text of its spawn's id
+
+named_at : (text : List ℕ) (o : Option ℕ) → spawn_of text ≡ o → is_some o ≡ true → text ≡ spawn_text (unwrap_or o 0)
+named_at text None e h = cc
+named_at text (Some n) e h = (spawn_of-Some text n e).0
+
+pub spawn_named : (raw : RawPart) (p : Copied) → has_names raw ≡ true → copied raw ≡ p → raw.spawn ≡ spawn_text p.spawn_id
+spawn_named raw p names same =
+    let own = (and_parts _ _ names).0 in
+    let outer = (and_parts _ _ own).0 in
+    let ids = (and_parts _ _ outer).0 in
+    named_at raw.spawn (spawn_of raw.spawn) refl (and_parts _ _ ids).1 ∙ ap (λ q. spawn_text q.spawn_id) same

@@ -1,0 +1,128 @@
+-- What is answered for a message, by what it says and what is wrong with it.
+use Rattle.std.proofs.Common.{◌≡◌, ◌⊎◌, inl, inr, ⊎_elim, ℕ, ◌&&◌, Bool, true, false, List, [], ◌∷◌, Option, Some, None, Result, Ok, Err, IfErr, IsErrAnd, is_some, refl, sym, ap, subst, ◌∙◌}
+use Rattle.std.specs.Option.{option_map_or}
+use Rattle.std.specs.Str.{bytes_eq}
+use Rattle.json_forms.specs.Judged.{Answers, sound}
+use Rattle.json_forms.specs.Read.{◌>>=◌, provided}
+use Rattle.json_form.specs.PartDraft.{RawPart}
+use Rattle.json_form.specs.PartForm.{has_names, has_texts, built_fault, part_fault, copied}
+use Rattle.ticket_items.specs.SpawnId.{spawn_of, spawn_text}
+use Rattle.ticket_items.specs.declared.refusal.Refusal.{Refusal}
+use Rattle.ticket_items.specs.declared.refusal.Refusal.TheVariants.{BadId, BadText, Memory, WrongMessage}
+use Rattle.ticket_rows.specs.Ticket.{unless, first_of}
+use Rattle.ticket_tree.specs.Part.{Copied}
+use Rattle.jmf_message.specs.Decoded.{are_ids, message_fault, message_saying, message_with}
+use Rattle.jmf_message.specs.DocumentForm.{RawMessage}
+use Rattle.jmf_message.specs.Said.{body_with, command_body, command_of, entry_of, same_command}
+use Rattle.jmf_message.specs.Written.{command_for}
+use Rattle.message_items.specs.declared.body.Body.{Body}
+use Rattle.jmf_message.specs.declared.command_message.CommandMessage.{CommandMessage}
+use Rattle.jmf_message.specs.declared.jmf.Jmf.{Jmf}
+use Rattle.message_items.specs.declared.message.Message.{Message}
+
+-- ---- what says nothing
+
+nothing_at : (raw : RawMessage) (said : Option Body) → is_some said ≡ false → message_saying raw said ≡ Err WrongMessage
+nothing_at raw None h = refl
+nothing_at raw (Some b) h = cc
+
+pub says_nothing : (raw : RawMessage) (said : Option Body) (right : Bool) → right ≡ is_some said → right ≡ false → message_saying raw said ≡ Err WrongMessage
+says_nothing raw said right is wrong = nothing_at raw said (sym is ∙ wrong)
+
+-- ---- commands
+
+-- a value under two conditions, where it is there
+there_at : {X : Type 0} (b : Bool) (x : X) → is_some (provided b >>= λ _. Some x) ≡ true → (provided b >>= λ _. Some x) ≡ Some x
+there_at true x h = refl
+there_at false x h = cc
+
+there : {X : Type 0} (o : Option ℕ) (test : ℕ → Bool) (x : X) → is_some (o >>= λ n. provided (test n) >>= λ _. Some x) ≡ true → (o >>= λ n. provided (test n) >>= λ _. Some x) ≡ Some x
+there None test x h = cc
+there (Some n) test x h = there_at (test n) x h
+
+right_command_at : (sender : List ℕ) (c : CommandMessage) (p : RawPart) → is_some (command_body sender c p) ≡ true → command_body sender c p ≡ Some (body_with (command_of c.params) (copied p))
+unfolding command_body
+right_command_at sender c p h =
+    there (spawn_of (entry_of c.params)) (λ n. same_command c (command_for sender (command_of c.params) n) && bytes_eq p.spawn (spawn_text n)) (body_with (command_of c.params) (copied p)) h
+
+pub right_command : (sender : List ℕ) (c : CommandMessage) (p : RawPart) (right : Bool) → right ≡ is_some (command_body sender c p) → right ≡ true → command_body sender c p ≡ Some (body_with (command_of c.params) (copied p))
+right_command sender c p right is holds = right_command_at sender c p (sym is ∙ holds)
+
+-- ---- what is wrong
+
+abbrev with_part : Jmf → Option RawPart → RawMessage
+with_part j p = record { jmf = j; part = p }
+
+-- names that aren't valid come first
+pub bad_ids : (j : Jmf) (p : Option RawPart) → are_ids j ≡ false → message_fault (with_part j p) ≡ Some BadId
+bad_ids j p bad = ap (λ b. first_of (unless (b && option_map_or has_names p true) BadId ∷ unless (option_map_or has_texts p true) BadText ∷ later p ∷ [])) bad
+  where
+    later : Option RawPart → Option Refusal
+    later None = None
+    later (Some q) = built_fault q
+
+-- else what is wrong with the part
+pub fault_of_part : (j : Jmf) (p : RawPart) → are_ids j ≡ true → message_fault (with_part j (Some p)) ≡ part_fault p
+fault_of_part j p good = ap (λ b. first_of (unless (b && has_names p) BadId ∷ unless (has_texts p) BadText ∷ built_fault p ∷ [])) good
+
+pub no_fault_of_answer : (j : Jmf) → are_ids j ≡ true → message_fault (with_part j None) ≡ None
+no_fault_of_answer j good = ap (λ b. first_of (unless (b && true) BadId ∷ None ∷ None ∷ [])) good
+
+-- ---- what is answered
+
+pub says : (raw : RawMessage) (said : Option Body) (b : Body) (f : Option Refusal) → said ≡ Some b → message_fault raw ≡ f → message_saying raw said ≡ sound f (message_with raw b)
+says raw said b f e fault = ap (message_saying raw) e ∙ ap (λ g. sound g (message_with raw b)) fault
+
+-- a refusal of the part is the message's
+sound_refused : {X Y : Type 0} (f : Option Refusal) (x : X) (y : Y) (e : Refusal) → sound f x ≡ Err e → sound f y ≡ Err e
+sound_refused None x y e h = cc
+sound_refused (Some g) x y e h = cc
+
+sound_good : {X Y : Type 0} (f : Option Refusal) (x z : X) (y : Y) → sound f x ≡ Ok z → sound f y ≡ Ok y
+sound_good None x z y h = refl
+sound_good (Some g) x z y h = cc
+
+pub part_refused : (j : Jmf) (p : RawPart) (said : Option Body) (b : Body) (e : Refusal) → said ≡ Some b → are_ids j ≡ true → (e ≡ Memory) ⊎ (sound (part_fault p) (copied p) ≡ Err e)
+    → (e ≡ Memory) ⊎ (message_saying (with_part j (Some p)) said ≡ Err e)
+part_refused j p said b e is good answers =
+    ⊎_elim (λ memory. inl memory) (λ refused. inr (says (with_part j (Some p)) said b (part_fault p) is (fault_of_part j p good) ∙ sound_refused (part_fault p) (copied p) (message_with (with_part j (Some p)) b) e refused)) answers
+
+pub part_good : (j : Jmf) (p : RawPart) (said : Option Body) (b : Body) (built : Copied) → said ≡ Some b → are_ids j ≡ true → sound (part_fault p) (copied p) ≡ Ok built
+    → message_saying (with_part j (Some p)) said ≡ Ok (message_with (with_part j (Some p)) b)
+part_good j p said b built is good answers = says (with_part j (Some p)) said b (part_fault p) is (fault_of_part j p good) ∙ sound_good (part_fault p) (copied p) built (message_with (with_part j (Some p)) b) answers
+
+-- a refusal of the sender or the receiver
+pub ids_refused : (j : Jmf) (p : Option RawPart) (said : Option Body) (b : Body) (e : Refusal) → said ≡ Some b → (e ≡ Memory) ⊎ ((e ≡ BadId) × (are_ids j ≡ false)) → (e ≡ Memory) ⊎ (message_saying (with_part j p) said ≡ Err e)
+ids_refused j p said b e is answers =
+    ⊎_elim (λ memory. inl memory) (λ refused. inr (says (with_part j p) said b (Some BadId) is (bad_ids j p refused.1) ∙ ap Err (sym refused.0))) answers
+
+pub answer_good : (j : Jmf) (said : Option Body) (b : Body) → said ≡ Some b → are_ids j ≡ true → message_saying (with_part j None) said ≡ Ok (message_with (with_part j None) b)
+answer_good j said b is good = says (with_part j None) said b None is (no_fault_of_answer j good)
+
+-- ---- what is handed on
+
+-- a refusal that is handed on
+pub handed_on : {X : Type 0} (r : Result X Refusal) (e : Refusal) (read : Result X Refusal) → IsErrAnd r (λ f. f ≡ e) → (e ≡ Memory) ⊎ (read ≡ Err e) → Answers r read
+handed_on (Ok x) e read same h = absurd same
+handed_on (Err f) e read same h = subst (λ g. (g ≡ Memory) ⊎ (read ≡ Err g)) (sym same) h
+
+-- why an id is refused
+refused_at : (named : Bool) (f e : Refusal) (all : Bool) → f ≡ e → (named ≡ false → e ≡ BadId) → (named ≡ true → e ≡ Memory) → (named ≡ false → all ≡ false) → (f ≡ Memory) ⊎ ((f ≡ BadId) × (all ≡ false))
+refused_at true f e all same bad memory none = inl (same ∙ memory refl)
+refused_at false f e all same bad memory none = inr (same ∙ bad refl, none refl)
+
+pub id_refused : {X : Type 0} (r : Result X Refusal) (e : Refusal) (named all : Bool) → IsErrAnd r (λ f. f ≡ e) → (named ≡ false → e ≡ BadId) → (named ≡ true → e ≡ Memory) → (named ≡ false → all ≡ false)
+    → IfErr r (λ f. (f ≡ Memory) ⊎ ((f ≡ BadId) × (all ≡ false)))
+id_refused (Ok x) e named all same bad memory none = absurd same
+id_refused (Err f) e named all same bad memory none = refused_at named f e all same bad memory none
+
+-- the refusal of a result that is one
+abbrev pub refusal_in : {X : Type 0} → Result X Refusal → Refusal
+refusal_in (Ok x) = Memory
+refusal_in (Err e) = e
+
+abbrev pub with_fields : List ℕ → List ℕ → ℕ → Body → Message
+with_fields sender receiver time body = record { sender = sender; receiver = receiver; at = time; body = body }
+
+pub same_message : (s t r q : List ℕ) (time : ℕ) (b c : Body) → s ≡ t → r ≡ q → b ≡ c → with_fields s r time b ≡ with_fields t q time c
+same_message s t r q time b c e f g = ap (λ x. with_fields x r time b) e ∙ ap (λ x. with_fields t x time b) f ∙ ap (with_fields t q time) g

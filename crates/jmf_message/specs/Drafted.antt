@@ -1,0 +1,6 @@
+-- What the draft of a document is as a message by its members and their kinds alone.
+use Rattle.jmf_message.specs.DocumentForm.{RawMessage}
+use Rattle.jmf_message.specs.declared.document_draft.DocumentDraft.{DocumentDraft}
+
+abbrev pub drafted_document : DocumentDraft → RawMessage
+drafted_document d = record { jmf = d.jmf; part = d.part }

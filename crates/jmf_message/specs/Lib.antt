@@ -1,0 +1,11 @@
+pub mod CommandForm
+pub mod ResponseForm
+pub mod JmfForm
+pub mod DocumentForm
+pub mod Drafted
+pub mod Written
+pub mod Said
+pub mod Decoded
+pub mod Known
+pub mod Laws
+pub mod Again

@@ -1,0 +1,96 @@
+ghost use Rattle.std.specs.Prelude.{true};
+ghost use Rattle.jmf_message.specs.Again.{command_again};
+ghost use Rattle.jmf_message.specs.CommandForm as forms;
+
+use crate::any_text::AnyText;
+use crate::params::Params;
+use json_forms::{Draft, Form, Written, has_only, put, under};
+use serde_json::{Map, Value};
+use std::alloc::{AllocError, Global};
+use ticket_tree::Refusal;
+
+/// The members of a command.
+const COMMAND_MEMBERS: &[&str] = &[
+    "ID",
+    "QueueSubmissionParams",
+    "ReturnQueueEntryParams",
+    "Type",
+];
+
+/// A Command of JMF, with any texts.
+#[derive(Drop)]
+pub struct CommandMessage {
+    pub id: AnyText,
+    /// The Type.
+    pub kind: AnyText,
+    pub params: Params,
+}
+
+impl CommandMessage {
+    ghost use Rattle.std.specs.Prelude.{◌≡◌};
+    ghost use Rattle.jmf_message.specs.Said.{same_command};
+
+    /// Whether it is another.
+    pub fn is_same(&self, other: &CommandMessage) -> bool
+        ensures { result ≡ same_command self.now other.now }
+    {
+        self.id.is_same(&other.id)
+            && self.kind.is_same(&other.kind)
+            && self.params.are_same(&other.params)
+    }
+}
+
+impl Form for CommandMessage {
+    ghost form = { forms.command_form };
+
+    ghost has_names = { λ _. true };
+
+    ghost has_texts = { λ _. true };
+}
+
+impl<'a> Draft<'a> for CommandMessage {
+    type Whole = CommandMessage;
+
+    ghost drafted = { λ command. command };
+
+    #[tactic(auto, unfolding(crate::specs::CommandForm::command_form))]
+    fn of(alloc: Global, value: &'a Value) -> Result<CommandMessage, Refusal> {
+        if !has_only(value, COMMAND_MEMBERS) {
+            return Err(Refusal::NotProfile);
+        }
+        let id = under(alloc, value, "ID")?;
+        let kind = under(alloc, value, "Type")?;
+        let params = Params::among(alloc, value)?;
+        Ok(CommandMessage { id, kind, params })
+    }
+
+    fn has_names(&self) -> bool {
+        true
+    }
+
+    fn has_texts(&self) -> bool {
+        true
+    }
+
+    fn build(&self, alloc: Global) -> Result<CommandMessage, Refusal> {
+        Ok(CommandMessage {
+            id: self.id.build(alloc)?,
+            kind: self.kind.build(alloc)?,
+            params: self.params.build(alloc)?,
+        })
+    }
+}
+
+impl Written for CommandMessage {
+    ghost written = { forms.command_data };
+
+    fn value(&self, alloc: Global) -> Result<Value, AllocError> {
+        let mut members = Map::new(alloc);
+        put(alloc, &mut members, "ID", &self.id)?;
+        put(alloc, &mut members, "Type", &self.kind)?;
+        self.params.put_into(alloc, &mut members)?;
+        Ok(Value::Object(members))
+    }
+
+    ghost again = { command_again };
+}

@@ -1,0 +1,54 @@
+use crate::family::Family;
+use crate::jmf::Jmf;
+use json_forms::{Draft, has_only, under};
+use json_profile::PartDraft;
+use serde_json::Value;
+use std::alloc::Global;
+use ticket_tree::Refusal;
+
+/// A message by its members and their kinds alone.
+#[derive(Drop)]
+pub struct DocumentDraft<'a> {
+    pub jmf: Jmf,
+    pub part: Option<PartDraft<'a>>,
+}
+
+impl<'a> DocumentDraft<'a> {
+    ghost use Rattle.std.specs.Prelude.{◌≡◌, codes};
+    ghost use Rattle.serde_json.specs.Find.{get};
+    ghost use Rattle.serde_json.specs.View.{view};
+    ghost use Rattle.json_forms.specs.Read.{Gives};
+    ghost use Rattle.jmf_message.specs.DocumentForm as forms;
+    ghost use Rattle.jmf_message.specs.Drafted.{drafted_document};
+
+    /// The draft of the part beside a command.
+    fn part_beside(
+        alloc: Global,
+        family: &Family,
+        document: &'a Value,
+    ) -> Result<Option<PartDraft<'a>>, Refusal>
+        ensures { Gives (λ part. part) result
+            (forms.part_beside family.now (get (codes "JDF") (view document.now))) }
+    {
+        let part = document.get("JDF");
+        match (family, part) {
+            (Family::Command(_), Some(part)) => Ok(Some(PartDraft::of(alloc, part)?)),
+            (Family::Response(_), None) => Ok(None),
+            (Family::Command(_), None) => Err(Refusal::NotProfile),
+            (Family::Response(_), Some(_)) => Err(Refusal::NotProfile),
+        }
+    }
+
+    /// The draft that a value is. Refuses `NotProfile`, and `Memory`.
+    #[tactic(auto, unfolding(crate::specs::DocumentForm::document_form))]
+    pub fn of(alloc: Global, value: &'a Value) -> Result<DocumentDraft<'a>, Refusal>
+        ensures { Gives drafted_document result (forms.document_form (view value.now)) }
+    {
+        if !has_only(value, &["JDF", "JMF"]) {
+            return Err(Refusal::NotProfile);
+        }
+        let jmf: Jmf = under(alloc, value, "JMF")?;
+        let part = DocumentDraft::part_beside(alloc, &jmf.family, value)?;
+        Ok(DocumentDraft { jmf, part })
+    }
+}

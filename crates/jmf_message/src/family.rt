@@ -1,0 +1,60 @@
+use crate::command_message::CommandMessage;
+use crate::response_message::ResponseMessage;
+use json_forms::{Draft, put};
+use serde_json::{Map, Value};
+use std::alloc::{AllocError, Global};
+use ticket_tree::Refusal;
+
+/// The one message in a JMF object, by its family (JMF; JDF 1.5, 5).
+#[derive(Drop)]
+pub enum Family {
+    Command(CommandMessage),
+    Response(ResponseMessage),
+}
+
+impl Family {
+    ghost use Rattle.std.specs.Prelude.{◌≡◌, IfOk, IfErr, OnOk};
+    ghost use Rattle.serde_json.specs.View.{members_view, view};
+    ghost use Rattle.json_forms.specs.Read.{Gives};
+    ghost use Rattle.jmf_message.specs.JmfForm as forms;
+
+    /// The message among the members of a JMF object, of exactly one of the two families.
+    pub fn among(alloc: Global, jmf: &Value) -> Result<Family, Refusal>
+        ensures { Gives (λ family. family) result (forms.family_form (view jmf.now)) }
+    {
+        let command = jmf.get("Command");
+        let response = jmf.get("Response");
+        match (command, response) {
+            (Some(message), None) => Ok(Family::Command(CommandMessage::of(alloc, message)?)),
+            (None, Some(message)) => Ok(Family::Response(ResponseMessage::of(alloc, message)?)),
+            (None, None) => Err(Refusal::NotProfile),
+            (Some(_), Some(_)) => Err(Refusal::NotProfile),
+        }
+    }
+
+    /// Puts it among the members of a JMF object.
+    pub fn put_into(
+        &self,
+        alloc: Global,
+        members: &mut Map<String, Value>,
+    ) -> Result<(), AllocError>
+        ensures { OnOk result (members_view members.new.entries
+            ≡ forms.put_family self.now (members_view members.old.entries)) }
+    {
+        match self {
+            Family::Command(message) => put(alloc, members, "Command", message),
+            Family::Response(message) => put(alloc, members, "Response", message),
+        }
+    }
+
+    /// An equal message. Refuses `Memory` alone.
+    pub fn build(&self, alloc: Global) -> Result<Family, Refusal>
+        ensures ok { IfOk result (λ family. family ≡ self.now) }
+        ensures memory { IfErr result (λ e. e ≡ Refusal.Memory) }
+    {
+        match self {
+            Family::Command(message) => Ok(Family::Command(message.build(alloc)?)),
+            Family::Response(message) => Ok(Family::Response(message.build(alloc)?)),
+        }
+    }
+}

@@ -1,0 +1,25 @@
+//! Messages between controllers: a part that goes out, one that comes back, and the answers to
+//! both, as JMF in JSON.
+#![tactic(auto)]
+
+mod any_text;
+mod command_message;
+mod decoding;
+mod document_draft;
+mod encoding;
+mod family;
+mod ids;
+mod jmf;
+pub mod laws;
+mod params;
+mod queue_entry;
+mod response_message;
+mod return_params;
+mod said;
+mod submission_params;
+mod table;
+
+pub use decoding::decode;
+pub use encoding::encode;
+pub use ids::id_of;
+pub use message_items::{Body, Command, Done, Message, Outcome, QueueStatus, Reply};

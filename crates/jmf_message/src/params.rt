@@ -1,0 +1,94 @@
+use crate::return_params::ReturnParams;
+use crate::submission_params::SubmissionParams;
+use json_forms::{Draft, put};
+use message_items::Command;
+use serde_json::{Map, Value};
+use std::alloc::{AllocError, Global};
+use ticket_tree::Refusal;
+
+/// The params of a command, with any texts.
+#[derive(Drop)]
+pub enum Params {
+    Submission(SubmissionParams),
+    Return(ReturnParams),
+}
+
+impl Params {
+    ghost use Rattle.std.specs.Prelude.{◌≡◌, IfOk, IfErr, OnOk};
+    ghost use Rattle.serde_json.specs.View.{members_view, view};
+    ghost use Rattle.json_forms.specs.Read.{Gives};
+    ghost use Rattle.jmf_message.specs.CommandForm as forms;
+    ghost use Rattle.jmf_message.specs.Said as said;
+
+    /// The params among a command's members, of exactly one of the two kinds.
+    pub fn among(alloc: Global, command: &Value) -> Result<Params, Refusal>
+        ensures { Gives (λ params. params) result (forms.params_form (view command.now)) }
+    {
+        let submission = command.get("QueueSubmissionParams");
+        let returning = command.get("ReturnQueueEntryParams");
+        match (submission, returning) {
+            (Some(params), None) => Ok(Params::Submission(SubmissionParams::of(alloc, params)?)),
+            (None, Some(params)) => Ok(Params::Return(ReturnParams::of(alloc, params)?)),
+            (None, None) => Err(Refusal::NotProfile),
+            (Some(_), Some(_)) => Err(Refusal::NotProfile),
+        }
+    }
+
+    /// Puts them among a command's members.
+    pub fn put_into(
+        &self,
+        alloc: Global,
+        members: &mut Map<String, Value>,
+    ) -> Result<(), AllocError>
+        ensures { OnOk result (members_view members.new.entries
+            ≡ forms.put_params self.now (members_view members.old.entries)) }
+    {
+        match self {
+            Params::Submission(params) => put(alloc, members, "QueueSubmissionParams", params),
+            Params::Return(params) => put(alloc, members, "ReturnQueueEntryParams", params),
+        }
+    }
+
+    /// Equal params. Refuses `Memory` alone.
+    pub fn build(&self, alloc: Global) -> Result<Params, Refusal>
+        ensures ok { IfOk result (λ params. params ≡ self.now) }
+        ensures memory { IfErr result (λ e. e ≡ Refusal.Memory) }
+    {
+        match self {
+            Params::Submission(params) => Ok(Params::Submission(params.build(alloc)?)),
+            Params::Return(params) => Ok(Params::Return(params.build(alloc)?)),
+        }
+    }
+
+    /// The command that has params of this kind.
+    pub fn command(&self) -> Command
+        ensures { result ≡ said.command_of self.now }
+    {
+        match self {
+            Params::Submission(_) => Command::Submit,
+            Params::Return(_) => Command::Return,
+        }
+    }
+
+    /// The queue entry that they name.
+    pub fn entry(&self) -> &str
+        ensures { result.now ≡ said.entry_of self.now }
+    {
+        match self {
+            Params::Submission(params) => params.entry.as_str(),
+            Params::Return(params) => params.entry.as_str(),
+        }
+    }
+
+    /// Whether they are others.
+    pub fn are_same(&self, other: &Params) -> bool
+        ensures { result ≡ said.same_params self.now other.now }
+    {
+        match (self, other) {
+            (Params::Submission(params), Params::Submission(others)) => params.are_same(others),
+            (Params::Return(params), Params::Return(others)) => params.are_same(others),
+            (Params::Submission(_), Params::Return(_)) => false,
+            (Params::Return(_), Params::Submission(_)) => false,
+        }
+    }
+}

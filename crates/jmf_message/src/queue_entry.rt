@@ -1,0 +1,81 @@
+ghost use Rattle.std.specs.Prelude.{true};
+ghost use Rattle.jmf_message.specs.Again.{entry_again};
+ghost use Rattle.jmf_message.specs.ResponseForm as forms;
+
+use crate::any_text::AnyText;
+use json_forms::{Draft, Form, Written, has_only, put, under};
+use serde_json::{Map, Value};
+use std::alloc::{AllocError, Global};
+use ticket_tree::Refusal;
+
+/// The QueueEntry of a response, with any texts.
+#[derive(Drop)]
+pub struct QueueEntry {
+    /// The QueueEntryID.
+    pub id: AnyText,
+    pub status: AnyText,
+}
+
+impl QueueEntry {
+    ghost use Rattle.std.specs.Prelude.{◌≡◌, Some};
+    ghost use Rattle.jmf_message.specs.Said.{same_entry};
+
+    /// Whether it is another.
+    pub fn is_same(&self, other: &QueueEntry) -> bool
+        ensures { result ≡ same_entry (Some self.now) (Some other.now) }
+    {
+        self.id.is_same(&other.id) && self.status.is_same(&other.status)
+    }
+}
+
+impl Form for QueueEntry {
+    ghost form = { forms.entry_form };
+
+    ghost has_names = { λ _. true };
+
+    ghost has_texts = { λ _. true };
+}
+
+impl<'a> Draft<'a> for QueueEntry {
+    type Whole = QueueEntry;
+
+    ghost drafted = { λ entry. entry };
+
+    #[tactic(auto, unfolding(crate::specs::ResponseForm::entry_form))]
+    fn of(alloc: Global, value: &'a Value) -> Result<QueueEntry, Refusal> {
+        if !has_only(value, &["QueueEntryID", "Status"]) {
+            return Err(Refusal::NotProfile);
+        }
+        let id = under(alloc, value, "QueueEntryID")?;
+        let status = under(alloc, value, "Status")?;
+        Ok(QueueEntry { id, status })
+    }
+
+    fn has_names(&self) -> bool {
+        true
+    }
+
+    fn has_texts(&self) -> bool {
+        true
+    }
+
+    fn build(&self, alloc: Global) -> Result<QueueEntry, Refusal> {
+        Ok(QueueEntry {
+            id: self.id.build(alloc)?,
+            status: self.status.build(alloc)?,
+        })
+    }
+}
+
+impl Written for QueueEntry {
+    ghost written = { forms.entry_data };
+
+    fn value(&self, alloc: Global) -> Result<Value, AllocError> {
+        let mut members = Map::new(alloc);
+        put(alloc, &mut members, "QueueEntryID", &self.id)?;
+        put(alloc, &mut members, "Status", &self.status)?;
+        Ok(Value::Object(members))
+    }
+
+    ghost again = { entry_again };
+}

@@ -1,0 +1,167 @@
+//! Responses of JMF.
+
+ghost use Rattle.std.specs.Prelude.{◌≡◌, true, codes, IfOk, IfErr, OnOk};
+ghost use Rattle.serde_json.specs.Find.{get};
+ghost use Rattle.serde_json.specs.View.{members_view, view};
+ghost use Rattle.json_forms.specs.Read.{Gives};
+ghost use Rattle.jmf_message.specs.Again.{response_again};
+ghost use Rattle.jmf_message.specs.ResponseForm as forms;
+ghost use Rattle.jmf_message.specs.Said.{same_entry, same_response};
+
+use crate::any_text::AnyText;
+use crate::queue_entry::QueueEntry;
+use json_forms::{Draft, Form, Written, has_only, put, under};
+use serde_json::{Map, Value};
+use std::alloc::{AllocError, Global};
+use ticket_tree::Refusal;
+
+/// The members of a response.
+const RESPONSE_MEMBERS: &[&str] = &["ID", "QueueEntry", "Reason", "ReturnCode", "Type", "refID"];
+
+/// A Response of JMF, with any texts and numbers.
+#[derive(Drop)]
+pub struct ResponseMessage {
+    pub id: AnyText,
+    pub entry: Option<QueueEntry>,
+    pub reason: u64,
+    /// The ReturnCode.
+    pub code: u64,
+    /// The Type.
+    pub kind: AnyText,
+    /// The refID.
+    pub reference: AnyText,
+}
+
+/// The queue entry among a response's members, if there is one.
+fn entry_among(alloc: Global, response: &Value) -> Result<Option<QueueEntry>, Refusal>
+    ensures { Gives (λ entry. entry) result
+        (forms.entry_found (get (codes "QueueEntry") (view response.now))) }
+{
+    match response.get("QueueEntry") {
+        Some(entry) => Ok(Some(QueueEntry::of(alloc, entry)?)),
+        None => Ok(None),
+    }
+}
+
+/// Puts a queue entry, if there is one, among a response's members.
+fn put_entry(
+    alloc: Global,
+    members: &mut Map<String, Value>,
+    entry: &Option<QueueEntry>,
+) -> Result<(), AllocError>
+    ensures { OnOk result (members_view members.new.entries
+        ≡ forms.put_entry entry.now (members_view members.old.entries)) }
+{
+    match entry {
+        Some(entry) => put(alloc, members, "QueueEntry", entry),
+        None => Ok(()),
+    }
+}
+
+/// An equal queue entry, if there is one. Refuses `Memory` alone.
+fn build_entry(alloc: Global, entry: &Option<QueueEntry>) -> Result<Option<QueueEntry>, Refusal>
+    ensures ok { IfOk result (λ built. built ≡ entry.now) }
+    ensures memory { IfErr result (λ e. e ≡ Refusal.Memory) }
+{
+    match entry {
+        Some(entry) => Ok(Some(entry.build(alloc)?)),
+        None => Ok(None),
+    }
+}
+
+/// Whether there are the same queue entries, or there is none.
+fn are_same_entries(entry: &Option<QueueEntry>, other: &Option<QueueEntry>) -> bool
+    ensures { result ≡ same_entry entry.now other.now }
+{
+    match (entry, other) {
+        (Some(entry), Some(other)) => entry.is_same(other),
+        (None, None) => true,
+        (Some(_), None) => false,
+        (None, Some(_)) => false,
+    }
+}
+
+impl ResponseMessage {
+    /// Whether it is another.
+    pub fn is_same(&self, other: &ResponseMessage) -> bool
+        ensures { result ≡ same_response self.now other.now }
+    {
+        self.id.is_same(&other.id)
+            && are_same_entries(&self.entry, &other.entry)
+            && self.reason == other.reason
+            && self.code == other.code
+            && self.kind.is_same(&other.kind)
+            && self.reference.is_same(&other.reference)
+    }
+}
+
+impl Form for ResponseMessage {
+    ghost form = { forms.response_form };
+
+    ghost has_names = { λ _. true };
+
+    ghost has_texts = { λ _. true };
+}
+
+impl<'a> Draft<'a> for ResponseMessage {
+    type Whole = ResponseMessage;
+
+    ghost drafted = { λ response. response };
+
+    #[tactic(auto, unfolding(crate::specs::ResponseForm::response_form))]
+    fn of(alloc: Global, value: &'a Value) -> Result<ResponseMessage, Refusal> {
+        if !has_only(value, RESPONSE_MEMBERS) {
+            return Err(Refusal::NotProfile);
+        }
+        let id = under(alloc, value, "ID")?;
+        let entry = entry_among(alloc, value)?;
+        let reason = under(alloc, value, "Reason")?;
+        let code = under(alloc, value, "ReturnCode")?;
+        let kind = under(alloc, value, "Type")?;
+        let reference = under(alloc, value, "refID")?;
+        Ok(ResponseMessage {
+            id,
+            entry,
+            reason,
+            code,
+            kind,
+            reference,
+        })
+    }
+
+    fn has_names(&self) -> bool {
+        true
+    }
+
+    fn has_texts(&self) -> bool {
+        true
+    }
+
+    fn build(&self, alloc: Global) -> Result<ResponseMessage, Refusal> {
+        Ok(ResponseMessage {
+            id: self.id.build(alloc)?,
+            entry: build_entry(alloc, &self.entry)?,
+            reason: self.reason,
+            code: self.code,
+            kind: self.kind.build(alloc)?,
+            reference: self.reference.build(alloc)?,
+        })
+    }
+}
+
+impl Written for ResponseMessage {
+    ghost written = { forms.response_data };
+
+    fn value(&self, alloc: Global) -> Result<Value, AllocError> {
+        let mut members = Map::new(alloc);
+        put(alloc, &mut members, "ID", &self.id)?;
+        put(alloc, &mut members, "Reason", &self.reason)?;
+        put(alloc, &mut members, "ReturnCode", &self.code)?;
+        put(alloc, &mut members, "Type", &self.kind)?;
+        put(alloc, &mut members, "refID", &self.reference)?;
+        put_entry(alloc, &mut members, &self.entry)?;
+        Ok(Value::Object(members))
+    }
+
+    ghost again = { response_again };
+}
