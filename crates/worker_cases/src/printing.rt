@@ -1,0 +1,103 @@
+//! A part: the printing of a product, whose sheets it may change and whose paper it may read.
+
+use std::alloc::Global;
+use ticket_tree::{
+    Ancestor, Ancestors, Attrs, Id, Items, Link, Links, Name, NodeRow, Part, Refusal, Resource,
+    Resources, SpawnId, Usage,
+};
+
+/// A resource of this id, Name and Class with a Status.
+fn resource(
+    alloc: Global,
+    id: &str,
+    name: &str,
+    class: &str,
+    status: &str,
+) -> Result<Resource, Refusal> {
+    Ok(Resource {
+        id: Id::new(alloc, id)?,
+        name: Name::new(alloc, name)?,
+        class: Name::new(alloc, class)?,
+        status: Name::new(alloc, status)?,
+        attrs: Attrs::new(alloc),
+    })
+}
+
+/// The sheets, which the printing makes.
+fn sheets(alloc: Global) -> Result<Resources, Refusal> {
+    let mut copies = Vec::new(alloc);
+    copies.push(resource(alloc, "r2", "Component", "Quantity", "Unavailable")?)?;
+    Ok(Items::new(copies))
+}
+
+/// The paper, which it takes.
+fn paper(alloc: Global) -> Result<Resources, Refusal> {
+    let mut copies = Vec::new(alloc);
+    copies.push(resource(alloc, "r1", "Media", "Consumable", "Available")?)?;
+    Ok(Items::new(copies))
+}
+
+fn link(alloc: Global, id: &str, usage: Usage) -> Result<Link, Refusal> {
+    Ok(Link {
+        rref: Id::new(alloc, id)?,
+        usage,
+    })
+}
+
+fn links(alloc: Global) -> Result<Links, Refusal> {
+    let mut links = Vec::new(alloc);
+    links.push(link(alloc, "r1", Usage::Input)?)?;
+    links.push(link(alloc, "r2", Usage::Output)?)?;
+    Ok(Items::new(links))
+}
+
+/// The node of the printing.
+fn row(alloc: Global) -> Result<NodeRow, Refusal> {
+    Ok(NodeRow {
+        id: Id::new(alloc, "n1")?,
+        depth: 1,
+        kind: Name::new(alloc, "ConventionalPrinting")?,
+        job_part: Name::new(alloc, "p1")?,
+        status: Name::new(alloc, "Waiting")?,
+        attrs: Attrs::new(alloc),
+        resources: Items::new(Vec::new(alloc)),
+        links: links(alloc)?,
+        audits: Items::new(Vec::new(alloc)),
+    })
+}
+
+/// The nodes above it.
+fn above(alloc: Global) -> Result<Ancestors, Refusal> {
+    let mut ancestors = Vec::new(alloc);
+    ancestors.push(Ancestor {
+        node_id: Id::new(alloc, "n0")?,
+        job_part: Name::new(alloc, "p0")?,
+    })?;
+    Ok(Items::new(ancestors))
+}
+
+/// The part with these nodes above it.
+fn part(alloc: Global, spawn: SpawnId, ancestors: Ancestors) -> Result<Part, Refusal> {
+    let mut rows = Vec::new(alloc);
+    rows.push(row(alloc)?)?;
+    let job = Name::new(alloc, "J1")?;
+    Part::new(
+        alloc,
+        job,
+        spawn,
+        ancestors,
+        rows,
+        sheets(alloc)?,
+        paper(alloc)?,
+    )
+}
+
+/// The part of a spawn.
+pub fn printing(alloc: Global, spawn: SpawnId) -> Result<Part, Refusal> {
+    part(alloc, spawn, above(alloc)?)
+}
+
+/// The part of a spawn that came from nowhere.
+pub fn stray(alloc: Global, spawn: SpawnId) -> Result<Part, Refusal> {
+    part(alloc, spawn, Items::new(Vec::new(alloc)))
+}

@@ -1,0 +1,8 @@
+pub mod AtNumber
+pub mod EditedPart
+pub mod Refusals
+pub mod Kept
+pub mod Places
+pub mod OrderLaws
+pub mod MessageLaws
+mod Worked

@@ -1,0 +1,216 @@
+-- What a worker may change, what an order changes, and what is given back.
+use Rattle.std.proofs.Common.{◌≡◌, ℕ, ◌==◌, ◌||◌, ◌&&◌, Bool, true, false, cond, List, [], ◌∷◌, Option, Some, None, is_some, inl, inr, refl, sym, ap, ◌∙◌, subst}
+use Rattle.std.proofs.lemmas.Bool.{true≢false, and_parts, and_from, eqb-true, or_left}
+use Rattle.std.specs.List.{list_any}
+use Rattle.std.specs.Option.{option_map, option_map_or}
+use Rattle.std.specs.Str.{bytes_eq}
+use Rattle.std.proofs.lemmas.Slice.Eq.{bytes_eq-Decides}
+use Rattle.ticket_items.proofs.Places.{is_some-find, same_found}
+use Rattle.ticket_items.specs.Ids.{mem}
+use Rattle.ticket_items.specs.Resource.{resource_ids}
+use Rattle.ticket_items.specs.declared.edit.Edit.{Edit}
+use Rattle.ticket_items.specs.declared.edit.Edit.TheVariants.{SetStatus, SetAttr, SetResStatus, SetResAttr, Note, AddNode, AddResource, AddLink}
+use Rattle.ticket_items.specs.declared.node_row.NodeRow.{NodeRow}
+use Rattle.ticket_items.specs.declared.refusal.Refusal.{Refusal}
+use Rattle.ticket_rows.proofs.AtHome.{holds, mem-ids}
+use Rattle.ticket_rows.specs.Edit.{is_structural, target}
+use Rattle.ticket_rows.specs.Homes.{has_resource}
+use Rattle.ticket_rows.specs.Place.{Row}
+use Rattle.ticket_rows.specs.Ticket.{has_node, ids}
+use Rattle.ticket_tree.proofs.OnPlaces.{has_resource-any}
+use Rattle.ticket_tree.proofs.PartEdits.{part_edit_of_places, part_edit_of_rows}
+use Rattle.ticket_tree.specs.Part.{Copied, edited_part, refusal_of_part}
+use Rattle.ticket_tree.specs.PartView.{part_row}
+use Rattle.ticket_tree.specs.PlainEdit.{plain_changed, touch}
+use Rattle.message_items.specs.declared.message.Message.{Message}
+use Rattle.worker_core.proofs.AtNumber.{find-at_number, find-other, found_holds}
+use Rattle.worker_core.proofs.EditedPart.{ending_free, first_known}
+use Rattle.worker_core.proofs.Kept.{number_of}
+use Rattle.worker_core.proofs.Refusals.{done_free, edit_free, open_free, ordered_on}
+use Rattle.worker_core.specs.Laws.{EditIsOfHeld, IsNext, IsSamePart, MayChangeIsHeld, OrderKeepsEntries, ResentIsSame, ReturnIsOfEntry}
+use Rattle.worker_core.specs.Orders.{edit_refusal, edited_entry, ending, finished_entry, is_here, order_refusal, ordered, return_of}
+use Rattle.worker_core.specs.Worker.{IsKept, IsKeptEntry, Known, entry_of, has, is_of, is_open, is_open_stage, may_change, root_id, with_entry}
+use Rattle.worker_core.specs.declared.end.End.{End}
+use Rattle.worker_core.specs.declared.entry.Entry.{Entry}
+use Rattle.worker_core.specs.declared.order.Order.{Order}
+use Rattle.worker_core.specs.declared.order.Order.TheVariants as order
+use Rattle.worker_core.specs.declared.stage.Stage.{Stage}
+use Rattle.worker_core.specs.declared.stage.Stage.TheVariants.{Open, Done}
+
+-- ---- what may be changed
+
+open_stage : (stage : Stage) → is_open_stage stage ≡ true → stage ≡ Open
+open_stage Open e = refl
+open_stage (Done how) e = absurd (true≢false (sym e))
+
+held_in : (found : Option Entry) (x : List ℕ) → option_map_or (λ e. is_open e && has e.part x) found false ≡ true → (e : Entry) × (found ≡ Some e) × (e.phase ≡ Open) × (has e.part x ≡ true)
+held_in None x may = absurd (true≢false (sym may))
+held_in (Some e) x may =
+    let parts = and_parts (is_open e) (has e.part x) may in
+    (e, refl, open_stage e.phase parts.0, parts.1)
+
+pub may_change_is_held : MayChangeIsHeld
+may_change_is_held entries s x may = held_in (entry_of entries s) x may
+
+any_or_left : (p q : NodeRow → Bool) (rows : List NodeRow) → list_any p rows ≡ true → list_any (λ r. p r || q r) rows ≡ true
+any_or_left p q [] e = e
+any_or_left p q (r ∷ rows) e = row (p r) (q r) (list_any p rows) (list_any (λ s. p s || q s) rows) e (any_or_left p q rows)
+  where
+    row : (a b c d : Bool) → (a || c) ≡ true → (c ≡ true → d ≡ true) → ((a || b) || d) ≡ true
+    row true b c d e later = refl
+    row false true c d e later = refl
+    row false false c d e later = later e
+
+any_or_right : (p q : NodeRow → Bool) (rows : List NodeRow) → list_any q rows ≡ true → list_any (λ r. p r || q r) rows ≡ true
+any_or_right p q [] e = e
+any_or_right p q (r ∷ rows) e = row (p r) (q r) (list_any q rows) (list_any (λ s. p s || q s) rows) e (any_or_right p q rows)
+  where
+    row : (a b c d : Bool) → (b || c) ≡ true → (c ≡ true → d ≡ true) → ((a || b) || d) ≡ true
+    row true b c d e later = refl
+    row false true c d e later = refl
+    row false false c d e later = later e
+
+node_stands : (rows : List NodeRow) (x : List ℕ) → has_node rows x ≡ true → mem x (ids rows) ≡ true
+node_stands rows x known = mem-ids x rows ∙ any_or_left (λ r. bytes_eq r.id x) (holds x) rows (sym (is_some-find (λ r. bytes_eq r.id x) rows) ∙ known)
+
+resource_stands : (rows : List NodeRow) (x : List ℕ) → has_resource rows x ≡ true → mem x (ids rows) ≡ true
+resource_stands rows x known = mem-ids x rows ∙ any_or_right (λ r. bytes_eq r.id x) (holds x) rows (has_resource-any rows x ∙ known)
+
+either_stands : (a b c : Bool) → (a || c) ≡ true → (a ≡ true → b ≡ true) → (b || c) ≡ true
+either_stands true b c e go = or_left b c (go refl)
+either_stands false true c e go = refl
+either_stands false false c e go = e
+
+-- what an edit changes that is here, the part has
+here_has : (e : Edit) (p : Copied) → is_structural e ≡ false → is_here e p ≡ true → has p (target e) ≡ true
+here_has (SetStatus n status) p plain here = or_left _ _ (node_stands p.rows n here)
+here_has (SetAttr n name value) p plain here = or_left _ _ (node_stands p.rows n here)
+here_has (SetResStatus x status) p plain here = either_stands (has_resource p.rows x) _ (mem x (resource_ids p.rw)) here (resource_stands p.rows x)
+here_has (SetResAttr x name value) p plain here = either_stands (has_resource p.rows x) _ (mem x (resource_ids p.rw)) here (resource_stands p.rows x)
+here_has (Note n text) p plain here = or_left _ _ (node_stands p.rows n here)
+here_has (AddNode n id kind job_part status) p plain here = absurd (true≢false plain)
+here_has (AddResource n x) p plain here = absurd (true≢false plain)
+here_has (AddLink n link) p plain here = absurd (true≢false plain)
+
+-- what an open entry has may be changed
+may_change_here : (entries : List Entry) (s : ℕ) (x : List ℕ) (e : Entry) → entry_of entries s ≡ Some e → is_open e ≡ true → has e.part x ≡ true → may_change entries s x ≡ true
+may_change_here entries s x e found opened there = ap (λ o. option_map_or (λ e. is_open e && has e.part x) o false) found ∙ and_from _ _ opened there
+
+pub edit_is_of_held : EditIsOfHeld
+edit_is_of_held entries s e none =
+    let on = ordered_on (order.Edit s e) entries none in
+    let entry : Entry = on.0 in
+    let free = edit_free e entry on.2 in
+    may_change_here entries s (target e) entry on.1 free.is_open (here_has e entry.part free.plain free.here)
+
+-- ---- what an order changes
+
+unchanged : (entries : List Entry) (s : ℕ) (e : Entry) → IsNext entries s e e
+unchanged entries s e =
+    record {
+      part = record { job = refl; spawn = refl; ancestors = refl; ro = refl; places = refl };
+      rows = λ x out. refl;
+      phase = inl refl;
+      finished = λ done. refl;
+    }
+
+-- an edit of a part moves nothing
+same_part : (e : Edit) (at : ℕ) (x : Entry) → IsKeptEntry x → is_structural e ≡ false → refusal_of_part e x.part ≡ None → IsSamePart x.part (edited_part e at x.part)
+same_part e at x kept plain free = record { job = refl; spawn = refl; ancestors = refl; ro = refl; places = part_edit_of_places e at x.part kept.valid plain free }
+
+untouched : (b : Bool) (n : List ℕ) (f : Row → Row) (rows : List ℕ → Option Row) (y : List ℕ) → bytes_eq n y ≡ b → (b ≡ true → ⊥) → touch n f rows y ≡ rows y
+untouched true n f rows y e not_true = absurd (not_true refl)
+untouched false n f rows y e not_true = ap (λ b. cond b (option_map f (rows y)) (rows y)) e
+
+-- and changes no row but that of its target, which may be changed
+same_rows : (e : Edit) (at : ℕ) (entries : List Entry) (s : ℕ) (x : Entry) → IsKeptEntry x → is_structural e ≡ false → refusal_of_part e x.part ≡ None → may_change entries s (target e) ≡ true → (y : List ℕ) → may_change entries s y ≡ false
+    → part_row (edited_part e at x.part) y ≡ part_row x.part y
+same_rows e at entries s x kept plain free may y out =
+    part_edit_of_rows e at x.part kept.valid plain free y
+    ∙ untouched (bytes_eq (target e) y) (target e) (plain_changed e at) (part_row x.part) y refl
+    (λ same. true≢false (sym may ∙ ap (may_change entries s) ((bytes_eq-Decides (target e) y).0 same) ∙ out))
+
+edit_next : (e : Edit) (at : ℕ) (entries : List Entry) (s : ℕ) (x : Entry) → IsKeptEntry x → order_refusal (order.Edit s e) entries ≡ None → entry_of entries s ≡ Some x → IsNext entries s x (edited_entry e at x)
+edit_next e at entries s x kept none found =
+    let on = ordered_on (order.Edit s e) entries none in
+    let same : on.0 ≡ x = same_found on.0 x (entry_of entries s) on.1 found in
+    let free = edit_free e x (subst (λ y. edit_refusal e y ≡ None) same on.2) in
+    record {
+      part = same_part e at x kept free.plain free.part;
+      rows = same_rows e at entries s x kept free.plain free.part (edit_is_of_held entries s e none);
+      phase = inl refl;
+      finished = λ done. absurd (true≢false (sym free.is_open ∙ done));
+    }
+
+finish_next : (how : End) (at : ℕ) (entries : List Entry) (s : ℕ) (x : Entry) → IsKeptEntry x → order_refusal (order.Finish s how) entries ≡ None → entry_of entries s ≡ Some x → IsNext entries s x (finished_entry how at x)
+finish_next how at entries s x kept none found =
+    let on = ordered_on (order.Finish s how) entries none in
+    let same : on.0 ≡ x = same_found on.0 x (entry_of entries s) on.1 found in
+    let opened : is_open x ≡ true = ap is_open (sym same) ∙ open_free on.0 on.2 in
+    let e = ending x.part how in
+    let free = ending_free x.part how kept.valid in
+    let there : has x.part (root_id x.part) ≡ true = here_has e x.part refl (first_known x.part.rows x.part.rw x.part.ro kept.valid) in
+    record {
+      part = same_part e at x kept refl free;
+      rows = same_rows e at entries s x kept refl free (may_change_here entries s (root_id x.part) x found opened there);
+      phase = inr (open_stage x.phase opened, refl);
+      finished = λ done. absurd (true≢false (sym opened ∙ done));
+    }
+
+-- the entry of a spawn after that of another, or its own, has been changed
+abbrev NextIn : List Entry → List Entry → ℕ → Entry → Type 0
+NextIn old new s e = (next : Entry) × (entry_of new s ≡ Some next) × IsNext old s e next
+
+changed_either : (here : Bool) (t : ℕ) (f : Entry → Entry) (entries : List Entry) (s : ℕ) (e : Entry) → (s == t) ≡ here → ((y : Entry) → number_of (f y) ≡ number_of y) → entry_of entries s ≡ Some e → (s ≡ t → IsNext entries s e (f e)) → NextIn entries (with_entry t f entries) s e
+changed_either true t f entries s e same keeps found next =
+    let one : s ≡ t = eqb-true s t same in
+    (f e, ap (entry_of (with_entry t f entries)) one ∙ find-at_number number_of t f entries keeps ∙ ap (option_map f) (ap (entry_of entries) (sym one) ∙ found), next one)
+changed_either false t f entries s e other keeps found next = (e, find-other s t number_of f entries other keeps ∙ found, unchanged entries s e)
+
+ordered_next : (o : Order) (at : ℕ) (w : Known) (s : ℕ) (e : Entry) → IsKept w → order_refusal o w.entries ≡ None → entry_of w.entries s ≡ Some e → NextIn w.entries (ordered o at w).entries s e
+ordered_next (order.Edit t edit) at w s e kept none found =
+    let own : IsKeptEntry e = found_holds IsKeptEntry (is_of s) w.entries e found kept.each in
+    changed_either (s == t) t (edited_entry edit at) w.entries s e refl (λ y. refl) found (λ same. edit_next edit at w.entries s e own (ap (λ n. order_refusal (order.Edit n edit) w.entries) same ∙ none) found)
+ordered_next (order.Finish t how) at w s e kept none found =
+    let own : IsKeptEntry e = found_holds IsKeptEntry (is_of s) w.entries e found kept.each in
+    changed_either (s == t) t (finished_entry how at) w.entries s e refl (λ y. refl) found (λ same. finish_next how at w.entries s e own (ap (λ n. order_refusal (order.Finish n how) w.entries) same ∙ none) found)
+ordered_next (order.Resend t) at w s e kept none found = (e, found, unchanged w.entries s e)
+
+next_either : (refusal : Option Refusal) (o : Order) (at : ℕ) (w : Known) (s : ℕ) (e : Entry) → order_refusal o w.entries ≡ refusal → IsKept w → entry_of w.entries s ≡ Some e → NextIn w.entries (cond (is_some refusal) w (ordered o at w)).entries s e
+next_either None o at w s e none kept found = ordered_next o at w s e kept none found
+next_either (Some r) o at w s e refused kept found = (e, found, unchanged w.entries s e)
+
+pub order_keeps_entries : OrderKeepsEntries
+order_keeps_entries o at w s e kept found = next_either (order_refusal o w.entries) o at w s e refl kept found
+
+-- ---- what is given back
+
+-- what is made of what was found
+made_of : (f : Entry → Message) (found : Option Entry) (e : Entry) (m : Message) → found ≡ Some e → option_map f found ≡ Some m → m ≡ f e
+made_of f None e m found made = cc
+made_of f (Some x) e m found made = cc
+
+no_message : (m : Message) {P : Type 0} → ◌≡◌ {A = Option Message} None (Some m) → P
+no_message m e = cc
+
+pub return_is_of_entry : ReturnIsOfEntry
+return_is_of_entry (order.Edit s e) at w m none made = no_message m made
+return_is_of_entry (order.Finish s how) at w m none made =
+    let on = ordered_on (order.Finish s how) w.entries none in
+    let x : Entry = on.0 in (
+      finished_entry how at x,
+      find-at_number number_of s (finished_entry how at) w.entries (λ y. refl) ∙ ap (option_map (finished_entry how at)) on.1,
+      refl,
+      made_of (λ entry. return_of w.name w.master (finished_entry how at entry)) (entry_of w.entries s) x m on.1 made,
+    )
+return_is_of_entry (order.Resend s) at w m none made =
+    let on = ordered_on (order.Resend s) w.entries none in
+    (on.0, on.1, done_free on.0 on.2, made_of (return_of w.name w.master) (entry_of w.entries s) on.0 m on.1 made)
+
+twice_mapped : (f : Entry → Entry) (g : Entry → Message) (found : Option Entry) → option_map g (option_map f found) ≡ option_map (λ e. g (f e)) found
+twice_mapped f g None = refl
+twice_mapped f g (Some e) = refl
+
+pub resent_is_same : ResentIsSame
+resent_is_same s how at later w none =
+    ap (option_map (return_of w.name w.master)) (find-at_number number_of s (finished_entry how at) w.entries (λ y. refl)) ∙ twice_mapped (finished_entry how at) (return_of w.name w.master) (entry_of w.entries s)

@@ -1,0 +1,188 @@
+-- The definitions computed on a small job: the printing of a product was spawned to the press, with its sheets to change and its
+-- paper to read.
+use Rattle.std.proofs.Common.{◌≡◌, ℕ, true, false, List, [], ◌∷◌, map, Some, None, Ok, Err, refl}
+use Rattle.std.specs.Prelude.{codes}
+use Rattle.ticket_items.specs.declared.audit.Audit.TheVariants.{Notification}
+use Rattle.ticket_items.specs.declared.edit.Edit.TheVariants.{SetStatus, SetResStatus, Note, AddNode}
+use Rattle.ticket_items.specs.declared.node_row.NodeRow.{NodeRow}
+use Rattle.ticket_items.specs.declared.refusal.Refusal.TheVariants.{UnknownEntry, NotOpen, ReadOnly, NotInPart, NotForWorkers, NotDone, BadPart, ReservedStatus, WrongMessage, WrongSender}
+use Rattle.ticket_items.specs.declared.resource.Resource.{Resource}
+use Rattle.ticket_items.specs.declared.usage.Usage.TheVariants.{Input, Output}
+use Rattle.ticket_tree.specs.Part.{Copied}
+use Rattle.message_items.specs.declared.body.Body.{Body}
+use Rattle.message_items.specs.declared.body.Body.TheVariants.{Submit, Return, Answer}
+use Rattle.message_items.specs.declared.command.Command.TheVariants as command
+use Rattle.message_items.specs.declared.message.Message.{Message}
+use Rattle.message_items.specs.declared.queue_status.QueueStatus.TheVariants.{Running, Completed}
+use Rattle.message_items.specs.declared.reply.Reply.TheVariants.{Again, Acked, Noted, Taken}
+use Rattle.worker_core.specs.Messages.{after_taking, taken_answer, taken_reply}
+use Rattle.worker_core.specs.Orders.{order_message, order_refusal, ordered}
+use Rattle.worker_core.specs.Worker.{Known, known, may_change}
+use Rattle.worker_core.specs.declared.end.End.TheVariants as end
+use Rattle.worker_core.specs.declared.order.Order.TheVariants.{Edit, Finish, Resend}
+use Rattle.worker_core.specs.declared.stage.Stage.TheVariants.{Open, Done}
+
+abbrev paper : Resource
+paper = record { id = codes "r1"; name = codes "Media"; class = codes "Consumable"; status = codes "Available"; attrs = [] }
+
+abbrev sheets : Resource
+sheets = record { id = codes "r2"; name = codes "Component"; class = codes "Quantity"; status = codes "Unavailable"; attrs = [] }
+
+abbrev printing : List ℕ → NodeRow
+printing status =
+    record {
+      id = codes "n1";
+      depth = 1;
+      kind = codes "ConventionalPrinting";
+      job_part = codes "p1";
+      status = status;
+      attrs = [];
+      resources = [];
+      links = record { rref = codes "r1"; usage = Input } ∷ record { rref = codes "r2"; usage = Output } ∷ [];
+      audits = [];
+    }
+
+abbrev part : List ℕ → Copied
+part status =
+    record {
+      job_id = codes "J1";
+      spawn_id = 1;
+      ancestors = record { node_id = codes "n0"; job_part = codes "p0" } ∷ [];
+      rows = printing status ∷ [];
+      rw = sheets ∷ [];
+      ro = paper ∷ [];
+    }
+
+abbrev from_to : List ℕ → List ℕ → ℕ → Body → Message
+from_to sender receiver at body = record { sender = sender; receiver = receiver; at = at; body = body }
+
+abbrev sent : Message
+sent = from_to (codes "mis") (codes "press") 100 (Submit (part (codes "Waiting")))
+
+abbrev press : Known
+press = known (codes "press") (codes "mis") []
+
+abbrev taken : Known
+taken = after_taking sent 110 press
+
+abbrev done : Known
+done = ordered (Finish 1 end.Completed) 120 taken
+
+-- ---- orders
+
+before : order_refusal (Edit 1 (SetStatus (codes "n1") (codes "InProgress"))) press.entries ≡ Some UnknownEntry
+before = refl
+
+to_read : order_refusal (Edit 1 (SetResStatus (codes "r1") (codes "InUse"))) taken.entries ≡ Some ReadOnly
+to_read = refl
+
+elsewhere : order_refusal (Edit 1 (SetStatus (codes "n2") (codes "InProgress"))) taken.entries ≡ Some NotInPart
+elsewhere = refl
+
+-- a resource's id is no node's, and a node's no resource's
+as_node : order_refusal (Edit 1 (SetStatus (codes "r1") (codes "InProgress"))) taken.entries ≡ Some NotInPart
+as_node = refl
+
+as_resource : order_refusal (Edit 1 (SetResStatus (codes "n1") (codes "InUse"))) taken.entries ≡ Some NotInPart
+as_resource = refl
+
+added : order_refusal (Edit 1 (AddNode (codes "n1") (codes "n3") (codes "Folding") (codes "p3") (codes "Waiting"))) taken.entries ≡ Some NotForWorkers
+added = refl
+
+added_elsewhere : order_refusal (Edit 1 (AddNode (codes "n9") (codes "n3") (codes "Folding") (codes "p3") (codes "Spawned"))) taken.entries ≡ Some NotForWorkers
+added_elsewhere = refl
+
+reserved : order_refusal (Edit 1 (SetStatus (codes "n1") (codes "Spawned"))) taken.entries ≡ Some ReservedStatus
+reserved = refl
+
+reserved_elsewhere : order_refusal (Edit 1 (SetStatus (codes "n2") (codes "Spawned"))) taken.entries ≡ Some NotInPart
+reserved_elsewhere = refl
+
+not_done : order_refusal (Resend 1) taken.entries ≡ Some NotDone
+not_done = refl
+
+noted : order_refusal (Edit 1 (Note (codes "n1") (codes "washed up"))) taken.entries ≡ None
+noted = refl
+
+note : map (λ e. map (λ r. r.audits) e.part.rows) (ordered (Edit 1 (Note (codes "n1") (codes "washed up"))) 115 taken).entries ≡ ((Notification 115 (codes "washed up") ∷ []) ∷ []) ∷ []
+note = refl
+
+not_open : order_refusal (Edit 1 (SetStatus (codes "n1") (codes "Waiting"))) done.entries ≡ Some NotOpen
+not_open = refl
+
+added_late : order_refusal (Edit 1 (AddNode (codes "n1") (codes "n3") (codes "Folding") (codes "p3") (codes "Waiting"))) done.entries ≡ Some NotOpen
+added_late = refl
+
+finished_twice : order_refusal (Finish 1 end.Aborted) done.entries ≡ Some NotOpen
+finished_twice = refl
+
+finished : done.entries ≡ record { phase = Done end.Completed; part = part (codes "Completed"); at = 120 } ∷ []
+finished = refl
+
+-- the part comes back with the Status of the end, and is the same once more
+returned : order_message (Finish 1 end.Completed) 120 taken ≡ Some (from_to (codes "press") (codes "mis") 120 (Return (part (codes "Completed"))))
+returned = refl
+
+resent : order_message (Resend 1) 130 done ≡ Some (from_to (codes "press") (codes "mis") 120 (Return (part (codes "Completed"))))
+resent = refl
+
+may : map (may_change taken.entries 1) (codes "n1" ∷ codes "r2" ∷ codes "r1" ∷ codes "n0" ∷ []) ≡ true ∷ true ∷ false ∷ false ∷ []
+may = refl
+
+may_late : may_change done.entries 1 (codes "n1") ≡ false
+may_late = refl
+
+-- ---- messages
+
+first : taken_reply sent press ≡ Ok (Taken 1)
+first = refl
+
+entry : taken.entries ≡ record { phase = Open; part = part (codes "Waiting"); at = 110 } ∷ []
+entry = refl
+
+first_answer : taken_answer sent 110 press ≡ Some (from_to (codes "press") (codes "mis") 110 (Answer command.Submit 1 (Ok Running)))
+first_answer = refl
+
+again : taken_reply sent taken ≡ Ok (Again 1)
+again = refl
+
+again_answer : taken_answer sent 111 taken ≡ Some (from_to (codes "press") (codes "mis") 111 (Answer command.Submit 1 (Ok Running)))
+again_answer = refl
+
+late_answer : taken_answer sent 140 done ≡ Some (from_to (codes "press") (codes "mis") 140 (Answer command.Submit 1 (Ok Completed)))
+late_answer = refl
+
+late_state : after_taking sent 140 done ≡ done
+late_state = refl
+
+acked : taken_reply (from_to (codes "mis") (codes "press") 150 (Answer command.Return 1 (Ok Completed))) done ≡ Ok (Acked 1)
+acked = refl
+
+refused : taken_reply (from_to (codes "mis") (codes "press") 150 (Answer command.Return 1 (Err 22))) done ≡ Ok (Noted 1)
+refused = refl
+
+acked_early : taken_reply (from_to (codes "mis") (codes "press") 150 (Answer command.Return 1 (Ok Completed))) taken ≡ Err NotDone
+acked_early = refl
+
+acked_unknown : taken_reply (from_to (codes "mis") (codes "press") 150 (Answer command.Return 2 (Ok Completed))) done ≡ Err UnknownEntry
+acked_unknown = refl
+
+-- the receiver is asked for before the sender, and the sender before what is said
+other_receiver : taken_reply (from_to (codes "mis") (codes "bind") 100 (Submit (part (codes "Waiting")))) press ≡ Err WrongMessage
+other_receiver = refl
+
+other_answer : taken_answer (from_to (codes "bind") (codes "fold") 100 (Submit (part (codes "Waiting")))) 110 press ≡ Some (from_to (codes "press") (codes "bind") 110 (Answer command.Submit 1 (Err 45)))
+other_answer = refl
+
+other_sender : taken_reply (from_to (codes "bind") (codes "press") 100 (Submit (record (part (codes "Waiting")) { ancestors = [] }))) press ≡ Err WrongSender
+other_sender = refl
+
+came_back : taken_reply (from_to (codes "bind") (codes "press") 100 (Return (part (codes "Waiting")))) press ≡ Err WrongMessage
+came_back = refl
+
+-- without ancestors it can't have come from a ticket, but what is there already isn't asked for that
+bad_part : taken_reply (from_to (codes "mis") (codes "press") 100 (Submit (record (part (codes "Waiting")) { ancestors = [] }))) press ≡ Err BadPart
+bad_part = refl
+
+bad_again : taken_reply (from_to (codes "mis") (codes "press") 100 (Submit (record (part (codes "Waiting")) { ancestors = [] }))) taken ≡ Ok (Again 1)
+bad_again = refl

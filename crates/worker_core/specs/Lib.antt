@@ -1,0 +1,5 @@
+pub mod Numbers
+pub mod Worker
+pub mod Orders
+pub mod Messages
+pub mod Laws

@@ -1,0 +1,101 @@
+-- What a worker does with an order: why it is refused, and else what becomes of the entries, what is replied and what goes out.
+use Rattle.std.specs.Prelude.{ℕ, ◌&&◌, ◌||◌, Bool, not, List, [], ◌∷◌, if◌then◌else◌, Option, Some, None, is_some}
+use Rattle.std.specs.Option.{option_map, option_map_or}
+use Rattle.ticket_items.specs.Ids.{mem}
+use Rattle.ticket_items.specs.Resource.{resource_ids}
+use Rattle.ticket_items.specs.declared.edit.Edit.{Edit}
+use Rattle.ticket_items.specs.declared.edit.Edit.TheVariants.{SetStatus}
+use Rattle.ticket_items.specs.declared.refusal.Refusal.{Refusal}
+use Rattle.ticket_items.specs.declared.refusal.Refusal.TheVariants.{UnknownEntry, NotOpen, ReadOnly, NotInPart, NotForWorkers, NotDone}
+use Rattle.ticket_rows.specs.Edit.{is_of_node, is_structural, target}
+use Rattle.ticket_rows.specs.EditRefusal.{later_refusal}
+use Rattle.ticket_rows.specs.Homes.{has_resource}
+use Rattle.ticket_rows.specs.PartEdit.{part_lookups}
+use Rattle.ticket_rows.specs.Ticket.{first_of, has_node, unless}
+use Rattle.ticket_tree.specs.Part.{Copied, edited_part}
+use Rattle.message_items.specs.declared.body.Body.TheVariants.{Return}
+use Rattle.message_items.specs.declared.message.Message.{Message}
+use Rattle.message_items.specs.declared.reply.Reply.{Reply}
+use Rattle.message_items.specs.declared.reply.Reply.TheVariants as reply
+use Rattle.worker_core.specs.declared.end.End.{End}
+use Rattle.worker_core.specs.declared.entry.Entry.{Entry}
+use Rattle.worker_core.specs.declared.order.Order.{Order}
+use Rattle.worker_core.specs.declared.order.Order.TheVariants as order
+use Rattle.worker_core.specs.declared.stage.Stage.TheVariants.{Done}
+use Rattle.worker_core.specs.Worker.{Known, end_word, entry_of, is_open, root_id, with_entry}
+
+-- the spawn that an order is about
+abbrev pub spawn_of_order : Order → ℕ
+spawn_of_order (order.Edit s e) = s
+spawn_of_order (order.Finish s how) = s
+spawn_of_order (order.Resend s) = s
+
+-- ---- refusals
+
+-- whether the target of an edit is a node of a part, or a resource of its pools or a copy that may be changed
+abbrev pub is_here : Edit → Copied → Bool
+is_here e p = if is_of_node e then has_node p.rows (target e) else has_resource p.rows (target e) || mem (target e) (resource_ids p.rw)
+
+-- whether it is a copy that may be read alone
+abbrev pub is_to_read : Edit → Copied → Bool
+is_to_read e p = not (is_of_node e) && mem (target e) (resource_ids p.ro)
+
+-- why an edit of an entry is refused, if it is
+abbrev pub edit_refusal : Edit → Entry → Option Refusal
+edit_refusal e entry =
+    first_of (unless (is_open entry) NotOpen ∷ unless (not (is_structural e)) NotForWorkers ∷ unless (is_here e entry.part || is_to_read e entry.part) NotInPart
+    ∷ unless (not (is_to_read e entry.part)) ReadOnly ∷ later_refusal e (part_lookups entry.part.rows entry.part.rw) ∷ [])
+
+-- why an order on an entry is refused, if it is
+abbrev pub entry_refusal : Order → Entry → Option Refusal
+entry_refusal (order.Edit s e) entry = edit_refusal e entry
+entry_refusal (order.Finish s how) entry = unless (is_open entry) NotOpen
+entry_refusal (order.Resend s) entry = unless (not (is_open entry)) NotDone
+
+-- why an order is refused, if it is
+abbrev pub order_refusal : Order → List Entry → Option Refusal
+order_refusal o entries = option_map_or (entry_refusal o) (entry_of entries (spawn_of_order o)) (Some UnknownEntry)
+
+-- ---- what becomes of the entries
+
+-- an entry after an edit at a time
+abbrev pub edited_entry : Edit → ℕ → Entry → Entry
+edited_entry e at entry = record entry { part = edited_part e at entry.part }
+
+-- the edit that gives the node of a part the Status of an end
+abbrev pub ending : Copied → End → Edit
+ending p how = SetStatus (root_id p) (end_word how)
+
+-- an entry that is finished: its node has the Status, and its time is that of the end
+abbrev pub finished_entry : End → ℕ → Entry → Entry
+finished_entry how at entry = record { phase = Done how; part = edited_part (ending entry.part how) at entry.part; at = at }
+
+-- the entries after an order at a time that isn't refused
+abbrev pub ordered_entries : Order → ℕ → List Entry → List Entry
+ordered_entries (order.Edit s e) at entries = with_entry s (edited_entry e at) entries
+ordered_entries (order.Finish s how) at entries = with_entry s (finished_entry how at) entries
+ordered_entries (order.Resend s) at entries = entries
+
+abbrev pub ordered : Order → ℕ → Known → Known
+ordered o at w = record w { entries = ordered_entries o at w.entries }
+
+-- the worker after an order at a time. A refusal changes nothing
+abbrev pub after_order : Order → ℕ → Known → Known
+after_order o at w = if is_some (order_refusal o w.entries) then w else ordered o at w
+
+-- ---- what is replied, and what goes out
+
+abbrev pub order_reply : Order → Reply
+order_reply (order.Edit s e) = reply.Edited
+order_reply (order.Finish s how) = reply.Finished s
+order_reply (order.Resend s) = reply.Sent s
+
+-- the message that gives the part of an entry back, from a name to another
+abbrev pub return_of : List ℕ → List ℕ → Entry → Message
+return_of name master entry = record { sender = name; receiver = master; at = entry.at; body = Return entry.part }
+
+-- the message that goes out: it gives back the part of an entry that is finished, as that is then
+abbrev pub order_message : Order → ℕ → Known → Option Message
+order_message (order.Edit s e) at w = None
+order_message (order.Finish s how) at w = option_map (λ entry. return_of w.name w.master (finished_entry how at entry)) (entry_of w.entries s)
+order_message (order.Resend s) at w = option_map (return_of w.name w.master) (entry_of w.entries s)

@@ -1,0 +1,109 @@
+-- A worker: the parts that it took, and what of them it may change.
+use Rattle.std.specs.Prelude.{◌≡◌, ℕ, ◌==◌, ◌&&◌, ◌||◌, Bool, true, false, List, [], codes, map, if◌then◌else◌, slice_get, Option}
+use Rattle.std.specs.List.{All, find}
+use Rattle.std.specs.Option.{option_map_or}
+use Rattle.std.specs.Str.{bytes_eq}
+use Rattle.ticket_items.specs.Ids.{mem}
+use Rattle.ticket_items.specs.Resource.{resource_ids}
+use Rattle.ticket_rows.specs.Copies.{with_copies}
+use Rattle.ticket_rows.specs.Ticket.{IsValid, ids}
+use Rattle.ticket_tree.specs.Part.{Copied, is_sound}
+use Rattle.message_items.specs.declared.queue_status.QueueStatus.{QueueStatus}
+use Rattle.message_items.specs.declared.queue_status.QueueStatus.TheVariants as queue
+use Rattle.worker_core.specs.declared.end.End.{End}
+use Rattle.worker_core.specs.declared.end.End.TheVariants.{Completed, Aborted}
+use Rattle.worker_core.specs.declared.entry.Entry.{Entry}
+use Rattle.worker_core.specs.declared.stage.Stage.{Stage}
+use Rattle.worker_core.specs.declared.stage.Stage.TheVariants.{Open, Done}
+use Rattle.worker_core.specs.Numbers.{are_distinct_numbers}
+
+-- what a worker knows: its name, its master's, and its entries in the order in which they were taken
+pub record Known : Type 0 where
+  pub name : List ℕ
+  pub master : List ℕ
+  pub entries : List Entry
+
+abbrev pub known : List ℕ → List ℕ → List Entry → Known
+known name master entries = record { name = name; master = master; entries = entries }
+
+-- ---- stages
+
+abbrev pub is_open_stage : Stage → Bool
+is_open_stage Open = true
+is_open_stage (Done how) = false
+
+-- the Status of the queue entry of a part: while it is open `Running`, else its end
+abbrev pub status_of_stage : Stage → QueueStatus
+status_of_stage Open = queue.Running
+status_of_stage (Done Completed) = queue.Completed
+status_of_stage (Done Aborted) = queue.Aborted
+
+-- the Status of the node of a part whose work ended so
+abbrev pub end_word : End → List ℕ
+end_word Completed = codes "Completed"
+end_word Aborted = codes "Aborted"
+
+-- ---- entries
+
+-- an entry that is new
+abbrev pub new_entry : Copied → ℕ → Entry
+new_entry p at = record { phase = Open; part = p; at = at }
+
+abbrev pub is_open : Entry → Bool
+is_open e = is_open_stage e.phase
+
+-- whether an entry is of the spawn of a number
+abbrev pub is_of : ℕ → Entry → Bool
+is_of s e = e.part.spawn_id == s
+
+-- the numbers of the spawns of entries
+abbrev pub numbers : List Entry → List ℕ
+numbers entries = map (λ e. e.part.spawn_id) entries
+
+-- the entry of a spawn
+abbrev pub entry_of : List Entry → ℕ → Option Entry
+entry_of entries s = find (is_of s) entries
+
+-- the entries, with f of the one of a spawn
+abbrev pub with_entry : ℕ → (Entry → Entry) → List Entry → List Entry
+with_entry s f entries = map (λ (e : Entry). if is_of s e then f e else e) entries
+
+-- the Status of the queue entry of a spawn, which is running while there is none
+abbrev pub status_in : List Entry → ℕ → QueueStatus
+status_in entries s = option_map_or (λ e. status_of_stage e.phase) (entry_of entries s) queue.Running
+
+-- ---- what may be changed
+
+-- whether an id names a node of a part, a resource of its pools, or a copy that may be changed
+abbrev pub has : Copied → List ℕ → Bool
+has p x = mem x (ids p.rows) || mem x (resource_ids p.rw)
+
+-- whether a node or a resource may be changed through the entry of a spawn: the entry is open, and its part has it
+abbrev pub may_change : List Entry → ℕ → List ℕ → Bool
+may_change entries s x = option_map_or (λ e. is_open e && has e.part x) (entry_of entries s) false
+
+-- ---- what always holds
+
+-- the id and the Status of the node of a part, which is the first of its rows
+abbrev pub root_id : Copied → List ℕ
+root_id p = option_map_or (λ r. r.id) (slice_get p.rows 0) []
+
+abbrev pub root_status : Copied → List ℕ
+root_status p = option_map_or (λ r. r.status) (slice_get p.rows 0) []
+
+-- whether the node of a part has the Status of its end, if the work on it has ended
+abbrev pub has_ended_so : Stage → Copied → Bool
+has_ended_so Open p = true
+has_ended_so (Done how) p = bytes_eq (root_status p) (end_word how)
+
+-- an entry's part is a valid ticket with its copies, can have come from a ticket, and has the Status of its end
+pub record IsKeptEntry (e : Entry) : Type 0 where
+  pub valid : IsValid (with_copies e.part.rows e.part.rw e.part.ro)
+  pub sound : is_sound e.part ≡ true
+  pub ended : has_ended_so e.phase e.part ≡ true
+
+-- a worker's name is not its master's, no two of its entries are of one spawn, and each is as above
+pub record IsKept (w : Known) : Type 0 where
+  pub apart : bytes_eq w.name w.master ≡ false
+  pub once : are_distinct_numbers (numbers w.entries) ≡ true
+  pub each : All IsKeptEntry w.entries

@@ -1,0 +1,120 @@
+//! Why an edit of an entry is refused.
+
+ghost use Rattle.std.specs.Prelude.{◌≡◌, false};
+ghost use Rattle.ticket_items.specs.Ids.{mem};
+ghost use Rattle.ticket_items.specs.Resource.{resource_ids};
+ghost use Rattle.ticket_rows.specs.Edit as edits;
+ghost use Rattle.ticket_rows.specs.EditRefusal.{Lookups, later_refusal};
+ghost use Rattle.ticket_rows.specs.Homes.{has_resource};
+ghost use Rattle.ticket_rows.specs.Ticket.{has_node};
+ghost use Rattle.worker_core.specs.Orders as orders;
+
+use crate::entry::Entry;
+use ticket_rows::{pools, rows};
+use ticket_tree::{Edit, Id, NodeRow, Part, Refusal, Resource, is_structural};
+
+/// The id that an edit changes.
+fn target(edit: &Edit) -> &Id
+    ensures { result.now ≡ edits.target edit.now }
+{
+    match edit {
+        Edit::SetStatus { node, .. } => node,
+        Edit::SetAttr { node, .. } => node,
+        Edit::SetResStatus { resource, .. } => resource,
+        Edit::SetResAttr { resource, .. } => resource,
+        Edit::Note { node, .. } => node,
+        Edit::AddNode { node, .. } => node,
+        Edit::AddResource { node, .. } => node,
+        Edit::AddLink { node, .. } => node,
+    }
+}
+
+/// Whether an edit changes a node, and not a resource.
+fn is_of_node(edit: &Edit) -> bool
+    ensures { result ≡ edits.is_of_node edit.now }
+{
+    match edit {
+        Edit::SetStatus { .. } | Edit::SetAttr { .. } | Edit::Note { .. } => true,
+        Edit::SetResStatus { .. } | Edit::SetResAttr { .. } => false,
+        Edit::AddNode { .. } | Edit::AddResource { .. } | Edit::AddLink { .. } => true,
+    }
+}
+
+fn has_node(rows: &[NodeRow], id: &Id) -> bool
+    ensures { result ≡ has_node rows.now id.now }
+{
+    rows::node(rows, id).is_some()
+}
+
+/// Whether a resource of the rows' pools has the id.
+fn has_resource(rows: &[NodeRow], id: &Id) -> bool
+    ensures { result ≡ has_resource rows.now id.now }
+{
+    pools::resource(rows, id).is_some()
+}
+
+fn has_copy(copies: &[Resource], id: &Id) -> bool
+    ensures { result ≡ mem id.now (resource_ids copies.now) }
+{
+    pools::holds(copies, id)
+}
+
+/// Whether the target of an edit is a node of a part, or a resource of its pools or a copy that may
+/// be changed.
+fn is_here(edit: &Edit, part: &Part) -> bool
+    ensures { result ≡ orders.is_here edit.now part.now }
+{
+    let nodes = part.rows();
+    let id = target(edit);
+    if is_of_node(edit) {
+        has_node(nodes.as_slice(), id)
+    } else {
+        has_resource(nodes.as_slice(), id) || has_copy(part.rw(), id)
+    }
+}
+
+/// Whether the target of an edit is a copy that may be read alone.
+fn is_to_read(edit: &Edit, part: &Part) -> bool
+    ensures { result ≡ orders.is_to_read edit.now part.now }
+{
+    !is_of_node(edit) && has_copy(part.ro(), target(edit))
+}
+
+/// Why what an edit gives is refused: a Status that only a spawn gives.
+fn value_refusal(edit: &Edit) -> Option<Refusal>
+    ensures { (at : Lookups) → edits.is_structural edit.now ≡ false
+        → result ≡ later_refusal edit.now at }
+{
+    match edit {
+        Edit::SetStatus { status, .. } => {
+            if rows::is_reserved(status) {
+                Some(Refusal::ReservedStatus)
+            } else {
+                None
+            }
+        }
+        Edit::SetAttr { .. } | Edit::Note { .. } => None,
+        Edit::SetResStatus { .. } | Edit::SetResAttr { .. } => None,
+        Edit::AddNode { .. } | Edit::AddResource { .. } | Edit::AddLink { .. } => None,
+    }
+}
+
+/// Why an edit of an entry is refused: the first reason that holds. Needs no memory.
+pub fn refusal_of(edit: &Edit, entry: &Entry) -> Option<Refusal>
+    ensures { result ≡ orders.edit_refusal edit.now entry.now }
+{
+    if !entry.phase.is_open() {
+        return Some(Refusal::NotOpen);
+    }
+    if is_structural(edit) {
+        return Some(Refusal::NotForWorkers);
+    }
+    let to_read = is_to_read(edit, &entry.part);
+    if !is_here(edit, &entry.part) && !to_read {
+        return Some(Refusal::NotInPart);
+    }
+    if to_read {
+        return Some(Refusal::ReadOnly);
+    }
+    value_refusal(edit)
+}

@@ -1,0 +1,21 @@
+/// How the work on a part ended.
+#[derive(Clone, Copy, Debug, PartialEq, Eq)]
+pub enum End {
+    Completed,
+    Aborted,
+}
+
+impl End {
+    ghost use Rattle.std.specs.Prelude.{◌≡◌};
+    ghost use Rattle.worker_core.specs.Worker as worker;
+
+    /// The Status of the node of a part whose work ended so.
+    pub fn word(self) -> &'static str
+        ensures { result.now ≡ worker.end_word self }
+    {
+        match self {
+            End::Completed => "Completed",
+            End::Aborted => "Aborted",
+        }
+    }
+}

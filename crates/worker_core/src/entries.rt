@@ -1,0 +1,55 @@
+//! What is found among the entries of a worker.
+
+ghost use Rattle.std.specs.Prelude.{◌≡◌};
+ghost use Rattle.std.specs.List.{position};
+ghost use Rattle.std.specs.Option.{option_copied};
+ghost use Rattle.worker_core.specs.Worker as worker;
+
+use crate::entry::Entry;
+use message_items::QueueStatus;
+use ticket_rows::pools;
+use ticket_tree::{Id, Part, SpawnId};
+
+/// Where the entry of a spawn stands.
+pub fn place_of(entries: &[Entry], spawn: SpawnId) -> Option<usize>
+    ensures { result ≡ position (worker.is_of spawn) entries.now }
+{
+    entries
+        .iter()
+        .position(|entry| entry.part.spawn_id() == spawn)
+}
+
+/// The entry of a spawn.
+pub fn entry_of<'a>(entries: &'a [Entry], spawn: SpawnId) -> Option<&'a Entry>
+    ensures { option_copied result ≡ worker.entry_of entries.now spawn }
+{
+    entries.iter().find(|entry| entry.part.spawn_id() == spawn)
+}
+
+/// The Status of the queue entry of a spawn, which is running while there is none.
+pub fn status_of(entries: &[Entry], spawn: SpawnId) -> QueueStatus
+    ensures { result ≡ worker.status_in entries.now spawn }
+{
+    match entry_of(entries, spawn) {
+        None => QueueStatus::Running,
+        Some(entry) => entry.phase.status(),
+    }
+}
+
+/// Whether an id is that of a node of a part, of a resource of its pools, or of a copy that may be
+/// changed.
+fn has(part: &Part, id: &Id) -> bool
+    ensures { result ≡ worker.has part.now id.now }
+{
+    pools::has_id(part.rows().as_slice(), id) || pools::holds(part.rw(), id)
+}
+
+/// Whether a node or a resource may be changed through the entry of a spawn.
+pub fn may_change(entries: &[Entry], spawn: SpawnId, id: &Id) -> bool
+    ensures { result ≡ worker.may_change entries.now spawn id.now }
+{
+    match entry_of(entries, spawn) {
+        None => false,
+        Some(entry) => entry.phase.is_open() && has(&entry.part, id),
+    }
+}

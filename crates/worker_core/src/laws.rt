@@ -1,0 +1,40 @@
+//! Laws of the words that the contracts of this crate use. Each function does nothing: its contract
+//! is the law.
+
+ghost use Rattle.worker_core.specs.Laws as law;
+
+/// What a worker may change through a spawn stands in the entry of that spawn, which is open; and
+/// an edit that isn't refused is of what it may change.
+pub fn what_a_worker_may_change_is_in_an_open_entry()
+    ensures held { law.MayChangeIsHeld }
+    ensures edits { law.EditIsOfHeld }
+{}
+
+/// After an order each entry is there still. Its part is the same in what no worker may change, and
+/// in each row that the worker couldn't change; an open entry is open still or finished, and one
+/// that is finished is the same. What always holds of a worker holds then.
+pub fn an_order_changes_what_may_be_changed()
+    ensures entries { law.OrderKeepsEntries }
+    ensures kept { law.OrderIsKept }
+{}
+
+/// A message changes no entry, and an answer changes nothing. What always holds of a worker holds
+/// then.
+pub fn a_message_changes_no_entry()
+    ensures entries { law.MessageKeepsEntries }
+    ensures answers { law.AnswerChangesNothing }
+    ensures kept { law.MessageIsKept }
+{}
+
+/// A part that was taken has an entry; and once it has, the same message changes nothing, and is
+/// answered by how far the entry is.
+pub fn a_part_is_taken_once()
+    ensures taken { law.SubmitIsTaken }
+    ensures again { law.SubmitIsAgain }
+{}
+
+/// What goes out is made of a finished entry alone, and is the same each time.
+pub fn what_is_given_back_tells_the_entry()
+    ensures entry { law.ReturnIsOfEntry }
+    ensures again { law.ResentIsSame }
+{}

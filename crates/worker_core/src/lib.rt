@@ -1,0 +1,19 @@
+//! Workers: controllers that take parts of a master's ticket, work on them and give them back.
+#![tactic(auto)]
+
+mod edits;
+mod end;
+mod entries;
+mod entry;
+pub mod laws;
+mod order;
+mod ordering;
+mod stage;
+mod taking;
+mod worker;
+
+pub use end::End;
+pub use entry::Entry;
+pub use order::Order;
+pub use stage::Stage;
+pub use worker::Worker;

@@ -1,0 +1,29 @@
+use crate::end::End;
+use ticket_tree::{Edit, SpawnId};
+
+/// What a worker is told to do with the part of a spawn.
+#[derive(Debug, Drop)]
+pub enum Order {
+    /// To change it.
+    Edit(SpawnId, Edit),
+    /// To end the work and give it back.
+    Finish(SpawnId, End),
+    /// To give it back once more.
+    Resend(SpawnId),
+}
+
+impl Order {
+    ghost use Rattle.std.specs.Prelude.{◌≡◌};
+    ghost use Rattle.worker_core.specs.Orders as orders;
+
+    /// The spawn that it is about.
+    pub fn spawn(&self) -> SpawnId
+        ensures { result ≡ orders.spawn_of_order self.now }
+    {
+        match self {
+            Order::Edit(spawn, _) => *spawn,
+            Order::Finish(spawn, _) => *spawn,
+            Order::Resend(spawn) => *spawn,
+        }
+    }
+}

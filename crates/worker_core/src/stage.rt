@@ -1,0 +1,37 @@
+use crate::end::End;
+use message_items::QueueStatus;
+
+/// How far a worker is with a part.
+#[derive(Clone, Copy, Debug, PartialEq, Eq)]
+pub enum Stage {
+    /// It may be changed.
+    Open,
+    /// It was given back.
+    Done(End),
+}
+
+impl Stage {
+    ghost use Rattle.std.specs.Prelude.{◌≡◌};
+    ghost use Rattle.worker_core.specs.Worker as worker;
+
+    /// Whether the part may be changed.
+    pub fn is_open(self) -> bool
+        ensures { result ≡ worker.is_open_stage self }
+    {
+        match self {
+            Stage::Open => true,
+            Stage::Done(_) => false,
+        }
+    }
+
+    /// The Status of the queue entry of the part.
+    pub fn status(self) -> QueueStatus
+        ensures { result ≡ worker.status_of_stage self }
+    {
+        match self {
+            Stage::Open => QueueStatus::Running,
+            Stage::Done(End::Completed) => QueueStatus::Completed,
+            Stage::Done(End::Aborted) => QueueStatus::Aborted,
+        }
+    }
+}

@@ -1,0 +1,143 @@
+use crate::entry::Entry;
+use crate::order::Order;
+use crate::ordering::do_order;
+use crate::{entries, taking};
+use message_items::answering::{answer_to, spawn_in, told_of};
+use message_items::{Done, Message, Outcome};
+use std::alloc::{AllocError, Global};
+use std::marker::Model;
+use ticket_tree::{Id, Refusal, SpawnId};
+
+/// A controller that works on parts of another's ticket, which is its master (JDF 1.5, 4.4). It
+/// keeps each part that it takes, in the order in which they come.
+#[derive(Debug, Drop)]
+pub struct Worker {
+    name: Id,
+    master: Id,
+    entries: Vec<Entry>,
+}
+
+impl Model for Worker {
+    ghost use Rattle.worker_core.specs.Worker.{IsKept, Known, known};
+
+    ghost Value = { Known };
+
+    ghost view = { λ a. record { name = a.name; master = a.master; entries = a.entries.items } };
+
+    ghost invariant = { λ a. IsKept (known a.name a.master a.entries.items) };
+}
+
+impl Worker {
+    ghost use Rattle.std.specs.Prelude.{◌≡◌, ◌↔◌, true, [], Err, OnOk, OnErr, IfOk, IfErr};
+    ghost use Rattle.std.specs.Prelude.{IfNone, IfSome, IsErrOf, IsOk};
+    ghost use Rattle.message_items.specs.Reply.{is_answer};
+    ghost use Rattle.worker_core.specs.Messages as messages;
+    ghost use Rattle.worker_core.specs.Orders as orders;
+    ghost use Rattle.worker_core.specs.Worker as worker;
+    ghost use Rattle.worker_core.specs.Worker.{IsKept};
+
+    /// A worker of this name, with no entry, whose parts are its master's. Refuses `SameName` where
+    /// the two names are equal (our own). Needs no memory.
+    pub fn new(alloc: Global, name: Id, master: Id) -> Result<Worker, Refusal>
+        ensures ok { IfOk result (λ w. w ≡ worker.known name master []) }
+        ensures refused { IsErrOf result Refusal.SameName ↔ (name ≡ master) }
+        ensures only { IfErr result (λ e. e ≡ Refusal.SameName) }
+    {
+        if name == master {
+            return Err(Refusal::SameName);
+        }
+        Ok(Worker {
+            name,
+            master,
+            entries: Vec::new(alloc),
+        })
+    }
+
+    /// Its name.
+    pub fn name(&self) -> &Id
+        ensures { result.now ≡ self.now.name }
+    {
+        &self.name
+    }
+
+    /// Its master's name.
+    pub fn master(&self) -> &Id
+        ensures { result.now ≡ self.now.master }
+    {
+        &self.master
+    }
+
+    /// Its entries, in the order in which they were taken. No two are of one spawn; the part of
+    /// each is a valid ticket with its copies, and sound; and the node of one that is finished has
+    /// the Status of its end.
+    pub fn entries(&self) -> &[Entry]
+        ensures entries { result.now ≡ self.now.entries }
+        ensures kept { IsKept self.now }
+    {
+        self.entries.as_slice()
+    }
+
+    /// Whether it may change a node or a resource through the entry of a spawn: the entry is open,
+    /// and the id is that of a node of its part, of a resource of the part's pools, or of a copy
+    /// that may be changed. Needs no memory.
+    pub fn may_change(&self, spawn: SpawnId, id: &Id) -> bool
+        ensures { result ≡ worker.may_change self.now.entries spawn id.now }
+    {
+        entries::may_change(self.entries.as_slice(), spawn, id)
+    }
+
+    /// Does what it is told, at a time in seconds since 1970: it edits the part of an entry, ends
+    /// the work on it and gives it back, or gives it back once more. Refuses the first that holds,
+    /// without memory: `UnknownEntry` where it has no entry of the spawn; an edit as `NotOpen` once
+    /// the entry is finished, `NotForWorkers` where it adds to the tree, `NotInPart` where its
+    /// target isn't in the part as a node or a resource, `ReadOnly` where that is a copy to be read
+    /// alone, and `ReservedStatus`; the end as `NotOpen`; to give back once more as `NotDone` while
+    /// the entry is open. Then refuses `Memory`. A refusal changes nothing.
+    pub fn order(&mut self, alloc: Global, order: Order, at: u64) -> Result<Done, Refusal>
+        ensures state { OnOk result (self.new ≡ orders.ordered order at self.old) }
+        ensures reply { IfOk result (λ done. done.reply ≡ orders.order_reply order) }
+        ensures message { IfOk result
+            (λ done. done.message ≡ orders.order_message order at self.old) }
+        ensures err { OnErr result (self.new ≡ self.old) }
+        ensures refused { IfSome (orders.order_refusal order self.old.entries)
+            (λ e. result ≡ Err e) }
+        ensures memory { IfNone (orders.order_refusal order self.old.entries)
+            (IfErr result (λ e. e ≡ Refusal.Memory)) }
+    {
+        do_order(
+            alloc,
+            &self.name,
+            &self.master,
+            &mut self.entries,
+            order,
+            at,
+        )
+    }
+
+    /// Takes a message, whoever sent it and whatever it says, at a time in seconds since 1970. The
+    /// reply is what it was taken as, or the first refusal that holds: `WrongMessage` where it is
+    /// for another, or is neither a part that goes out nor the answer to one that came back;
+    /// `WrongSender` where it isn't from the master; for a part of which there is no entry yet
+    /// `BadPart` where it isn't sound; for an answer `UnknownEntry`, and `NotDone` while the entry
+    /// is open. A refusal changes nothing. A command is answered, refused or not; an answer isn't,
+    /// and takes no memory. Where memory runs out nothing is changed.
+    pub fn take(&mut self, alloc: Global, message: Message, at: u64) -> Result<Outcome, AllocError>
+        ensures state { OnOk result (self.new ≡ messages.after_taking message at self.old) }
+        ensures reply { IfOk result
+            (λ outcome. outcome.reply ≡ messages.taken_reply message self.old) }
+        ensures answer { IfOk result
+            (λ outcome. outcome.answer ≡ messages.taken_answer message at self.old) }
+        ensures err { OnErr result (self.new ≡ self.old) }
+        ensures answers { is_answer message.body ≡ true → IsOk result }
+    {
+        let entries = self.entries.as_slice();
+        let refusal = taking::refusal_of(&self.name, &self.master, entries, &message);
+        let reply = taking::reply_or(refusal, entries, &message.body);
+        let status = entries::status_of(entries, spawn_in(&message.body));
+        let answer = answer_to(alloc, &self.name, &message, at, told_of(refusal, status))?;
+        if refusal.is_none() {
+            taking::take_body(&mut self.entries, message.body, at)?;
+        }
+        Ok(Outcome { reply, answer })
+    }
+}
