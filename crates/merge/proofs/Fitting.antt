@@ -16,7 +16,7 @@ use Rattle.spawn.proofs.RowsBelow.{own_places-rows, kept_none, rows_below-around
 use Rattle.spawn.proofs.Slices.{rows_between}
 use Rattle.spawn.proofs.Split.{Around, none_below}
 use Rattle.spawn.specs.Parts.{above, rows_below, resources_among}
-use Rattle.spawn.specs.declared.spawn_rec.SpawnRec.{SpawnRec}
+use Rattle.spawn.specs.declared.records.spawn_rec.SpawnRec.{SpawnRec}
 use Rattle.merge.proofs.Told.{same_bytes, bytes_from, rows_same, rows_from_shape, pairs_map}
 use Rattle.merge.proofs.Told.{pairs_from, fixed_same, fixed_from}
 use Rattle.merge.specs.Alike.{are_pairs, is_row, is_fixed, is_part}

@@ -1,7 +1,7 @@
 mod CopiesToChange
 mod OrderedCopies
 mod Told
-mod Fitting
+pub mod Fitting
 mod ParentRows
 mod Replaced
 mod Returning

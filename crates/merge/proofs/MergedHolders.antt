@@ -16,9 +16,9 @@ use Rattle.spawn.specs.Claim.{is_claimed}
 use Rattle.spawn.specs.Laws.{StandApart}
 use Rattle.spawn.specs.Records.{is_out}
 use Rattle.spawn.specs.Table.{holder_at, holding, holds}
-use Rattle.spawn.specs.declared.holder.Holder.TheVariants.{Master, Spawn}
-use Rattle.spawn.specs.declared.phase.Phase.TheVariants.{Merged}
-use Rattle.spawn.specs.declared.spawn_rec.SpawnRec.{SpawnRec}
+use Rattle.spawn.specs.declared.tables.holder.Holder.TheVariants.{Master, Spawn}
+use Rattle.spawn.specs.declared.records.phase.Phase.TheVariants.{Merged}
+use Rattle.spawn.specs.declared.records.spawn_rec.SpawnRec.{SpawnRec}
 use Rattle.merge.proofs.PutPlaces.{put_of_places}
 use Rattle.merge.specs.Laws.{MergeKeepsApart, MergeKeepsOthers, MergedClaimIsMasters}
 use Rattle.merge.specs.PlainPut.{merged_recs}

@@ -29,7 +29,7 @@ use Rattle.spawn.proofs.Split.{Around, around}
 use Rattle.spawn.specs.Claim.{ids_of}
 use Rattle.spawn.specs.Parts.{above, lifted, resources, resources_among}
 use Rattle.spawn.specs.Spawning.{parent_of}
-use Rattle.spawn.specs.declared.spawn_rec.SpawnRec.{SpawnRec}
+use Rattle.spawn.specs.declared.records.spawn_rec.SpawnRec.{SpawnRec}
 use Rattle.merge.proofs.Lawful.{AllOwn, all_own, by_id, own_back, own_front}
 use Rattle.merge.proofs.Replaced.{unfound}
 use Rattle.merge.proofs.Returning.{part_ids}

@@ -39,7 +39,7 @@ use Rattle.spawn.specs.Claim.{is_claimed}
 use Rattle.spawn.specs.Parts.{above, lifted, resources, resources_among}
 use Rattle.spawn.specs.Records.{IsGood}
 use Rattle.spawn.specs.Spawning.{parent_of}
-use Rattle.spawn.specs.declared.spawn_rec.SpawnRec.{SpawnRec}
+use Rattle.spawn.specs.declared.records.spawn_rec.SpawnRec.{SpawnRec}
 use Rattle.merge.proofs.PutPlaces.{deepened, deep_entries, put_around, put_shapes, same_ids}
 use Rattle.merge.proofs.Replaced.{found_key, found_mapped, resource_from-id, resources-mapped}
 use Rattle.merge.proofs.Replaced.{unfound}

@@ -33,7 +33,7 @@ use Rattle.spawn.proofs.Split.{Around, around}
 use Rattle.spawn.specs.Parts.{above, lifted, resources, resources_among, rows_below}
 use Rattle.spawn.specs.Records.{IsGood}
 use Rattle.spawn.specs.Spawning.{parent_of}
-use Rattle.spawn.specs.declared.spawn_rec.SpawnRec.{SpawnRec}
+use Rattle.spawn.specs.declared.records.spawn_rec.SpawnRec.{SpawnRec}
 use Rattle.merge.proofs.ParentRows.{up_is}
 use Rattle.merge.proofs.Replaced.{found_key, found_mapped, unfound, resource_is, resources-mapped}
 use Rattle.merge.proofs.Replaced.{resource_from-id}

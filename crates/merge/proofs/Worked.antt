@@ -20,9 +20,9 @@ use Rattle.merge.specs.Put.{put}
 use Rattle.merge.specs.Shape.{Fits, Shape}
 use Rattle.spawn.specs.Parts.{part_for}
 use Rattle.spawn.specs.Table.{holder_of}
-use Rattle.spawn.specs.declared.holder.Holder.TheVariants.{Master, Spawn}
-use Rattle.spawn.specs.declared.phase.Phase.TheVariants.{Out}
-use Rattle.spawn.specs.declared.spawn_rec.SpawnRec.{SpawnRec}
+use Rattle.spawn.specs.declared.tables.holder.Holder.TheVariants.{Master, Spawn}
+use Rattle.spawn.specs.declared.records.phase.Phase.TheVariants.{Out}
+use Rattle.spawn.specs.declared.records.spawn_rec.SpawnRec.{SpawnRec}
 
 abbrev resource : List ℕ → List ℕ → List ℕ → List ℕ → Resource
 resource id name class status = record { id = id; name = name; class = class; status = status; attrs = [] }

@@ -11,8 +11,8 @@ use Rattle.ticket_items.specs.declared.node_row.NodeRow.{NodeRow}
 use Rattle.ticket_items.specs.declared.resource.Resource.{Resource}
 use Rattle.ticket_items.specs.declared.usage.Usage.{Usage}
 use Rattle.ticket_items.specs.declared.usage.Usage.TheVariants.{Input, Output}
-use Rattle.spawn.specs.Parts.{resources_among}
-use Rattle.spawn.specs.declared.spawn_rec.SpawnRec.{SpawnRec}
+use Rattle.spawn.specs.Parts.{above, resources_among, rows_below}
+use Rattle.spawn.specs.declared.records.spawn_rec.SpawnRec.{SpawnRec}
 
 -- whether two lists are equally long, and each two at the same place pass a test
 abbrev pub are_pairs : {X Y : Type 0} → (X → Y → Bool) → List X → List Y → Bool
@@ -93,3 +93,8 @@ abbrev pub is_part : Job → SpawnRec → List NodeRow → ℕ → Copied → Bo
 is_part t r below levels p =
     bytes_eq p.job_id t.job_id && p.spawn_id == r.id && are_pairs (is_row levels) below p.rows
     && are_pairs is_fixed (resources_among r.rw t.rows) p.rw
+
+-- whether a part fits the claim of a spawn, as a test: it is one in the same cases in which `Fits`
+-- holds
+abbrev pub is_fit : Job → SpawnRec → Copied → Bool
+is_fit t r p = is_part t r (rows_below t.rows r.node) (length (above t.rows r.node)) p

@@ -1,5 +1,5 @@
 -- Laws of merging.
-use Rattle.std.specs.Prelude.{◌≡◌, ℕ, true, false, List, [], ◌∷◌, ◌++◌, Some, slice_get}
+use Rattle.std.specs.Prelude.{◌≡◌, ◌↔◌, ℕ, true, false, List, [], ◌∷◌, ◌++◌, Some, slice_get}
 use Rattle.std.specs.Option.{option_map_or}
 use Rattle.ticket_rows.specs.OneRow.{appended}
 use Rattle.ticket_rows.specs.Place.{Place, places, place_at, row_in}
@@ -12,11 +12,16 @@ use Rattle.spawn.specs.Parts.{part_for}
 use Rattle.spawn.specs.Records.{IsGood, is_out}
 use Rattle.spawn.specs.Spawning.{parent_of}
 use Rattle.spawn.specs.Table.{holder_of}
-use Rattle.spawn.specs.declared.holder.Holder.TheVariants.{Master}
-use Rattle.spawn.specs.declared.spawn_rec.SpawnRec.{SpawnRec}
+use Rattle.spawn.specs.declared.tables.holder.Holder.TheVariants.{Master}
+use Rattle.spawn.specs.declared.records.spawn_rec.SpawnRec.{SpawnRec}
+use Rattle.merge.specs.Alike.{is_fit}
 use Rattle.merge.specs.PlainPut.{merged_rows, merged_recs}
 use Rattle.merge.specs.Put.{merged_audit, put}
 use Rattle.merge.specs.Shape.{Fits}
+
+-- whether a part fits can be computed
+abbrev pub FitsIsTested : Type 0
+FitsIsTested = (t : Job) (r : SpawnRec) (p : Copied) → (is_fit t r p ≡ true) ↔ Fits t r p
 
 -- the part that is made of a ticket fits it
 abbrev pub MadePartFits : Type 0

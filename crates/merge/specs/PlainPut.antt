@@ -6,8 +6,8 @@ use Rattle.ticket_rows.specs.Ticket.{Job}
 use Rattle.ticket_tree.specs.Part.{Copied}
 use Rattle.ticket_tree.specs.PartView.{part_row}
 use Rattle.spawn.specs.Claim.{is_claimed}
-use Rattle.spawn.specs.declared.phase.Phase.TheVariants.{Merged}
-use Rattle.spawn.specs.declared.spawn_rec.SpawnRec.{SpawnRec}
+use Rattle.spawn.specs.declared.records.phase.Phase.TheVariants.{Merged}
+use Rattle.spawn.specs.declared.records.spawn_rec.SpawnRec.{SpawnRec}
 
 -- the rows by id after a merge: the part's where the spawn claims it, and the ticket's elsewhere
 abbrev pub merged_rows : Job → SpawnRec → Copied → List ℕ → Option Row

@@ -12,7 +12,7 @@ use Rattle.ticket_items.specs.declared.audit.Audit.TheVariants.{Merged}
 use Rattle.ticket_items.specs.declared.node_row.NodeRow.{NodeRow}
 use Rattle.ticket_items.specs.declared.resource.Resource.{Resource}
 use Rattle.spawn.specs.Spawning.{parent_of}
-use Rattle.spawn.specs.declared.spawn_rec.SpawnRec.{SpawnRec}
+use Rattle.spawn.specs.declared.records.spawn_rec.SpawnRec.{SpawnRec}
 
 -- the audit that tells of a merge (JDF 1.5, 3.11)
 abbrev pub merged_audit : SpawnRec → ℕ → Audit

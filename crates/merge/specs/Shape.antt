@@ -8,7 +8,7 @@ use Rattle.ticket_rows.specs.Ticket.{Job}
 use Rattle.ticket_items.specs.declared.audit.Audit.{Audit}
 use Rattle.ticket_items.specs.declared.node_row.NodeRow.{NodeRow}
 use Rattle.spawn.specs.Parts.{part_for}
-use Rattle.spawn.specs.declared.spawn_rec.SpawnRec.{SpawnRec}
+use Rattle.spawn.specs.declared.records.spawn_rec.SpawnRec.{SpawnRec}
 
 -- what of a row no worker may change: its id and depth, its Type, job part and links, and the ids,
 -- names and Classes of its pool

@@ -3,6 +3,11 @@
 
 ghost use Rattle.merge.specs.Laws as law;
 
+/// Whether a part fits is a test.
+pub fn whether_a_part_fits_is_a_test()
+    ensures { law.FitsIsTested }
+{}
+
 /// The part that is made of a ticket for a spawn fits it.
 pub fn a_made_part_fits()
     ensures { law.MadePartFits }

@@ -4,7 +4,7 @@ ghost use Rattle.std.specs.Prelude.{◌≡◌, true, IfOk, IfErr, OnOk, OnErr};
 ghost use Rattle.ticket_rows.specs.OneRow.{appended};
 ghost use Rattle.spawn.specs.Records.{IsGood, is_out};
 ghost use Rattle.spawn.specs.Spawning as spawning;
-ghost use Rattle.spawn.specs.declared.phase.Phase.TheVariants.{Merged};
+ghost use Rattle.spawn.specs.declared.records.phase.Phase.TheVariants.{Merged};
 ghost use Rattle.merge.specs.Put as puts;
 ghost use Rattle.merge.specs.Put.{put};
 ghost use Rattle.merge.specs.Shape.{Fits};

@@ -28,9 +28,11 @@ abbrev pub told_of : Option Refusal → QueueStatus → Result QueueStatus ℕ
 told_of None status = Ok status
 told_of (Some e) status = Err (number_of e)
 
--- the message by which the controller of a name answers a command, at a time, to the command's sender
+-- the message by which the controller of a name answers a command, at a time, to the command's
+-- sender
 abbrev pub answer_message : List ℕ → Message → ℕ → Result QueueStatus ℕ → Command → Message
-answer_message name m at told c = record { sender = name; receiver = m.sender; at = at; body = Answer c (spawn_in m.body) told }
+answer_message name m at told c =
+    record { sender = name; receiver = m.sender; at = at; body = Answer c (spawn_in m.body) told }
 
 -- its answer to a message: to a command that message, and to an answer none
 abbrev pub answer_to : List ℕ → Message → ℕ → Result QueueStatus ℕ → Option Message

@@ -8,7 +8,8 @@ use Rattle.message_items.specs.declared.body.Body.TheVariants.{Submit, Return, A
 use Rattle.message_items.specs.declared.command.Command.{Command}
 use Rattle.message_items.specs.declared.command.Command.TheVariants as commands
 use Rattle.message_items.specs.declared.queue_status.QueueStatus.{QueueStatus}
-use Rattle.message_items.specs.declared.queue_status.QueueStatus.TheVariants.{Running, Completed, Aborted}
+use Rattle.message_items.specs.declared.queue_status.QueueStatus.TheVariants.{Running, Completed}
+use Rattle.message_items.specs.declared.queue_status.QueueStatus.TheVariants.{Aborted}
 
 -- the Version of the standard that messages name
 abbrev pub version : List ℕ
@@ -48,12 +49,16 @@ status_word Aborted = codes "Aborted"
 
 -- the command of a Type
 abbrev pub command_named : List ℕ → Option Command
-command_named kind = if bytes_eq kind (type_of commands.Submit) then Some commands.Submit else (if bytes_eq kind (type_of commands.Return) then Some commands.Return else None)
+command_named kind =
+    if bytes_eq kind (type_of commands.Submit) then Some commands.Submit else
+    (if bytes_eq kind (type_of commands.Return) then Some commands.Return else None)
 
 -- the Status of a word
 abbrev pub status_named : List ℕ → Option QueueStatus
 status_named word =
-    if bytes_eq word (status_word Running) then Some Running else (if bytes_eq word (status_word Completed) then Some Completed else (if bytes_eq word (status_word Aborted) then Some Aborted else None))
+    if bytes_eq word (status_word Running) then Some Running else
+    (if bytes_eq word (status_word Completed) then Some Completed else
+    (if bytes_eq word (status_word Aborted) then Some Aborted else None))
 
 -- the ID of a message
 abbrev pub message_id : Body → List ℕ

@@ -31,9 +31,9 @@ use Rattle.spawn.specs.Marking.{copies_rw, out}
 use Rattle.spawn.specs.Parts.{resources, way_from}
 use Rattle.spawn.specs.Records.{is_out}
 use Rattle.spawn.specs.Table.{holding, holds}
-use Rattle.spawn.specs.declared.claim_set.ClaimSet.{ClaimSet}
-use Rattle.spawn.specs.declared.node_at.At.{At}
-use Rattle.spawn.specs.declared.spawn_rec.SpawnRec.{SpawnRec}
+use Rattle.spawn.specs.declared.claims.claim_set.ClaimSet.{ClaimSet}
+use Rattle.spawn.specs.declared.claims.node_at.At.{At}
+use Rattle.spawn.specs.declared.records.spawn_rec.SpawnRec.{SpawnRec}
 use Rattle.ticket_items.specs.SpawnId.{is_spawn_number}
 use Rattle.ticket_items.specs.declared.refusal.Refusal.{Refusal}
 use Rattle.ticket_items.specs.declared.refusal.Refusal.TheVariants.{UnknownNode, IsRoot}

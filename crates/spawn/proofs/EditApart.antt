@@ -18,7 +18,7 @@ use Rattle.spawn.specs.Claim.{claim, ids_of, is_claimed, linked_outside}
 use Rattle.spawn.specs.Laws.{EditKeepsApart, StandApart}
 use Rattle.spawn.specs.Records.{IsGood, is_out}
 use Rattle.spawn.specs.Table.{holds}
-use Rattle.spawn.specs.declared.spawn_rec.SpawnRec.{SpawnRec}
+use Rattle.spawn.specs.declared.records.spawn_rec.SpawnRec.{SpawnRec}
 
 -- ---- what is found among those that pass
 

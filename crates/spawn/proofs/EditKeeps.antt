@@ -37,8 +37,8 @@ use Rattle.spawn.specs.Claim.{links}
 use Rattle.spawn.specs.Laws.{EditKeepsClaims}
 use Rattle.spawn.specs.Records.{IsGood, is_out}
 use Rattle.spawn.specs.Table.{holder_at, holder_of, holds, holding}
-use Rattle.spawn.specs.declared.holder.Holder.TheVariants.{Master, Spawn}
-use Rattle.spawn.specs.declared.spawn_rec.SpawnRec.{SpawnRec}
+use Rattle.spawn.specs.declared.tables.holder.Holder.TheVariants.{Master, Spawn}
+use Rattle.spawn.specs.declared.records.spawn_rec.SpawnRec.{SpawnRec}
 
 -- ---- one place more
 

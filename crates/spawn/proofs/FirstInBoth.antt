@@ -19,7 +19,7 @@ use Rattle.spawn.proofs.Ancestry.{ids_of_way}
 use Rattle.spawn.proofs.Holding.{find_as}
 use Rattle.spawn.proofs.Split.{path_after, path_after-append}
 use Rattle.spawn.specs.IdSet.{is_in}
-use Rattle.spawn.specs.declared.claim_set.ClaimSet.{ClaimSet}
+use Rattle.spawn.specs.declared.claims.claim_set.ClaimSet.{ClaimSet}
 
 -- ---- the depth of the topmost node on a path that passes a test
 

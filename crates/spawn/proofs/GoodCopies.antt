@@ -27,7 +27,7 @@ use Rattle.spawn.proofs.Standing.{held_some, ids_apart, named, place_of_resource
 use Rattle.spawn.specs.Claim.{ids_of, is_linked_below, is_linked_outside, linked_outside, linked_ro}
 use Rattle.spawn.specs.Parts.{resources, resources_among}
 use Rattle.spawn.specs.Records.{IsGood}
-use Rattle.spawn.specs.declared.spawn_rec.SpawnRec.{SpawnRec}
+use Rattle.spawn.specs.declared.records.spawn_rec.SpawnRec.{SpawnRec}
 
 -- ---- ids of resources
 

@@ -35,7 +35,7 @@ use Rattle.spawn.proofs.GoodCopies.{first_of_fixed, first_of_places}
 use Rattle.spawn.proofs.PartFor.{bounds_apart}
 use Rattle.spawn.proofs.Slices.{rows_between, rows_before, rows_behind}
 use Rattle.spawn.specs.Records.{IsGood}
-use Rattle.spawn.specs.declared.spawn_rec.SpawnRec.{SpawnRec}
+use Rattle.spawn.specs.declared.records.spawn_rec.SpawnRec.{SpawnRec}
 
 -- ---- one list of resources after another
 

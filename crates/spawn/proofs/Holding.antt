@@ -18,8 +18,8 @@ use Rattle.ticket_items.specs.declared.node_row.NodeRow.{NodeRow}
 use Rattle.spawn.proofs.Standing.{StandsAt, node_stands, resource_stands}
 use Rattle.spawn.specs.Records.{is_out}
 use Rattle.spawn.specs.Table.{stand_of, holder_at, holder_of}
-use Rattle.spawn.specs.declared.holder.Holder.TheVariants.{Master, Spawn}
-use Rattle.spawn.specs.declared.spawn_rec.SpawnRec.{SpawnRec}
+use Rattle.spawn.specs.declared.tables.holder.Holder.TheVariants.{Master, Spawn}
+use Rattle.spawn.specs.declared.records.spawn_rec.SpawnRec.{SpawnRec}
 
 -- ---- the node at which a known id stands
 

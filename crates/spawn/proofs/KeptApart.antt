@@ -25,7 +25,7 @@ use Rattle.spawn.specs.Laws.{SpawnKeepsApart}
 use Rattle.spawn.specs.Records.{IsGood}
 use Rattle.spawn.specs.Spawning.{new_record, parent_of, spawn_refusal, spawned_audit}
 use Rattle.spawn.specs.Table.{holds}
-use Rattle.spawn.specs.declared.spawn_rec.SpawnRec.{SpawnRec}
+use Rattle.spawn.specs.declared.records.spawn_rec.SpawnRec.{SpawnRec}
 
 -- ---- the last of the records
 

@@ -23,8 +23,8 @@ use Rattle.spawn.specs.Laws.{ClaimIsHeld, HeldIsClaimed, ParentIsMasters, StandA
 use Rattle.spawn.specs.Records.{IsGood, is_out}
 use Rattle.spawn.specs.Spawning.{parent_of}
 use Rattle.spawn.specs.Table.{holds, holding, holder_at, holder_of}
-use Rattle.spawn.specs.declared.holder.Holder.TheVariants.{Master, Spawn}
-use Rattle.spawn.specs.declared.spawn_rec.SpawnRec.{SpawnRec}
+use Rattle.spawn.specs.declared.tables.holder.Holder.TheVariants.{Master, Spawn}
+use Rattle.spawn.specs.declared.records.spawn_rec.SpawnRec.{SpawnRec}
 
 -- ---- what passes alone is found
 

@@ -27,9 +27,9 @@ use Rattle.spawn.specs.Claim.{ids_of, linked_outside, linked_rw, linked_ro}
 use Rattle.spawn.specs.Parts.{resources, resources_among}
 use Rattle.spawn.specs.Records.{IsGood}
 use Rattle.spawn.specs.Spawning.{new_record}
-use Rattle.spawn.specs.declared.node_at.At.{At}
-use Rattle.spawn.specs.declared.phase.Phase.TheVariants.{Out}
-use Rattle.spawn.specs.declared.spawn_rec.SpawnRec.{SpawnRec}
+use Rattle.spawn.specs.declared.claims.node_at.At.{At}
+use Rattle.spawn.specs.declared.records.phase.Phase.TheVariants.{Out}
+use Rattle.spawn.specs.declared.records.spawn_rec.SpawnRec.{SpawnRec}
 
 -- ---- rows behind a node
 

@@ -21,7 +21,7 @@ use Rattle.spawn.specs.IdSet.{IdSet, is_in}
 use Rattle.spawn.specs.Marking.{out}
 use Rattle.spawn.specs.OutTables.{Numbers, numbers_in, pushed, if_any}
 use Rattle.spawn.specs.Records.{is_out}
-use Rattle.spawn.specs.declared.spawn_rec.SpawnRec.{SpawnRec}
+use Rattle.spawn.specs.declared.records.spawn_rec.SpawnRec.{SpawnRec}
 
 -- ---- one more
 

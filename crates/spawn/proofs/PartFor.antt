@@ -23,7 +23,7 @@ use Rattle.spawn.proofs.Split.{Around, around}
 use Rattle.spawn.specs.Parts.{above, ancestors, as_ancestor, lifted, part_for, resources_among}
 use Rattle.spawn.specs.Parts.{way_from, rows_below}
 use Rattle.spawn.specs.Records.{IsGood}
-use Rattle.spawn.specs.declared.spawn_rec.SpawnRec.{SpawnRec}
+use Rattle.spawn.specs.declared.records.spawn_rec.SpawnRec.{SpawnRec}
 
 none_taken : (n : ℕ) (xs : List NodeRow) (x : NodeRow) (ys : List NodeRow) → take n xs ≡ x ∷ ys
     → 0 < n

@@ -30,7 +30,7 @@ use Rattle.spawn.proofs.Chosen.{resources_cons}
 use Rattle.spawn.specs.Parts.{above, ancestor, ancestors, lifted, part_for, resources}
 use Rattle.spawn.specs.Parts.{resources_among, rows_below}
 use Rattle.spawn.specs.Spawning.{new_record, parent_of, spawn_refusal}
-use Rattle.spawn.specs.declared.spawn_rec.SpawnRec.{SpawnRec}
+use Rattle.spawn.specs.declared.records.spawn_rec.SpawnRec.{SpawnRec}
 
 -- ---- rows that change, each for itself
 

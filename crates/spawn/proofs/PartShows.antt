@@ -31,7 +31,7 @@ use Rattle.spawn.specs.Claim.{is_claimed, is_linked_below, is_linked_outside}
 use Rattle.spawn.specs.Laws.{PartShowsClaim, PartShowsNoMore}
 use Rattle.spawn.specs.Parts.{above, lifted, part_for, resources, resources_among}
 use Rattle.spawn.specs.Records.{IsGood}
-use Rattle.spawn.specs.declared.spawn_rec.SpawnRec.{SpawnRec}
+use Rattle.spawn.specs.declared.records.spawn_rec.SpawnRec.{SpawnRec}
 
 -- ---- around a node
 

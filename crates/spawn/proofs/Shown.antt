@@ -28,7 +28,7 @@ use Rattle.spawn.specs.IdSet.{IdSet, is_in}
 use Rattle.spawn.specs.Marking.{out, copies, copies_rw, in_order, mark}
 use Rattle.spawn.specs.OutTables.{Numbers, numbers_in, if_any, mark_in}
 use Rattle.spawn.specs.Parts.{resources}
-use Rattle.spawn.specs.declared.spawn_rec.SpawnRec.{SpawnRec}
+use Rattle.spawn.specs.declared.records.spawn_rec.SpawnRec.{SpawnRec}
 
 -- the numbers that stand under an id, as they are kept
 abbrev pub under : List ℕ → Numbers → Option (Vec ℕ)

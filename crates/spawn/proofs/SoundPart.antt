@@ -37,7 +37,7 @@ use Rattle.spawn.specs.Laws.{PartIsSound}
 use Rattle.spawn.specs.Parts.{above, ancestor, ancestors, lifted, part_for, resources}
 use Rattle.spawn.specs.Parts.{resources_among, rows_below}
 use Rattle.spawn.specs.Records.{IsGood}
-use Rattle.spawn.specs.declared.spawn_rec.SpawnRec.{SpawnRec}
+use Rattle.spawn.specs.declared.records.spawn_rec.SpawnRec.{SpawnRec}
 
 -- ---- ids turned round
 

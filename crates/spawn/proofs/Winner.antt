@@ -14,7 +14,7 @@ use Rattle.ticket_rows.proofs.NodePlaces.{node_places-rows, nodes_from}
 use Rattle.ticket_rows.specs.Ticket.{has_node, ids_of}
 use Rattle.ticket_items.specs.declared.node_row.NodeRow.{NodeRow}
 use Rattle.spawn.specs.Bounds.{Bounds, first_held, first_held_from, has, or_later, claims, earlier}
-use Rattle.spawn.specs.declared.claim.Claim.{Claim}
+use Rattle.spawn.specs.declared.claims.claim.Claim.{Claim}
 use Rattle.ticket_rows.proofs.AtHome.{find-passes}
 use Rattle.ticket_items.specs.Ids.{mem}
 use Rattle.ticket_rows.specs.Place.{Place, path_of, node_place, below, resource_place, place_at}
@@ -23,7 +23,7 @@ use Rattle.ticket_items.specs.declared.resource.Resource.{Resource}
 use Rattle.spawn.specs.Claim.{is_claimed}
 use Rattle.spawn.specs.Records.{is_out}
 use Rattle.spawn.specs.Table.{holds, holding}
-use Rattle.spawn.specs.declared.spawn_rec.SpawnRec.{SpawnRec}
+use Rattle.spawn.specs.declared.records.spawn_rec.SpawnRec.{SpawnRec}
 
 -- ---- an unknown node
 

@@ -2,7 +2,7 @@
 use Rattle.std.specs.Prelude.{◌≡◌, ℕ, ◌-◌, List, drop, take}
 use Rattle.ticket_rows.specs.Place.{BoundsNodesBelow}
 use Rattle.ticket_items.specs.declared.node_row.NodeRow.{NodeRow}
-use Rattle.spawn.specs.declared.node_at.At.{At}
+use Rattle.spawn.specs.declared.claims.node_at.At.{At}
 
 -- the rows taken apart at the bounds of n with the nodes below it
 pub record IsAt (rows : List NodeRow) (n : List ℕ) (a : At) : Type 0 where

@@ -7,8 +7,8 @@ use Rattle.ticket_rows.specs.Place.{Place, below, node_places}
 use Rattle.ticket_rows.specs.Ticket.{ids_of}
 use Rattle.ticket_items.specs.declared.node_row.NodeRow.{NodeRow}
 use Rattle.spawn.specs.Claim.{is_claimed}
-use Rattle.spawn.specs.declared.claim.Claim.{Claim}
-use Rattle.spawn.specs.declared.spawn_rec.SpawnRec.{SpawnRec}
+use Rattle.spawn.specs.declared.claims.claim.Claim.{Claim}
+use Rattle.spawn.specs.declared.records.spawn_rec.SpawnRec.{SpawnRec}
 
 -- the rows between the bounds of a claim are those of n and below it; an unknown node has none
 pub record Bounds (rows : List NodeRow) (n : List ℕ) (c : Claim) : Type 0 where

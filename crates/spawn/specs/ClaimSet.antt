@@ -6,7 +6,7 @@ use Rattle.ticket_rows.specs.Ticket.{node_ids}
 use Rattle.ticket_items.specs.declared.node_row.NodeRow.{NodeRow}
 use Rattle.spawn.specs.IdSet.{is_in}
 use Rattle.spawn.specs.Parts.{way_from}
-use Rattle.spawn.specs.declared.claim_set.ClaimSet.{ClaimSet}
+use Rattle.spawn.specs.declared.claims.claim_set.ClaimSet.{ClaimSet}
 
 -- whether the claim has what stands at the place: at or below one of its nodes, or as a copy
 abbrev pub claims : ClaimSet → Place → Bool

@@ -16,8 +16,8 @@ use Rattle.spawn.specs.Parts.{above, ancestors, lifted, part_for, rows_below}
 use Rattle.spawn.specs.Records.{IsGood, is_out}
 use Rattle.spawn.specs.Spawning.{new_record, parent_of, spawn_refusal, spawned}
 use Rattle.spawn.specs.Table.{holds, holding, holder_of}
-use Rattle.spawn.specs.declared.holder.Holder.TheVariants.{Master}
-use Rattle.spawn.specs.declared.spawn_rec.SpawnRec.{SpawnRec}
+use Rattle.spawn.specs.declared.tables.holder.Holder.TheVariants.{Master}
+use Rattle.spawn.specs.declared.records.spawn_rec.SpawnRec.{SpawnRec}
 
 -- the records stand well beside the rows of a ticket: each spawn that is out is good, and no two of
 -- them claim one place
@@ -85,7 +85,8 @@ EditKeepsClaims =
 -- so the records go on to stand well beside the ticket
 abbrev pub EditKeepsApart : Type 0
 EditKeepsApart =
-    (rows : List NodeRow) (recs : List SpawnRec) (e : Edit) (at : ℕ) → IsValid rows → refusal_of e rows ≡ None → holder_of rows recs (target e) ≡ Some Master
+    (rows : List NodeRow) (recs : List SpawnRec) (e : Edit) (at : ℕ) → IsValid rows
+    → refusal_of e rows ≡ None → holder_of rows recs (target e) ≡ Some Master
     → StandApart rows recs → StandApart (edited_rows e at rows) recs
 
 -- the part of a good record shows what the spawn claims, as it stands in the ticket

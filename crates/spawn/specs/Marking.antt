@@ -10,7 +10,7 @@ use Rattle.ticket_items.specs.declared.res_mark.ResMark.{ResMark}
 use Rattle.ticket_items.specs.declared.spawn_status.SpawnStatus.TheVariants.{SpawnedRO, SpawnedRW}
 use Rattle.spawn.specs.Claim.{ids_of}
 use Rattle.spawn.specs.Records.{is_out}
-use Rattle.spawn.specs.declared.spawn_rec.SpawnRec.{SpawnRec}
+use Rattle.spawn.specs.declared.records.spawn_rec.SpawnRec.{SpawnRec}
 
 abbrev pub out : List SpawnRec → List SpawnRec
 out recs = filter is_out recs

@@ -11,7 +11,7 @@ use Rattle.ticket_rows.specs.Ticket.{Job, row_of}
 use Rattle.ticket_items.specs.declared.ancestor.Ancestor.{Ancestor}
 use Rattle.ticket_items.specs.declared.node_row.NodeRow.{NodeRow}
 use Rattle.ticket_items.specs.declared.resource.Resource.{Resource}
-use Rattle.spawn.specs.declared.spawn_rec.SpawnRec.{SpawnRec}
+use Rattle.spawn.specs.declared.records.spawn_rec.SpawnRec.{SpawnRec}
 
 -- the nodes above n, from the root to n's parent
 abbrev pub above : List NodeRow → List ℕ → List (List ℕ)

@@ -3,9 +3,9 @@ use Rattle.std.specs.Prelude.{◌≡◌, Bool, true, false, List, map, is_some}
 use Rattle.ticket_rows.specs.Place.{fixed, fixed_at, places, node_places, up}
 use Rattle.ticket_items.specs.declared.node_row.NodeRow.{NodeRow}
 use Rattle.spawn.specs.Claim.{ids_of, linked_rw, linked_ro}
-use Rattle.spawn.specs.declared.phase.Phase.{Phase}
-use Rattle.spawn.specs.declared.phase.Phase.TheVariants.{Out, Merged}
-use Rattle.spawn.specs.declared.spawn_rec.SpawnRec.{SpawnRec}
+use Rattle.spawn.specs.declared.records.phase.Phase.{Phase}
+use Rattle.spawn.specs.declared.records.phase.Phase.TheVariants.{Out, Merged}
+use Rattle.spawn.specs.declared.records.spawn_rec.SpawnRec.{SpawnRec}
 
 abbrev pub is_out_phase : Phase → Bool
 is_out_phase Out = true

@@ -18,8 +18,8 @@ use Rattle.ticket_items.specs.declared.refusal.Refusal.TheVariants.{NotHeld, Too
 use Rattle.spawn.specs.Claim.{ids_of, claim, linked_outside, linked_rw, linked_ro}
 use Rattle.spawn.specs.Parts.{resources_among}
 use Rattle.spawn.specs.Table.{holding}
-use Rattle.spawn.specs.declared.phase.Phase.TheVariants.{Out}
-use Rattle.spawn.specs.declared.spawn_rec.SpawnRec.{SpawnRec}
+use Rattle.spawn.specs.declared.records.phase.Phase.TheVariants.{Out}
+use Rattle.spawn.specs.declared.records.spawn_rec.SpawnRec.{SpawnRec}
 
 -- ---- why it is refused
 

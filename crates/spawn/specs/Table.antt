@@ -8,9 +8,9 @@ use Rattle.ticket_rows.specs.Ticket.{has_node}
 use Rattle.ticket_items.specs.declared.node_row.NodeRow.{NodeRow}
 use Rattle.spawn.specs.Claim.{is_claimed}
 use Rattle.spawn.specs.Records.{is_out}
-use Rattle.spawn.specs.declared.holder.Holder.{Holder}
-use Rattle.spawn.specs.declared.holder.Holder.TheVariants.{Master, Spawn}
-use Rattle.spawn.specs.declared.spawn_rec.SpawnRec.{SpawnRec}
+use Rattle.spawn.specs.declared.tables.holder.Holder.{Holder}
+use Rattle.spawn.specs.declared.tables.holder.Holder.TheVariants.{Master, Spawn}
+use Rattle.spawn.specs.declared.records.spawn_rec.SpawnRec.{SpawnRec}
 
 -- the node that an id names, or in whose pool the resource is that it names
 abbrev pub stand_of : List NodeRow → List ℕ → Option (List ℕ)

@@ -2,34 +2,19 @@
 //! what of the ticket meanwhile (JDF 1.5, 4.4).
 #![tactic(auto)]
 
-mod above;
-mod checking;
-mod claim;
-mod claim_set;
-mod copies;
-mod first_holding;
-mod good;
-mod holder;
-mod id_set;
+mod claims;
 pub mod laws;
-mod links_outside;
-mod marking;
-mod node_at;
-mod out_tables;
-mod part_rows;
-mod phase;
-mod refusing;
-mod spawn_rec;
-mod spawned_part;
-mod spawning;
-mod table;
+mod parts;
+mod records;
+mod spawns;
+mod tables;
 
-pub use good::is_good;
-pub use holder::Holder;
-pub use marking::marked;
-pub use phase::Phase;
-pub use refusing::may_spawn;
-pub use spawn_rec::SpawnRec;
-pub use spawned_part::part_for;
-pub use spawning::spawn;
-pub use table::holder_of;
+pub use parts::spawned_part::part_for;
+pub use records::good::is_good;
+pub use records::phase::Phase;
+pub use records::spawn_rec::SpawnRec;
+pub use spawns::refusing::may_spawn;
+pub use spawns::spawning::spawn;
+pub use tables::holder::Holder;
+pub use tables::marking::marked;
+pub use tables::table::holder_of;

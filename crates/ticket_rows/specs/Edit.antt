@@ -120,7 +120,17 @@ with_child x new rows =
 -- a node at a depth, with no attributes, pools or audits
 abbrev pub bare_row : List ℕ → List ℕ → List ℕ → List ℕ → ℕ → NodeRow
 bare_row id kind job_part status depth =
-    record { id = id; depth = depth; kind = kind; job_part = job_part; status = status; attrs = []; resources = []; links = []; audits = [] }
+    record {
+      id = id;
+      depth = depth;
+      kind = kind;
+      job_part = job_part;
+      status = status;
+      attrs = [];
+      resources = [];
+      links = [];
+      audits = [];
+    }
 
 -- what an edit at a time makes of the node that it changes. A new node is none of it
 abbrev pub node_after : Edit → ℕ → NodeRow → NodeRow

@@ -19,7 +19,8 @@ pub record AreApart (rows : List NodeRow) (copies : List Resource) : Type 0 wher
 
 -- what a part is asked before an edit: its resources are those of its pools and the copies
 abbrev pub part_lookups : List NodeRow → List Resource → Lookups
-part_lookups rows copies = record (lookups rows) { has_resource = λ x. has_resource rows x || mem x (resource_ids copies) }
+part_lookups rows copies =
+    record (lookups rows) { has_resource = λ x. has_resource rows x || mem x (resource_ids copies) }
 
 -- why an edit of a part is refused, if it is
 abbrev pub part_refusal : Edit → List NodeRow → List Resource → Option Refusal
@@ -27,4 +28,5 @@ part_refusal e rows copies = edit_refusal e (part_lookups rows copies)
 
 -- the copies after an edit
 abbrev pub edited_copies : Edit → List Resource → List Resource
-edited_copies e copies = if is_of_node e then copies else with_item (target e) (resource_after e) copies
+edited_copies e copies =
+    if is_of_node e then copies else with_item (target e) (resource_after e) copies

@@ -1,6 +1,7 @@
 -- A part: a node of a ticket with all below it, taken out as a ticket of its own, with copies of
 -- the resources that it links from above.
-use Rattle.std.specs.Prelude.{ℕ, ◌+◌, ◌&&◌, Bool, not, List, ◌++◌, length, map, nat_le, nat_lt, Option}
+use Rattle.std.specs.Prelude.{ℕ, ◌+◌, ◌&&◌, Bool, not, List, ◌++◌, length, map, nat_le, nat_lt}
+use Rattle.std.specs.Prelude.{Option}
 use Rattle.std.specs.List.{list_all, list_any}
 use Rattle.std.specs.Str.{bytes_eq}
 use Rattle.ticket_items.specs.Ids.{mem, are_distinct}

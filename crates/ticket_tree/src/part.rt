@@ -181,8 +181,8 @@ impl Part {
             && soundness::are_linked(rows, ro)
     }
 
-    /// Does an edit that adds no node, resource or link, at a time in seconds since 1970: of a node,
-    /// of a resource of its pools, or of a copy that may be changed. Refuses the first of
+    /// Does an edit that adds no node, resource or link, at a time in seconds since 1970: of a
+    /// node, of a resource of its pools, or of a copy that may be changed. Refuses the first of
     /// `UnknownNode` or `UnknownResource` (the latter also for a copy that may be read alone) and
     /// `ReservedStatus`, which need no memory, and then `Memory`; never `Memory` where the edit
     /// gives another Status. A refusal changes nothing.

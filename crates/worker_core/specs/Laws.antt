@@ -9,9 +9,12 @@ use Rattle.message_items.specs.Reply.{is_answer}
 use Rattle.message_items.specs.declared.body.Body.TheVariants.{Submit}
 use Rattle.message_items.specs.declared.message.Message.{Message}
 use Rattle.message_items.specs.declared.reply.Reply.TheVariants as reply
-use Rattle.worker_core.specs.Messages.{IsValidBody, after_taking, take_refusal, taken_reply, taken_result}
-use Rattle.worker_core.specs.Orders.{after_order, order_message, order_refusal, ordered, return_of, spawn_of_order}
-use Rattle.worker_core.specs.Worker.{IsKept, Known, entry_of, has, is_open, may_change, status_of_stage}
+use Rattle.worker_core.specs.Messages.{IsValidBody, after_taking, take_refusal, taken_reply}
+use Rattle.worker_core.specs.Messages.{taken_result}
+use Rattle.worker_core.specs.Orders.{after_order, order_message, order_refusal, ordered, return_of}
+use Rattle.worker_core.specs.Orders.{spawn_of_order}
+use Rattle.worker_core.specs.Worker.{IsKept, Known, entry_of, has, is_open, may_change}
+use Rattle.worker_core.specs.Worker.{status_of_stage}
 use Rattle.worker_core.specs.declared.end.End.{End}
 use Rattle.worker_core.specs.declared.entry.Entry.{Entry}
 use Rattle.worker_core.specs.declared.order.Order.{Order}
@@ -29,11 +32,13 @@ MayChangeIsHeld =
 -- an edit that isn't refused is of what may be changed
 abbrev pub EditIsOfHeld : Type 0
 EditIsOfHeld =
-    (entries : List Entry) (s : ℕ) (e : Edit) → order_refusal (order.Edit s e) entries ≡ None → may_change entries s (target e) ≡ true
+    (entries : List Entry) (s : ℕ) (e : Edit) → order_refusal (order.Edit s e) entries ≡ None
+    → may_change entries s (target e) ≡ true
 
 -- ---- what an order changes
 
--- a part in which nothing is another that no worker may change: not the job, the spawn, the ancestors, the copies to read or the places
+-- a part in which nothing is another that no worker may change: not the job, the spawn, the
+-- ancestors, the copies to read or the places
 pub record IsSamePart (old new : Copied) : Type 0 where
   pub job : new.job_id ≡ old.job_id
   pub spawn : new.spawn_id ≡ old.spawn_id
@@ -41,11 +46,13 @@ pub record IsSamePart (old new : Copied) : Type 0 where
   pub ro : new.ro ≡ old.ro
   pub places : places (own_rows new) ≡ places (own_rows old)
 
--- an entry of a spawn as it may be after an order: its part has changed in rows that could be changed alone, it has been finished
+-- an entry of a spawn as it may be after an order: its part has changed in rows that could be
+-- changed alone, it has been finished
 -- only if it was open, and once it is finished it stays
 pub record IsNext (entries : List Entry) (s : ℕ) (old new : Entry) : Type 0 where
   pub part : IsSamePart old.part new.part
-  pub rows : (x : List ℕ) → may_change entries s x ≡ false → part_row new.part x ≡ part_row old.part x
+  pub rows :
+      (x : List ℕ) → may_change entries s x ≡ false → part_row new.part x ≡ part_row old.part x
   pub phase : (new.phase ≡ old.phase) ⊎ ((old.phase ≡ Open) × (is_open new ≡ false))
   pub finished : is_open old ≡ false → new ≡ old
 
@@ -53,7 +60,8 @@ pub record IsNext (entries : List Entry) (s : ℕ) (old new : Entry) : Type 0 wh
 abbrev pub OrderKeepsEntries : Type 0
 OrderKeepsEntries =
     (o : Order) (at : ℕ) (w : Known) (s : ℕ) (e : Entry) → IsKept w → entry_of w.entries s ≡ Some e
-    → (next : Entry) × (entry_of (after_order o at w).entries s ≡ Some next) × IsNext w.entries s e next
+    → (next : Entry) × (entry_of (after_order o at w).entries s ≡ Some next)
+    × IsNext w.entries s e next
 
 -- what always holds of a worker holds after an order
 abbrev pub OrderIsKept : Type 0
@@ -64,17 +72,21 @@ OrderIsKept = (o : Order) (at : ℕ) (w : Known) → IsKept w → IsKept (after_
 -- a message changes no entry
 abbrev pub MessageKeepsEntries : Type 0
 MessageKeepsEntries =
-    (m : Message) (at : ℕ) (w : Known) (s : ℕ) (e : Entry) → entry_of w.entries s ≡ Some e → entry_of (after_taking m at w).entries s ≡ Some e
+    (m : Message) (at : ℕ) (w : Known) (s : ℕ) (e : Entry) → entry_of w.entries s ≡ Some e
+    → entry_of (after_taking m at w).entries s ≡ Some e
 
 -- what always holds of a worker holds after a message
 abbrev pub MessageIsKept : Type 0
-MessageIsKept = (m : Message) (at : ℕ) (w : Known) → IsValidBody m.body → IsKept w → IsKept (after_taking m at w)
+MessageIsKept = (m : Message) (at : ℕ) (w : Known) → IsValidBody m.body → IsKept w
+    → IsKept (after_taking m at w)
 
 -- an answer changes nothing
 abbrev pub AnswerChangesNothing : Type 0
-AnswerChangesNothing = (m : Message) (at : ℕ) (w : Known) → is_answer m.body ≡ true → after_taking m at w ≡ w
+AnswerChangesNothing = (m : Message) (at : ℕ) (w : Known) → is_answer m.body ≡ true
+    → after_taking m at w ≡ w
 
--- a part of which there is an entry changes nothing, is taken as one that came again, and is told how far the entry is
+-- a part of which there is an entry changes nothing, is taken as one that came again, and is told
+-- how far the entry is
 pub record IsAgain (m : Message) (at : ℕ) (w : Known) (s : ℕ) (e : Entry) : Type 0 where
   pub state : after_taking m at w ≡ w
   pub reply : taken_reply m w ≡ Ok (reply.Again s)
@@ -82,25 +94,31 @@ pub record IsAgain (m : Message) (at : ℕ) (w : Known) (s : ℕ) (e : Entry) : 
 
 abbrev pub SubmitIsAgain : Type 0
 SubmitIsAgain =
-    (m : Message) (at : ℕ) (w : Known) (p : Copied) (e : Entry) → m.body ≡ Submit p → take_refusal m w ≡ None → entry_of w.entries p.spawn_id ≡ Some e
+    (m : Message) (at : ℕ) (w : Known) (p : Copied) (e : Entry) → m.body ≡ Submit p
+    → take_refusal m w ≡ None → entry_of w.entries p.spawn_id ≡ Some e
     → IsAgain m at w p.spawn_id e
 
 -- a part that was taken has an entry, and so the same message changes nothing from then on
 abbrev pub SubmitIsTaken : Type 0
 SubmitIsTaken =
     (m : Message) (at : ℕ) (w : Known) (p : Copied) → m.body ≡ Submit p → take_refusal m w ≡ None
-    → (e : Entry) × (entry_of (after_taking m at w).entries p.spawn_id ≡ Some e) × (take_refusal m (after_taking m at w) ≡ None)
+    → (e : Entry) × (entry_of (after_taking m at w).entries p.spawn_id ≡ Some e)
+    × (take_refusal m (after_taking m at w) ≡ None)
 
 -- ---- what is given back
 
 -- a message that goes out is that of the entry as it is after the order, which is finished
 abbrev pub ReturnIsOfEntry : Type 0
 ReturnIsOfEntry =
-    (o : Order) (at : ℕ) (w : Known) (m : Message) → order_refusal o w.entries ≡ None → order_message o at w ≡ Some m
-    → (e : Entry) × (entry_of (ordered o at w).entries (spawn_of_order o) ≡ Some e) × (is_open e ≡ false) × (m ≡ return_of w.name w.master e)
+    (o : Order) (at : ℕ) (w : Known) (m : Message) → order_refusal o w.entries ≡ None
+    → order_message o at w ≡ Some m
+    → (e : Entry) × (entry_of (ordered o at w).entries (spawn_of_order o) ≡ Some e)
+    × (is_open e ≡ false) × (m ≡ return_of w.name w.master e)
 
 -- and so it is the same once more
 abbrev pub ResentIsSame : Type 0
 ResentIsSame =
-    (s : ℕ) (how : End) (at later : ℕ) (w : Known) → order_refusal (order.Finish s how) w.entries ≡ None
-    → order_message (order.Resend s) later (ordered (order.Finish s how) at w) ≡ order_message (order.Finish s how) at w
+    (s : ℕ) (how : End) (at later : ℕ) (w : Known)
+    → order_refusal (order.Finish s how) w.entries ≡ None
+    → order_message (order.Resend s) later (ordered (order.Finish s how) at w)
+    ≡ order_message (order.Finish s how) at w

@@ -1,10 +1,13 @@
--- What a worker does with a message, whoever sent it and whatever it says: why it is refused, what becomes of the entries, what is
+-- What a worker does with a message, whoever sent it and whatever it says: why it is refused, what
+-- becomes of the entries, what is
 -- replied and what is answered.
-use Rattle.std.specs.Prelude.{ℕ, ◌&&◌, ◌||◌, Bool, true, false, not, List, [], ◌∷◌, ◌++◌, if◌then◌else◌, Option, Some, None, is_some, Result, Ok, Err, ⊤}
+use Rattle.std.specs.Prelude.{ℕ, ◌&&◌, ◌||◌, Bool, true, false, not, List, [], ◌∷◌, ◌++◌}
+use Rattle.std.specs.Prelude.{if◌then◌else◌, Option, Some, None, is_some, Result, Ok, Err, ⊤}
 use Rattle.std.specs.Option.{option_map_or}
 use Rattle.std.specs.Str.{bytes_eq}
 use Rattle.ticket_items.specs.declared.refusal.Refusal.{Refusal}
-use Rattle.ticket_items.specs.declared.refusal.Refusal.TheVariants.{UnknownEntry, NotDone, BadPart, WrongMessage, WrongSender}
+use Rattle.ticket_items.specs.declared.refusal.Refusal.TheVariants.{UnknownEntry, NotDone, BadPart}
+use Rattle.ticket_items.specs.declared.refusal.Refusal.TheVariants.{WrongMessage, WrongSender}
 use Rattle.ticket_rows.specs.Copies.{with_copies}
 use Rattle.ticket_rows.specs.Ticket.{IsValid, first_of, unless}
 use Rattle.ticket_tree.specs.Part.{Copied, is_sound}
@@ -39,7 +42,8 @@ part_refusal entries p = unless (is_some (entry_of entries p.spawn_id) || is_sou
 
 -- why an answer is refused, if it is: it has to be of an entry that was finished
 abbrev pub answer_refusal : List Entry → ℕ → Option Refusal
-answer_refusal entries s = option_map_or (λ e. unless (not (is_open e)) NotDone) (entry_of entries s) (Some UnknownEntry)
+answer_refusal entries s =
+    option_map_or (λ e. unless (not (is_open e)) NotDone) (entry_of entries s) (Some UnknownEntry)
 
 -- why what a message says is refused, if it is
 abbrev pub body_refusal : Body → List Entry → Option Refusal
@@ -50,7 +54,10 @@ body_refusal (Answer c s told) entries = answer_refusal entries s
 -- why a message is refused, if it is
 abbrev pub take_refusal : Message → Known → Option Refusal
 take_refusal m w =
-    first_of (unless (bytes_eq m.receiver w.name && is_for_workers m.body) WrongMessage ∷ unless (bytes_eq m.sender w.master) WrongSender ∷ body_refusal m.body w.entries ∷ [])
+    first_of
+    (unless (bytes_eq m.receiver w.name && is_for_workers m.body) WrongMessage
+    ∷ unless (bytes_eq m.sender w.master) WrongSender
+    ∷ body_refusal m.body w.entries ∷ [])
 
 -- ---- what becomes of the entries
 
@@ -62,7 +69,8 @@ IsValidBody (Answer c s told) = ⊤
 
 -- the entries after a message at a time that isn't refused: a part of which there is none gets one
 abbrev pub taken_entries : Body → ℕ → List Entry → List Entry
-taken_entries (Submit p) at entries = if is_some (entry_of entries p.spawn_id) then entries else entries ++ new_entry p at ∷ []
+taken_entries (Submit p) at entries =
+    if is_some (entry_of entries p.spawn_id) then entries else entries ++ new_entry p at ∷ []
 taken_entries (Return p) at entries = entries
 taken_entries (Answer c s told) at entries = entries
 
@@ -82,7 +90,8 @@ answer_reply s (Err reason) = reply.Noted s
 
 -- what a message is taken as
 abbrev pub take_reply : Body → List Entry → Reply
-take_reply (Submit p) entries = if is_some (entry_of entries p.spawn_id) then reply.Again p.spawn_id else reply.Taken p.spawn_id
+take_reply (Submit p) entries =
+    if is_some (entry_of entries p.spawn_id) then reply.Again p.spawn_id else reply.Taken p.spawn_id
 take_reply (Return p) entries = reply.Already p.spawn_id
 take_reply (Answer c s told) entries = answer_reply s told
 
@@ -92,7 +101,8 @@ taken_reply m w = refused_or (take_refusal m w) (take_reply m.body w.entries)
 
 -- what a command is told: the Status of its queue entry as it is then, or the number of the refusal
 abbrev pub taken_result : Message → ℕ → Known → Result QueueStatus ℕ
-taken_result m at w = told_of (take_refusal m w) (status_in (after_taking m at w).entries (spawn_in m.body))
+taken_result m at w =
+    told_of (take_refusal m w) (status_in (after_taking m at w).entries (spawn_in m.body))
 
 -- the answer to a message: to a command from the worker to its sender, and to an answer none
 abbrev pub taken_answer : Message → ℕ → Known → Option Message

@@ -1,12 +1,16 @@
--- What a worker does with an order: why it is refused, and else what becomes of the entries, what is replied and what goes out.
-use Rattle.std.specs.Prelude.{ℕ, ◌&&◌, ◌||◌, Bool, not, List, [], ◌∷◌, if◌then◌else◌, Option, Some, None, is_some}
+-- What a worker does with an order: why it is refused, and else what becomes of the entries, what
+-- is replied and what goes out.
+use Rattle.std.specs.Prelude.{ℕ, ◌&&◌, ◌||◌, Bool, not, List, [], ◌∷◌, if◌then◌else◌, Option, Some}
+use Rattle.std.specs.Prelude.{None, is_some}
 use Rattle.std.specs.Option.{option_map, option_map_or}
 use Rattle.ticket_items.specs.Ids.{mem}
 use Rattle.ticket_items.specs.Resource.{resource_ids}
 use Rattle.ticket_items.specs.declared.edit.Edit.{Edit}
 use Rattle.ticket_items.specs.declared.edit.Edit.TheVariants.{SetStatus}
 use Rattle.ticket_items.specs.declared.refusal.Refusal.{Refusal}
-use Rattle.ticket_items.specs.declared.refusal.Refusal.TheVariants.{UnknownEntry, NotOpen, ReadOnly, NotInPart, NotForWorkers, NotDone}
+use Rattle.ticket_items.specs.declared.refusal.Refusal.TheVariants.{UnknownEntry, NotOpen, ReadOnly}
+use Rattle.ticket_items.specs.declared.refusal.Refusal.TheVariants.{NotInPart, NotForWorkers}
+use Rattle.ticket_items.specs.declared.refusal.Refusal.TheVariants.{NotDone}
 use Rattle.ticket_rows.specs.Edit.{is_of_node, is_structural, target}
 use Rattle.ticket_rows.specs.EditRefusal.{later_refusal}
 use Rattle.ticket_rows.specs.Homes.{has_resource}
@@ -32,9 +36,12 @@ spawn_of_order (order.Resend s) = s
 
 -- ---- refusals
 
--- whether the target of an edit is a node of a part, or a resource of its pools or a copy that may be changed
+-- whether the target of an edit is a node of a part, or a resource of its pools or a copy that may
+-- be changed
 abbrev pub is_here : Edit → Copied → Bool
-is_here e p = if is_of_node e then has_node p.rows (target e) else has_resource p.rows (target e) || mem (target e) (resource_ids p.rw)
+is_here e p =
+    if is_of_node e then has_node p.rows (target e) else
+    has_resource p.rows (target e) || mem (target e) (resource_ids p.rw)
 
 -- whether it is a copy that may be read alone
 abbrev pub is_to_read : Edit → Copied → Bool
@@ -43,8 +50,12 @@ is_to_read e p = not (is_of_node e) && mem (target e) (resource_ids p.ro)
 -- why an edit of an entry is refused, if it is
 abbrev pub edit_refusal : Edit → Entry → Option Refusal
 edit_refusal e entry =
-    first_of (unless (is_open entry) NotOpen ∷ unless (not (is_structural e)) NotForWorkers ∷ unless (is_here e entry.part || is_to_read e entry.part) NotInPart
-    ∷ unless (not (is_to_read e entry.part)) ReadOnly ∷ later_refusal e (part_lookups entry.part.rows entry.part.rw) ∷ [])
+    first_of
+    (unless (is_open entry) NotOpen
+    ∷ unless (not (is_structural e)) NotForWorkers
+    ∷ unless (is_here e entry.part || is_to_read e entry.part) NotInPart
+    ∷ unless (not (is_to_read e entry.part)) ReadOnly
+    ∷ later_refusal e (part_lookups entry.part.rows entry.part.rw) ∷ [])
 
 -- why an order on an entry is refused, if it is
 abbrev pub entry_refusal : Order → Entry → Option Refusal
@@ -54,7 +65,8 @@ entry_refusal (order.Resend s) entry = unless (not (is_open entry)) NotDone
 
 -- why an order is refused, if it is
 abbrev pub order_refusal : Order → List Entry → Option Refusal
-order_refusal o entries = option_map_or (entry_refusal o) (entry_of entries (spawn_of_order o)) (Some UnknownEntry)
+order_refusal o entries =
+    option_map_or (entry_refusal o) (entry_of entries (spawn_of_order o)) (Some UnknownEntry)
 
 -- ---- what becomes of the entries
 
@@ -68,7 +80,8 @@ ending p how = SetStatus (root_id p) (end_word how)
 
 -- an entry that is finished: its node has the Status, and its time is that of the end
 abbrev pub finished_entry : End → ℕ → Entry → Entry
-finished_entry how at entry = record { phase = Done how; part = edited_part (ending entry.part how) at entry.part; at = at }
+finished_entry how at entry =
+    record { phase = Done how; part = edited_part (ending entry.part how) at entry.part; at = at }
 
 -- the entries after an order at a time that isn't refused
 abbrev pub ordered_entries : Order → ℕ → List Entry → List Entry
@@ -92,10 +105,13 @@ order_reply (order.Resend s) = reply.Sent s
 
 -- the message that gives the part of an entry back, from a name to another
 abbrev pub return_of : List ℕ → List ℕ → Entry → Message
-return_of name master entry = record { sender = name; receiver = master; at = entry.at; body = Return entry.part }
+return_of name master entry =
+    record { sender = name; receiver = master; at = entry.at; body = Return entry.part }
 
 -- the message that goes out: it gives back the part of an entry that is finished, as that is then
 abbrev pub order_message : Order → ℕ → Known → Option Message
 order_message (order.Edit s e) at w = None
-order_message (order.Finish s how) at w = option_map (λ entry. return_of w.name w.master (finished_entry how at entry)) (entry_of w.entries s)
+order_message (order.Finish s how) at w =
+    option_map (λ entry. return_of w.name w.master (finished_entry how at entry))
+    (entry_of w.entries s)
 order_message (order.Resend s) at w = option_map (return_of w.name w.master) (entry_of w.entries s)

@@ -1,5 +1,6 @@
 -- A worker: the parts that it took, and what of them it may change.
-use Rattle.std.specs.Prelude.{◌≡◌, ℕ, ◌==◌, ◌&&◌, ◌||◌, Bool, true, false, List, [], codes, map, if◌then◌else◌, slice_get, Option}
+use Rattle.std.specs.Prelude.{◌≡◌, ℕ, ◌==◌, ◌&&◌, ◌||◌, Bool, true, false, List, [], codes, map}
+use Rattle.std.specs.Prelude.{if◌then◌else◌, slice_get, Option}
 use Rattle.std.specs.List.{All, find}
 use Rattle.std.specs.Option.{option_map_or}
 use Rattle.std.specs.Str.{bytes_eq}
@@ -17,7 +18,8 @@ use Rattle.worker_core.specs.declared.stage.Stage.{Stage}
 use Rattle.worker_core.specs.declared.stage.Stage.TheVariants.{Open, Done}
 use Rattle.worker_core.specs.Numbers.{are_distinct_numbers}
 
--- what a worker knows: its name, its master's, and its entries in the order in which they were taken
+-- what a worker knows: its name, its master's, and its entries in the order in which they were
+-- taken
 pub record Known : Type 0 where
   pub name : List ℕ
   pub master : List ℕ
@@ -70,7 +72,8 @@ with_entry s f entries = map (λ (e : Entry). if is_of s e then f e else e) entr
 
 -- the Status of the queue entry of a spawn, which is running while there is none
 abbrev pub status_in : List Entry → ℕ → QueueStatus
-status_in entries s = option_map_or (λ e. status_of_stage e.phase) (entry_of entries s) queue.Running
+status_in entries s =
+    option_map_or (λ e. status_of_stage e.phase) (entry_of entries s) queue.Running
 
 -- ---- what may be changed
 
@@ -78,7 +81,8 @@ status_in entries s = option_map_or (λ e. status_of_stage e.phase) (entry_of en
 abbrev pub has : Copied → List ℕ → Bool
 has p x = mem x (ids p.rows) || mem x (resource_ids p.rw)
 
--- whether a node or a resource may be changed through the entry of a spawn: the entry is open, and its part has it
+-- whether a node or a resource may be changed through the entry of a spawn: the entry is open, and
+-- its part has it
 abbrev pub may_change : List Entry → ℕ → List ℕ → Bool
 may_change entries s x = option_map_or (λ e. is_open e && has e.part x) (entry_of entries s) false
 
@@ -96,7 +100,8 @@ abbrev pub has_ended_so : Stage → Copied → Bool
 has_ended_so Open p = true
 has_ended_so (Done how) p = bytes_eq (root_status p) (end_word how)
 
--- an entry's part is a valid ticket with its copies, can have come from a ticket, and has the Status of its end
+-- an entry's part is a valid ticket with its copies, can have come from a ticket, and has the
+-- Status of its end
 pub record IsKeptEntry (e : Entry) : Type 0 where
   pub valid : IsValid (with_copies e.part.rows e.part.rw e.part.ro)
   pub sound : is_sound e.part ≡ true

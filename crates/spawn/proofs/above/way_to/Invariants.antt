@@ -1,7 +1,0 @@
-use Rattle.std.proofs.Common.{◌≡◌, [], map, take}
-use Rattle.spawn.specs.Parts.{way_from}
-use Rattle.spawn.proofs.above.way_to.Given as goal
-
--- the way to the last of the rows so far
-abbrev pub invariant-loop-row : goal.invariant-loop-row
-invariant-loop-row l = map (λ s. s.now) l.way.items ≡ way_from [] (take l.row-index l.rows)

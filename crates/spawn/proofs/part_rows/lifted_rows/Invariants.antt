@@ -1,7 +1,0 @@
-use Rattle.std.proofs.Common.{◌≡◌, map, take}
-use Rattle.spawn.specs.Parts.{lifted}
-use Rattle.spawn.proofs.part_rows.lifted_rows.Given as goal
-
--- the rows so far
-abbrev pub invariant-loop-row : goal.invariant-loop-row
-invariant-loop-row l = l.lifted.items ≡ map (lifted l.levels) (take l.row-index l.rows)

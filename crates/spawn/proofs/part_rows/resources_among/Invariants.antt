@@ -1,7 +1,0 @@
-use Rattle.std.proofs.Common.{◌≡◌, take}
-use Rattle.spawn.specs.Parts.{resources_among}
-use Rattle.spawn.proofs.part_rows.resources_among.Given as goal
-
--- those of the rows so far
-abbrev pub invariant-loop-row : goal.invariant-loop-row
-invariant-loop-row l = l.found.items ≡ resources_among l.ids (take l.row-index l.rows)

@@ -1,0 +1,25 @@
+use Rattle.std.proofs.Common.{◌∙◌, ap}
+use Rattle.std.specs.Option.{option_map}
+use Rattle.spawn.proofs.GoodWalk.{met_more, met_none}
+use Rattle.spawn.specs.Walk.{all_met}
+use Rattle.spawn.proofs.records.good.meet_rows.Goals as goal
+
+pub returns-in_err-left : goal.returns-in_err-left
+returns-in_err-left c =
+    let inside = c.args.inside.now in
+    let rw = c.args.rw.now in
+    let old = c.loop-row.left in
+    ap (option_map (λ l. (l.rw.now, l.ro.now))) c.from_residual.ensures
+    ∙ met_none inside rw c.args.rows.now c.loop-row.row-index c.row-item.result (old.rw.now, old.ro.now) c.loop-row-test.true
+    (c.in_err-left.ensures ∙ ap (λ pool. all_met inside rw pool (old.rw.now, old.ro.now)) (c.as_slice.ensures ∙ ap (λ r. r.resources) c.row-item.is))
+    ∙ c.loop-row.invariant
+
+pub loop-row-preserved : goal.loop-row-preserved
+loop-row-preserved c =
+    let inside = c.args.inside.now in
+    let rw = c.args.rw.now in
+    let old = c.loop-row.left in
+    let new = c.in_ok-left.left in
+    met_more inside rw c.args.rows.now c.loop-row.row-index c.row-item.result (old.rw.now, old.ro.now) (new.rw.now, new.ro.now) c.loop-row-test.true
+    (c.in_ok-left.ensures ∙ ap (λ pool. all_met inside rw pool (old.rw.now, old.ro.now)) (c.as_slice.ensures ∙ ap (λ r. r.resources) c.row-item.is))
+    ∙ c.loop-row.invariant

@@ -1,0 +1,7 @@
+pub mod above;
+pub mod claim;
+pub mod claim_set;
+pub mod copies;
+pub mod id_set;
+pub mod links_outside;
+pub mod node_at;

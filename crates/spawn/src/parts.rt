@@ -1,0 +1,2 @@
+pub mod part_rows;
+pub mod spawned_part;

@@ -1,0 +1,57 @@
+//! The rows and the resources of a part, copied out of a ticket.
+
+ghost use Rattle.std.specs.Prelude.{◌≡◌, ◌++◌, ℕ, Bool, List, map, IfOk, OnOk};
+ghost use Rattle.std.specs.List.{filter};
+ghost use Rattle.spawn.specs.IdSet.{IsSetOf};
+ghost use Rattle.spawn.specs.Parts as parts;
+
+use crate::claims::id_set::{IdSet, has, set_of};
+use std::alloc::{AllocError, Global};
+use ticket_tree::{Duplicate, Id, NodeRow, Resource};
+
+/// The rows, each so many levels higher.
+pub fn lifted_rows(alloc: Global, rows: &[NodeRow], levels: u32) -> Result<Vec<NodeRow>, AllocError>
+    ensures { IfOk result (λ v. v.items ≡ map (parts.lifted levels) rows.now) }
+{
+    let mut lifted = Vec::with_capacity(alloc, rows.len())?;
+    for row in rows {
+        let mut copy = row.copy(alloc)?;
+        copy.depth = copy.depth.saturating_sub(levels);
+        lifted.push(copy)?;
+    }
+    Ok(lifted)
+}
+
+/// Adds copies of those resources of a pool whose ids are in the set.
+fn push_among(
+    alloc: Global,
+    found: &mut Vec<Resource>,
+    pool: &[Resource],
+    ids: &IdSet<'_>,
+) -> Result<(), AllocError>
+    ensures { OnOk result ((f : List ℕ → Bool) → IsSetOf f ids.now
+        → found.new.items ≡ found.old.items ++ filter (λ x. f x.id) pool.now) }
+{
+    for resource in pool {
+        if has(ids, &resource.id) {
+            found.push(resource.copy(alloc)?)?;
+        }
+    }
+    Ok(())
+}
+
+/// Copies of the resources whose ids are among these, in ticket order.
+pub fn resources_among(
+    alloc: Global,
+    rows: &[NodeRow],
+    ids: &[Id],
+) -> Result<Vec<Resource>, AllocError>
+    ensures { IfOk result (λ v. v.items ≡ parts.resources_among ids.now rows.now) }
+{
+    let among = set_of(alloc, ids)?;
+    let mut found = Vec::new(alloc);
+    for row in rows {
+        push_among(alloc, &mut found, row.resources.as_slice(), &among)?;
+    }
+    Ok(found)
+}

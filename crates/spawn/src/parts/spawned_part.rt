@@ -1,0 +1,63 @@
+//! The part that goes out with a spawn.
+
+ghost use Rattle.std.specs.Prelude.{◌≡◌, ◌⊎◌, ◌-◌, [], true, map, take, Some, IfOk, IfErr};
+ghost use Rattle.ticket_tree.specs.Part.{copied};
+ghost use Rattle.ticket_rows.specs.Copies.{with_copies};
+ghost use Rattle.ticket_rows.specs.Ticket.{fault_of};
+ghost use Rattle.spawn.specs.Parts as parts;
+ghost use Rattle.spawn.specs.Records.{IsGood, is_out};
+
+use crate::claims::above::ancestors_of;
+use crate::claims::node_at::{At, at_between};
+use crate::parts::part_rows::{lifted_rows, resources_among};
+use crate::records::spawn_rec::SpawnRec;
+use std::alloc::Global;
+use ticket_tree::{Duplicate, Items, Name, Part, Refusal, Ticket};
+
+/// The part of a spawn of the node at which the rows are taken apart.
+fn part_at(alloc: Global, job: &Name, spawn: &SpawnRec, at: &At<'_>) -> Result<Part, Refusal>
+    ensures ok { IfOk result (λ p. p ≡ copied job.now spawn.now.id
+        (map parts.as_ancestor (take (at.now.depth - 1) (parts.way_from [] at.now.front.now)))
+        (map (parts.lifted (at.now.depth - 1)) at.now.below.now)
+        (parts.resources_among spawn.now.rw at.now.rows.now) spawn.now.ro) }
+    ensures err { IfErr result (λ e. (e ≡ Refusal.Memory)
+        ⊎ (fault_of
+        (with_copies (map (parts.lifted (at.now.depth - 1)) at.now.below.now)
+        (parts.resources_among spawn.now.rw at.now.rows.now) spawn.now.ro) ≡ Some e)) }
+{
+    let ancestors = ancestors_of(alloc, at.front, at.depth)?;
+    let below = lifted_rows(alloc, at.below, at.depth.saturating_sub(1))?;
+    let rw = resources_among(alloc, at.rows, spawn.rw.as_slice())?;
+    let ro = spawn.ro.copy(alloc)?;
+    let job = job.copy(alloc)?;
+    Part::new(
+        alloc,
+        job,
+        spawn.id,
+        Items::new(ancestors),
+        below,
+        Items::new(rw),
+        ro,
+    )
+}
+
+/// The part of a spawn that is out (JDF 1.5, 4.4): the ticket's rows of the node and below it, and
+/// of the resources that may be changed; and the copies that may be read alone, as they were when
+/// it went out. While no row of what was spawned changes and none is added there, it is the same
+/// part each time. The record is good in the ticket. Refuses `Memory` alone.
+pub fn part_for(alloc: Global, ticket: &Ticket, spawn: &SpawnRec) -> Result<Part, Refusal>
+    requires out { is_out spawn.now ≡ true }
+    requires good { IsGood ticket.now.rows spawn.now }
+    ensures ok { IfOk result (λ p. p ≡ parts.part_for ticket.now spawn.now) }
+    ensures memory { IfErr result (λ e. e ≡ Refusal.Memory) }
+{
+    let nodes = ticket.rows();
+    let rows = nodes.as_slice();
+    let Some((from, to)) = ticket.subtree(&spawn.node) else {
+        return Err(Refusal::UnknownNode);
+    };
+    let Some(at) = at_between(rows, from, to) else {
+        return Err(Refusal::UnknownNode);
+    };
+    part_at(alloc, ticket.job(), spawn, &at)
+}

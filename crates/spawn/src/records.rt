@@ -1,0 +1,4 @@
+pub mod good;
+pub mod out_tables;
+pub mod phase;
+pub mod spawn_rec;

@@ -1,0 +1,3 @@
+pub mod checking;
+pub mod refusing;
+pub mod spawning;

@@ -1,0 +1,128 @@
+//! Why a spawn is refused: the first reason that holds.
+
+ghost use Rattle.std.specs.Prelude.{◌≡◌, ◌∷◌, [], true, false, Some, None, nat_lt, is_some};
+ghost use Rattle.std.specs.Prelude.{slice_get, IfSome, MatchResult};
+ghost use Rattle.std.specs.List.{list_all};
+ghost use Rattle.std.specs.Option.{option_map_or};
+ghost use Rattle.ticket_rows.specs.Homes.{has_resource};
+ghost use Rattle.ticket_items.specs.Ids.{mem};
+ghost use Rattle.ticket_rows.specs.Place.{node_places, places, up};
+ghost use Rattle.ticket_items.specs.SpawnId.{is_spawn_number};
+ghost use Rattle.ticket_rows.specs.Ticket.{IsValid, first_of, has_node, unless};
+ghost use Rattle.spawn.specs.At.{IsAt};
+ghost use Rattle.spawn.specs.Claim.{ids_of, linked_outside};
+ghost use Rattle.spawn.specs.Parts.{rows_below};
+ghost use Rattle.spawn.specs.Spawning as spawning;
+
+use crate::claims::claim::Claim;
+use crate::claims::links_outside::is_linked_outside;
+use crate::claims::node_at::{At, node_at};
+use crate::records::spawn_rec::SpawnRec;
+use crate::tables::first_holding::first_holding;
+use ticket_tree::{Id, NodeRow, Refusal, SpawnId, Ticket};
+
+/// The ticket at a node that stands below another, or `UnknownNode`, then `IsRoot`.
+pub fn spawnable_at<'a>(ticket: &'a Ticket, node: &Id) -> Result<At<'a>, Refusal>
+    ensures refusal { MatchResult result
+        (λ a. (IsAt ticket.now.rows node.now a)
+        × (a.below.now ≡ rows_below ticket.now.rows node.now)
+        × (has_node ticket.now.rows node.now ≡ true)
+        × (is_some (up (node_places ticket.now.rows) node.now) ≡ true))
+        (λ e. first_of
+        (unless (has_node ticket.now.rows node.now) Refusal.UnknownNode
+        ∷ unless (is_some (up (node_places ticket.now.rows) node.now)) Refusal.IsRoot
+        ∷ []) ≡ Some e) }
+    ensures valid { IsValid ticket.now.rows }
+{
+    let Some(at) = node_at(ticket, node) else {
+        return Err(Refusal::UnknownNode);
+    };
+    if at.depth <= 1 {
+        return Err(Refusal::IsRoot);
+    }
+    Ok(at)
+}
+
+/// The rows of a node that stands below another and of those below it, or `UnknownNode`, then
+/// `IsRoot`.
+fn spawnable<'a>(ticket: &'a Ticket, node: &Id) -> Result<&'a [NodeRow], Refusal>
+    ensures refusal { MatchResult result
+        (λ rows. (rows.now ≡ rows_below ticket.now.rows node.now)
+        × (has_node ticket.now.rows node.now ≡ true)
+        × (is_some (up (node_places ticket.now.rows) node.now) ≡ true))
+        (λ e. first_of
+        (unless (has_node ticket.now.rows node.now) Refusal.UnknownNode
+        ∷ unless (is_some (up (node_places ticket.now.rows) node.now)) Refusal.IsRoot
+        ∷ []) ≡ Some e) }
+    ensures valid { IsValid ticket.now.rows }
+{
+    let at = spawnable_at(ticket, node)?;
+    Ok(at.below)
+}
+
+/// Whether each id is a resource's.
+fn are_resources(ticket: &Ticket, ids: &[Id]) -> bool
+    ensures { result ≡ list_all (has_resource ticket.now.rows) ids.now }
+{
+    ids.iter().all(|id| ticket.home_of(id).is_some())
+}
+
+/// Whether each id is one of a resource that is linked outside the node, below which are these
+/// rows.
+fn are_linked_outside(ticket: &Ticket, node: &Id, below: &[NodeRow], ids: &[Id]) -> bool
+    requires valid { IsValid ticket.now.rows }
+    requires known { has_node ticket.now.rows node.now ≡ true }
+    requires rows { below.now ≡ rows_below ticket.now.rows node.now }
+    ensures { result ≡ list_all
+        (λ x. mem x (ids_of (linked_outside (places ticket.now.rows) node.now))) ids.now }
+{
+    for id in ids {
+        if !is_linked_outside(ticket, node, below, id) {
+            return false;
+        }
+    }
+    true
+}
+
+/// Whether the master holds all that a spawn would claim, or `NotHeld` with the spawn that holds
+/// the first that it doesn't.
+fn check_held(ticket: &Ticket, records: &[SpawnRec], node: &Id, rw: &[Id]) -> Result<(), Refusal>
+    ensures { MatchResult result
+        (λ _. spawning.not_held (places ticket.now.rows) records.now node.now rw.now ≡ None)
+        (λ e. spawning.not_held (places ticket.now.rows) records.now node.now rw.now ≡ Some e) }
+{
+    let claim = Claim::of(ticket, node, rw);
+    match first_holding(ticket, &claim, records) {
+        None => Ok(()),
+        Some(spawn) => Err(Refusal::NotHeld(spawn.id)),
+    }
+}
+
+/// Why `spawn` would refuse a spawn of a node with copies of these resources that may be changed,
+/// memory aside: the first of `UnknownNode`, `IsRoot` (our own), `UnknownResource`,
+/// `NotLinked` (a resource that no node there links, or that is at home there; JDF 1.5, 4.4),
+/// `NotHeld` with the spawn that holds the first of the claim, in ticket order, that the master
+/// doesn't hold, and `TooManySpawns` (a number that isn't one of 1 to 999,999,999; our own). Needs
+/// no memory.
+pub fn may_spawn(
+    ticket: &Ticket,
+    records: &[SpawnRec],
+    number: u32,
+    node: &Id,
+    rw: &[Id],
+) -> Result<(), Refusal>
+    ensures { MatchResult result
+        (λ _. spawning.spawn_refusal ticket.now.rows records.now number node.now rw.now ≡ None)
+        (λ e. spawning.spawn_refusal ticket.now.rows records.now number node.now rw.now ≡ Some e) }
+{
+    let below = spawnable(ticket, node)?;
+    if !are_resources(ticket, rw) {
+        return Err(Refusal::UnknownResource);
+    }
+    if !are_linked_outside(ticket, node, below, rw) {
+        return Err(Refusal::NotLinked);
+    }
+    check_held(ticket, records, node, rw)?;
+    SpawnId::new(number)?;
+    Ok(())
+}

@@ -1,0 +1,4 @@
+pub mod first_holding;
+pub mod holder;
+pub mod marking;
+pub mod table;
