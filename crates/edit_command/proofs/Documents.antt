@@ -1,17 +1,14 @@
 -- Tests of a document's drafts.
-use Rattle.std.proofs.Common.{◌≡◌, ℕ, ◌<◌, ◌&&◌, Bool, true, false, List, [], ◌∷◌, length, get_or}
-use Rattle.std.proofs.Common.{map, refl, sym, ◌∙◌, ap}
-use Rattle.std.proofs.lemmas.Bool.{true≢false}
-use Rattle.std.proofs.lemmas.List.Folds.{list_all_at}
+use Rattle.std.proofs.Common.{◌≡◌, ◌&&◌, Bool, List, [], ◌∷◌, Some, None, Result, Ok, Err, IfOk, OnOk}
+use Rattle.std.proofs.Common.{map, refl, ◌∙◌, ap}
 use Rattle.std.specs.List.{list_all}
-use Rattle.ticket_items.specs.declared.edit.Edit.{Edit}
-use Rattle.json_reader.specs.DraftedEdit.{drafted_edit}
-use Rattle.json_reader.specs.declared.edit_draft.EditDraft.{EditDraft}
-use Rattle.std.proofs.Common.{Some, None, Result, Ok, Err, IfOk, OnOk}
 use Rattle.std.specs.Option.{option_map_or}
 use Rattle.serde_json.specs.Data.{Data}
-use Rattle.json_form.specs.Form.{sound}
+use Rattle.ticket_items.specs.declared.edit.Edit.{Edit}
 use Rattle.ticket_items.specs.declared.refusal.Refusal.TheVariants.{NotProfile}
+use Rattle.json_form.specs.Form.{sound}
+use Rattle.json_forms.specs.DraftedEdits.{drafted_edit}
+use Rattle.json_forms.specs.declared.edit_form.EditDraft.{EditDraft}
 use Rattle.edit_command.specs.Document.{Document, RawDocument, document_draft, document_fault}
 use Rattle.edit_command.specs.Document.{document_of, document_read}
 
@@ -20,15 +17,6 @@ pub list_all-drafted : (p : Edit → Bool) (drafts : List EditDraft)
     → list_all (λ d. p (drafted_edit d)) drafts ≡ list_all p (map drafted_edit drafts)
 list_all-drafted p [] = refl
 list_all-drafted p (d ∷ drafts) = ap (λ b. p (drafted_edit d) && b) (list_all-drafted p drafts)
-
-not_false : (b : Bool) → (b ≡ false → ⊥) → b ≡ true
-not_false true h = refl
-not_false false h = absurd (h refl)
-
--- what holds of all holds of each
-pub list_all-at : {X : Type 0} (p : X → Bool) (xs : List X) (i : ℕ) (d : X) → i < length xs
-    → list_all p xs ≡ true → p (get_or xs i d) ≡ true
-list_all-at p xs i d within all = not_false (p (get_or xs i d)) (λ no. true≢false (sym all ∙ list_all_at p xs i d within no))
 
 -- ---- a draft with no fault
 

@@ -7,8 +7,8 @@ use Rattle.std.proofs.lemmas.List.Folds.{list_any-append}
 use Rattle.ticket_rows.specs.Ticket.{Job}
 use Rattle.ticket_items.specs.declared.edit.Edit.{Edit}
 use Rattle.ticket_items.specs.declared.refusal.Refusal.{Refusal}
-use Rattle.json_reader.specs.DraftedEdit.{drafted_edit}
-use Rattle.json_reader.specs.declared.edit_draft.EditDraft.{EditDraft}
+use Rattle.json_forms.specs.DraftedEdits.{drafted_edit}
+use Rattle.json_forms.specs.declared.edit_form.EditDraft.{EditDraft}
 use Rattle.ticket_rows.specs.Edit.{refusal_of}
 use Rattle.ticket_items.specs.declared.refusal.Refusal.TheVariants.{Memory}
 use Rattle.edit_command.specs.Document.{Document}

@@ -14,7 +14,7 @@ use Rattle.json_form.specs.EditDraft.{edit_draft, adding_draft, setting_draft, s
 use Rattle.json_form.specs.EditDraft.{note_draft}
 use Rattle.json_form.specs.Form.{node_has_names, pools_have_names, row_has_texts}
 use Rattle.json_writer.specs.Written.{edit_data, ticket_data}
-use Rattle.edit_command.specs.Document.{Document, document_draft, document_read, edits_draft}
+use Rattle.edit_command.specs.Document.{Document, document_draft, document_read}
 use Rattle.edit_command.specs.Run.{output_of, status_of, ticket_text}
 
 -- a node at a Status
@@ -55,13 +55,13 @@ document e =
     (member (codes "Ticket") (ticket_data job) no_members)))
 
 one_edit : document_read (document started) ≡ Ok (of_edits (started ∷ []))
-unfolding document_draft edits_draft edit_draft adding_draft setting_draft set_status_draft
+unfolding document_draft edit_draft adding_draft setting_draft set_status_draft
     ticket_draft own_row node_has_names pools_have_names row_has_texts
 one_edit = refl
 
 -- the names in edits are checked with those of the ticket
 no_node : document_read (document (Note (codes "0n") (codes "late"))) ≡ Err BadId
-unfolding document_draft edits_draft edit_draft adding_draft note_draft
+unfolding document_draft edit_draft adding_draft note_draft
     ticket_draft own_row node_has_names pools_have_names row_has_texts
 no_node = refl
 

@@ -5,7 +5,7 @@ use Rattle.std.specs.List.{list_all}
 use Rattle.std.specs.Option.{option_map_or, option_and_then}
 use Rattle.std.specs.Str.{IsUtf8}
 use Rattle.serde_json.specs.Data.{Data}
-use Rattle.serde_json.specs.Find.{get, as_array}
+use Rattle.serde_json.specs.Find.{get}
 use Rattle.serde_json.specs.Read.{read}
 use Rattle.ticket_rows.specs.Ticket.{Job, unless, first_of}
 use Rattle.ticket_items.specs.declared.edit.Edit.{Edit}
@@ -14,7 +14,7 @@ use Rattle.ticket_items.specs.declared.refusal.Refusal.TheVariants.{BadId, BadTe
 use Rattle.ticket_items.specs.declared.refusal.Refusal.TheVariants.{NotProfile, Memory}
 use Rattle.json_form.specs.Draft.{RawTicket, ticket_draft}
 use Rattle.json_form.specs.EditDraft.{edit_draft}
-use Rattle.json_form.specs.Listed.{each}
+use Rattle.json_forms.specs.Listed.{list_form}
 use Rattle.json_form.specs.Form.{has_names, has_texts, edit_has_names, edit_has_texts, built_fault}
 use Rattle.json_form.specs.Form.{sound}
 use Rattle.json_form.specs.Read.{◌>>=◌, provided, has_only, number_under}
@@ -34,13 +34,9 @@ pub record RawDocument : Type 0 where
 abbrev pub document_members : List (List ℕ)
 document_members = codes "At" ∷ codes "Edits" ∷ codes "Ticket" ∷ []
 
--- the drafts of the edits in a list
-unfoldable pub edits_draft : Data → Option (List Edit)
-edits_draft d = option_and_then (each edit_draft) (as_array d)
-
 -- the drafts of what stands under `Edits` and under `Ticket`
 abbrev pub edits_under : Data → Option (List Edit)
-edits_under d = get (codes "Edits") d >>= edits_draft
+edits_under d = option_and_then (list_form edit_draft) (get (codes "Edits") d)
 
 abbrev pub ticket_under : Data → Option RawTicket
 ticket_under d = get (codes "Ticket") d >>= ticket_draft

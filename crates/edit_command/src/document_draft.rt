@@ -1,5 +1,5 @@
-use crate::document::{edits_under, have_names, have_texts, ticket_under};
-use json_profile::{EditDraft, TicketDraft, has_only, number_under};
+use json_forms::{Draft, Drafts, under};
+use json_profile::{EditDraft, TicketDraft, has_only};
 use serde_json::Value;
 use std::alloc::Global;
 use ticket_tree::Refusal;
@@ -9,7 +9,7 @@ use ticket_tree::Refusal;
 pub struct DocumentDraft<'a> {
     /// When the edits are done, in seconds since 1970.
     pub at: u64,
-    pub edits: Vec<EditDraft<'a>>,
+    pub edits: Drafts<EditDraft<'a>>,
     pub ticket: TicketDraft<'a>,
 }
 
@@ -17,6 +17,7 @@ impl<'a> DocumentDraft<'a> {
     ghost use Rattle.std.specs.Prelude.{◌≡◌};
     ghost use Rattle.serde_json.specs.View.{view};
     ghost use Rattle.json_form.specs.Read.{Gives};
+    ghost use Rattle.json_reader.specs.DraftedTicket.{drafted_ticket};
     ghost use Rattle.edit_command.specs.Document as form;
     ghost use Rattle.edit_command.specs.Drafted.{drafted_document};
 
@@ -28,23 +29,33 @@ impl<'a> DocumentDraft<'a> {
         if !has_only(value, &["At", "Edits", "Ticket"]) {
             return Err(Refusal::NotProfile);
         }
-        let at = number_under(value, "At").ok_or(Refusal::NotProfile)?;
-        let edits = edits_under(alloc, value)?;
-        let ticket = ticket_under(alloc, value)?;
+        let at = under(alloc, value, "At")?;
+        let edits = under(alloc, value, "Edits")?;
+        let ticket = DocumentDraft::ticket(alloc, value)?;
         Ok(DocumentDraft { at, edits, ticket })
+    }
+
+    /// The draft of the ticket under `Ticket`.
+    fn ticket(alloc: Global, value: &'a Value) -> Result<TicketDraft<'a>, Refusal>
+        ensures { Gives drafted_ticket result (form.ticket_under (view value.now)) }
+    {
+        match value.get("Ticket") {
+            Some(ticket) => TicketDraft::of(alloc, ticket),
+            None => Err(Refusal::NotProfile),
+        }
     }
 
     /// Whether all ids and names are valid.
     pub fn has_names(&self) -> bool
         ensures { result ≡ form.document_has_names (drafted_document self.now) }
     {
-        have_names(self.edits.as_slice()) && self.ticket.has_names()
+        self.edits.has_names() && self.ticket.has_names()
     }
 
     /// Whether all texts are valid.
     pub fn has_texts(&self) -> bool
         ensures { result ≡ form.document_has_texts (drafted_document self.now) }
     {
-        have_texts(self.edits.as_slice()) && self.ticket.has_texts()
+        self.edits.has_texts() && self.ticket.has_texts()
     }
 }

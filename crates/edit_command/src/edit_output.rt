@@ -3,6 +3,7 @@
 ghost use Rattle.std.specs.Prelude.{◌≡◌, ◌⊎◌, ◌++◌, None, Some, true, IfErr, IfOk, OnOk, Err, Ok};
 ghost use Rattle.serde_json.specs.View.{view};
 ghost use Rattle.json_form.specs.Form.{built_fault};
+ghost use Rattle.json_reader.specs.DraftedTicket.{drafted_ticket};
 ghost use Rattle.edit_command.specs.Document.{Document, IsReadAs, IsRefusalOf, document_fault};
 ghost use Rattle.edit_command.specs.Document.{document_of, document_has_names, document_has_texts};
 ghost use Rattle.edit_command.specs.Document.{document_read};
@@ -48,9 +49,9 @@ fn run_draft(alloc: Global, draft: &DocumentDraft<'_>) -> Result<EditedTicket, R
     requires texts { document_has_texts (drafted_document draft.now) ≡ true }
     ensures done { IfOk result (λ o. IsEdited
         (document_of (drafted_document draft.now)) o.lines.items o.ticket o.refused) }
-    ensures sound { OnOk result (built_fault draft.now.ticket ≡ None) }
+    ensures sound { OnOk result (built_fault (drafted_ticket draft.now.ticket) ≡ None) }
     ensures refused { IfErr result
-        (λ e. (e ≡ Refusal.Memory) ⊎ (built_fault draft.now.ticket ≡ Some e)) }
+        (λ e. (e ≡ Refusal.Memory) ⊎ (built_fault (drafted_ticket draft.now.ticket) ≡ Some e)) }
 {
     let mut ticket = draft.ticket.build(alloc)?;
     let mut lines = Vec::new(alloc);

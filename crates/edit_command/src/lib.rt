@@ -3,7 +3,6 @@
 #![tactic(auto)]
 
 mod command;
-mod document;
 mod document_draft;
 mod edit_output;
 mod fault;

@@ -4,10 +4,11 @@ ghost use Rattle.std.specs.Prelude.{◌≡◌, ◌||◌, ◌++◌, true, is_some
 ghost use Rattle.std.specs.Result.{result_err};
 ghost use Rattle.std.specs.List.{list_all};
 ghost use Rattle.json_form.specs.Form.{edit_has_names, edit_has_texts};
-ghost use Rattle.json_reader.specs.DraftedEdit.{drafted_edit};
+ghost use Rattle.json_forms.specs.DraftedEdits.{drafted_edit};
 ghost use Rattle.edit_command.specs.Run as run;
 
 use crate::fault::refusal_line;
+use json_forms::Draft;
 use json_profile::EditDraft;
 use std::alloc::{AllocError, Global};
 use ticket_tree::{Edit, Refusal, Ticket};

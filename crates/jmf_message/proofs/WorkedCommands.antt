@@ -7,7 +7,7 @@ use Rattle.json_form.specs.Draft.{own_row}
 use Rattle.json_form.specs.Form.{node_has_names, pools_have_names, row_has_texts}
 use Rattle.json_form.specs.PartDraft.{ancestor_draft, part_draft}
 use Rattle.json_form.specs.PartForm.{ancestor_has_names}
-use Rattle.json_form.specs.PoolDraft.{link_draft, resource_draft, shown_draft}
+use Rattle.json_form.specs.PoolDraft.{link_draft, own_resource, resource_draft, shown_draft}
 use Rattle.json_form.specs.PoolForm.{resource_has_names, resource_has_texts}
 use Rattle.json_writer.specs.PartWritten.{part_data}
 use Rattle.ticket_items.specs.declared.node_row.NodeRow.{NodeRow}
@@ -89,32 +89,32 @@ unfolding digits
 return_id = refl
 
 first_read : message_read (message_data first) ≡ Ok first
-unfolding digits document_form jmf_form command_form submission_form command_body part_draft own_row resource_draft shown_draft link_draft ancestor_draft ancestor_has_names node_has_names pools_have_names row_has_texts resource_has_names resource_has_texts
+unfolding digits document_form jmf_form command_form submission_form command_body part_draft own_row resource_draft own_resource shown_draft link_draft ancestor_draft ancestor_has_names node_has_names pools_have_names row_has_texts resource_has_names resource_has_texts
 first_read = refl
 
 return_read : message_read (message_data returned) ≡ Ok returned
-unfolding digits document_form jmf_form command_form return_form command_body part_draft own_row resource_draft shown_draft link_draft ancestor_draft ancestor_has_names node_has_names pools_have_names row_has_texts resource_has_names resource_has_texts
+unfolding digits document_form jmf_form command_form return_form command_body part_draft own_row resource_draft own_resource shown_draft link_draft ancestor_draft ancestor_has_names node_has_names pools_have_names row_has_texts resource_has_names resource_has_texts
 return_read = refl
 
 -- ---- commands that no message gives, each with a fault that comes later
 
 -- the Version comes before the ID
 other_version : message_read (document (part_data waiting) (submission (codes "Q.S2") (codes "S1") (codes "jmf:mis")) (codes "mis") (codes "1.4")) ≡ Err WrongVersion
-unfolding digits document_form jmf_form command_form submission_form part_draft own_row resource_draft shown_draft link_draft ancestor_draft
+unfolding digits document_form jmf_form command_form submission_form part_draft own_row resource_draft own_resource shown_draft link_draft ancestor_draft
 other_version = refl
 
 -- the ID comes before the sender's
 id_of_another_spawn : message_read (document (part_data waiting) (submission (codes "Q.S2") (codes "S1") (codes "jmf:1")) (codes "1") (codes "1.5")) ≡ Err WrongMessage
-unfolding digits document_form jmf_form command_form submission_form command_body part_draft own_row resource_draft shown_draft link_draft ancestor_draft
+unfolding digits document_form jmf_form command_form submission_form command_body part_draft own_row resource_draft own_resource shown_draft link_draft ancestor_draft
 id_of_another_spawn = refl
 
 -- a sender that is no id, at a place that names it, comes before the part's Status
 sender_no_id : message_read (document (part_data (printing (codes "Spawned"))) (submission (codes "Q.S1") (codes "S1") (codes "jmf:1")) (codes "1") (codes "1.5")) ≡ Err BadId
-unfolding digits document_form jmf_form command_form submission_form command_body part_draft own_row resource_draft shown_draft link_draft ancestor_draft
+unfolding digits document_form jmf_form command_form submission_form command_body part_draft own_row resource_draft own_resource shown_draft link_draft ancestor_draft
 sender_no_id = refl
 
 status_spawned : message_read (document (part_data (printing (codes "Spawned"))) of_first (codes "mis") (codes "1.5")) ≡ Err ReservedStatus
-unfolding digits document_form jmf_form command_form submission_form command_body part_draft own_row resource_draft shown_draft link_draft ancestor_draft ancestor_has_names node_has_names pools_have_names row_has_texts resource_has_names resource_has_texts
+unfolding digits document_form jmf_form command_form submission_form command_body part_draft own_row resource_draft own_resource shown_draft link_draft ancestor_draft ancestor_has_names node_has_names pools_have_names row_has_texts resource_has_names resource_has_texts
 status_spawned = refl
 
 -- the part has to be one before anything else is asked

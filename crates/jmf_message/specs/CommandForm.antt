@@ -1,4 +1,5 @@
--- The form of commands (JMF; JDF 1.5, 5): by their members and their kinds alone, so that their texts may be any.
+-- The form of commands (JMF; JDF 1.5, 5): by their members and their kinds alone, so that their
+-- texts may be any.
 use Rattle.std.specs.Prelude.{ℕ, List, [], ◌∷◌, codes, Option, Some, None}
 use Rattle.std.specs.Option.{option_map}
 use Rattle.serde_json.specs.Data.{Data, Members, no_members, member, put, string, object}
@@ -26,7 +27,9 @@ submission_form d = do
 
 abbrev pub submission_data : SubmissionParams → Data
 submission_data p =
-    object (member (codes "QueueEntryID") (string p.entry) (member (codes "ReturnJMF") (string p.return_jmf) (member (codes "ReturnURL") (string p.return_url)
+    object (member (codes "QueueEntryID") (string p.entry)
+    (member (codes "ReturnJMF") (string p.return_jmf)
+    (member (codes "ReturnURL") (string p.return_url)
     (member (codes "URL") (string p.url) no_members))))
 
 -- ---- those of a ReturnQueueEntry
@@ -42,7 +45,9 @@ return_form d = do
   Some (record { entry = entry; url = url })
 
 abbrev pub return_data : ReturnParams → Data
-return_data p = object (member (codes "QueueEntryID") (string p.entry) (member (codes "URL") (string p.url) no_members))
+return_data p =
+    object (member (codes "QueueEntryID") (string p.entry)
+    (member (codes "URL") (string p.url) no_members))
 
 -- ---- commands
 
@@ -54,14 +59,16 @@ one_params None None = None
 one_params (Some d) (Some e) = None
 
 abbrev pub params_form : Data → Option Params
-params_form d = one_params (get (codes "QueueSubmissionParams") d) (get (codes "ReturnQueueEntryParams") d)
+params_form d =
+    one_params (get (codes "QueueSubmissionParams") d) (get (codes "ReturnQueueEntryParams") d)
 
 abbrev pub put_params : Params → Members → Members
 put_params (Submission p) ms = put (codes "QueueSubmissionParams") (submission_data p) ms
 put_params (Return p) ms = put (codes "ReturnQueueEntryParams") (return_data p) ms
 
 abbrev pub command_members : List (List ℕ)
-command_members = codes "ID" ∷ codes "QueueSubmissionParams" ∷ codes "ReturnQueueEntryParams" ∷ codes "Type" ∷ []
+command_members = codes "ID" ∷ codes "QueueSubmissionParams" ∷ codes "ReturnQueueEntryParams"
+    ∷ codes "Type" ∷ []
 
 unfoldable pub command_form : Data → Option CommandMessage
 command_form d = do
@@ -73,4 +80,6 @@ command_form d = do
 
 -- the params stand in the byte order of the names
 abbrev pub command_data : CommandMessage → Data
-command_data c = object (put_params c.params (member (codes "ID") (string c.id) (member (codes "Type") (string c.kind) no_members)))
+command_data c =
+    object (put_params c.params
+    (member (codes "ID") (string c.id) (member (codes "Type") (string c.kind) no_members)))

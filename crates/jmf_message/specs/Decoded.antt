@@ -1,6 +1,8 @@
--- The message that bytes are, or why they are none: the first of `NotJson`, `NotProfile`, `WrongVersion`, `WrongMessage`, `BadId`,
+-- The message that bytes are, or why they are none: the first of `NotJson`, `NotProfile`,
+-- `WrongVersion`, `WrongMessage`, `BadId`,
 -- `BadText`, and then what is wrong with the part.
-use Rattle.std.specs.Prelude.{◌≡◌, ◌⊎◌, ℕ, ◌&&◌, Bool, true, List, [], ◌∷◌, if◌then◌else◌, Option, Some, None, option_and_then, Result, Err}
+use Rattle.std.specs.Prelude.{◌≡◌, ◌⊎◌, ℕ, ◌&&◌, Bool, true, List, [], ◌∷◌, if◌then◌else◌, Option}
+use Rattle.std.specs.Prelude.{Some, None, option_and_then, Result, Err}
 use Rattle.std.specs.Option.{option_map_or}
 use Rattle.std.specs.Str.{IsUtf8, bytes_eq}
 use Rattle.serde_json.specs.Data.{Data}
@@ -10,7 +12,9 @@ use Rattle.json_form.specs.PartForm as part
 use Rattle.ticket_items.specs.Names.{is_name}
 use Rattle.ticket_rows.specs.Ticket.{unless, first_of}
 use Rattle.ticket_items.specs.declared.refusal.Refusal.{Refusal}
-use Rattle.ticket_items.specs.declared.refusal.Refusal.TheVariants.{NotJson, NotProfile, WrongVersion, WrongMessage, BadId, BadText, Memory}
+use Rattle.ticket_items.specs.declared.refusal.Refusal.TheVariants.{NotJson, NotProfile}
+use Rattle.ticket_items.specs.declared.refusal.Refusal.TheVariants.{WrongVersion, WrongMessage}
+use Rattle.ticket_items.specs.declared.refusal.Refusal.TheVariants.{BadId, BadText, Memory}
 use Rattle.jmf_message.specs.DocumentForm.{RawMessage, document_form}
 use Rattle.jmf_message.specs.Said.{body_of}
 use Rattle.message_items.specs.Words.{version}
@@ -29,20 +33,26 @@ has_names m = are_ids m.jmf && option_map_or part.has_names m.part true
 abbrev pub has_texts : RawMessage → Bool
 has_texts m = option_map_or part.has_texts m.part true
 
--- what is wrong with a message that says what it may: each fault is looked for in it and in its part alike before the next one is
+-- what is wrong with a message that says what it may: each fault is looked for in it and in its
+-- part alike before the next one is
 abbrev pub message_fault : RawMessage → Option Refusal
-message_fault m = first_of (unless (has_names m) BadId ∷ unless (has_texts m) BadText ∷ option_and_then part.built_fault m.part ∷ [])
+message_fault m =
+    first_of (unless (has_names m) BadId ∷ unless (has_texts m) BadText
+    ∷ option_and_then part.built_fault m.part ∷ [])
 
 abbrev pub message_with : RawMessage → Body → Message
-message_with m b = record { sender = m.jmf.sender; receiver = m.jmf.receiver; at = m.jmf.at; body = b }
+message_with m b =
+    record { sender = m.jmf.sender; receiver = m.jmf.receiver; at = m.jmf.at; body = b }
 
 -- the message of a body, if it says what it may, or the first refusal
 abbrev pub message_saying : RawMessage → Option Body → Result Message Refusal
-message_saying m said = option_map_or (λ b. sound (message_fault m) (message_with m b)) said (Err WrongMessage)
+message_saying m said =
+    option_map_or (λ b. sound (message_fault m) (message_with m b)) said (Err WrongMessage)
 
 -- the message of a draft, which is of the right Version
 abbrev pub draft_read : RawMessage → Result Message Refusal
-draft_read m = if bytes_eq m.jmf.version version then message_saying m (body_of m) else Err WrongVersion
+draft_read m =
+    if bytes_eq m.jmf.version version then message_saying m (body_of m) else Err WrongVersion
 
 -- the message that JSON data is
 abbrev pub message_read : Data → Result Message Refusal
@@ -55,6 +65,8 @@ pub record IsDecodedAs (bytes : List ℕ) (answer : Result Message Refusal) : Ty
   pub json : read bytes ≡ Some value
   pub form : message_read value ≡ answer
 
--- why bytes are refused: they are no JSON, or this is the first refusal of their data, or memory ran out
+-- why bytes are refused: they are no JSON, or this is the first refusal of their data, or memory
+-- ran out
 abbrev pub IsRefusalOf : List ℕ → Refusal → Type 0
-IsRefusalOf bytes e = ((e ≡ NotJson) × (IsUtf8 bytes → read bytes ≡ None)) ⊎ (IsDecodedAs bytes (Err e) ⊎ (e ≡ Memory))
+IsRefusalOf bytes e = ((e ≡ NotJson) × (IsUtf8 bytes → read bytes ≡ None))
+    ⊎ (IsDecodedAs bytes (Err e) ⊎ (e ≡ Memory))

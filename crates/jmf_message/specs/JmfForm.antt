@@ -1,7 +1,9 @@
--- The form of the JMF object (JMF; JDF 1.5, 5): a command or a response, and who sends it to whom, and when.
+-- The form of the JMF object (JMF; JDF 1.5, 5): a command or a response, and who sends it to whom,
+-- and when.
 use Rattle.std.specs.Prelude.{ℕ, List, [], ◌∷◌, codes, Option, Some, None}
 use Rattle.std.specs.Option.{option_map}
-use Rattle.serde_json.specs.Data.{Data, Members, no_members, member, put, unsigned, number, string, object}
+use Rattle.serde_json.specs.Data.{Data, Members, no_members, member, put, unsigned, number, string}
+use Rattle.serde_json.specs.Data.{object}
 use Rattle.serde_json.specs.Find.{get}
 use Rattle.json_forms.specs.Read.{◌>>=◌, provided, has_only, number_under, text_under}
 use Rattle.jmf_message.specs.CommandForm.{command_form, command_data}
@@ -25,7 +27,8 @@ put_family (Command c) ms = put (codes "Command") (command_data c) ms
 put_family (Response r) ms = put (codes "Response") (response_data r) ms
 
 abbrev pub jmf_members : List (List ℕ)
-jmf_members = codes "Command" ∷ codes "ReceiverID" ∷ codes "Response" ∷ codes "SenderID" ∷ codes "TimeStamp" ∷ codes "Version" ∷ []
+jmf_members = codes "Command" ∷ codes "ReceiverID" ∷ codes "Response" ∷ codes "SenderID"
+    ∷ codes "TimeStamp" ∷ codes "Version" ∷ []
 
 unfoldable pub jmf_form : Data → Option Jmf
 jmf_form d = do
@@ -35,10 +38,19 @@ jmf_form d = do
   at ← number_under (codes "TimeStamp") d
   version ← text_under (codes "Version") d
   family ← family_form d
-  Some (record { receiver = receiver; sender = sender; at = at; version = version; family = family })
+  Some (record {
+    receiver = receiver;
+    sender = sender;
+    at = at;
+    version = version;
+    family = family;
+  })
 
 -- the command or the response stands in the byte order of the names
 abbrev pub jmf_data : Jmf → Data
 jmf_data j =
-    object (put_family j.family (member (codes "ReceiverID") (string j.receiver) (member (codes "SenderID") (string j.sender) (member (codes "TimeStamp") (number (unsigned j.at))
+    object (put_family j.family
+    (member (codes "ReceiverID") (string j.receiver)
+    (member (codes "SenderID") (string j.sender)
+    (member (codes "TimeStamp") (number (unsigned j.at))
     (member (codes "Version") (string j.version) no_members)))))

@@ -12,4 +12,5 @@ pub record SaysTheSame (a b : Body) : Type 0 where
 
 -- the IDs of two messages are equal just if the messages are of the same kind and spawn
 abbrev pub IdsTellApart : Type 0
-IdsTellApart = (a b : Body) → is_spawn_number (spawn_in a) ≡ true → is_spawn_number (spawn_in b) ≡ true → (message_id a ≡ message_id b) ↔ SaysTheSame a b
+IdsTellApart = (a b : Body) → is_spawn_number (spawn_in a) ≡ true → is_spawn_number (spawn_in b)
+    ≡ true → (message_id a ≡ message_id b) ↔ SaysTheSame a b

@@ -1,5 +1,6 @@
 -- What a document says, if it says what a message may: exactly what is written for it.
-use Rattle.std.specs.Prelude.{ℕ, ◌&&◌, ◌==◌, Bool, true, false, List, [], ◌∷◌, if◌then◌else◌, Option, Some, None, option_and_then, Result, Ok, Err}
+use Rattle.std.specs.Prelude.{ℕ, ◌&&◌, ◌==◌, Bool, true, false, List, [], ◌∷◌, if◌then◌else◌}
+use Rattle.std.specs.Prelude.{Option, Some, None, option_and_then, Result, Ok, Err}
 use Rattle.std.specs.Option.{option_map}
 use Rattle.std.specs.Str.{bytes_eq}
 use Rattle.json_form.specs.PartDraft.{RawPart}
@@ -22,13 +23,16 @@ use Rattle.jmf_message.specs.declared.params.Params.{Params}
 use Rattle.jmf_message.specs.declared.params.Params.TheVariants.{Submission, Return}
 use Rattle.jmf_message.specs.declared.queue_entry.QueueEntry.{QueueEntry}
 use Rattle.message_items.specs.declared.queue_status.QueueStatus.{QueueStatus}
-use Rattle.message_items.specs.declared.queue_status.QueueStatus.TheVariants.{Running, Completed, Aborted}
+use Rattle.message_items.specs.declared.queue_status.QueueStatus.TheVariants.{Running, Completed}
+use Rattle.message_items.specs.declared.queue_status.QueueStatus.TheVariants.{Aborted}
 use Rattle.jmf_message.specs.declared.response_message.ResponseMessage.{ResponseMessage}
 
 -- ---- the same
 
 abbrev pub same_params : Params → Params → Bool
-same_params (Submission p) (Submission q) = bytes_eq p.entry q.entry && bytes_eq p.return_jmf q.return_jmf && bytes_eq p.return_url q.return_url && bytes_eq p.url q.url
+same_params (Submission p) (Submission q) = bytes_eq p.entry q.entry
+    && bytes_eq p.return_jmf q.return_jmf && bytes_eq p.return_url q.return_url
+    && bytes_eq p.url q.url
 same_params (Return p) (Return q) = bytes_eq p.entry q.entry && bytes_eq p.url q.url
 same_params (Submission p) (Return q) = false
 same_params (Return p) (Submission q) = false
@@ -43,7 +47,8 @@ same_entry None (Some f) = false
 same_entry (Some e) None = false
 
 abbrev pub same_response : ResponseMessage → ResponseMessage → Bool
-same_response r s = bytes_eq r.id s.id && same_entry r.entry s.entry && r.reason == s.reason && r.code == s.code && bytes_eq r.kind s.kind && bytes_eq r.reference s.reference
+same_response r s = bytes_eq r.id s.id && same_entry r.entry s.entry && r.reason == s.reason
+    && r.code == s.code && bytes_eq r.kind s.kind && bytes_eq r.reference s.reference
 
 -- ---- commands
 
@@ -60,11 +65,14 @@ abbrev pub body_with : Command → Copied → Body
 body_with commands.Submit part = bodies.Submit part
 body_with commands.Return part = bodies.Return part
 
--- a sender's command with a part has to be the command of the spawn that its params name, and the part this spawn's
+-- a sender's command with a part has to be the command of the spawn that its params name, and the
+-- part this spawn's
 unfoldable pub command_body : List ℕ → CommandMessage → RawPart → Option Body
 command_body sender c p = do
   spawn ← spawn_of (entry_of c.params)
-  _ ← provided (same_command c (command_for sender (command_of c.params) spawn) && bytes_eq p.spawn (spawn_text spawn))
+  _ ← provided
+      (same_command c (command_for sender (command_of c.params) spawn)
+      && bytes_eq p.spawn (spawn_text spawn))
   Some (body_with (command_of c.params) (copied p))
 
 -- ---- responses
@@ -84,7 +92,8 @@ abbrev pub result_in : ℕ → Option QueueEntry → Option (Result QueueStatus 
 result_in reason (Some e) = option_map Ok (status_named e.status)
 result_in reason None = provided (is_reason reason) >>= λ _. Some (Err reason)
 
--- a response has to be that to the command that its Type and its refID name, with the result that it tells
+-- a response has to be that to the command that its Type and its refID name, with the result that
+-- it tells
 unfoldable pub response_body : ResponseMessage → Option Body
 response_body r = do
   asked ← command_named r.kind

@@ -3,6 +3,7 @@
 ghost use Rattle.std.specs.Prelude.{◌≡◌, ◌⊎◌, None, Ok, Some, false, true, IfOk, IfErr, OnOk};
 ghost use Rattle.serde_json.specs.View.{view};
 ghost use Rattle.json_forms.specs.Judged.{Answers};
+ghost use Rattle.json_reader.specs.DraftedPart.{drafted_part};
 ghost use Rattle.jmf_message.specs.Decoded as decoded;
 ghost use Rattle.jmf_message.specs.Drafted.{drafted_document};
 ghost use Rattle.jmf_message.specs.Said as said;
@@ -65,8 +66,8 @@ fn command(
     part: &PartDraft<'_>,
 ) -> Result<Message, Refusal>
     ensures answers { Answers result (decoded.message_saying
-        (record { jmf = jmf.now; part = Some part.now })
-        (said.command_body jmf.now.sender command.now part.now)) }
+        (record { jmf = jmf.now; part = Some (drafted_part part.now) })
+        (said.command_body jmf.now.sender command.now (drafted_part part.now))) }
     ensures sent { IfOk result (λ message. may_be_sent message.body ≡ true) }
 {
     if !is_right_command(alloc, jmf.sender.as_str(), command, part)? {

@@ -15,9 +15,11 @@ pub struct DocumentDraft<'a> {
 
 impl<'a> DocumentDraft<'a> {
     ghost use Rattle.std.specs.Prelude.{◌≡◌, codes};
+    ghost use Rattle.std.specs.Option.{option_map};
     ghost use Rattle.serde_json.specs.Find.{get};
     ghost use Rattle.serde_json.specs.View.{view};
     ghost use Rattle.json_forms.specs.Read.{Gives};
+    ghost use Rattle.json_reader.specs.DraftedPart.{drafted_part};
     ghost use Rattle.jmf_message.specs.DocumentForm as forms;
     ghost use Rattle.jmf_message.specs.Drafted.{drafted_document};
 
@@ -27,7 +29,7 @@ impl<'a> DocumentDraft<'a> {
         family: &Family,
         document: &'a Value,
     ) -> Result<Option<PartDraft<'a>>, Refusal>
-        ensures { Gives (λ part. part) result
+        ensures { Gives (option_map drafted_part) result
             (forms.part_beside family.now (get (codes "JDF") (view document.now))) }
     {
         let part = document.get("JDF");

@@ -3,6 +3,7 @@
 ghost use Rattle.std.specs.Prelude.{◌≡◌, Err, Ok, is_some, true, IfOk, IfSome};
 ghost use Rattle.std.specs.Option.{option_map, option_map_or};
 ghost use Rattle.json_forms.specs.Judged.{Answers};
+ghost use Rattle.json_reader.specs.DraftedPart.{drafted_part};
 ghost use Rattle.jmf_message.specs.Said as said;
 ghost use Rattle.message_items.specs.Words.{is_told, may_be_sent};
 
@@ -24,7 +25,7 @@ pub fn is_right_command(
     part: &PartDraft<'_>,
 ) -> Result<bool, AllocError>
     ensures { IfOk result (λ right. right
-        ≡ is_some (said.command_body sender.now command.now part.now)) }
+        ≡ is_some (said.command_body sender.now command.now (drafted_part part.now))) }
 {
     let entry = command.params.entry();
     let Ok(spawn) = SpawnId::parse(entry) else {

@@ -1,18 +1,21 @@
 -- The form of tickets: from JSON data to a draft, which is a ticket by its members and their kinds
--- alone. Its names and texts may be any bytes, its rows no tree's, and its resources may show spawns.
-use Rattle.std.specs.Prelude.{ℕ, ◌+◌, Bool, List, [], ◌∷◌, ◌++◌, map, codes, min, Option, Some, None}
+-- alone. Its names and texts may be any bytes, its rows no tree's, and its resources may show
+-- spawns.
+use Rattle.std.specs.Prelude.{ℕ, ◌+◌, Bool, List, [], ◌∷◌, ◌++◌, map, codes, min, Option, Some}
+use Rattle.std.specs.Prelude.{None}
 use Rattle.std.specs.List.{list_all}
 use Rattle.std.specs.Option.{option_map}
 use Rattle.std.specs.Ordering.{nat_cmp, match_ordering}
 use Rattle.std.specs.Cmp.Lexicographic.{slice_cmp}
-use Rattle.serde_json.specs.Data.{Data, Items, no_items, item, Members, no_members, member, null, boolean, number, string, array, object}
+use Rattle.serde_json.specs.Data.{Data, Items, no_items, item, Members, no_members, member, null}
+use Rattle.serde_json.specs.Data.{boolean, number, string, array, object}
 use Rattle.serde_json.specs.Find.{get}
 use Rattle.ticket_rows.specs.Ticket.{Job}
 use Rattle.ticket_items.specs.declared.resource.Resource.{Resource}
 use Rattle.ticket_items.specs.declared.node_row.NodeRow.{NodeRow}
 use Rattle.json_form.specs.AuditDraft.{audit_draft}
 use Rattle.json_form.specs.Listed.{pool_draft}
-use Rattle.json_form.specs.PoolDraft.{RawResource, resource_draft, link_draft}
+use Rattle.json_form.specs.PoolDraft.{Marked, resource_draft, link_draft}
 use Rattle.json_form.specs.PoolForm.{shows_nothing}
 use Rattle.json_form.specs.Read.{◌>>=◌, provided, has_only, text_under, attrs_of}
 
@@ -21,27 +24,29 @@ use Rattle.json_form.specs.Read.{◌>>=◌, provided, has_only, text_under, attr
 -- what may stand in a node
 abbrev pub node_members : List (List ℕ)
 node_members =
-    codes "Attr" ∷ codes "AuditPool" ∷ codes "ID" ∷ codes "JDF" ∷ codes "JobPartID" ∷ codes "ResourceLinkPool" ∷ codes "ResourcePool" ∷ codes "Status" ∷ codes "Type" ∷ []
+    codes "Attr" ∷ codes "AuditPool" ∷ codes "ID" ∷ codes "JDF" ∷ codes "JobPartID"
+    ∷ codes "ResourceLinkPool" ∷ codes "ResourcePool" ∷ codes "Status" ∷ codes "Type" ∷ []
 
 -- what may stand in a ticket's root
 abbrev pub root_members : List (List ℕ)
 root_members = codes "JobID" ∷ node_members
 
--- the depth of a child, counted no further than 33: one more than a ticket may have, so that each depth fits
+-- the depth of a child, counted no further than 33: one more than a ticket may have, so that each
+-- depth fits
 abbrev pub next_depth : ℕ → ℕ
 next_depth depth = min (depth + 1) 33
 
 -- a node's row, and its resources with what they show of spawns
 pub record RawRow : Type 0 where
   pub row : NodeRow
-  pub pool : List RawResource
+  pub pool : List Marked
 
 -- the resources, without what they show
-abbrev pub resources_of : List RawResource → List Resource
+abbrev pub resources_of : List Marked → List Resource
 resources_of raws = map (λ r. r.resource) raws
 
 -- whether none of them shows anything
-abbrev pub are_bare : List RawResource → Bool
+abbrev pub are_bare : List Marked → Bool
 are_bare raws = list_all (λ r. shows_nothing r.shown) raws
 
 -- a node without its children
@@ -57,7 +62,17 @@ own_row names depth d = do
   links ← pool_draft link_draft (get (codes "ResourceLinkPool") d)
   audits ← pool_draft audit_draft (get (codes "AuditPool") d)
   Some (record {
-    row = record { id = id; depth = depth; kind = kind; job_part = job_part; status = status; attrs = attrs; resources = resources_of resources; links = links; audits = audits };
+    row = record {
+      id = id;
+      depth = depth;
+      kind = kind;
+      job_part = job_part;
+      status = status;
+      attrs = attrs;
+      resources = resources_of resources;
+      links = links;
+      audits = audits;
+    };
     pool = resources;
   })
 
@@ -69,12 +84,15 @@ abbrev mutual
   node_rows names depth (number n) = None
   node_rows names depth (string s) = None
   node_rows names depth (array ds) = None
-  node_rows names depth (object ms) = own_row names depth (object ms) >>= λ row. option_map (λ rows. row ∷ rows) (child_rows (next_depth depth) ms)
+  node_rows names depth (object ms) = own_row names depth (object ms) >>=
+      λ row. option_map (λ rows. row ∷ rows) (child_rows (next_depth depth) ms)
 
   -- the children under `JDF`, none where it is absent
   pub child_rows : ℕ → Members → Option (List RawRow)
   child_rows depth no_members = Some []
-  child_rows depth (member k d ms) = match_ordering (slice_cmp nat_cmp (codes "JDF") k) (child_rows depth ms) (list_rows depth d) (child_rows depth ms)
+  child_rows depth (member k d ms) =
+      match_ordering (slice_cmp nat_cmp (codes "JDF") k) (child_rows depth ms) (list_rows depth d)
+      (child_rows depth ms)
 
   pub list_rows : ℕ → Data → Option (List RawRow)
   list_rows depth null = None
@@ -86,7 +104,8 @@ abbrev mutual
 
   pub item_rows : ℕ → Items → Option (List RawRow)
   item_rows depth no_items = Some []
-  item_rows depth (item d ds) = node_rows node_members depth d >>= λ first. option_map (λ rest. first ++ rest) (item_rows depth ds)
+  item_rows depth (item d ds) = node_rows node_members depth d >>=
+      λ first. option_map (λ rest. first ++ rest) (item_rows depth ds)
 
 -- ---- tickets
 
@@ -97,7 +116,11 @@ pub record RawTicket : Type 0 where
 
 -- the ticket of a job with these nodes
 abbrev pub raw_ticket : List ℕ → List RawRow → RawTicket
-raw_ticket job raws = record { job = record { job_id = job; rows = map (λ r. r.row) raws }; bare = list_all (λ r. are_bare r.pool) raws }
+raw_ticket job raws =
+    record {
+      job = record { job_id = job; rows = map (λ r. r.row) raws };
+      bare = list_all (λ r. are_bare r.pool) raws;
+    }
 
 unfoldable pub ticket_draft : Data → Option RawTicket
 ticket_draft d = do

@@ -1,5 +1,6 @@
--- The value that JSON data is, or the first refusal of it: `NotProfile`, `BadId`, `BadText`, and then what is wrong with a ticket.
-use Rattle.std.specs.Prelude.{◌&&◌, Bool, true, [], ◌∷◌, Option, Result, Err}
+-- The value that JSON data is, or the first refusal of it: `NotProfile`, `BadId`, `BadText`, and
+-- then what is wrong with a ticket.
+use Rattle.std.specs.Prelude.{◌&&◌, Bool, [], ◌∷◌, Option, Result, Err}
 use Rattle.std.specs.List.{list_all}
 use Rattle.std.specs.Option.{option_map_or}
 use Rattle.serde_json.specs.Data.{Data}
@@ -7,30 +8,35 @@ use Rattle.ticket_items.specs.Names.{is_name, is_text}
 use Rattle.ticket_rows.specs.Ticket.{Job, fault_of, unless, first_of}
 use Rattle.ticket_items.specs.declared.node_row.NodeRow.{NodeRow}
 use Rattle.ticket_items.specs.declared.edit.Edit.{Edit}
-use Rattle.ticket_items.specs.declared.edit.Edit.TheVariants.{SetStatus, SetAttr, SetResStatus, SetResAttr, Note, AddNode, AddResource, AddLink}
 use Rattle.ticket_items.specs.declared.refusal.Refusal.{Refusal}
-use Rattle.ticket_items.specs.declared.refusal.Refusal.TheVariants.{NotProfile, BadId, BadText, ReservedStatus}
-pub use Rattle.json_forms.specs.Judged.{sound, judged, Answers}
+use Rattle.ticket_items.specs.declared.refusal.Refusal.TheVariants.{NotProfile, BadId, BadText}
+use Rattle.ticket_items.specs.declared.refusal.Refusal.TheVariants.{ReservedStatus}
+pub use Rattle.json_forms.specs.Edits.{edit_has_names, edit_has_texts}
+pub use Rattle.json_forms.specs.Judged.{sound, judged, first_fault, Answers}
 use Rattle.json_form.specs.Draft.{RawTicket, ticket_draft}
 use Rattle.json_form.specs.EditDraft.{edit_draft}
-use Rattle.json_form.specs.PoolForm.{resource_has_names, resource_has_texts, link_has_names, audit_has_names, audit_has_texts}
+use Rattle.json_form.specs.PoolForm.{resource_has_names, resource_has_texts, link_has_names}
+use Rattle.json_form.specs.PoolForm.{audit_has_names, audit_has_texts}
 
 -- ---- names and texts
 
 -- the id and the names of a node itself
 unfoldable pub node_has_names : NodeRow → Bool
-node_has_names r = is_name r.id && is_name r.kind && is_name r.job_part && is_name r.status && list_all (λ p. is_name p.0) r.attrs
+node_has_names r = is_name r.id && is_name r.kind && is_name r.job_part && is_name r.status
+    && list_all (λ p. is_name p.0) r.attrs
 
 -- those in its pools
 unfoldable pub pools_have_names : NodeRow → Bool
-pools_have_names r = list_all resource_has_names r.resources && list_all link_has_names r.links && list_all audit_has_names r.audits
+pools_have_names r = list_all resource_has_names r.resources && list_all link_has_names r.links
+    && list_all audit_has_names r.audits
 
 abbrev pub row_has_names : NodeRow → Bool
 row_has_names r = node_has_names r && pools_have_names r
 
 -- the texts of a node and of its pools
 unfoldable pub row_has_texts : NodeRow → Bool
-row_has_texts r = list_all (λ p. is_text p.1) r.attrs && list_all resource_has_texts r.resources && list_all audit_has_texts r.audits
+row_has_texts r = list_all (λ p. is_text p.1) r.attrs && list_all resource_has_texts r.resources
+    && list_all audit_has_texts r.audits
 
 abbrev pub job_has_names : Job → Bool
 job_has_names t = is_name t.job_id && list_all row_has_names t.rows
@@ -46,39 +52,21 @@ has_names t = job_has_names t.job
 abbrev pub has_texts : RawTicket → Bool
 has_texts t = job_has_texts t.job
 
-abbrev pub edit_has_names : Edit → Bool
-edit_has_names (SetStatus node status) = is_name node && is_name status
-edit_has_names (SetAttr node name value) = is_name node && is_name name
-edit_has_names (SetResStatus resource status) = is_name resource && is_name status
-edit_has_names (SetResAttr resource name value) = is_name resource && is_name name
-edit_has_names (Note node text) = is_name node
-edit_has_names (AddNode node id kind job_part status) = is_name node && is_name id && is_name kind && is_name job_part && is_name status
-edit_has_names (AddResource node resource) = is_name node && resource_has_names resource
-edit_has_names (AddLink node link) = is_name node && link_has_names link
-
-abbrev pub edit_has_texts : Edit → Bool
-edit_has_texts (SetStatus node status) = true
-edit_has_texts (SetAttr node name value) = is_text value
-edit_has_texts (SetResStatus resource status) = true
-edit_has_texts (SetResAttr resource name value) = is_text value
-edit_has_texts (Note node text) = is_text text
-edit_has_texts (AddNode node id kind job_part status) = true
-edit_has_texts (AddResource node resource) = resource_has_texts resource
-edit_has_texts (AddLink node link) = true
-
 -- ---- faults
 
--- what is wrong with the draft of a ticket whose names and texts are such: marks of spawns, which no original has, then its rows
+-- what is wrong with the draft of a ticket whose names and texts are such: marks of spawns, which
+-- no original has, then its rows
 abbrev pub built_fault : RawTicket → Option Refusal
 built_fault t = first_of (unless t.bare ReservedStatus ∷ fault_of t.job.rows ∷ [])
 
 -- what is wrong with the draft of a ticket
 abbrev pub ticket_fault : RawTicket → Option Refusal
-ticket_fault t = first_of (unless (has_names t) BadId ∷ unless (has_texts t) BadText ∷ built_fault t ∷ [])
+ticket_fault t =
+    first_of (unless (has_names t) BadId ∷ unless (has_texts t) BadText ∷ built_fault t ∷ [])
 
 -- what is wrong with the draft of an edit
 abbrev pub edit_fault : Edit → Option Refusal
-edit_fault e = first_of (unless (edit_has_names e) BadId ∷ unless (edit_has_texts e) BadText ∷ [])
+edit_fault e = first_fault edit_has_names edit_has_texts e
 
 -- ---- what data is read as
 

@@ -1,7 +1,6 @@
 pub mod Read
 pub mod Draft
 pub mod EditDraft
-pub mod Lent
 pub mod Form
 pub mod Listed
 pub mod PoolDraft

@@ -1,80 +1,52 @@
--- The form of parts: from JSON data to a draft, which is a part by its members and their kinds alone, and by what its resources
+-- The form of parts: from JSON data to a draft, which is a part by its members and their kinds
+-- alone, and by what its resources
 -- show. Its ids, names and texts may be any bytes, and its rows no tree's.
-use Rattle.std.specs.Prelude.{ℕ, ◌&&◌, ◌==◌, Bool, true, false, not, List, [], ◌∷◌, length, map, drop, codes, take_while, Option, Some, None}
+use Rattle.std.specs.Prelude.{ℕ, Bool, List, [], ◌∷◌, map, drop, codes, take_while, Option, Some}
+use Rattle.std.specs.Prelude.{None}
 use Rattle.std.specs.List.{list_all, prefix_len}
-use Rattle.std.specs.Str.{bytes_eq}
 use Rattle.serde_json.specs.Data.{Data}
 use Rattle.ticket_items.specs.declared.ancestor.Ancestor.{Ancestor}
 use Rattle.ticket_items.specs.declared.node_row.NodeRow.{NodeRow}
 use Rattle.ticket_items.specs.declared.resource.Resource.{Resource}
-use Rattle.ticket_items.specs.declared.spawn_status.SpawnStatus.{SpawnStatus}
-use Rattle.ticket_items.specs.declared.spawn_status.SpawnStatus.TheVariants.{NotSpawned, SpawnedRO, SpawnedRW}
 use Rattle.json_form.specs.Draft.{RawRow, root_members, node_rows, resources_of, are_bare}
 use Rattle.json_form.specs.Listed.{each, items_under}
-use Rattle.json_form.specs.PoolDraft.{RawResource}
+use Rattle.json_form.specs.PoolDraft.{Marked}
 use Rattle.json_form.specs.PoolForm.{shows_nothing}
 use Rattle.json_form.specs.Read.{◌>>=◌, provided, has_only, text_under}
-use Rattle.json_form.specs.declared.shown.Shown.{Shown}
 unfoldable pub use Rattle.json_forms.specs.Ancestors.{ancestor_draft}
-
--- ---- what the copies of a part show
-
--- a copy that may be changed (JDF 1.5, 3.8 and 4.4)
-abbrev pub shown_rw : List ℕ → Shown
-shown_rw spawn = record { locked = false; spawn_ids = spawn ∷ []; spawn_status = SpawnedRW }
-
--- a copy that may be read alone
-abbrev pub shown_ro : List ℕ → Shown
-shown_ro spawn = record { locked = true; spawn_ids = spawn ∷ []; spawn_status = SpawnedRO }
-
--- whether they are this text once, and nothing else
-abbrev pub are_only : List ℕ → List (List ℕ) → Bool
-are_only x texts = (length texts == 1) && list_all (λ y. bytes_eq y x) texts
-
-abbrev pub is_spawned_rw : SpawnStatus → Bool
-is_spawned_rw NotSpawned = false
-is_spawned_rw SpawnedRO = false
-is_spawned_rw SpawnedRW = true
-
-abbrev pub is_spawned_ro : SpawnStatus → Bool
-is_spawned_ro NotSpawned = false
-is_spawned_ro SpawnedRO = true
-is_spawned_ro SpawnedRW = false
-
--- whether a resource shows what a copy to change does, of the spawn of this text
-abbrev pub shows_change : List ℕ → Shown → Bool
-shows_change spawn s = not s.locked && are_only spawn s.spawn_ids && is_spawned_rw s.spawn_status
-
--- and what a copy to read does
-abbrev pub shows_read : List ℕ → Shown → Bool
-shows_read spawn s = s.locked && are_only spawn s.spawn_ids && is_spawned_ro s.spawn_status
+pub use Rattle.json_forms.specs.Shown.{shown_rw, shown_ro, shows_change, shows_read}
 
 -- ---- the three groups of the resources of a part's root
 
 pub record Groups : Type 0 where
-  pub own : List RawResource
-  pub rw : List RawResource
-  pub ro : List RawResource
+  pub own : List Marked
+  pub rw : List Marked
+  pub ro : List Marked
 
 -- what stands behind the resources in front that pass a test
-abbrev pub behind : (RawResource → Bool) → List RawResource → List RawResource
+abbrev pub behind : (Marked → Bool) → List Marked → List Marked
 behind p raws = drop (prefix_len p raws) raws
 
-abbrev pub is_own : RawResource → Bool
+abbrev pub is_own : Marked → Bool
 is_own r = shows_nothing r.shown
 
-abbrev pub is_change : List ℕ → RawResource → Bool
+abbrev pub is_change : List ℕ → Marked → Bool
 is_change spawn r = shows_change spawn r.shown
 
-abbrev pub is_read : List ℕ → RawResource → Bool
+abbrev pub is_read : List ℕ → Marked → Bool
 is_read spawn r = shows_read spawn r.shown
 
 -- the root's own resources in front, then the copies to change, and all others are copies to read
-abbrev pub grouped : List ℕ → List RawResource → Option Groups
+abbrev pub grouped : List ℕ → List Marked → Option Groups
 grouped spawn pool =
     let copies = behind is_own pool in
     let last = behind (is_change spawn) copies in
-    provided (list_all (is_read spawn) last) >>= λ _. Some (record { own = take_while is_own pool; rw = take_while (is_change spawn) copies; ro = last })
+    provided (list_all (is_read spawn) last) >>=
+    λ _. Some (record {
+      own = take_while is_own pool;
+      rw = take_while (is_change spawn) copies;
+      ro = last;
+    })
 
 -- ---- rows and copies
 
@@ -85,12 +57,18 @@ pub record Taken : Type 0 where
   pub ro : List Resource
 
 abbrev pub taken_groups : NodeRow → List RawRow → Groups → Taken
-taken_groups root raws g = record { rows = record root { resources = resources_of g.own } ∷ map (λ r. r.row) raws; rw = resources_of g.rw; ro = resources_of g.ro }
+taken_groups root raws g =
+    record {
+      rows = record root { resources = resources_of g.own } ∷ map (λ r. r.row) raws;
+      rw = resources_of g.rw;
+      ro = resources_of g.ro;
+    }
 
 -- the copies taken out of the root's pool. The resources of the other nodes show nothing
 abbrev pub taken : List ℕ → List RawRow → Option Taken
 taken spawn [] = None
-taken spawn (root ∷ raws) = provided (list_all (λ r. are_bare r.pool) raws) >>= λ _. grouped spawn root.pool >>= λ g. Some (taken_groups root.row raws g)
+taken spawn (root ∷ raws) = provided (list_all (λ r. are_bare r.pool) raws) >>=
+    λ _. grouped spawn root.pool >>= λ g. Some (taken_groups root.row raws g)
 
 -- ---- ancestors
 
@@ -115,7 +93,15 @@ part_members = codes "AncestorPool" ∷ codes "SpawnID" ∷ root_members
 
 -- the part of these rows and copies
 abbrev pub raw_part : List ℕ → List ℕ → List Ancestor → Taken → RawPart
-raw_part job spawn ancestors t = record { job_id = job; spawn = spawn; ancestors = ancestors; rows = t.rows; rw = t.rw; ro = t.ro }
+raw_part job spawn ancestors t =
+    record {
+      job_id = job;
+      spawn = spawn;
+      ancestors = ancestors;
+      rows = t.rows;
+      rw = t.rw;
+      ro = t.ro;
+    }
 
 unfoldable pub part_draft : Data → Option RawPart
 part_draft d = do

@@ -1,4 +1,5 @@
--- The part that JSON data is, or the first refusal of it: `NotProfile`, `BadId`, `BadText`, and then what is wrong with its rows,
+-- The part that JSON data is, or the first refusal of it: `NotProfile`, `BadId`, `BadText`, and
+-- then what is wrong with its rows,
 -- with the copies as resources of the root.
 use Rattle.std.specs.Prelude.{◌&&◌, Bool, List, [], ◌∷◌, Option, Result, Err, is_some, unwrap_or}
 use Rattle.std.specs.List.{list_all}
@@ -9,6 +10,7 @@ use Rattle.ticket_tree.specs.Part.{Copied}
 use Rattle.ticket_rows.specs.Copies.{with_copies}
 use Rattle.ticket_items.specs.SpawnId.{spawn_of}
 use Rattle.ticket_rows.specs.Ticket.{fault_of, unless, first_of}
+use Rattle.ticket_items.specs.declared.node_row.NodeRow.{NodeRow}
 use Rattle.ticket_items.specs.declared.refusal.Refusal.{Refusal}
 use Rattle.ticket_items.specs.declared.refusal.Refusal.TheVariants.{NotProfile, BadId, BadText}
 use Rattle.ticket_items.specs.declared.resource.Resource.{Resource}
@@ -19,10 +21,12 @@ unfoldable pub use Rattle.json_forms.specs.Ancestors.{ancestor_has_names}
 
 -- whether all ids and names of copies are such
 abbrev pub copies_have_names : List Resource → List Resource → Bool
-copies_have_names changes reads = list_all resource_has_names changes && list_all resource_has_names reads
+copies_have_names changes reads = list_all resource_has_names changes
+    && list_all resource_has_names reads
 
 abbrev pub copies_have_texts : List Resource → List Resource → Bool
-copies_have_texts changes reads = list_all resource_has_texts changes && list_all resource_has_texts reads
+copies_have_texts changes reads = list_all resource_has_texts changes
+    && list_all resource_has_texts reads
 
 -- whether the job's id is such, and the spawn's, which has a form of its own
 abbrev pub has_ids : RawPart → Bool
@@ -44,17 +48,29 @@ has_names p = has_own_names p && copies_have_names p.rw p.ro
 abbrev pub has_texts : RawPart → Bool
 has_texts p = list_all row_has_texts p.rows && copies_have_texts p.rw p.ro
 
+-- the rows with the copies as resources of the root
+abbrev pub all_rows : RawPart → List NodeRow
+all_rows p = with_copies p.rows p.rw p.ro
+
 -- what is wrong with the draft of a part whose names and texts are such
 abbrev pub built_fault : RawPart → Option Refusal
-built_fault p = fault_of (with_copies p.rows p.rw p.ro)
+built_fault p = fault_of (all_rows p)
 
 -- what is wrong with the draft of a part
 abbrev pub part_fault : RawPart → Option Refusal
-part_fault p = first_of (unless (has_names p) BadId ∷ unless (has_texts p) BadText ∷ built_fault p ∷ [])
+part_fault p =
+    first_of (unless (has_names p) BadId ∷ unless (has_texts p) BadText ∷ built_fault p ∷ [])
 
 -- the part of a draft whose names are such
 abbrev pub copied : RawPart → Copied
-copied p = record { job_id = p.job_id; spawn_id = unwrap_or (spawn_of p.spawn) 0; ancestors = p.ancestors; rows = p.rows; rw = p.rw; ro = p.ro }
+copied p = record {
+  job_id = p.job_id;
+  spawn_id = unwrap_or (spawn_of p.spawn) 0;
+  ancestors = p.ancestors;
+  rows = p.rows;
+  rw = p.rw;
+  ro = p.ro;
+}
 
 -- the part that the data is
 abbrev pub part_read : Data → Result Copied Refusal

@@ -1,5 +1,10 @@
+pub mod Attributes
 pub mod AuditNames
-pub mod Lists
-pub mod Members
+pub mod EditNames
+pub mod ListLemmas
+pub mod MemberLemmas
 pub mod Objects
+pub mod Pairs
+pub mod ResourceNames
 pub mod Tests
+pub mod Wholes

@@ -1,6 +1,7 @@
 -- Tests of lists.
-use Rattle.std.proofs.Common.{◌≡◌, Bool, true, List, [], ◌∷◌, map, refl}
-use Rattle.std.proofs.lemmas.List.Folds.{list_all-map}
+use Rattle.std.proofs.Common.{◌≡◌, ℕ, ◌<◌, Bool, true, false, List, [], ◌∷◌, length, get_or, map, refl, sym, ap, ◌∙◌}
+use Rattle.std.proofs.lemmas.Bool.{true≢false}
+use Rattle.std.proofs.lemmas.List.Folds.{list_all-map, list_all_at}
 use Rattle.std.specs.List.{list_all}
 
 -- a test of what each item is made into
@@ -11,3 +12,16 @@ all_mapped test made xs = list_all-map test made xs
 pub all_true : {X : Type 0} (xs : List X) → list_all (λ _. true) xs ≡ true
 all_true [] = refl
 all_true (x ∷ xs) = all_true xs
+
+-- what is made into itself
+pub themselves : {X : Type 0} (xs : List X) → map (λ x. x) xs ≡ xs
+themselves [] = refl
+themselves (x ∷ xs) = ap (λ ys. x ∷ ys) (themselves xs)
+
+not_false : (b : Bool) → (b ≡ false → ⊥) → b ≡ true
+not_false true h = refl
+not_false false h = absurd (h refl)
+
+-- what holds of all holds of each
+pub list_all-at : {X : Type 0} (p : X → Bool) (xs : List X) (i : ℕ) (d : X) → i < length xs → list_all p xs ≡ true → p (get_or xs i d) ≡ true
+list_all-at p xs i d within all = not_false (p (get_or xs i d)) (λ no. true≢false (sym all ∙ list_all_at p xs i d within no))

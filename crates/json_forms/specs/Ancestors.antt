@@ -20,4 +20,6 @@ unfoldable pub ancestor_has_names : Ancestor → Bool
 ancestor_has_names a = is_name a.node_id && is_name a.job_part
 
 abbrev pub ancestor_data : Ancestor → Data
-ancestor_data a = object (member (codes "JobPartID") (string a.job_part) (member (codes "NodeID") (string a.node_id) no_members))
+ancestor_data a =
+    object (member (codes "JobPartID") (string a.job_part)
+    (member (codes "NodeID") (string a.node_id) no_members))

@@ -1,7 +1,8 @@
 -- What reading answers: the value, or the first refusal of it.
 use Rattle.std.specs.Prelude.{◌≡◌, ◌⊎◌, Bool, Option, Some, None, Result, Ok, Err, if◌then◌else◌}
 use Rattle.ticket_items.specs.declared.refusal.Refusal.{Refusal}
-use Rattle.ticket_items.specs.declared.refusal.Refusal.TheVariants.{NotProfile, BadId, BadText, Memory}
+use Rattle.ticket_items.specs.declared.refusal.Refusal.TheVariants.{NotProfile, BadId, BadText}
+use Rattle.ticket_items.specs.declared.refusal.Refusal.TheVariants.{Memory}
 
 -- the value, unless something is wrong with it
 abbrev pub sound : {X : Type 0} → Option Refusal → X → Result X Refusal
@@ -15,7 +16,8 @@ judged fault (Some x) = sound (fault x) x
 
 -- what is wrong with a draft: first its ids and names, then its texts
 abbrev pub first_fault : {X : Type 0} → (X → Bool) → (X → Bool) → X → Option Refusal
-first_fault has_names has_texts x = if has_names x then (if has_texts x then None else Some BadText) else Some BadId
+first_fault has_names has_texts x =
+    if has_names x then (if has_texts x then None else Some BadText) else Some BadId
 
 -- what a reader answered is what is read, unless memory ran out
 abbrev pub Answers : {X : Type 0} → Result X Refusal → Result X Refusal → Type 0

@@ -5,4 +5,10 @@ pub mod Ancestors
 pub mod Audits
 pub mod DraftedAudits
 pub mod Links
+pub mod Attributes
+pub mod Shown
+pub mod Resources
+pub mod DraftedResources
+pub mod Edits
+pub mod DraftedEdits
 pub mod Again

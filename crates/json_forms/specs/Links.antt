@@ -13,7 +13,9 @@ use Rattle.json_forms.specs.Read.{◌>>=◌, provided, has_only, text_under}
 
 -- that of a word
 abbrev pub usage_named : List ℕ → Option Usage
-usage_named word = if bytes_eq word (codes "Input") then Some Input else (if bytes_eq word (codes "Output") then Some Output else None)
+usage_named word =
+    if bytes_eq word (codes "Input") then Some Input else
+    (if bytes_eq word (codes "Output") then Some Output else None)
 
 abbrev pub usage_word : Usage → List ℕ
 usage_word Input = codes "Input"
@@ -43,4 +45,6 @@ abbrev pub link_has_names : Link → Bool
 link_has_names l = is_name l.rref
 
 abbrev pub link_data : Link → Data
-link_data l = object (member (codes "Usage") (string (usage_word l.usage)) (member (codes "rRef") (string l.rref) no_members))
+link_data l =
+    object (member (codes "Usage") (string (usage_word l.usage))
+    (member (codes "rRef") (string l.rref) no_members))

@@ -1,5 +1,6 @@
 -- Reading JSON data: one member, and what a reader answers.
-use Rattle.std.specs.Prelude.{◌≡◌, ℕ, ◌&&◌, Bool, true, false, List, [], ◌∷◌, ◌++◌, Option, Some, None, Result, Ok, Err, ⊤}
+use Rattle.std.specs.Prelude.{◌≡◌, ℕ, ◌&&◌, Bool, true, false, List, [], ◌∷◌, ◌++◌, Option, Some}
+use Rattle.std.specs.Prelude.{None, Result, Ok, Err, ⊤}
 use Rattle.std.specs.Option.{option_map, option_and_then, option_map_or}
 use Rattle.serde_json.specs.Data.{Data, Members, no_members, member}
 use Rattle.serde_json.specs.Find.{get, as_str, as_number, as_u64, as_object}
@@ -48,10 +49,13 @@ abbrev pub text_pairs : Members → Option Pairs
 text_pairs no_members = Some []
 text_pairs (member k d ms) = as_str d >>= λ s. option_map (λ ps. (k, s) ∷ ps) (text_pairs ms)
 
+-- an object of texts
+abbrev pub attrs_draft : Data → Option Pairs
+attrs_draft d = option_and_then text_pairs (as_object d)
+
 -- an object of texts, empty where it is absent
 abbrev pub attrs_of : Option Data → Option Pairs
-attrs_of None = Some []
-attrs_of (Some d) = option_and_then text_pairs (as_object d)
+attrs_of found = option_map_or attrs_draft found (Some [])
 
 -- ---- what a reader answers
 
@@ -65,7 +69,10 @@ abbrev pub Gives : {X Y : Type 0} → (X → Y) → Result X Refusal → Option 
 Gives view (Ok x) read = read ≡ Some (view x)
 Gives view (Err e) read = Fails e read
 
--- the list has grown by what is read, seen by view; or there is nothing to read, unless memory ran out
-abbrev pub Adds : {X Y : Type 0} → (List X → List Y) → List X → List X → Result ⊤ Refusal → Option (List Y) → Type 0
-Adds {X} {Y} view old new (Ok u) read = (added : List Y) × (read ≡ Some added) × (view new ≡ view old ++ added)
+-- the list has grown by what is read, seen by view; or there is nothing to read, unless memory ran
+-- out
+abbrev pub Adds : {X Y : Type 0} → (List X → List Y) → List X → List X → Result ⊤ Refusal
+    → Option (List Y) → Type 0
+Adds {X} {Y} view old new (Ok u) read = (added : List Y) × (read ≡ Some added)
+    × (view new ≡ view old ++ added)
 Adds view old new (Err e) read = Fails e read

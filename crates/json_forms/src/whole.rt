@@ -1,8 +1,8 @@
 //! Reading and writing a value as a whole.
 
-ghost use Rattle.std.specs.Prelude.{◌≡◌, true, Some, IfOk, OnOk};
+ghost use Rattle.std.specs.Prelude.{◌≡◌, true, Some, Ok, IfOk, OnOk};
 ghost use Rattle.serde_json.specs.View.{view};
-ghost use Rattle.json_forms.specs.Judged.{Answers, first_fault, judged};
+ghost use Rattle.json_forms.specs.Judged.{Answers, first_fault, judged, sound};
 
 use crate::draft::Draft;
 use crate::written::Written;
@@ -10,13 +10,13 @@ use serde_json::Value;
 use std::alloc::{AllocError, Global};
 use ticket_items::Refusal;
 
-/// The whole of a draft. Refuses the first of `BadId` and `BadText` that stands in the draft, and
+/// The whole of a draft. Refuses the first of `BadId` and `BadText` that stands in it, and
 /// `Memory`.
-pub fn whole_of<'a, D: Draft<'a>>(alloc: Global, value: &'a Value) -> Result<D::Whole, Refusal>
+pub fn whole_from<'a, D: Draft<'a>>(alloc: Global, draft: &D) -> Result<D::Whole, Refusal>
     ensures { Answers result
-        (judged (first_fault D.Whole.has_names D.Whole.has_texts) (D.Whole.form (view value.now))) }
+        (sound (first_fault D.Whole.has_names D.Whole.has_texts (D.drafted draft.now))
+        (D.drafted draft.now)) }
 {
-    let draft = D::of(alloc, value)?;
     if !draft.has_names() {
         return Err(Refusal::BadId);
     }
@@ -26,12 +26,25 @@ pub fn whole_of<'a, D: Draft<'a>>(alloc: Global, value: &'a Value) -> Result<D::
     draft.build(alloc)
 }
 
+/// The whole that a value is. Refuses the first of `NotProfile`, `BadId` and `BadText` that stands
+/// in it, and `Memory`.
+pub fn whole_of<'a, D: Draft<'a>>(alloc: Global, value: &'a Value) -> Result<D::Whole, Refusal>
+    ensures { Answers result
+        (judged (first_fault D.Whole.has_names D.Whole.has_texts) (D.Whole.form (view value.now))) }
+{
+    let draft = D::of(alloc, value)?;
+    whole_from(alloc, &draft)
+}
+
 /// It as a value, which is read again.
 pub fn written_value<T: Written>(alloc: Global, item: &T) -> Result<Value, AllocError>
     ensures value { IfOk result (λ v. view v ≡ T.written item.now) }
     ensures again { IfOk result (λ v. T.form (view v) ≡ Some item.now) }
+    ensures whole { IfOk result (λ v.
+        judged (first_fault T.has_names T.has_texts) (T.form (view v)) ≡ Ok item.now) }
     ensures names { OnOk result (T.has_names item.now ≡ true) }
     ensures texts { OnOk result (T.has_texts item.now ≡ true) }
 {
-    item.value(alloc)
+    let value = item.value(alloc)?;
+    Ok(value)
 }

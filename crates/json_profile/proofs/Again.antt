@@ -17,20 +17,21 @@ use Rattle.json_form.specs.AuditDraft.{audit_draft}
 use Rattle.json_form.specs.Draft.{RawRow, RawTicket, resources_of, are_bare, raw_ticket, own_row, node_rows, item_rows, next_depth, node_members, root_members, ticket_draft}
 use Rattle.json_form.specs.Listed.{pool_draft, data_items}
 use Rattle.json_form.specs.PartDraft.{part_members}
-use Rattle.json_form.specs.PoolDraft.{RawResource, resource_draft, link_draft}
+use Rattle.json_form.specs.PoolDraft.{Marked, resource_draft, link_draft}
 use Rattle.json_form.specs.PoolWritten.{attr_members, link_data, audit_data}
 use Rattle.json_form.specs.Read.{◌>>=◌, text_pairs}
 use Rattle.json_writer.specs.Marked.{no_marks, marked_pool, marked_row, marked_rows}
 use Rattle.json_writer.specs.PartWritten.{part_root_data}
 use Rattle.json_writer.specs.Written.{pool_data, node_data, root_data, Tree, children, others, trees, job_data}
-use Rattle.json_profile.proofs.PoolAgain.{text_pairs-attr_members, raw_resources-again, links-again, audits-again}
+use Rattle.json_forms.specs.Again.{attrs_again}
+use Rattle.json_profile.proofs.PoolAgain.{raw_resources-again, links-again, audits-again}
 
 -- the resources of a row are those of its pool
 abbrev pub IsWhole : RawRow → Type 0
 IsWhole raw = resources_of raw.pool ≡ raw.row.resources
 
 -- what the parts of a row make
-abbrev made_row : NodeRow → Option Pairs → Option (List RawResource) → Option (List Link) → Option (List Audit) → Option RawRow
+abbrev made_row : NodeRow → Option Pairs → Option (List Marked) → Option (List Link) → Option (List Audit) → Option RawRow
 made_row r attrs resources links audits = do
   a ← attrs
   xs ← resources
@@ -41,7 +42,7 @@ made_row r attrs resources links audits = do
     pool = xs;
   })
 
-row_made : (raw : RawRow) (attrs : Option Pairs) (resources : Option (List RawResource)) (links : Option (List Link)) (audits : Option (List Audit)) → IsWhole raw → attrs ≡ Some raw.row.attrs → resources ≡ Some raw.pool → links ≡ Some raw.row.links
+row_made : (raw : RawRow) (attrs : Option Pairs) (resources : Option (List Marked)) (links : Option (List Link)) (audits : Option (List Audit)) → IsWhole raw → attrs ≡ Some raw.row.attrs → resources ≡ Some raw.pool → links ≡ Some raw.row.links
     → audits ≡ Some raw.row.audits → made_row raw.row attrs resources links audits ≡ Some raw
 row_made raw attrs resources links audits whole a x l u =
     let r = raw.row in
@@ -53,7 +54,7 @@ row_made raw attrs resources links audits whole a x l u =
     })) whole
 
 row_again : (raw : RawRow) → IsWhole raw → made_row raw.row (text_pairs (attr_members raw.row.attrs)) (pool_draft resource_draft (Some (array (pool_data raw.pool)))) (pool_draft link_draft (Some (array (data_items link_data raw.row.links)))) (pool_draft audit_draft (Some (array (data_items audit_data raw.row.audits)))) ≡ Some raw
-row_again raw whole = row_made raw _ _ _ _ whole (text_pairs-attr_members raw.row.attrs) (raw_resources-again raw.pool) (links-again raw.row.links) (audits-again raw.row.audits)
+row_again raw whole = row_made raw _ _ _ _ whole (attrs_again raw.row.attrs) (raw_resources-again raw.pool) (links-again raw.row.links) (audits-again raw.row.audits)
 
 -- a node's own members
 pub own_row-node_data : (raw : RawRow) (kids : Items) → IsWhole raw → own_row node_members raw.row.depth (node_data raw kids) ≡ Some raw

@@ -17,7 +17,7 @@ use Rattle.ticket_items.specs.declared.link.Link.{Link}
 use Rattle.ticket_items.specs.declared.node_row.NodeRow.{NodeRow}
 use Rattle.json_form.specs.AuditDraft.{audit_draft}
 use Rattle.json_form.specs.Listed.{pool_draft}
-use Rattle.json_form.specs.PoolDraft.{RawResource, resource_draft, link_draft}
+use Rattle.json_form.specs.PoolDraft.{Marked, resource_draft, link_draft}
 use Rattle.json_form.specs.Draft.{RawRow, RawTicket, resources_of, raw_ticket, own_row, node_rows, child_rows, list_rows, item_rows, next_depth, node_members, root_members, ticket_draft}
 use Rattle.json_profile.proofs.Again.{raw_depths}
 use Rattle.ticket_items.specs.Ids.{are_distinct}
@@ -32,14 +32,14 @@ use Rattle.json_form.specs.Read.{◌>>=◌, provided, has_only, text_under, attr
 abbrev StandsAt : ℕ → RawRow → Type 0
 StandsAt depth r = r.row.depth ≡ depth
 
-pools_made : (depth : ℕ) (i j k s : List ℕ) (a : Pairs) (resources : Option (List RawResource)) (links : Option (List Link)) (audits : Option (List Audit))
+pools_made : (depth : ℕ) (i j k s : List ℕ) (a : Pairs) (resources : Option (List Marked)) (links : Option (List Link)) (audits : Option (List Audit))
     → IfSome {T = RawRow} (resources >>= λ xs. links >>= λ ls. audits >>= λ us. Some (record { row = record { id = i; depth = depth; kind = k; job_part = j; status = s; attrs = a; resources = resources_of xs; links = ls; audits = us }; pool = xs })) (StandsAt depth)
 pools_made depth i j k s a None links audits = tt
 pools_made depth i j k s a (Some xs) None audits = tt
 pools_made depth i j k s a (Some xs) (Some ls) None = tt
 pools_made depth i j k s a (Some xs) (Some ls) (Some us) = refl
 
-own_made : (depth : ℕ) (fits : Option ⊤) (id job_part kind status : Option (List ℕ)) (attrs : Option Pairs) (resources : Option (List RawResource)) (links : Option (List Link)) (audits : Option (List Audit))
+own_made : (depth : ℕ) (fits : Option ⊤) (id job_part kind status : Option (List ℕ)) (attrs : Option Pairs) (resources : Option (List Marked)) (links : Option (List Link)) (audits : Option (List Audit))
     → IfSome {T = RawRow} (fits >>= λ _. id >>= λ i. job_part >>= λ j. kind >>= λ k. status >>= λ s. attrs >>= λ a. resources >>= λ xs. links >>= λ ls. audits >>= λ us.
     Some (record { row = record { id = i; depth = depth; kind = k; job_part = j; status = s; attrs = a; resources = resources_of xs; links = ls; audits = us }; pool = xs })) (StandsAt depth)
 own_made depth None id job_part kind status attrs resources links audits = tt

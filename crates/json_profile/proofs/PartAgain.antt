@@ -20,7 +20,7 @@ use Rattle.json_form.specs.Form.{row_has_names, row_has_texts, sound}
 use Rattle.json_form.specs.PartDraft.{shown_rw, shown_ro, Groups, RawPart, Taken, behind, is_own, is_change, is_read, grouped, taken, taken_groups, ancestor_draft, part_members, part_draft, raw_part}
 use Rattle.json_forms.specs.Again.{each_again, ancestor_again}
 use Rattle.json_form.specs.PartForm.{ancestor_has_names, copies_have_names, copies_have_texts, has_names, part_fault, copied, part_read}
-use Rattle.json_form.specs.PoolDraft.{RawResource}
+use Rattle.json_form.specs.PoolDraft.{Marked}
 use Rattle.json_form.specs.PoolForm.{nothing_shown}
 use Rattle.json_form.specs.PoolWritten.{all_showing}
 use Rattle.json_form.specs.Read.{◌>>=◌, provided}
@@ -36,11 +36,11 @@ use Rattle.ticket_items.specs.declared.refusal.Refusal.TheVariants.{NotProfile}
 -- ---- the groups of a pool
 
 -- the first of them, if there is one, fails the test
-abbrev Stops : (RawResource → Bool) → List RawResource → Type 0
+abbrev Stops : (Marked → Bool) → List Marked → Type 0
 Stops p [] = Unit {0}
 Stops p (r ∷ raws) = p r ≡ false
 
-prefix_len-front : (p : RawResource → Bool) (xs ys : List RawResource) → list_all p xs ≡ true → Stops p ys → length xs ≡ prefix_len p (xs ++ ys)
+prefix_len-front : (p : Marked → Bool) (xs ys : List Marked) → list_all p xs ≡ true → Stops p ys → length xs ≡ prefix_len p (xs ++ ys)
 prefix_len-front p [] [] all stop = refl
 prefix_len-front p [] (y ∷ ys) all stop = sym (ap (λ b. cond b (1 + prefix_len p ys) 0) stop)
 prefix_len-front p (x ∷ xs) ys all stop =
@@ -49,10 +49,10 @@ prefix_len-front p (x ∷ xs) ys all stop =
     let here : prefix_len p (x ∷ (xs ++ ys)) ≡ 1 + prefix_len p (xs ++ ys) = ap (λ b. cond b (1 + prefix_len p (xs ++ ys)) 0) parts.0 in
     omega (arith, rest, here)
 
-take_while-front : (p : RawResource → Bool) (xs ys : List RawResource) → list_all p xs ≡ true → Stops p ys → take_while p (xs ++ ys) ≡ xs
+take_while-front : (p : Marked → Bool) (xs ys : List Marked) → list_all p xs ≡ true → Stops p ys → take_while p (xs ++ ys) ≡ xs
 take_while-front p xs ys all stop = take_at xs ys (prefix_len p (xs ++ ys)) (prefix_len-front p xs ys all stop)
 
-behind-front : (p : RawResource → Bool) (xs ys : List RawResource) → list_all p xs ≡ true → Stops p ys → behind p (xs ++ ys) ≡ ys
+behind-front : (p : Marked → Bool) (xs ys : List Marked) → list_all p xs ≡ true → Stops p ys → behind p (xs ++ ys) ≡ ys
 behind-front p xs ys all stop = drop_at xs ys (prefix_len p (xs ++ ys)) (prefix_len-front p xs ys all stop)
 
 all_own : (rs : List Resource) → list_all is_own (all_showing nothing_shown rs) ≡ true
@@ -79,10 +79,10 @@ stops_change : (spawn : List ℕ) (reads : List Resource) → Stops (is_change s
 stops_change spawn [] = tt
 stops_change spawn (r ∷ reads) = refl
 
-abbrev tested_groups : List ℕ → List RawResource → List RawResource → List RawResource → Option Groups
+abbrev tested_groups : List ℕ → List Marked → List Marked → List Marked → Option Groups
 tested_groups spawn own changes reads = provided (list_all (is_read spawn) reads) >>= λ _. Some (record { own = own; rw = changes; ro = reads })
 
-abbrev cut_groups : List ℕ → List RawResource → List RawResource → Option Groups
+abbrev cut_groups : List ℕ → List Marked → List Marked → Option Groups
 cut_groups spawn own copies = tested_groups spawn own (take_while (is_change spawn) copies) (behind (is_change spawn) copies)
 
 grouped-root_pool : (spawn : List ℕ) (own changes reads : List Resource)

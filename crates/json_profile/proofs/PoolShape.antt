@@ -10,9 +10,9 @@ use Rattle.ticket_items.specs.declared.audit.Audit.TheVariants.{Notification, Sp
 use Rattle.ticket_items.specs.declared.link.Link.{Link}
 use Rattle.ticket_items.specs.declared.resource.Resource.{Resource}
 use Rattle.json_form.specs.Listed.{data_items}
-use Rattle.json_form.specs.PoolDraft.{RawResource}
+use Rattle.json_form.specs.PoolDraft.{Marked}
 use Rattle.json_form.specs.PoolWritten.{attr_members, resource_data, raw_data, link_data, audit_data}
-use Rattle.json_form.specs.declared.shown.Shown.{Shown}
+use Rattle.json_forms.specs.declared.resources.shown_form.Shown.{Shown}
 use Rattle.json_writer.specs.PartWritten.{ancestor_data}
 use Rattle.json_writer.specs.Written.{pool_data}
 
@@ -40,7 +40,7 @@ audit_plain (Notification time text) = refl
 audit_plain (Spawned time jref spawn_id ro changed status) = or_from _ _ (texts_plain ro) (ap (λ b. b || false) (texts_plain changed))
 audit_plain (Merged time jref merge_id overwritten) = ap (λ b. b || false) (texts_plain overwritten)
 
-pub pool_plain : (raws : List RawResource) → items_have_float (pool_data raws) ≡ false
+pub pool_plain : (raws : List Marked) → items_have_float (pool_data raws) ≡ false
 pool_plain raws = items_plain raw_data (λ r. resource_plain r.shown r.resource) raws
 
 pub ancestors_plain : (ancestors : List Ancestor) → items_have_float (data_items ancestor_data ancestors) ≡ false
@@ -77,7 +77,7 @@ audit_nests (Notification time text) = omega arith
 audit_nests (Spawned time jref spawn_id ro changed status) = omega (arith, texts_flat ro, texts_flat changed)
 audit_nests (Merged time jref merge_id overwritten) = omega (arith, texts_flat overwritten)
 
-pub pool_low : (raws : List RawResource) → items_depth (pool_data raws) ≤ 2
+pub pool_low : (raws : List Marked) → items_depth (pool_data raws) ≤ 2
 pool_low raws = items_low raw_data 2 (λ r. omega (arith, resource_nests r.shown r.resource)) raws
 
 pub ancestors_low : (ancestors : List Ancestor) → items_depth (data_items ancestor_data ancestors) ≤ 1

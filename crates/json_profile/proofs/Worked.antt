@@ -12,7 +12,7 @@ use Rattle.json_form.specs.AuditDraft.{notification_draft, spawned_draft, merged
 use Rattle.json_form.specs.Draft.{node_members, own_row}
 use Rattle.json_form.specs.Form.{built_fault}
 use Rattle.json_form.specs.Listed.{pool_draft}
-use Rattle.json_form.specs.PoolDraft.{shown_draft, resource_draft, link_draft}
+use Rattle.json_form.specs.PoolDraft.{own_resource, shown_draft, resource_draft, link_draft}
 use Rattle.json_form.specs.PoolForm.{resource_has_names, audit_has_names, nothing_shown, shows_nothing}
 use Rattle.json_form.specs.PoolWritten.{link_data}
 
@@ -29,32 +29,32 @@ abbrev with_status : Members
 with_status = member (codes "Status") (string (codes "Available")) no_members
 
 absent_members : resource_draft (media_with with_status) ≡ Some (record { resource = media; shown = nothing_shown })
-unfolding resource_draft shown_draft
+unfolding resource_draft own_resource shown_draft
 absent_members = refl
 
 no_status : resource_draft (media_with no_members) ≡ None
-unfolding resource_draft
+unfolding resource_draft own_resource
 no_status = refl
 
 spawned_for_reading : resource_draft (media_with (member (codes "SpawnIDs") (array (item (string (codes "S1")) no_items)) (member (codes "SpawnStatus") (string (codes "SpawnedRO")) with_status)))
     ≡ Some (record { resource = media; shown = record { locked = false; spawn_ids = codes "S1" ∷ []; spawn_status = SpawnedRO } })
-unfolding resource_draft shown_draft
+unfolding resource_draft own_resource shown_draft
 spawned_for_reading = refl
 
 other_spawn_status : resource_draft (media_with (member (codes "SpawnStatus") (string (codes "Spawned")) with_status)) ≡ None
-unfolding resource_draft shown_draft
+unfolding resource_draft own_resource shown_draft
 other_spawn_status = refl
 
 spawn_ids_of_numbers : resource_draft (media_with (member (codes "SpawnIDs") (array (item (number (unsigned 1)) no_items)) with_status)) ≡ None
-unfolding resource_draft shown_draft
+unfolding resource_draft own_resource shown_draft
 spawn_ids_of_numbers = refl
 
 locked_as_text : resource_draft (object (member (codes "Class") (string []) (member (codes "ID") (string []) (member (codes "Locked") (string (codes "true")) (member (codes "Name") (string []) (member (codes "Status") (string []) no_members)))))) ≡ None
-unfolding resource_draft shown_draft
+unfolding resource_draft own_resource shown_draft
 locked_as_text = refl
 
 unknown_member : resource_draft (media_with (member (codes "Number") (number (unsigned 1)) with_status)) ≡ None
-unfolding resource_draft shown_draft
+unfolding resource_draft own_resource shown_draft
 unknown_member = refl
 
 no_object : resource_draft (string (codes "r1")) ≡ None
@@ -191,7 +191,7 @@ one_locked : own_row node_members 1 (node_with (member (codes "ResourceLinkPool"
       row = record { id = codes "n0"; depth = 1; kind = codes "Product"; job_part = codes "p0"; status = codes "Waiting"; attrs = []; resources = media ∷ media ∷ []; links = record { rref = codes "r2"; usage = Input } ∷ []; audits = [] };
       pool = record { resource = media; shown = nothing_shown } ∷ record { resource = media; shown = record { locked = true; spawn_ids = []; spawn_status = NotSpawned } } ∷ [];
     })
-unfolding own_row resource_draft shown_draft link_draft
+unfolding own_row resource_draft own_resource shown_draft link_draft
 one_locked = refl
 
 job_id_of_a_child : own_row node_members 2 (object (member (codes "ID") (string (codes "n1")) (member (codes "JobID") (string (codes "J1")) no_members))) ≡ None

@@ -14,7 +14,7 @@ use Rattle.json_form.specs.Draft.{own_row}
 use Rattle.json_form.specs.Form.{node_has_names, pools_have_names, row_has_texts}
 use Rattle.json_form.specs.PartDraft.{ancestor_draft, part_draft, shows_change, shows_read, shown_rw, shown_ro}
 use Rattle.json_form.specs.PartForm.{ancestor_has_names, part_read}
-use Rattle.json_form.specs.PoolDraft.{resource_draft, shown_draft, link_draft}
+use Rattle.json_form.specs.PoolDraft.{own_resource, resource_draft, shown_draft, link_draft}
 use Rattle.json_form.specs.PoolForm.{resource_has_names, resource_has_texts, nothing_shown}
 use Rattle.json_form.specs.PoolWritten.{resource_data}
 use Rattle.json_writer.specs.Marked.{marked_rows, shown_of, no_marks}
@@ -80,29 +80,29 @@ unfolding digits
 written = refl
 
 drafted : part_draft whole ≡ Some (record { job_id = codes "J1"; spawn = codes "S1"; ancestors = printing.ancestors; rows = printing_row ∷ []; rw = component ∷ []; ro = media ∷ [] })
-unfolding part_draft own_row resource_draft shown_draft link_draft ancestor_draft
+unfolding part_draft own_row resource_draft own_resource shown_draft link_draft ancestor_draft
 drafted = refl
 
 read : part_read whole ≡ Ok printing
-unfolding part_draft own_row resource_draft shown_draft link_draft ancestor_draft ancestor_has_names node_has_names pools_have_names row_has_texts resource_has_names resource_has_texts
+unfolding part_draft own_row resource_draft own_resource shown_draft link_draft ancestor_draft ancestor_has_names node_has_names pools_have_names row_has_texts resource_has_names resource_has_texts
 read = refl
 
 -- ---- refused
 
 groups_in_another_order : part_read (value_with (item (locked true) (item (free (codes "S1")) no_items)) (codes "S1") (codes "Waiting")) ≡ Err NotProfile
-unfolding part_draft own_row resource_draft shown_draft link_draft ancestor_draft
+unfolding part_draft own_row resource_draft own_resource shown_draft link_draft ancestor_draft
 groups_in_another_order = refl
 
 own_behind_a_copy : part_read (value_with (item (free (codes "S1")) (item own_media no_items)) (codes "S1") (codes "Waiting")) ≡ Err NotProfile
-unfolding part_draft own_row resource_draft shown_draft link_draft ancestor_draft
+unfolding part_draft own_row resource_draft own_resource shown_draft link_draft ancestor_draft
 own_behind_a_copy = refl
 
 copy_to_read_not_locked : part_read (value_with (item (free (codes "S1")) (item (locked false) no_items)) (codes "S1") (codes "Waiting")) ≡ Err NotProfile
-unfolding part_draft own_row resource_draft shown_draft link_draft ancestor_draft
+unfolding part_draft own_row resource_draft own_resource shown_draft link_draft ancestor_draft
 copy_to_read_not_locked = refl
 
 copy_of_another_spawn : part_read (value_with (item (free (codes "S2")) (item (locked true) no_items)) (codes "S1") (codes "Waiting")) ≡ Err NotProfile
-unfolding part_draft own_row resource_draft shown_draft link_draft ancestor_draft
+unfolding part_draft own_row resource_draft own_resource shown_draft link_draft ancestor_draft
 copy_of_another_spawn = refl
 
 no_ancestors : part_read (object (member (codes "ID") (string (codes "n1")) (member (codes "JobID") (string (codes "J1")) (member (codes "JobPartID") (string (codes "p1")) (member (codes "SpawnID") (string (codes "S1")) (member (codes "Status") (string (codes "Waiting")) (member (codes "Type") (string (codes "Cutting")) no_members))))))) ≡ Err NotProfile
@@ -111,12 +111,12 @@ no_ancestors = refl
 
 -- texts that are the same, and no spawn's id
 no_spawn : part_read (value_with (item (free (codes "S0")) no_items) (codes "S0") (codes "Spawned")) ≡ Err BadId
-unfolding part_draft own_row resource_draft shown_draft link_draft ancestor_draft ancestor_has_names node_has_names pools_have_names row_has_texts resource_has_names resource_has_texts
+unfolding part_draft own_row resource_draft own_resource shown_draft link_draft ancestor_draft ancestor_has_names node_has_names pools_have_names row_has_texts resource_has_names resource_has_texts
 no_spawn = refl
 
 -- before what is wrong with its links
 status_spawned : part_read (value_with (item (free (codes "S1")) no_items) (codes "S1") (codes "Spawned")) ≡ Err ReservedStatus
-unfolding part_draft own_row resource_draft shown_draft link_draft ancestor_draft ancestor_has_names node_has_names pools_have_names row_has_texts resource_has_names resource_has_texts
+unfolding part_draft own_row resource_draft own_resource shown_draft link_draft ancestor_draft ancestor_has_names node_has_names pools_have_names row_has_texts resource_has_names resource_has_texts
 status_spawned = refl
 
 -- ---- what copies show

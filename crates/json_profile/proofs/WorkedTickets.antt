@@ -17,7 +17,7 @@ use Rattle.json_form.specs.EditDraft.{edit_draft, adding_draft, setting_draft, s
 use Rattle.json_form.specs.EditDraft.{note_draft, add_link_draft}
 use Rattle.json_form.specs.Form.{ticket_read, edit_read, node_has_names, pools_have_names}
 use Rattle.json_form.specs.Form.{row_has_texts}
-use Rattle.json_form.specs.PoolDraft.{shown_draft, resource_draft, link_draft}
+use Rattle.json_form.specs.PoolDraft.{own_resource, shown_draft, resource_draft, link_draft}
 use Rattle.json_form.specs.PoolForm.{resource_has_names, resource_has_texts}
 use Rattle.json_writer.specs.Written.{ticket_data, edit_data}
 
@@ -131,7 +131,7 @@ written : ticket_data job ≡ job_data
 written = refl
 
 read_again : ticket_read (ticket_data job) ≡ Ok job
-unfolding ticket_draft own_row resource_draft shown_draft link_draft
+unfolding ticket_draft own_row resource_draft own_resource shown_draft link_draft
     node_has_names pools_have_names row_has_texts resource_has_names resource_has_texts
 read_again = refl
 

@@ -5,8 +5,8 @@ mod read;
 mod text;
 mod write;
 
-pub use json_form::{has_only, number_under, text_under};
-pub use json_reader::{EditDraft, PartDraft, TicketDraft};
+pub use json_forms::{EditDraft, has_only, number_under, text_under};
+pub use json_reader::{PartDraft, TicketDraft};
 pub use read::{edit_of, part_of, ticket_of};
 pub use text::{text_of, value_of};
 pub use write::{edit_value, part_value, shown_value, ticket_value};

@@ -5,7 +5,8 @@ ghost use Rattle.serde_json.specs.View.{view};
 ghost use Rattle.json_form.specs.Form.{Answers, edit_read, ticket_read};
 ghost use Rattle.json_form.specs.PartForm.{part_read};
 
-use json_reader::{EditDraft, PartDraft, TicketDraft};
+use json_forms::{EditDraft, whole_of};
+use json_reader::{PartDraft, TicketDraft};
 use serde_json::Value;
 use std::alloc::Global;
 use ticket_tree::{Edit, Part, Refusal, Ticket};
@@ -39,6 +40,5 @@ pub fn part_of(alloc: Global, value: &Value) -> Result<Part, Refusal>
 pub fn edit_of(alloc: Global, value: &Value) -> Result<Edit, Refusal>
     ensures { Answers result (edit_read (view value.now)) }
 {
-    let draft = EditDraft::of(alloc, value)?;
-    draft.build(alloc)
+    whole_of::<EditDraft<'_>>(alloc, value)
 }

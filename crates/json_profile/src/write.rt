@@ -14,9 +14,9 @@ ghost use Rattle.json_writer.specs.Marked.{marked_rows};
 ghost use Rattle.json_writer.specs.PartWritten.{part_data};
 ghost use Rattle.json_writer.specs.Written.{edit_data, job_data, shown_data, ticket_data};
 
-use json_form::put_text;
+use json_forms::{put_text, written_value};
 use json_writer::forest::{forest, take_children};
-use json_writer::{edit_map, marked_map, no_marks, rows_value};
+use json_writer::{marked_map, no_marks, rows_value};
 use serde_json::{Map, Value};
 use std::alloc::{AllocError, Global};
 use ticket_tree::{Edit, Id, Marks, Name, NodeRow, Part, Rows, Ticket};
@@ -114,6 +114,6 @@ pub fn edit_value(alloc: Global, edit: &Edit) -> Result<Value, AllocError>
     ensures plain { IfOk result (λ v. has_float (view v) ≡ false) }
     ensures nests { IfOk result (λ v. depth (view v) ≤ max_depth) }
 {
-    let members = edit_map(alloc, edit)?;
-    Ok(Value::Object(members))
+    let value = written_value(alloc, edit)?;
+    Ok(value)
 }

@@ -1,6 +1,7 @@
 -- What the tests of drafts say of their parts.
 use Rattle.std.proofs.Common.{◌≡◌, ℕ, ◌&&◌, Bool, true, false, List, [], ◌∷◌, map, Option, Some, None, refl, sym, ap}
 use Rattle.std.proofs.lemmas.Bool.{and_parts}
+use Rattle.std.proofs.lemmas.List.Folds.{list_all-map}
 use Rattle.std.specs.List.{list_all}
 use Rattle.ticket_items.specs.Names.{is_name, is_text}
 use Rattle.ticket_rows.specs.Ticket.{IsValid, fault_of, first_of, unless}
@@ -10,11 +11,11 @@ use Rattle.ticket_items.specs.declared.node_row.NodeRow.{NodeRow}
 use Rattle.ticket_items.specs.declared.resource.Resource.{Resource}
 use Rattle.json_form.specs.Draft.{RawTicket, resources_of, are_bare}
 use Rattle.json_form.specs.Form.{built_fault, node_has_names, pools_have_names, row_has_names, row_has_texts}
-use Rattle.json_form.specs.PoolForm.{resource_has_names, resource_has_texts, link_has_names, audit_has_names, audit_has_texts, shows_nothing}
+use Rattle.json_form.specs.PoolForm.{resource_has_names, resource_has_texts, marked_has_names, marked_has_texts, link_has_names, audit_has_names, audit_has_texts, shows_nothing}
 use Rattle.json_reader.specs.Drafted.{drafted_raw, drafted_resources, drafted_row, drafted_rows}
-use Rattle.json_reader.specs.DraftedPool.{drafted_resource, own_resource}
+use Rattle.json_reader.specs.DraftedPool.{drafted_marked, drafted_resource, drafted_shown}
 use Rattle.json_reader.specs.declared.node_draft.NodeDraft.{NodeDraft}
-use Rattle.json_reader.specs.declared.resource_draft.ResourceDraft.{ResourceDraft}
+use Rattle.json_forms.specs.declared.resources.marked_form.MarkedDraft.{MarkedDraft}
 
 -- the ids and the names of a row
 pub record NamesOfRow (r : NodeRow) : Type 0 where
@@ -53,50 +54,41 @@ texts_of_row r h =
     record { attrs = two.0; resources = two.1; audits = both.1 }
 
 -- a test of drafts is one of the rows that they are
-pub list_all-drafted : (p : NodeRow → Bool) (drafts : List NodeDraft) → list_all (λ d. p (drafted_row d)) drafts ≡ list_all p (map (λ r. r.row) (drafted_rows drafts))
+list_all-drafted : (p : NodeRow → Bool) (drafts : List NodeDraft) → list_all (λ d. p (drafted_row d)) drafts ≡ list_all p (map (λ r. r.row) (drafted_rows drafts))
 list_all-drafted p [] = refl
 list_all-drafted p (d ∷ drafts) = ap (λ b. p (drafted_row d) && b) (list_all-drafted p drafts)
 
-pub bare-drafted : (drafts : List NodeDraft) → list_all (λ d. are_bare (drafted_raw d).pool) drafts ≡ list_all (λ r. are_bare r.pool) (drafted_rows drafts)
-bare-drafted [] = refl
-bare-drafted (d ∷ drafts) = ap (λ b. are_bare (drafted_raw d).pool && b) (bare-drafted drafts)
+pub names_in_rows : (drafts : List NodeDraft) → list_all (λ d. row_has_names (drafted_row d)) drafts ≡ list_all row_has_names (map (λ r. r.row) (drafted_rows drafts))
+names_in_rows drafts = list_all-drafted row_has_names drafts
+
+pub texts_in_rows : (drafts : List NodeDraft) → list_all (λ d. row_has_texts (drafted_row d)) drafts ≡ list_all row_has_texts (map (λ r. r.row) (drafted_rows drafts))
+texts_in_rows drafts = list_all-drafted row_has_texts drafts
+
+pub bare_in_rows : (drafts : List NodeDraft) → list_all (λ d. are_bare (drafted_raw d).pool) drafts ≡ list_all (λ r. are_bare r.pool) (drafted_rows drafts)
+bare_in_rows [] = refl
+bare_in_rows (d ∷ drafts) = ap (λ b. are_bare (drafted_raw d).pool && b) (bare_in_rows drafts)
 
 -- ---- tests of the drafts in a pool are tests of what they are
 
-tested_resources : (p : Resource → Bool) (drafts : List ResourceDraft) → list_all (λ d. p (own_resource d)) drafts ≡ list_all p (resources_of (drafted_resources drafts))
+tested_resources : (p : Resource → Bool) (drafts : List MarkedDraft) → list_all (λ d. p (drafted_resource d.resource)) drafts ≡ list_all p (resources_of (drafted_resources drafts))
 tested_resources p [] = refl
-tested_resources p (d ∷ drafts) = ap (λ b. p (own_resource d) && b) (tested_resources p drafts)
+tested_resources p (d ∷ drafts) = ap (λ b. p (drafted_resource d.resource) && b) (tested_resources p drafts)
 
-pub names_in_resources : (drafts : List ResourceDraft) → list_all (λ d. resource_has_names (own_resource d)) drafts ≡ list_all resource_has_names (resources_of (drafted_resources drafts))
+pub names_in_resources : (drafts : List MarkedDraft) → list_all (λ d. resource_has_names (drafted_resource d.resource)) drafts ≡ list_all resource_has_names (resources_of (drafted_resources drafts))
 names_in_resources drafts = tested_resources resource_has_names drafts
 
-pub texts_in_resources : (drafts : List ResourceDraft) → list_all (λ d. resource_has_texts (own_resource d)) drafts ≡ list_all resource_has_texts (resources_of (drafted_resources drafts))
+pub texts_in_resources : (drafts : List MarkedDraft) → list_all (λ d. resource_has_texts (drafted_resource d.resource)) drafts ≡ list_all resource_has_texts (resources_of (drafted_resources drafts))
 texts_in_resources drafts = tested_resources resource_has_texts drafts
 
-pub bare_drafts : (drafts : List ResourceDraft) → list_all (λ d. shows_nothing d.shown) drafts ≡ are_bare (drafted_resources drafts)
+pub names_in_pool : (drafts : List MarkedDraft) → list_all marked_has_names (drafted_resources drafts) ≡ list_all resource_has_names (resources_of (drafted_resources drafts))
+names_in_pool drafts = sym (list_all-map resource_has_names (λ r. r.resource) (drafted_resources drafts))
+
+pub texts_in_pool : (drafts : List MarkedDraft) → list_all marked_has_texts (drafted_resources drafts) ≡ list_all resource_has_texts (resources_of (drafted_resources drafts))
+texts_in_pool drafts = sym (list_all-map resource_has_texts (λ r. r.resource) (drafted_resources drafts))
+
+pub bare_drafts : (drafts : List MarkedDraft) → list_all (λ d. shows_nothing (drafted_shown d.shown)) drafts ≡ are_bare (drafted_resources drafts)
 bare_drafts [] = refl
-bare_drafts (d ∷ drafts) = ap (λ b. shows_nothing d.shown && b) (bare_drafts drafts)
-
--- what a draft is, without what it shows of spawns
-pub own_resources : (drafts : List ResourceDraft) → map (λ r. r.resource) (map drafted_resource drafts) ≡ map own_resource drafts
-own_resources [] = refl
-own_resources (d ∷ drafts) = ap (λ more. own_resource d ∷ more) (own_resources drafts)
-
--- the ids and the names of a new node
-pub record NamesOfNode (node id kind job_part status : List ℕ) : Type 0 where
-  pub node_named : is_name node ≡ true
-  pub id_named : is_name id ≡ true
-  pub kind_named : is_name kind ≡ true
-  pub job_part_named : is_name job_part ≡ true
-  pub status_named : is_name status ≡ true
-
-pub names_of_node : (node id kind job_part status : List ℕ) → (is_name node && is_name id && is_name kind && is_name job_part && is_name status) ≡ true → NamesOfNode node id kind job_part status
-names_of_node node id kind job_part status h =
-    let first = and_parts _ _ h in
-    let second = and_parts _ _ first.0 in
-    let third = and_parts _ _ second.0 in
-    let fourth = and_parts _ _ third.0 in
-    record { node_named = fourth.0; id_named = fourth.1; kind_named = third.1; job_part_named = second.1; status_named = first.1 }
+bare_drafts (d ∷ drafts) = ap (λ b. shows_nothing (drafted_shown d.shown) && b) (bare_drafts drafts)
 
 -- ---- what is wrong with the draft of a ticket
 

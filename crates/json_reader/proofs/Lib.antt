@@ -2,4 +2,3 @@ pub mod Faults
 pub mod Nodes
 pub mod PartFaults
 pub mod PartPools
-pub mod Pools

@@ -1,12 +1,18 @@
 -- What the tests of a part's draft say of what it has.
-use Rattle.std.proofs.Common.{◌≡◌, true, is_some}
+use Rattle.std.proofs.Common.{◌≡◌, ◌∙◌, ℕ, List, true, is_some, unwrap_or, ap}
 use Rattle.std.proofs.lemmas.Bool.{and_parts}
 use Rattle.std.specs.List.{list_all}
 use Rattle.ticket_items.specs.Names.{is_name}
 use Rattle.ticket_items.specs.SpawnId.{spawn_of}
+use Rattle.ticket_items.specs.declared.ancestor.Ancestor.{Ancestor}
+use Rattle.ticket_items.specs.declared.node_row.NodeRow.{NodeRow}
+use Rattle.ticket_items.specs.declared.resource.Resource.{Resource}
+use Rattle.ticket_rows.specs.Copies.{with_copies}
+use Rattle.ticket_tree.specs.Part as parts
+use Rattle.ticket_tree.specs.Part.{Copied}
 use Rattle.json_form.specs.Form.{row_has_names, row_has_texts}
 use Rattle.json_form.specs.PartDraft.{RawPart}
-use Rattle.json_form.specs.PartForm.{ancestor_has_names, copies_have_names, has_ids, has_outer_names, has_own_names, has_names, copies_have_texts, has_texts}
+use Rattle.json_form.specs.PartForm.{ancestor_has_names, copies_have_names, has_ids, has_outer_names, has_own_names, has_names, copies_have_texts, has_texts, all_rows, copied}
 use Rattle.json_form.specs.PoolForm.{resource_has_names, resource_has_texts}
 
 -- the ids and the names of a part
@@ -38,3 +44,18 @@ texts_of_part p h =
     let all = and_parts (list_all row_has_texts p.rows) (copies_have_texts p.rw p.ro) h in
     let copies = and_parts (list_all resource_has_texts p.rw) (list_all resource_has_texts p.ro) all.1 in
     record { rows = all.0; rw = copies.0; ro = copies.1 }
+
+-- ---- what is built of a draft
+
+pub built_part : (p : RawPart) (job : List ℕ) (spawn : ℕ) (ancestors : List Ancestor) (rows : List NodeRow) (changes reads : List Resource) → job ≡ p.job_id → spawn ≡ unwrap_or (spawn_of p.spawn) 0 → ancestors ≡ p.ancestors → rows ≡ p.rows → changes ≡ p.rw → reads ≡ p.ro
+    → parts.copied job spawn ancestors rows changes reads ≡ copied p
+built_part p job spawn ancestors rows changes reads j s a rs free locked =
+    ap (λ x. parts.copied x spawn ancestors rows changes reads) j
+    ∙ ap (λ x. parts.copied p.job_id x ancestors rows changes reads) s
+    ∙ ap (λ x. parts.copied p.job_id (unwrap_or (spawn_of p.spawn) 0) x rows changes reads) a
+    ∙ ap (λ x. parts.copied p.job_id (unwrap_or (spawn_of p.spawn) 0) p.ancestors x changes reads) rs
+    ∙ ap (λ x. parts.copied p.job_id (unwrap_or (spawn_of p.spawn) 0) p.ancestors p.rows x reads) free
+    ∙ ap (parts.copied p.job_id (unwrap_or (spawn_of p.spawn) 0) p.ancestors p.rows p.rw) locked
+
+pub built_rows : (p : RawPart) (rows : List NodeRow) (changes reads : List Resource) → rows ≡ p.rows → changes ≡ p.rw → reads ≡ p.ro → with_copies rows changes reads ≡ all_rows p
+built_rows p rows changes reads rs free locked = ap (λ x. with_copies x changes reads) rs ∙ ap (λ x. with_copies p.rows x reads) free ∙ ap (with_copies p.rows p.rw) locked

@@ -1,4 +1,4 @@
 pub mod Drafted
-pub mod DraftedEdit
 pub mod DraftedPool
+pub mod DraftedTicket
 pub mod DraftedPart

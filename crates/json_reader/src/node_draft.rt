@@ -1,21 +1,19 @@
-use crate::resource_draft::ResourceDraft;
-use crate::resource_drafts::{self, build_resources, show_nothing};
-use json_form::{AttrsDraft, known_id, known_name};
-use json_forms::{AuditDraft, Draft, Drafts, LinkDraft};
+use crate::resource_drafts::{build_resources, show_nothing};
+use json_forms::{AttrsDraft, AuditDraft, Borrowed, Draft, Drafts, LinkDraft, MarkedDraft};
 use std::alloc::Global;
-use ticket_tree::{NodeRow, Refusal, is_name};
+use ticket_tree::{Id, Name, NodeRow, Refusal};
 
 /// A node of a draft, with its depth and its pools: any texts for its ids and names. Depths are
 /// counted no further than 33.
 #[derive(Drop)]
 pub struct NodeDraft<'a> {
-    pub id: &'a str,
+    pub id: Borrowed<'a, Id>,
     pub depth: u32,
-    pub kind: &'a str,
-    pub job_part: &'a str,
-    pub status: &'a str,
+    pub kind: Borrowed<'a, Name>,
+    pub job_part: Borrowed<'a, Name>,
+    pub status: Borrowed<'a, Name>,
     pub attrs: AttrsDraft<'a>,
-    pub resources: Vec<ResourceDraft<'a>>,
+    pub resources: Drafts<MarkedDraft<'a>>,
     pub links: Drafts<LinkDraft<'a>>,
     pub audits: Drafts<AuditDraft<'a>>,
 }
@@ -39,31 +37,27 @@ impl<'a> NodeDraft<'a> {
     fn has_own_names(&self) -> bool
         ensures { result ≡ node_has_names (drafted_row self.now) }
     {
-        is_name(self.id)
-            && is_name(self.kind)
-            && is_name(self.job_part)
-            && is_name(self.status)
+        self.id.has_names()
+            && self.kind.has_names()
+            && self.job_part.has_names()
+            && self.status.has_names()
             && self.attrs.has_names()
     }
 
     /// Whether the ids and names in its pools are valid.
-    #[tactic(auto, unfolding(json_form::specs::Form::pools_have_names), using(crate::proofs::Faults::names_in_resources))]
+    #[tactic(auto, unfolding(json_form::specs::Form::pools_have_names), using(crate::proofs::Faults::names_in_pool))]
     fn pools_have_names(&self) -> bool
         ensures { result ≡ pools_have_names (drafted_row self.now) }
     {
-        resource_drafts::have_names(self.resources.as_slice())
-            && self.links.has_names()
-            && self.audits.has_names()
+        self.resources.has_names() && self.links.has_names() && self.audits.has_names()
     }
 
     /// Whether all texts in it are valid.
-    #[tactic(auto, unfolding(json_form::specs::Form::row_has_texts), using(crate::proofs::Faults::texts_in_resources))]
+    #[tactic(auto, unfolding(json_form::specs::Form::row_has_texts), using(crate::proofs::Faults::texts_in_pool))]
     pub fn has_texts(&self) -> bool
         ensures { result ≡ row_has_texts (drafted_row self.now) }
     {
-        self.attrs.has_texts()
-            && resource_drafts::have_texts(self.resources.as_slice())
-            && self.audits.has_texts()
+        self.attrs.has_texts() && self.resources.has_texts() && self.audits.has_texts()
     }
 
     /// Whether its resources show nothing of spawns.
@@ -75,7 +69,7 @@ impl<'a> NodeDraft<'a> {
     }
 
     /// The node, without what its resources show of spawns. Refuses `Memory` alone.
-    #[tactic(auto, unfolding(json_form::specs::Form::row_has_texts), using(crate::proofs::Faults::own_resources))]
+    #[tactic(auto, unfolding(json_form::specs::Form::row_has_texts))]
     pub fn build(&self, alloc: Global) -> Result<NodeRow, Refusal>
         requires names { row_has_names (drafted_row self.now) ≡ true }
         requires texts { row_has_texts (drafted_row self.now) ≡ true }
@@ -83,11 +77,11 @@ impl<'a> NodeDraft<'a> {
         ensures memory { IfErr result (λ e. e ≡ Refusal.Memory) }
     {
         Ok(NodeRow {
-            id: known_id(alloc, self.id)?,
+            id: self.id.build(alloc)?,
             depth: self.depth,
-            kind: known_name(alloc, self.kind)?,
-            job_part: known_name(alloc, self.job_part)?,
-            status: known_name(alloc, self.status)?,
+            kind: self.kind.build(alloc)?,
+            job_part: self.job_part.build(alloc)?,
+            status: self.status.build(alloc)?,
             attrs: self.attrs.build(alloc)?,
             resources: build_resources(alloc, self.resources.as_slice())?,
             links: self.links.build(alloc)?,

@@ -8,9 +8,7 @@ ghost use Rattle.json_form.specs.Read.{Adds, Gives};
 ghost use Rattle.json_reader.specs.Drafted.{drafted_raw, drafted_rows};
 
 use crate::node_draft::NodeDraft;
-use crate::resource_drafts::resource_drafts;
-use json_form::{AttrsDraft, has_only, text_under};
-use json_forms::Drafts;
+use json_forms::{AttrsDraft, Drafts, has_only, under, under_or};
 use serde_json::Value;
 use std::alloc::Global;
 use ticket_tree::Refusal;
@@ -75,12 +73,12 @@ fn own_row<'a>(
     if !has_only(value, names) {
         return Err(Refusal::NotProfile);
     }
-    let id = text_under(value, "ID").ok_or(Refusal::NotProfile)?;
-    let job_part = text_under(value, "JobPartID").ok_or(Refusal::NotProfile)?;
-    let kind = text_under(value, "Type").ok_or(Refusal::NotProfile)?;
-    let status = text_under(value, "Status").ok_or(Refusal::NotProfile)?;
-    let attrs = AttrsDraft::under_attr(alloc, value)?;
-    let resources = resource_drafts(alloc, value, "ResourcePool")?;
+    let id = under(alloc, value, "ID")?;
+    let job_part = under(alloc, value, "JobPartID")?;
+    let kind = under(alloc, value, "Type")?;
+    let status = under(alloc, value, "Status")?;
+    let attrs = under_or(alloc, value, "Attr", AttrsDraft::none(alloc))?;
+    let resources = Drafts::under(alloc, value, "ResourcePool")?;
     let links = Drafts::under(alloc, value, "ResourceLinkPool")?;
     let audits = Drafts::under(alloc, value, "AuditPool")?;
     Ok(NodeDraft {

@@ -7,29 +7,30 @@ ghost use Rattle.json_form.specs.PoolForm as form;
 ghost use Rattle.json_form.specs.Read.{Fails, Gives};
 ghost use Rattle.json_reader.specs.Drafted.{drafted_resources, drafted_rows};
 ghost use Rattle.json_reader.specs.DraftedPart.{drafted_groups, drafted_taken};
+ghost use Rattle.json_reader.specs.DraftedPool.{drafted_shown};
 
 use crate::node_draft::NodeDraft;
 use crate::node_drafts::are_bare;
-use crate::resource_draft::ResourceDraft;
 use crate::taken_nodes::TakenNodes;
-use std::alloc::Global;
+use json_forms::{Drafts, MarkedDraft};
 use ticket_tree::Refusal;
 
 /// Copies that may be changed, and copies that may be read alone.
-type Copies<'a> = (Vec<ResourceDraft<'a>>, Vec<ResourceDraft<'a>>);
+type Copies<'a> = (Drafts<MarkedDraft<'a>>, Drafts<MarkedDraft<'a>>);
 
 /// How many resources in front show nothing of spawns.
-fn own_len(pool: &[ResourceDraft<'_>]) -> usize
-    ensures { result ≡ prefix_len (λ d. form.shows_nothing d.shown) pool.now }
+fn own_len(pool: &[MarkedDraft<'_>]) -> usize
+    ensures { result ≡ prefix_len (λ d. form.shows_nothing (drafted_shown d.shown)) pool.now }
 {
     pool.iter()
-        .take_while(|draft| draft.shows_nothing())
+        .take_while(|draft| draft.shown.shows_nothing())
         .count()
 }
 
 /// How many resources in front show that they are copies to change, of the spawn of this text.
-fn change_len(pool: &[ResourceDraft<'_>], spawn: &str) -> usize
-    ensures { result ≡ prefix_len (λ d. draft.shows_change spawn.now d.shown) pool.now }
+fn change_len(pool: &[MarkedDraft<'_>], spawn: &str) -> usize
+    ensures { result
+        ≡ prefix_len (λ d. draft.shows_change spawn.now (drafted_shown d.shown)) pool.now }
 {
     pool.iter()
         .take_while(|draft| draft.shown.is_change(spawn))
@@ -37,19 +38,19 @@ fn change_len(pool: &[ResourceDraft<'_>], spawn: &str) -> usize
 }
 
 /// Whether all show that they are copies to read alone, of the spawn of this text.
-fn are_read(pool: &[ResourceDraft<'_>], spawn: &str) -> bool
-    ensures { result ≡ list_all (λ d. draft.shows_read spawn.now d.shown) pool.now }
+fn are_read(pool: &[MarkedDraft<'_>], spawn: &str) -> bool
+    ensures { result ≡ list_all (λ d. draft.shows_read spawn.now (drafted_shown d.shown)) pool.now }
 {
     pool.iter().all(|draft| draft.shown.is_read(spawn))
 }
 
 /// Takes the copies out of the pool of a part's root. Refuses `NotProfile` where its resources
 /// don't stand in their groups, and `Memory`.
-fn take_copies<'a>(pool: &mut Vec<ResourceDraft<'a>>, spawn: &str) -> Result<Copies<'a>, Refusal>
-    ensures ok { IfOk result (λ c. draft.grouped spawn.now (drafted_resources pool.old.items)
-        ≡ Some (drafted_groups pool.new.items c.0.items c.1.items)) }
+fn take_copies<'a>(pool: &mut Drafts<MarkedDraft<'a>>, spawn: &str) -> Result<Copies<'a>, Refusal>
+    ensures ok { IfOk result (λ c. draft.grouped spawn.now (drafted_resources pool.old)
+        ≡ Some (drafted_groups pool.new c.0 c.1)) }
     ensures err { IfErr result
-        (λ e. Fails e (draft.grouped spawn.now (drafted_resources pool.old.items))) }
+        (λ e. Fails e (draft.grouped spawn.now (drafted_resources pool.old))) }
 {
     let own = own_len(pool.as_slice());
     let mut rw = pool.split_off(own)?;
@@ -65,7 +66,7 @@ fn take_copies<'a>(pool: &mut Vec<ResourceDraft<'a>>, spawn: &str) -> Result<Cop
 /// don't stand in their groups or another node's show something, and `Memory`.
 fn copies_of<'a>(rows: &mut Vec<NodeDraft<'a>>, spawn: &str) -> Result<Copies<'a>, Refusal>
     ensures ok { IfOk result (λ c. draft.taken spawn.now (drafted_rows rows.old.items)
-        ≡ Some (drafted_taken rows.new.items c.0.items c.1.items)) }
+        ≡ Some (drafted_taken rows.new.items c.0 c.1)) }
     ensures err { IfErr result
         (λ e. Fails e (draft.taken spawn.now (drafted_rows rows.old.items))) }
 {
@@ -82,7 +83,7 @@ fn copies_of<'a>(rows: &mut Vec<NodeDraft<'a>>, spawn: &str) -> Result<Copies<'a
 /// The nodes of a part with the copies taken out of its root's pool. Refuses `NotProfile` where the
 /// root's resources don't stand in their groups or another node's show something, and `Memory`.
 pub fn taken_nodes<'a>(rows: Vec<NodeDraft<'a>>, spawn: &str) -> Result<TakenNodes<'a>, Refusal>
-    ensures { Gives (λ t. drafted_taken t.rows.items t.rw.items t.ro.items) result
+    ensures { Gives (λ t. drafted_taken t.rows.items t.rw t.ro) result
         (draft.taken spawn.now (drafted_rows rows.entry.items)) }
 {
     let mut rows = rows;

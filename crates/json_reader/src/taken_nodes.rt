@@ -1,5 +1,5 @@
 use crate::node_draft::NodeDraft;
-use crate::resource_draft::ResourceDraft;
+use json_forms::{Drafts, MarkedDraft};
 
 /// The nodes of a part, without the copies that stood in its root's pool, and these copies (JDF
 /// 1.5, 4.4).
@@ -7,7 +7,7 @@ use crate::resource_draft::ResourceDraft;
 pub struct TakenNodes<'a> {
     pub rows: Vec<NodeDraft<'a>>,
     /// The copies that may be changed.
-    pub rw: Vec<ResourceDraft<'a>>,
+    pub rw: Drafts<MarkedDraft<'a>>,
     /// The copies that may be read alone.
-    pub ro: Vec<ResourceDraft<'a>>,
+    pub ro: Drafts<MarkedDraft<'a>>,
 }

@@ -1,27 +1,17 @@
 use crate::node_draft::NodeDraft;
 use crate::node_drafts::{are_bare, build_rows, have_names, have_texts, ticket_nodes};
-use json_form::{known_name, text_under};
+use json_forms::{Borrowed, Draft, under};
 use serde_json::Value;
 use std::alloc::Global;
-use std::marker::Model;
-use ticket_tree::{Refusal, Ticket, is_name};
+use ticket_tree::{Name, Refusal, Ticket};
 
 /// A ticket by its members and their kinds alone: its ids, names and texts may be any, its rows no
 /// tree's, and its resources may show spawns. A document of several parts is read as drafts first,
 /// so that each refusal is looked for in all of it before the next one is.
 #[derive(Drop)]
 pub struct TicketDraft<'a> {
-    job: &'a str,
+    job: Borrowed<'a, Name>,
     rows: Vec<NodeDraft<'a>>,
-}
-
-impl<'a> Model for TicketDraft<'a> {
-    ghost use Rattle.json_form.specs.Draft.{RawTicket, raw_ticket};
-    ghost use Rattle.json_reader.specs.Drafted.{drafted_rows};
-
-    ghost Value = { RawTicket };
-
-    ghost view = { λ a. raw_ticket a.job.now (drafted_rows a.rows.items) };
 }
 
 impl<'a> TicketDraft<'a> {
@@ -31,34 +21,38 @@ impl<'a> TicketDraft<'a> {
     ghost use Rattle.json_form.specs.Draft.{ticket_draft};
     ghost use Rattle.json_form.specs.Form as form;
     ghost use Rattle.json_form.specs.Read.{Gives};
+    ghost use Rattle.json_reader.specs.DraftedTicket.{drafted_ticket};
 
     /// The draft that a value is. Refuses `NotProfile`, and `Memory`.
     #[tactic(auto, unfolding(json_form::specs::Draft::ticket_draft))]
     pub fn of(alloc: Global, value: &'a Value) -> Result<TicketDraft<'a>, Refusal>
-        ensures { Gives (λ t. t) result (ticket_draft (view value.now)) }
+        ensures { Gives drafted_ticket result (ticket_draft (view value.now)) }
     {
-        let job = text_under(value, "JobID").ok_or(Refusal::NotProfile)?;
+        let job = under(alloc, value, "JobID")?;
         let rows = ticket_nodes(alloc, value)?;
         Ok(TicketDraft { job, rows })
     }
 
     /// Whether its ids and names are valid.
+    #[tactic(auto, using(crate::proofs::Faults::names_in_rows))]
     pub fn has_names(&self) -> bool
-        ensures { result ≡ form.has_names self.now }
+        ensures { result ≡ form.has_names (drafted_ticket self.now) }
     {
-        is_name(self.job) && have_names(self.rows.as_slice())
+        self.job.has_names() && have_names(self.rows.as_slice())
     }
 
     /// Whether its texts are valid.
+    #[tactic(auto, using(crate::proofs::Faults::texts_in_rows))]
     pub fn has_texts(&self) -> bool
-        ensures { result ≡ form.has_texts self.now }
+        ensures { result ≡ form.has_texts (drafted_ticket self.now) }
     {
         have_texts(self.rows.as_slice())
     }
 
     /// Whether its resources show nothing of spawns.
+    #[tactic(auto, using(crate::proofs::Faults::bare_in_rows))]
     fn is_bare(&self) -> bool
-        ensures { result ≡ self.now.bare }
+        ensures { result ≡ (drafted_ticket self.now).bare }
     {
         are_bare(self.rows.as_slice())
     }
@@ -68,12 +62,15 @@ impl<'a> TicketDraft<'a> {
     /// in the draft; `Memory` may come before the last four.
     pub fn build(&self, alloc: Global) -> Result<Ticket, Refusal>
         ensures answers { form.Answers result
-            (form.sound (form.ticket_fault self.now) self.now.job) }
-        ensures ok { IfOk result (λ t. t ≡ self.now.job) }
-        ensures valid { OnOk result (IsValid self.now.job.rows) }
-        ensures sound { OnOk result (form.built_fault self.now ≡ None) }
-        ensures err { form.has_names self.now ≡ true → form.has_texts self.now ≡ true
-            → IfErr result (λ e. (e ≡ Refusal.Memory) ⊎ (form.built_fault self.now ≡ Some e)) }
+            (form.sound (form.ticket_fault (drafted_ticket self.now))
+            (drafted_ticket self.now).job) }
+        ensures ok { IfOk result (λ t. t ≡ (drafted_ticket self.now).job) }
+        ensures valid { OnOk result (IsValid (drafted_ticket self.now).job.rows) }
+        ensures sound { OnOk result (form.built_fault (drafted_ticket self.now) ≡ None) }
+        ensures err { form.has_names (drafted_ticket self.now) ≡ true
+            → form.has_texts (drafted_ticket self.now) ≡ true
+            → IfErr result (λ e. (e ≡ Refusal.Memory)
+            ⊎ (form.built_fault (drafted_ticket self.now) ≡ Some e)) }
     {
         if !self.has_names() {
             return Err(Refusal::BadId);
@@ -87,18 +84,18 @@ impl<'a> TicketDraft<'a> {
     /// The ticket of a draft whose names and texts are valid. Refuses what shows spawns, and then
     /// what `Ticket::from_rows` does.
     fn build_known(&self, alloc: Global) -> Result<Ticket, Refusal>
-        requires names { form.has_names self.now ≡ true }
-        requires texts { form.has_texts self.now ≡ true }
-        ensures ok { IfOk result (λ t. t ≡ self.now.job) }
-        ensures valid { OnOk result (IsValid self.now.job.rows) }
-        ensures sound { OnOk result (form.built_fault self.now ≡ None) }
-        ensures err { IfErr result
-            (λ e. (e ≡ Refusal.Memory) ⊎ (form.built_fault self.now ≡ Some e)) }
+        requires names { form.has_names (drafted_ticket self.now) ≡ true }
+        requires texts { form.has_texts (drafted_ticket self.now) ≡ true }
+        ensures ok { IfOk result (λ t. t ≡ (drafted_ticket self.now).job) }
+        ensures valid { OnOk result (IsValid (drafted_ticket self.now).job.rows) }
+        ensures sound { OnOk result (form.built_fault (drafted_ticket self.now) ≡ None) }
+        ensures err { IfErr result (λ e. (e ≡ Refusal.Memory)
+            ⊎ (form.built_fault (drafted_ticket self.now) ≡ Some e)) }
     {
         if !self.is_bare() {
             return Err(Refusal::ReservedStatus);
         }
-        let job = known_name(alloc, self.job)?;
+        let job = self.job.build(alloc)?;
         let rows = build_rows(alloc, self.rows.as_slice())?;
         Ticket::from_rows(alloc, job, rows)
     }

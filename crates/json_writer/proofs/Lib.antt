@@ -1,4 +1,3 @@
-pub mod Attributes
 pub mod Forests
 pub mod PartRoots
 pub mod Taken

@@ -1,4 +1,5 @@
--- What a ticket shows of the spawns that are out: the Status of the nodes that were spawned, and what resources show that were
+-- What a ticket shows of the spawns that are out: the Status of the nodes that were spawned, and
+-- what resources show that were
 -- copied. Nothing else of it changes.
 use Rattle.std.specs.Prelude.{ℕ, false, List, [], map, codes, find, if◌then◌else◌, Option}
 use Rattle.std.specs.Option.{option_map_or}
@@ -10,9 +11,9 @@ use Rattle.ticket_items.specs.declared.node_row.NodeRow.{NodeRow}
 use Rattle.ticket_items.specs.declared.res_mark.ResMark.{ResMark}
 use Rattle.ticket_items.specs.declared.resource.Resource.{Resource}
 use Rattle.json_form.specs.Draft.{RawRow}
-use Rattle.json_form.specs.PoolDraft.{RawResource}
+use Rattle.json_form.specs.PoolDraft.{Marked}
 use Rattle.json_form.specs.PoolForm.{nothing_shown}
-use Rattle.json_form.specs.declared.shown.Shown.{Shown}
+use Rattle.json_forms.specs.declared.resources.shown_form.Shown.{Shown}
 
 -- the marks of a ticket of which nothing is out
 abbrev pub no_marks : Marks
@@ -28,13 +29,14 @@ mark_of marks x = find (λ m. bytes_eq m.id x) marks
 
 -- what a mark shows: the original stays free to be changed
 abbrev pub shown_by : ResMark → Shown
-shown_by mark = record { locked = false; spawn_ids = map spawn_text mark.spawn_ids; spawn_status = mark.status }
+shown_by mark =
+    record { locked = false; spawn_ids = map spawn_text mark.spawn_ids; spawn_status = mark.status }
 
 -- what a resource shows: what its mark does, and nothing without one
 abbrev pub shown_of : Marks → Resource → Shown
 shown_of marks r = option_map_or shown_by (mark_of marks.resources r.id) nothing_shown
 
-abbrev pub marked_pool : Marks → List Resource → List RawResource
+abbrev pub marked_pool : Marks → List Resource → List Marked
 marked_pool marks rs = map (λ r. record { resource = r; shown = shown_of marks r }) rs
 
 -- a node with the Status that it shows

@@ -1,33 +1,37 @@
--- What is written for tickets and edits: each member of a form, in the byte order of the names.
+-- What is written for tickets: each member of a form, in the byte order of the names.
 use Rattle.std.specs.Prelude.{ℕ, Bool, false, List, [], ◌∷◌, codes, nat_lt, if◌then◌else◌}
-use Rattle.serde_json.specs.Data.{Data, Items, no_items, item, Members, no_members, member, null, string, array, object}
+use Rattle.serde_json.specs.Data.{Data, Items, no_items, item, Members, no_members, member, null}
+use Rattle.serde_json.specs.Data.{string, array, object}
 use Rattle.ticket_rows.specs.Ticket.{Job}
 use Rattle.ticket_items.specs.declared.node_row.NodeRow.{NodeRow}
-use Rattle.ticket_items.specs.declared.edit.Edit.{Edit}
-use Rattle.ticket_items.specs.declared.edit.Edit.TheVariants.{SetStatus, SetAttr, SetResStatus, SetResAttr, Note, AddNode, AddResource, AddLink}
 use Rattle.ticket_items.specs.declared.marks.Marks.{Marks}
 use Rattle.json_form.specs.Draft.{RawRow}
 use Rattle.json_form.specs.Listed.{data_items}
-use Rattle.json_form.specs.PoolDraft.{RawResource}
-use Rattle.json_form.specs.PoolWritten.{attr_members, raw_data, link_data, audit_data, usage_word}
+use Rattle.json_form.specs.PoolDraft.{Marked}
+use Rattle.json_form.specs.PoolWritten.{attr_members, raw_data, link_data, audit_data}
 use Rattle.json_writer.specs.Marked.{no_marks, marked_rows}
+pub use Rattle.json_forms.specs.Edits.{edit_data}
 
 -- ---- nodes
 
 -- resources, each with what it shows of spawns
-abbrev pub pool_data : List RawResource → Items
+abbrev pub pool_data : List Marked → Items
 pool_data raws = data_items raw_data raws
 
 -- from a node's part in its job on: what stands behind its children. These are its resources.
 abbrev pub last_members : NodeRow → Items → Members
 last_members r pool =
-    member (codes "JobPartID") (string r.job_part) (member (codes "ResourceLinkPool") (array (data_items link_data r.links)) (member (codes "ResourcePool") (array pool)
+    member (codes "JobPartID") (string r.job_part)
+    (member (codes "ResourceLinkPool") (array (data_items link_data r.links))
+    (member (codes "ResourcePool") (array pool)
     (member (codes "Status") (string r.status) (member (codes "Type") (string r.kind) no_members))))
 
 -- a node's members up to its children, in front of `last`
 abbrev pub first_members : NodeRow → Items → Members → Members
 first_members r children last =
-    member (codes "Attr") (object (attr_members r.attrs)) (member (codes "AuditPool") (array (data_items audit_data r.audits)) (member (codes "ID") (string r.id) (member (codes "JDF") (array children) last)))
+    member (codes "Attr") (object (attr_members r.attrs))
+    (member (codes "AuditPool") (array (data_items audit_data r.audits))
+    (member (codes "ID") (string r.id) (member (codes "JDF") (array children) last)))
 
 -- a node with these resources and these children
 abbrev pub node_object : NodeRow → Items → Items → Data
@@ -39,12 +43,18 @@ node_data r children = node_object r.row (pool_data r.pool) children
 
 -- a ticket's root, which also has the job's id
 abbrev pub root_data : List ℕ → RawRow → Items → Data
-root_data job r children = object (first_members r.row children (member (codes "JobID") (string job) (last_members r.row (pool_data r.pool))))
+root_data job r children =
+    object (first_members r.row children
+    (member (codes "JobID") (string job) (last_members r.row (pool_data r.pool))))
 
 -- the part of a node that is of its own kind: attributes and names
 abbrev pub own_members : NodeRow → Members
 own_members r =
-    member (codes "Attr") (object (attr_members r.attrs)) (member (codes "ID") (string r.id) (member (codes "JobPartID") (string r.job_part) (member (codes "Status") (string r.status) (member (codes "Type") (string r.kind) no_members))))
+    member (codes "Attr") (object (attr_members r.attrs))
+    (member (codes "ID") (string r.id)
+    (member (codes "JobPartID") (string r.job_part)
+    (member (codes "Status") (string r.status)
+    (member (codes "Type") (string r.kind) no_members))))
 
 -- ---- trees
 
@@ -61,7 +71,8 @@ has_deeper_front depth (t ∷ trees) = nat_lt depth t.depth
 -- the trees in front that stand deeper: the children of a node at this depth
 abbrev pub children : ℕ → List Tree → Items
 children depth [] = no_items
-children depth (t ∷ trees) = if nat_lt depth t.depth then item t.value (children depth trees) else no_items
+children depth (t ∷ trees) =
+    if nat_lt depth t.depth then item t.value (children depth trees) else no_items
 
 -- the trees from the first on that stands no deeper
 abbrev pub others : ℕ → List Tree → List Tree
@@ -70,7 +81,8 @@ others depth (t ∷ trees) = if nat_lt depth t.depth then others depth trees els
 
 -- a row in front of trees: those that stand deeper are its children
 abbrev pub with_tree : RawRow → List Tree → List Tree
-with_tree r ts = record { depth = r.row.depth; value = node_data r (children r.row.depth ts) } ∷ others r.row.depth ts
+with_tree r ts = record { depth = r.row.depth; value = node_data r (children r.row.depth ts) }
+    ∷ others r.row.depth ts
 
 -- the trees that rows in preorder are
 abbrev pub trees : List RawRow → List Tree
@@ -88,23 +100,3 @@ shown_data marks t = job_data t.job_id (marked_rows marks t.rows)
 -- a ticket, which shows none
 abbrev pub ticket_data : Job → Data
 ticket_data t = shown_data no_marks t
-
--- ---- edits
-
-abbrev pub edit_data : Edit → Data
-edit_data (SetStatus node status) =
-    object (member (codes "Edit") (string (codes "SetStatus")) (member (codes "Node") (string node) (member (codes "Status") (string status) no_members)))
-edit_data (SetAttr node name value) =
-    object (member (codes "Edit") (string (codes "SetAttr")) (member (codes "Name") (string name) (member (codes "Node") (string node) (member (codes "Value") (string value) no_members))))
-edit_data (SetResStatus resource status) =
-    object (member (codes "Edit") (string (codes "SetResStatus")) (member (codes "Resource") (string resource) (member (codes "Status") (string status) no_members)))
-edit_data (SetResAttr resource name value) =
-    object (member (codes "Edit") (string (codes "SetResAttr")) (member (codes "Name") (string name) (member (codes "Resource") (string resource) (member (codes "Value") (string value) no_members))))
-edit_data (Note node text) =
-    object (member (codes "Edit") (string (codes "Note")) (member (codes "Node") (string node) (member (codes "Text") (string text) no_members)))
-edit_data (AddNode node id kind job_part status) =
-    object (member (codes "Edit") (string (codes "AddNode")) (member (codes "ID") (string id) (member (codes "JobPartID") (string job_part) (member (codes "Node") (string node) (member (codes "Status") (string status) (member (codes "Type") (string kind) no_members))))))
-edit_data (AddResource node resource) =
-    object (member (codes "Attr") (object (attr_members resource.attrs)) (member (codes "Class") (string resource.class) (member (codes "Edit") (string (codes "AddResource")) (member (codes "ID") (string resource.id) (member (codes "Name") (string resource.name) (member (codes "Node") (string node) (member (codes "Status") (string resource.status) no_members)))))))
-edit_data (AddLink node link) =
-    object (member (codes "Edit") (string (codes "AddLink")) (member (codes "Node") (string node) (member (codes "Usage") (string (usage_word link.usage)) (member (codes "rRef") (string link.rref) no_members))))

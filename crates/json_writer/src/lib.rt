@@ -1,8 +1,6 @@
-//! The JSON values of rows, parts and edits.
+//! The JSON values of rows and parts.
 #![tactic(auto)]
 
-mod attrs_writer;
-mod edit_writer;
 pub mod forest;
 mod marked;
 mod node_writer;
@@ -10,7 +8,6 @@ mod part_writer;
 mod resource_writer;
 mod tree;
 
-pub use edit_writer::edit_map;
 pub use marked::no_marks;
 pub use node_writer::marked_map;
 pub use part_writer::rows_value;

@@ -6,9 +6,10 @@ ghost use Rattle.ticket_items.specs.Names.{is_name};
 ghost use Rattle.ticket_items.specs.SpawnId.{spawn_text};
 ghost use Rattle.json_writer.specs.Marked as marked;
 
+use json_forms::{AnyText, Shown};
 use std::alloc::{AllocError, Global};
 use ticket_items::is_among;
-use ticket_tree::{Id, Ids, Items, Marks, NodeRow, ResMark, SpawnId};
+use ticket_tree::{Id, Items, Marks, NodeRow, ResMark, Resource, SpawnId};
 
 /// The marks of a ticket of which nothing is out.
 pub fn no_marks(alloc: Global) -> Marks
@@ -33,7 +34,7 @@ pub fn shown_status<'a>(marks: &Marks, row: &'a NodeRow) -> &'a str
 }
 
 /// The mark of a resource.
-pub fn mark_of<'a>(marks: &'a Marks, id: &Id) -> Option<&'a ResMark>
+fn mark_of<'a>(marks: &'a Marks, id: &Id) -> Option<&'a ResMark>
     ensures { option_copied result ≡ marked.mark_of marks.now.resources id.now }
 {
     marks
@@ -44,12 +45,34 @@ pub fn mark_of<'a>(marks: &'a Marks, id: &Id) -> Option<&'a ResMark>
 }
 
 /// The ids of spawns as texts.
-pub fn spawn_texts(alloc: Global, spawns: &[SpawnId]) -> Result<Ids, AllocError>
-    ensures { IfOk result (λ ids. ids ≡ map spawn_text spawns.now) }
+fn spawn_texts(alloc: Global, spawns: &[SpawnId]) -> Result<Items<AnyText>, AllocError>
+    ensures { IfOk result (λ texts. texts ≡ map spawn_text spawns.now) }
 {
-    let mut ids = Vec::with_capacity(alloc, spawns.len())?;
+    let mut texts = Vec::with_capacity(alloc, spawns.len())?;
     for spawn in spawns {
-        ids.push(spawn.to_id(alloc)?)?;
+        let id = spawn.to_id(alloc)?;
+        texts.push(AnyText::new(alloc, id.as_str())?)?;
     }
-    Ok(Items::new(ids))
+    Ok(Items::new(texts))
+}
+
+/// What a mark shows.
+fn shown_by(alloc: Global, mark: &ResMark) -> Result<Shown, AllocError>
+    ensures { IfOk result (λ shown. shown ≡ marked.shown_by mark.now) }
+{
+    Ok(Shown {
+        locked: false,
+        spawn_ids: spawn_texts(alloc, mark.spawn_ids.as_slice())?,
+        spawn_status: mark.status,
+    })
+}
+
+/// What a resource of a ticket with these marks shows.
+pub fn shown_of(alloc: Global, marks: &Marks, resource: &Resource) -> Result<Shown, AllocError>
+    ensures { IfOk result (λ shown. shown ≡ marked.shown_of marks.now resource.now) }
+{
+    match mark_of(marks, &resource.id) {
+        None => Ok(Shown::nothing(alloc)),
+        Some(mark) => shown_by(alloc, mark),
+    }
 }

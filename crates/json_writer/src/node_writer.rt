@@ -10,11 +10,9 @@ ghost use Rattle.json_form.specs.PoolForm.{link_has_names, audit_has_names, audi
 ghost use Rattle.json_writer.specs.Marked.{marked_node, marked_row};
 ghost use Rattle.json_writer.specs.Written as written;
 
-use crate::attrs_writer::attr_map;
 use crate::marked::shown_status;
 use crate::resource_writer::marked_values;
-use json_form::{put_list, put_text, put_value};
-use json_forms::put;
+use json_forms::{put, put_list, put_text};
 use serde_json::{Map, Value};
 use std::alloc::{AllocError, Global};
 use ticket_tree::{Marks, NodeRow};
@@ -32,13 +30,12 @@ fn own_members(
     ensures names { OnOk result (node_has_names row.now ≡ true) }
     ensures texts { OnOk result (list_all (λ p. is_text p.1) row.now.attrs ≡ true) }
 {
-    let attrs = attr_map(alloc, &row.attrs)?;
     let mut members = Map::new(alloc);
-    put_value(alloc, &mut members, "Attr", Value::Object(attrs))?;
-    put_text(alloc, &mut members, "ID", row.id.as_str())?;
-    put_text(alloc, &mut members, "JobPartID", row.job_part.as_str())?;
+    put(alloc, &mut members, "Attr", &row.attrs)?;
+    put(alloc, &mut members, "ID", &row.id)?;
+    put(alloc, &mut members, "JobPartID", &row.job_part)?;
     put_text(alloc, &mut members, "Status", shown_status(marks, row))?;
-    put_text(alloc, &mut members, "Type", row.kind.as_str())?;
+    put(alloc, &mut members, "Type", &row.kind)?;
     Ok(members)
 }
 

@@ -1,5 +1,6 @@
 use Rattle.std.proofs.Common.{◌∙◌, Ok, sym, ap}
 use Rattle.json_form.specs.PartForm.{copied}
+use Rattle.json_reader.specs.DraftedPart.{drafted_part}
 use Rattle.jmf_message.specs.Said.{body_with, command_body, command_of}
 use Rattle.jmf_message.proofs.Saying.{handed_on, part_good, part_refused, right_command, same_message}
 use Rattle.jmf_message.proofs.decoding.command.Goals as goal
@@ -8,7 +9,7 @@ pub returns-in_err-part-clause-answers : goal.returns-in_err-part-clause-answers
 returns-in_err-part-clause-answers c =
     let j = c.args.jmf.now in
     let asked = c.args.command.now in
-    let p = c.args.part.now in
+    let p = drafted_part c.args.part.now in
     let right = right_command c.as_str.result.now asked p c.in_ok-is_right_command.field-0 c.in_ok-is_right_command.ensures c.if-not-branch.false in
     let is = ap (λ s. command_body s asked p) (sym c.as_str.ensures) ∙ right in
     handed_on c.from_residual-in_err-part.result c.in_err-part.field-0.0 _ c.from_residual-in_err-part.ensures.1
@@ -18,7 +19,7 @@ pub returns-clause-answers : goal.returns-clause-answers
 returns-clause-answers c =
     let j = c.args.jmf.now in
     let asked = c.args.command.now in
-    let p = c.args.part.now in
+    let p = drafted_part c.args.part.now in
     let right = right_command c.as_str.result.now asked p c.in_ok-is_right_command.field-0 c.in_ok-is_right_command.ensures c.if-not-branch.false in
     let is = ap (λ s. command_body s asked p) (sym c.as_str.ensures) ∙ right in
     let said = body_with (command_of asked.params) (copied p) in

@@ -11,7 +11,7 @@ returns-then-not-are_bare-clause-err c =
 
 pub returns-clause-ok : goal.returns-clause-ok
 returns-clause-ok c =
-    taken_copies c.args.spawn.now c.args.rows.now.items c.index_mut.result.now c.take_copies.new.pool c.in_ok-copies.copies.0.items c.in_ok-copies.copies.1.items
+    taken_copies c.args.spawn.now c.args.rows.now.items c.index_mut.result.now c.take_copies.new.pool c.in_ok-copies.copies.0 c.in_ok-copies.copies.1
     (ap (λ n. n == 0) (ap length (sym c.deref.ensures.value) ∙ c.deref.ensures.len) ∙ sym c.is_empty.ensures ∙ c.if-is_empty.false)
     c.index_mut.ensures.value
     (ap (λ ds. list_all (λ d. are_bare (drafted_raw d).pool) (drop 1 ds)) (sym c.deref.ensures.value) ∙ ap (list_all (λ d. are_bare (drafted_raw d).pool)) (sym (behind_root c.deref.result.now)) ∙ sym c.are_bare.ensures ∙ c.if-not-are_bare.false)

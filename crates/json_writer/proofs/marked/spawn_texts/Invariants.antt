@@ -2,6 +2,6 @@ use Rattle.std.proofs.Common.{◌≡◌, map, take}
 use Rattle.ticket_items.specs.SpawnId.{spawn_text}
 use Rattle.json_writer.proofs.marked.spawn_texts.Given as goal
 
--- the ids so far
+-- the texts so far
 abbrev pub invariant-loop-spawn : goal.invariant-loop-spawn
-invariant-loop-spawn l = l.ids.items ≡ map spawn_text (take l.spawn-index l.spawns)
+invariant-loop-spawn l = l.texts.items ≡ map spawn_text (take l.spawn-index l.spawns)

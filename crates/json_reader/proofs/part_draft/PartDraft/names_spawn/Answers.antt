@@ -1,4 +1,4 @@
-use Rattle.std.proofs.Common.{◌≡◌, ◌∙◌, ℕ, Option, Some, None, Result, Ok, Err, MatchResult, is_some, is_ok, sym, ap}
+use Rattle.std.proofs.Common.{◌≡◌, ◌∙◌, ℕ, Option, Some, None, Result, Ok, Err, MatchResult, is_some, is_ok, sym, ap, subst}
 use Rattle.ticket_items.specs.SpawnId.{spawn_of}
 use Rattle.ticket_items.specs.declared.refusal.Refusal.{Refusal}
 use Rattle.ticket_items.specs.declared.refusal.Refusal.TheVariants.{BadId}
@@ -9,4 +9,4 @@ parsed (Ok s) o h = sym (ap is_some h)
 parsed (Err e) o h = sym (ap is_some h.1)
 
 pub returns : goal.returns
-returns c = c.is_ok.ensures.value ∙ parsed c.parse.result (spawn_of c.self.inside.spawn.now) c.parse.ensures.read ∙ ap (λ p. is_some (spawn_of p.spawn)) c.self.view_is
+returns c = c.is_ok.ensures.value ∙ parsed c.parse.result (spawn_of c.args.self.now.spawn) (subst (λ text. MatchResult c.parse.result (λ s. spawn_of text ≡ Some s) (λ e. (e ≡ BadId) × (spawn_of text ≡ None))) c.as_str.ensures c.parse.ensures.read)

@@ -1,0 +1,6 @@
+use Rattle.std.proofs.Common.{◌≡◌, take}
+use Rattle.json_forms.proofs.resources.attrs_form.build_attrs.Given as goal
+
+-- the pairs so far are set
+abbrev pub invariant-loop-name : goal.invariant-loop-name
+invariant-loop-name l = l.attrs ≡ take l.name-index l.pairs

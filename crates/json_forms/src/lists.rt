@@ -1,0 +1,3 @@
+pub mod drafts;
+pub mod items_form;
+pub mod listed;

@@ -1,0 +1,3 @@
+pub mod member;
+pub mod object;
+pub mod one_member;

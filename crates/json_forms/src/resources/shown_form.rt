@@ -1,0 +1,182 @@
+//! What resources show of the spawns that copied them.
+
+ghost use Rattle.std.specs.Prelude.{◌≡◌, ◌∷◌, [], true, IfOk};
+ghost use Rattle.json_forms.specs.DraftedResources.{drafted_shown};
+ghost use Rattle.json_forms.specs.Shown as shown;
+
+use crate::draft::Draft;
+use crate::form::Form;
+use crate::lists::drafts::Drafts;
+use crate::members::one_member::under_or;
+use crate::texts::any_text::AnyText;
+use crate::texts::borrowed::Borrowed;
+use serde_json::Value;
+use std::alloc::{AllocError, Global};
+use ticket_items::{Items, Refusal, SpawnStatus};
+
+/// What a resource shows of the spawns that copied it (JDF 1.5, 3.8).
+#[derive(Drop)]
+pub struct Shown {
+    /// Whether the resource may not be changed.
+    pub locked: bool,
+    /// The ids of the spawns.
+    pub spawn_ids: Items<AnyText>,
+    pub spawn_status: SpawnStatus,
+}
+
+/// What a resource shows by the kinds of its members alone, which are texts for the ids of spawns.
+#[derive(Drop)]
+pub struct ShownDraft<'a> {
+    pub locked: bool,
+    pub spawn_ids: Drafts<Borrowed<'a, AnyText>>,
+    pub spawn_status: SpawnStatus,
+}
+
+/// This text alone.
+fn only(alloc: Global, text: &str) -> Result<Items<AnyText>, AllocError>
+    ensures { IfOk result (λ texts. texts ≡ text.now ∷ []) }
+{
+    let mut texts = Vec::with_capacity(alloc, 1)?;
+    texts.push(AnyText::new(alloc, text)?)?;
+    Ok(Items::new(texts))
+}
+
+impl Shown {
+    /// Nothing, which absent members mean too.
+    pub fn nothing(alloc: Global) -> Shown
+        ensures { result ≡ shown.nothing_shown }
+    {
+        Shown {
+            locked: false,
+            spawn_ids: Items::new(Vec::new(alloc)),
+            spawn_status: SpawnStatus::NotSpawned,
+        }
+    }
+
+    /// What a copy shows that may be changed, of the spawn of this text.
+    pub fn rw(alloc: Global, spawn: &str) -> Result<Shown, AllocError>
+        ensures { IfOk result (λ s. s ≡ shown.shown_rw spawn.now) }
+    {
+        Ok(Shown {
+            locked: false,
+            spawn_ids: only(alloc, spawn)?,
+            spawn_status: SpawnStatus::SpawnedRW,
+        })
+    }
+
+    /// What a copy shows that may be read alone, of the spawn of this text.
+    pub fn ro(alloc: Global, spawn: &str) -> Result<Shown, AllocError>
+        ensures { IfOk result (λ s. s ≡ shown.shown_ro spawn.now) }
+    {
+        Ok(Shown {
+            locked: true,
+            spawn_ids: only(alloc, spawn)?,
+            spawn_status: SpawnStatus::SpawnedRO,
+        })
+    }
+}
+
+/// Whether there is no text.
+fn is_empty(texts: &[Borrowed<'_, AnyText>]) -> bool
+    ensures { result ≡ shown.is_empty texts.now }
+{
+    texts.is_empty()
+}
+
+/// Whether they are this text once, and nothing else.
+fn are_only(texts: &[Borrowed<'_, AnyText>], text: &str) -> bool
+    ensures { result ≡ shown.are_only text.now texts.now }
+{
+    texts.len() == 1 && texts.iter().all(|other| other.as_str() == text)
+}
+
+/// Whether no copy is out.
+fn is_not_spawned(status: SpawnStatus) -> bool
+    ensures { result ≡ shown.is_not_spawned status }
+{
+    matches!(status, SpawnStatus::NotSpawned)
+}
+
+/// Whether a copy is out that may be changed.
+fn is_spawned_rw(status: SpawnStatus) -> bool
+    ensures { result ≡ shown.is_spawned_rw status }
+{
+    matches!(status, SpawnStatus::SpawnedRW)
+}
+
+/// Whether copies are out that may be read alone.
+fn is_spawned_ro(status: SpawnStatus) -> bool
+    ensures { result ≡ shown.is_spawned_ro status }
+{
+    matches!(status, SpawnStatus::SpawnedRO)
+}
+
+impl<'a> ShownDraft<'a> {
+    /// Whether it is nothing.
+    pub fn shows_nothing(&self) -> bool
+        ensures { result ≡ shown.shows_nothing (drafted_shown self.now) }
+    {
+        !self.locked && is_empty(self.spawn_ids.as_slice()) && is_not_spawned(self.spawn_status)
+    }
+
+    /// Whether it is what a copy shows that may be changed, of the spawn of this text.
+    pub fn is_change(&self, spawn: &str) -> bool
+        ensures { result ≡ shown.shows_change spawn.now (drafted_shown self.now) }
+    {
+        !self.locked
+            && are_only(self.spawn_ids.as_slice(), spawn)
+            && is_spawned_rw(self.spawn_status)
+    }
+
+    /// Whether it is what a copy shows that may be read alone, of the spawn of this text.
+    pub fn is_read(&self, spawn: &str) -> bool
+        ensures { result ≡ shown.shows_read spawn.now (drafted_shown self.now) }
+    {
+        self.locked
+            && are_only(self.spawn_ids.as_slice(), spawn)
+            && is_spawned_ro(self.spawn_status)
+    }
+}
+
+impl Form for Shown {
+    ghost form = { shown.shown_draft };
+
+    ghost has_names = { λ _. true };
+
+    ghost has_texts = { λ _. true };
+}
+
+impl<'a> Draft<'a> for ShownDraft<'a> {
+    type Whole = Shown;
+
+    ghost drafted = { drafted_shown };
+
+    #[tactic(auto, unfolding(crate::specs::Shown::shown_draft), using(crate::proofs::Tests::themselves))]
+    fn of(alloc: Global, value: &'a Value) -> Result<ShownDraft<'a>, Refusal> {
+        let locked = under_or(alloc, value, "Locked", false)?;
+        let spawn_ids = Drafts::under(alloc, value, "SpawnIDs")?;
+        let spawn_status = under_or(alloc, value, "SpawnStatus", SpawnStatus::NotSpawned)?;
+        Ok(ShownDraft {
+            locked,
+            spawn_ids,
+            spawn_status,
+        })
+    }
+
+    fn has_names(&self) -> bool {
+        true
+    }
+
+    fn has_texts(&self) -> bool {
+        true
+    }
+
+    #[tactic(auto, using(crate::proofs::Tests::all_true, crate::proofs::Tests::themselves))]
+    fn build(&self, alloc: Global) -> Result<Shown, Refusal> {
+        Ok(Shown {
+            locked: self.locked,
+            spawn_ids: self.spawn_ids.build(alloc)?,
+            spawn_status: self.spawn_status,
+        })
+    }
+}
