@@ -49,7 +49,7 @@ fn edit<R: Read, W: Write>(
         (used R.remaining reader.old reader.new) (used W.contents writer.old writer.new)) }
 {
     let input = read_input(alloc, reader)?;
-    let output = edit_output(alloc, input.as_slice())?;
+    let output = edit_output(alloc, input)?;
     write_bytes(writer, output.text.as_slice())?;
     Ok(output.refused)
 }

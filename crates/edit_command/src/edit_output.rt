@@ -2,7 +2,9 @@
 
 ghost use Rattle.std.specs.Prelude.{◌≡◌, ◌⊎◌, ◌++◌, None, Some, true, IfErr, IfOk, OnOk, Err, Ok};
 ghost use Rattle.serde_json.specs.View.{view};
+ghost use Rattle.serde_json.specs.Written.{compact_text};
 ghost use Rattle.json_form.specs.Form.{built_fault};
+ghost use Rattle.json_writer.specs.Written.{ticket_data};
 ghost use Rattle.json_reader.specs.DraftedTicket.{drafted_ticket};
 ghost use Rattle.edit_command.specs.Document.{Document, IsReadAs, IsRefusalOf, document_fault};
 ghost use Rattle.edit_command.specs.Document.{document_of, document_has_names, document_has_texts};
@@ -24,12 +26,20 @@ pub struct EditOutput {
     pub refused: bool,
 }
 
+/// The text of a ticket. Its value is given back.
+fn written_ticket(alloc: Global, ticket: &Ticket) -> Result<Vec<u8>, AllocError>
+    ensures { IfOk result (λ text. text.items ≡ compact_text (ticket_data ticket.now)) }
+{
+    let value = ticket_value(alloc, ticket)?;
+    text_of(alloc, &value)
+}
+
 /// Appends the text of a ticket, and the end of its line.
 fn push_ticket(alloc: Global, text: &mut Vec<u8>, ticket: &Ticket) -> Result<(), AllocError>
     ensures { OnOk result (text.new.items ≡ text.old.items ++ ticket_text ticket.now) }
 {
-    let value = ticket_value(alloc, ticket)?;
-    let written = text_of(alloc, &value)?;
+    let written = written_ticket(alloc, ticket)?;
+    text.reserve_exact(written.len().saturating_add(1))?;
     text.extend_from_slice(written.as_slice())?;
     text.push(b'\n')?;
     Ok(())
@@ -53,7 +63,7 @@ fn run_draft(alloc: Global, draft: &DocumentDraft<'_>) -> Result<EditedTicket, R
     ensures refused { IfErr result
         (λ e. (e ≡ Refusal.Memory) ⊎ (built_fault (drafted_ticket draft.now.ticket) ≡ Some e)) }
 {
-    let mut ticket = draft.ticket.build(alloc)?;
+    let mut ticket = draft.ticket.build_known(alloc)?;
     let mut lines = Vec::new(alloc);
     let refused = run_edits(
         alloc,
@@ -98,23 +108,25 @@ fn value_edits(alloc: Global, value: &Value) -> Result<EditedTicket, Refusal>
     checked_edits(alloc, &draft)
 }
 
-/// The edited ticket of an input, or the first refusal of it. Its value and what was drafted of it
-/// are dropped here, so that they don't stand beside the value that is written.
-fn edited_ticket(alloc: Global, input: &[u8]) -> Result<EditedTicket, Refusal>
-    ensures done { IfOk result (λ o. (document : Document) × IsReadAs input.now (Ok document)
+/// The edited ticket of an input, or the first refusal of it. The input is given back once its
+/// value is read, and the value and what was drafted of it at the end, so that neither stands
+/// beside the value that is written.
+fn edited_ticket(alloc: Global, input: Vec<u8>) -> Result<EditedTicket, Refusal>
+    ensures done { IfOk result (λ o. (document : Document) × IsReadAs input.items (Ok document)
         × IsEdited document o.lines.items o.ticket o.refused) }
-    ensures refused { IfErr result (IsRefusalOf input.now) }
+    ensures refused { IfErr result (IsRefusalOf input.items) }
 {
-    let value = value_of(alloc, input)?;
+    let value = value_of(alloc, input.as_slice())?;
+    drop(input);
     value_edits(alloc, &value)
 }
 
 /// What `edit` writes for an input, or the first refusal of it: `NotJson`, `NotProfile`, `BadId`,
 /// `BadText`, `ReservedStatus`, `DuplicateId`, `TooDeep`, `UnresolvedLink`; `Memory` may come
 /// before any.
-pub fn edit_output(alloc: Global, input: &[u8]) -> Result<EditOutput, Refusal>
-    ensures done { IfOk result (λ o. IsOutput input.now o.text.items o.refused) }
-    ensures refused { IfErr result (IsRefusalOf input.now) }
+pub fn edit_output(alloc: Global, input: Vec<u8>) -> Result<EditOutput, Refusal>
+    ensures done { IfOk result (λ o. IsOutput input.items o.text.items o.refused) }
+    ensures refused { IfErr result (IsRefusalOf input.items) }
 {
     let EditedTicket {
         ticket,

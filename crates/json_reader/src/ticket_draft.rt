@@ -81,9 +81,10 @@ impl<'a> TicketDraft<'a> {
         self.build_known(alloc)
     }
 
-    /// The ticket of a draft whose names and texts are valid. Refuses what shows spawns, and then
-    /// what `Ticket::from_rows` does.
-    fn build_known(&self, alloc: Global) -> Result<Ticket, Refusal>
+    /// The ticket of a draft whose names and texts were checked before. Refuses the first of
+    /// `ReservedStatus`, `DuplicateId`, `TooDeep` and `UnresolvedLink` that stands in the draft;
+    /// `Memory` may come before any but the first.
+    pub fn build_known(&self, alloc: Global) -> Result<Ticket, Refusal>
         requires names { form.has_names (drafted_ticket self.now) ≡ true }
         requires texts { form.has_texts (drafted_ticket self.now) ≡ true }
         ensures ok { IfOk result (λ t. t ≡ (drafted_ticket self.now).job) }

@@ -13,3 +13,9 @@ run_edits-requires-clause-names c =
 pub run_edits-requires-clause-texts : goal.run_edits-requires-clause-texts
 run_edits-requires-clause-texts c =
     ap (list_all (λ e. edit_has_texts (drafted_edit e))) c.as_slice.ensures ∙ list_all-drafted edit_has_texts c.args.draft.now.edits ∙ (and_parts _ _ c.requires.texts).0
+
+pub build_known-requires-clause-names : goal.build_known-requires-clause-names
+build_known-requires-clause-names c = (and_parts _ _ c.requires.names).1
+
+pub build_known-requires-clause-texts : goal.build_known-requires-clause-texts
+build_known-requires-clause-texts c = (and_parts _ _ c.requires.texts).1
