@@ -1,0 +1,32 @@
+-- Why a part that comes back is refused, as it is tested.
+use Rattle.std.proofs.Common.{◌≡◌, ◌↔◌, ◌||◌, Bool, true, false, not, Some, None, IsTrue, refl, sym}
+use Rattle.ticket_items.specs.declared.refusal.Refusal.TheVariants.{WrongShape}
+use Rattle.ticket_rows.specs.Ticket.{Job, unless}
+use Rattle.ticket_tree.specs.Part.{Copied}
+use Rattle.spawn.specs.declared.records.spawn_rec.SpawnRec.{SpawnRec}
+use Rattle.merge.specs.Alike.{is_fit}
+use Rattle.merge.specs.Laws.{FitsIsTested}
+use Rattle.merge.specs.Shape.{Fits}
+
+same_test : (b c : Bool) → (b ≡ true → c ≡ true) → (c ≡ true → b ≡ true) → b ≡ c
+same_test true c to from = sym (to refl)
+same_test false true to from = from refl
+same_test false false to from = refl
+
+-- what tells whether a part fits is the test of it
+pub fit_told : (b : Bool) (t : Job) (r : SpawnRec) (p : Copied) → FitsIsTested → (IsTrue b ↔ Fits t r p) → b ≡ is_fit t r p
+fit_told b t r p law tells = same_test b (is_fit t r p) (λ e. (law t r p).1 (tells.0 e)) (λ e. tells.1 ((law t r p).0 e))
+
+pub shape_refused : (out fit : Bool) → out ≡ true → fit ≡ false → Some WrongShape ≡ unless (not out || fit) WrongShape
+shape_refused true false o f = refl
+shape_refused true true o f = cc
+shape_refused false fit o f = cc
+
+pub fit_free : (out fit : Bool) → fit ≡ true → None ≡ unless (not out || fit) WrongShape
+fit_free true true f = refl
+fit_free false fit f = refl
+fit_free true false f = cc
+
+pub merged_free : (out fit : Bool) → out ≡ false → None ≡ unless (not out || fit) WrongShape
+merged_free false fit o = refl
+merged_free true fit o = cc

@@ -1,0 +1,37 @@
+-- A master whose ticket and records were merged.
+use Rattle.std.proofs.Common.{◌≡◌, ◌∙◌, ℕ, true, Some, None, cond, sym, ap, slice_set}
+use Rattle.std.specs.Option.{option_map_or}
+use Rattle.ticket_items.proofs.Places.{same_found}
+use Rattle.ticket_rows.specs.Ticket.{Job}
+use Rattle.ticket_tree.specs.Part.{Copied}
+use Rattle.message_items.specs.Reply.{spawn_in}
+use Rattle.message_items.specs.declared.body.Body.TheVariants.{Return}
+use Rattle.message_items.specs.declared.message.Message.{Message}
+use Rattle.spawn.specs.Records.{is_out}
+use Rattle.spawn.specs.declared.records.spawn_rec.SpawnRec.{SpawnRec}
+use Rattle.merge.specs.Alike.{is_fit}
+use Rattle.merge.specs.Put.{put}
+use Rattle.master_core.proofs.RecordPlaces.{OutThere}
+use Rattle.master_core.proofs.Recorded.{merged_at_place}
+use Rattle.master_core.proofs.Refusals.{part_free, take_free}
+use Rattle.master_core.specs.Master.{IsNumbered, Known, known, merged_record, record_of}
+use Rattle.master_core.specs.Messages.{body_refusal, merged, take_refusal, taken}
+
+-- to put in the part of a spawn that is out, at the place of its record
+pub put_there : (w : Known) (p : Copied) (at k : ℕ) (r : SpawnRec) (ticket : Job) (made : SpawnRec) → IsNumbered w.records → OutThere w.records p.spawn_id k r → ticket ≡ put w.ticket r p at → made ≡ merged_record r
+    → known w.name w.workers ticket (slice_set w.records k made) ≡ taken (Return p) at w
+put_there w p at k r ticket made numbered own put_in phase =
+    ap (λ t. known w.name w.workers t (slice_set w.records k made)) put_in
+    ∙ ap (λ q. known w.name w.workers (put w.ticket r p at) (slice_set w.records k q)) phase
+    ∙ ap (λ rs. known w.name w.workers (put w.ticket r p at) rs) (sym (merged_at_place w.records k r numbered own.there))
+    ∙ sym (ap (λ b. cond b (merged p at w r) w) own.out)
+    ∙ sym (ap (λ o. option_map_or (λ q. cond (is_out q) (merged p at w q) w) o w) own.found)
+
+-- a part of a message that isn't refused fits, while its spawn is out
+pub fit_of : (m : Message) (w : Known) (p : Copied) (r : SpawnRec) → take_refusal m w ≡ None → m.body ≡ Return p → record_of w.records p.spawn_id ≡ Some r → is_out r ≡ true → is_fit w.ticket r p ≡ true
+fit_of m w p r free body found out =
+    let own = take_free m w free in
+    let at : record_of w.records p.spawn_id ≡ Some own.0 = ap (λ b. record_of w.records (spawn_in b)) (sym body) ∙ own.1 in
+    let same : own.0 ≡ r = same_found own.0 r (record_of w.records p.spawn_id) at found in
+    let none : body_refusal (Return p) w r ≡ None = ap (λ q. body_refusal (Return p) w q) (sym same) ∙ ap (λ b. body_refusal b w own.0) (sym body) ∙ own.2 in
+    part_free p w r none out

@@ -1,0 +1,76 @@
+-- What always holds of a master holds after a message.
+use Rattle.std.proofs.Common.{◌≡◌, ◌∙◌, ℕ, Bool, true, false, cond, List, [], ◌∷◌, Option, Some, None, is_some, get_or, refl, sym, ap, subst}
+use Rattle.std.proofs.lemmas.List.Elements.{All-map}
+use Rattle.std.specs.List.{All}
+use Rattle.std.specs.Option.{option_map_or}
+use Rattle.ticket_items.specs.Ids.{mem}
+use Rattle.ticket_items.specs.declared.node_row.NodeRow.{NodeRow}
+use Rattle.ticket_items.specs.declared.refusal.Refusal.{Refusal}
+use Rattle.ticket_items.specs.declared.resource.Resource.{Resource}
+use Rattle.ticket_rows.specs.Copies.{with_copies}
+use Rattle.ticket_rows.specs.Ticket.{IsValid, are_unreserved}
+use Rattle.ticket_tree.specs.Part.{Copied}
+use Rattle.message_items.specs.Reply.{spawn_in}
+use Rattle.message_items.specs.declared.body.Body.{Body}
+use Rattle.message_items.specs.declared.body.Body.TheVariants.{Submit, Return, Answer}
+use Rattle.message_items.specs.declared.message.Message.{Message}
+use Rattle.spawn.proofs.Lawful.{Placed, placed}
+use Rattle.spawn.specs.Laws.{StandApart}
+use Rattle.spawn.specs.Records.{is_out}
+use Rattle.spawn.specs.declared.records.spawn_rec.SpawnRec.{SpawnRec}
+use Rattle.merge.proofs.Fitting.{part_fits}
+use Rattle.merge.proofs.MergedHolders.{merge_keeps_apart}
+use Rattle.merge.proofs.PutValid.{put_is_valid}
+use Rattle.merge.specs.Put.{put}
+use Rattle.merge.specs.Shape.{Fits}
+use Rattle.master_core.proofs.Recorded.{merged_at_place, merged_if, merged_worker, numbered_merged}
+use Rattle.master_core.proofs.Refusals.{part_free, take_free}
+use Rattle.master_core.specs.Laws.{MessageIsKept}
+use Rattle.master_core.specs.Master.{IsKept, Known, is_of, record_of, with_merged}
+use Rattle.master_core.specs.Messages.{IsValidBody, body_refusal, merged, take_refusal, taken}
+
+-- ---- what a valid part says
+
+-- no Status of a part is reserved
+pub unreserved_rows : (rows : List NodeRow) (rw ro : List Resource) → are_unreserved (with_copies rows rw ro) ≡ true → are_unreserved rows ≡ true
+unreserved_rows [] rw ro e = e
+unreserved_rows (r ∷ rows) rw ro e = e
+
+-- ---- a part put in
+
+sent_merged : (s : ℕ) (workers : List (List ℕ)) (records : List SpawnRec) → All (λ (r : SpawnRec). mem r.worker workers ≡ true) records → All (λ (r : SpawnRec). mem r.worker workers ≡ true) (with_merged s records)
+sent_merged s workers records sent =
+    All-map (λ (r : SpawnRec). mem r.worker workers ≡ true) (merged_if s) records (λ k d within. ap (λ x. mem x workers) (merged_worker s (get_or records k d)) ∙ sent k d within)
+
+merged_kept : (p : Copied) (at : ℕ) (w : Known) (r : SpawnRec) → IsValid (with_copies p.rows p.rw p.ro) → IsKept w → Placed w.records r → is_out r ≡ true → Fits w.ticket r p → IsKept (merged p at w r)
+merged_kept p at w r valid kept place out fits =
+    let good = kept.apart.good place.place r place.there out in
+    record {
+      names = kept.names;
+      valid = put_is_valid w.ticket r p at kept.valid good fits (unreserved_rows p.rows p.rw p.ro valid.unreserved);
+      numbered = numbered_merged r.id w.records kept.numbered;
+      sent = sent_merged r.id w.workers w.records kept.sent;
+      apart = subst (StandApart (put w.ticket r p at).rows) (sym (merged_at_place w.records place.place r kept.numbered place.there)) (merge_keeps_apart w.ticket w.records place.place r p at kept.valid kept.apart place.there out fits);
+    }
+
+out_kept : (out : Bool) (p : Copied) (at : ℕ) (w : Known) (r : SpawnRec) → is_out r ≡ out → IsValid (with_copies p.rows p.rw p.ro) → IsKept w → Placed w.records r → body_refusal (Return p) w r ≡ None → IsKept (cond out (merged p at w r) w)
+out_kept true p at w r out valid kept place none = merged_kept p at w r valid kept place out (part_fits w.ticket r p (part_free p w r none out))
+out_kept false p at w r out valid kept place none = kept
+
+taken_kept : (p : Copied) (at : ℕ) (w : Known) (r : SpawnRec) → IsValid (with_copies p.rows p.rw p.ro) → IsKept w → record_of w.records p.spawn_id ≡ Some r → body_refusal (Return p) w r ≡ None → IsKept (taken (Return p) at w)
+taken_kept p at w r valid kept found none =
+    subst IsKept (sym (ap (λ o. option_map_or (λ q. cond (is_out q) (merged p at w q) w) o w) found)) (out_kept (is_out r) p at w r refl valid kept (placed (is_of p.spawn_id) w.records r found) none)
+
+kept_at : (body : Body) (at : ℕ) (w : Known) → IsValidBody body → IsKept w → (r : SpawnRec) → record_of w.records (spawn_in body) ≡ Some r → body_refusal body w r ≡ None → IsKept (taken body at w)
+kept_at (Submit p) at w valid kept r found none = kept
+kept_at (Return p) at w valid kept r found none = taken_kept p at w r valid kept found none
+kept_at (Answer c s told) at w valid kept r found none = kept
+
+kept_either : (refusal : Option Refusal) (m : Message) (at : ℕ) (w : Known) → take_refusal m w ≡ refusal → IsValidBody m.body → IsKept w → IsKept (cond (is_some refusal) w (taken m.body at w))
+kept_either (Some e) m at w refused valid kept = kept
+kept_either None m at w none valid kept =
+    let there = take_free m w none in
+    kept_at m.body at w valid kept there.0 there.1 there.2
+
+pub message_is_kept : MessageIsKept
+message_is_kept m at w valid kept = kept_either (take_refusal m w) m at w refl valid kept

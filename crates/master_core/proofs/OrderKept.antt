@@ -1,0 +1,53 @@
+-- What always holds of a master holds after an order.
+use Rattle.std.proofs.Common.{◌≡◌, ℕ, true, List, Option, Some, None, cond, is_some, refl}
+use Rattle.std.proofs.lemmas.List.Elements.{All-push}
+use Rattle.ticket_items.specs.Ids.{mem}
+use Rattle.ticket_items.specs.declared.edit.Edit.{Edit}
+use Rattle.ticket_items.specs.declared.refusal.Refusal.{Refusal}
+use Rattle.ticket_tree.proofs.StaysValid.{append_is_valid, edit_is_valid}
+use Rattle.spawn.proofs.EditApart.{edit_keeps_apart}
+use Rattle.spawn.proofs.KeptApart.{spawn_keeps_apart}
+use Rattle.spawn.specs.Spawning.{parent_of, spawned_audit}
+use Rattle.spawn.specs.declared.records.spawn_rec.SpawnRec.{SpawnRec}
+use Rattle.master_core.proofs.Recorded.{numbered_more}
+use Rattle.master_core.proofs.Refusals.{edit_free, spawn_free}
+use Rattle.master_core.specs.Laws.{OrderIsKept}
+use Rattle.master_core.specs.Master.{IsKept, Known, next_number}
+use Rattle.master_core.specs.Orders.{next_record, order_refusal, ordered}
+use Rattle.master_core.specs.declared.order.Order.{Order}
+use Rattle.master_core.specs.declared.order.Order.TheVariants as order
+
+edit_kept : (e : Edit) (at : ℕ) (w : Known) → IsKept w → order_refusal (order.Edit e) w ≡ None → IsKept (ordered (order.Edit e) at w)
+edit_kept e at w kept none =
+    let free = edit_free e w none in
+    record {
+      names = kept.names;
+      valid = edit_is_valid e at w.ticket.rows kept.valid free.rows;
+      numbered = kept.numbered;
+      sent = kept.sent;
+      apart = edit_keeps_apart w.ticket.rows w.records e at kept.valid free.rows free.held kept.apart;
+    }
+
+spawn_kept : (node worker : List ℕ) (rw : List (List ℕ)) (at : ℕ) (w : Known) → IsKept w → order_refusal (order.Spawn node worker rw) w ≡ None → IsKept (ordered (order.Spawn node worker rw) at w)
+spawn_kept node worker copies at w kept none =
+    let free = spawn_free w node worker copies none in
+    let new : SpawnRec = next_record w node worker copies at in
+    record {
+      names = kept.names;
+      valid = append_is_valid (parent_of w.ticket.rows node) (spawned_audit w.ticket.rows new) w.ticket.rows kept.valid;
+      numbered = numbered_more w.records new kept.numbered refl;
+      sent = All-push (λ (r : SpawnRec). mem r.worker w.workers ≡ true) w.records new kept.sent free.0;
+      apart = spawn_keeps_apart w.ticket w.records (next_number w.records) node worker copies at kept.valid kept.apart free.1;
+    }
+
+pub ordered_kept : (o : Order) (at : ℕ) (w : Known) → IsKept w → order_refusal o w ≡ None → IsKept (ordered o at w)
+ordered_kept (order.Edit e) at w kept none = edit_kept e at w kept none
+ordered_kept (order.Spawn node worker rw) at w kept none = spawn_kept node worker rw at w kept none
+ordered_kept (order.Resend s) at w kept none = kept
+
+kept_either : (refusal : Option Refusal) (o : Order) (at : ℕ) (w : Known) → order_refusal o w ≡ refusal → IsKept w → IsKept (cond (is_some refusal) w (ordered o at w))
+kept_either None o at w none kept = ordered_kept o at w kept none
+kept_either (Some r) o at w refused kept = kept
+
+pub order_is_kept : OrderIsKept
+order_is_kept o at w kept = kept_either (order_refusal o w) o at w refl kept

@@ -1,0 +1,156 @@
+-- What an order or a message that isn't refused says.
+use Rattle.std.proofs.Common.{◌≡◌, ◌∙◌, cond, ℕ, ◌||◌, ◌&&◌, Bool, true, false, not, List, [], ◌∷◌, Option, Some, None, is_some, refl, sym, ap}
+use Rattle.std.specs.List.{filter}
+use Rattle.std.specs.Option.{option_map, option_map_or}
+use Rattle.std.specs.Str.{bytes_eq}
+use Rattle.ticket_items.specs.Ids.{mem}
+use Rattle.ticket_items.specs.declared.edit.Edit.{Edit}
+use Rattle.ticket_items.specs.declared.edit.Edit.TheVariants.{SetStatus, SetAttr, SetResStatus, SetResAttr, Note, AddNode, AddResource, AddLink}
+use Rattle.ticket_items.specs.declared.node_row.NodeRow.{NodeRow}
+use Rattle.ticket_items.specs.declared.refusal.Refusal.{Refusal}
+use Rattle.ticket_items.specs.declared.refusal.Refusal.TheVariants.{UnknownNode, UnknownResource, UnknownWorker, UnknownSpawn, NotOut, WrongMessage, WrongSender, WrongShape}
+use Rattle.ticket_rows.specs.Edit.{lookups, refusal_of, target}
+use Rattle.ticket_rows.specs.EditRefusal.{later_refusal, unknown_refusal}
+use Rattle.ticket_rows.specs.Homes.{has_resource}
+use Rattle.ticket_rows.specs.Place.{Place, is_node, places, place_at}
+use Rattle.ticket_rows.specs.Ticket.{first_of, has_node, unless}
+use Rattle.ticket_tree.proofs.OnPlaces.{stands_node, stands_resource}
+use Rattle.ticket_tree.specs.Part.{Copied}
+use Rattle.message_items.specs.Reply.{spawn_in}
+use Rattle.message_items.specs.declared.body.Body.TheVariants.{Return}
+use Rattle.message_items.specs.declared.message.Message.{Message}
+use Rattle.spawn.specs.Records.{is_out}
+use Rattle.spawn.specs.Spawning.{spawn_refusal}
+use Rattle.spawn.specs.Table.{holder_at}
+use Rattle.spawn.specs.declared.records.spawn_rec.SpawnRec.{SpawnRec}
+use Rattle.spawn.specs.declared.tables.holder.Holder.{Holder}
+use Rattle.spawn.specs.declared.tables.holder.Holder.TheVariants as held_by
+use Rattle.merge.specs.Alike.{is_fit}
+use Rattle.master_core.specs.Master.{Known, holder, is_spawn_out, next_number, record_of}
+use Rattle.master_core.specs.Messages.{body_refusal, is_for_masters, record_refusal, take_refusal}
+use Rattle.master_core.specs.Orders.{edit_refusal, held_refusal, not_held, order_refusal}
+use Rattle.master_core.specs.declared.order.Order.TheVariants as order
+
+-- ---- what an edit names stands in the ticket
+
+stands_at : (b here : Bool) (p : Place) (x : List ℕ) (kept : List Place) (later : Option Place) → bytes_eq p.id x ≡ here → is_some (place_at (cond b (p ∷ kept) kept) x) ≡ true → (is_some (place_at kept x) ≡ true → is_some later ≡ true) → is_some (cond here (Some p) later) ≡ true
+stands_at b true p x kept later e there go = refl
+stands_at true false p x kept later e there go = go (sym (ap (λ c. is_some (cond c (Some p) (place_at kept x))) e) ∙ there)
+stands_at false false p x kept later e there go = go there
+
+-- what stands among those that pass stands among all
+kept_stands : (f : Place → Bool) (tree : List Place) (x : List ℕ) → is_some (place_at (filter f tree) x) ≡ true → is_some (place_at tree x) ≡ true
+kept_stands f [] x there = there
+kept_stands f (p ∷ tree) x there = stands_at (f p) (bytes_eq p.id x) p x (filter f tree) (place_at tree x) refl there (kept_stands f tree x)
+
+node_stands : (rows : List NodeRow) (x : List ℕ) → has_node rows x ≡ true → is_some (place_at (places rows) x) ≡ true
+node_stands rows x known = kept_stands is_node (places rows) x (stands_node rows x ∙ known)
+
+resource_stands : (rows : List NodeRow) (x : List ℕ) → has_resource rows x ≡ true → is_some (place_at (places rows) x) ≡ true
+resource_stands rows x known = kept_stands (λ p. not (is_node p)) (places rows) x (stands_resource rows x ∙ known)
+
+known_node : (a : Bool) → unless a UnknownNode ≡ None → a ≡ true
+known_node true e = refl
+known_node false e = cc
+
+known_resource : (a : Bool) → unless a UnknownResource ≡ None → a ≡ true
+known_resource true e = refl
+known_resource false e = cc
+
+known_both : (a b : Bool) → first_of (unless a UnknownNode ∷ unless b UnknownResource ∷ []) ≡ None → a ≡ true
+known_both true b e = refl
+known_both false b e = cc
+
+target_stands : (e : Edit) (rows : List NodeRow) → unknown_refusal e (lookups rows) ≡ None → is_some (place_at (places rows) (target e)) ≡ true
+target_stands (SetStatus n status) rows none = node_stands rows n (known_node (has_node rows n) none)
+target_stands (SetAttr n name value) rows none = node_stands rows n (known_node (has_node rows n) none)
+target_stands (SetResStatus x status) rows none = resource_stands rows x (known_resource (has_resource rows x) none)
+target_stands (SetResAttr x name value) rows none = resource_stands rows x (known_resource (has_resource rows x) none)
+target_stands (Note n text) rows none = node_stands rows n (known_node (has_node rows n) none)
+target_stands (AddNode n id kind job_part status) rows none = node_stands rows n (known_node (has_node rows n) none)
+target_stands (AddResource n x) rows none = node_stands rows n (known_node (has_node rows n) none)
+target_stands (AddLink n link) rows none = node_stands rows n (known_both (has_node rows n) (has_resource rows link.rref) none)
+
+-- ---- edits
+
+three_none : (a b c : Option Refusal) → first_of (a ∷ b ∷ c ∷ []) ≡ None → (a ≡ None) × (b ≡ None) × (c ≡ None)
+three_none None None None e = (refl, refl, refl)
+three_none None None (Some r) e = cc
+three_none None (Some r) c e = cc
+three_none (Some r) b c e = cc
+
+mapped_some : {X Y : Type 0} (f : X → Y) (o : Option X) → is_some (option_map f o) ≡ is_some o
+mapped_some f None = refl
+mapped_some f (Some x) = refl
+
+masters : (h : Option Holder) → is_some h ≡ true → option_map_or held_refusal h None ≡ None → h ≡ Some held_by.Master
+masters None known none = cc
+masters (Some held_by.Master) known none = refl
+masters (Some (held_by.Spawn s)) known none = cc
+
+pub record IsFree (w : Known) (e : Edit) : Type 0 where
+  pub rows : refusal_of e w.ticket.rows ≡ None
+  pub held : holder w (target e) ≡ Some held_by.Master
+
+-- an edit that isn't refused isn't by the ticket either, and the master holds its target
+pub edit_free : (e : Edit) (w : Known) → edit_refusal e w ≡ None → IsFree w e
+edit_free e w none =
+    let at = lookups w.ticket.rows in
+    let parts = three_none (unknown_refusal e at) (not_held w (target e)) (later_refusal e at) none in
+    let stands = target_stands e w.ticket.rows parts.0 in
+    record {
+      rows = ap (λ o. first_of (o ∷ later_refusal e at ∷ [])) parts.0 ∙ ap (λ o. first_of (None ∷ o ∷ [])) parts.2;
+      held = masters (holder w (target e)) (mapped_some (holder_at w.records) (place_at (places w.ticket.rows) (target e)) ∙ stands) parts.1;
+    }
+
+-- ---- other orders
+
+two_none : (a : Bool) (l : Option Refusal) → first_of (unless a UnknownWorker ∷ l ∷ []) ≡ None → (a ≡ true) × (l ≡ None)
+two_none true None e = (refl, refl)
+two_none true (Some r) e = cc
+two_none false l e = cc
+
+-- a spawn that isn't refused goes to a worker, and the ticket doesn't refuse it
+pub spawn_free : (w : Known) (node worker : List ℕ) (rw : List (List ℕ)) → order_refusal (order.Spawn node worker rw) w ≡ None
+    → (mem worker w.workers ≡ true) × (spawn_refusal w.ticket.rows w.records (next_number w.records) node rw ≡ None)
+spawn_free w node worker rw none = two_none (mem worker w.workers) (spawn_refusal w.ticket.rows w.records (next_number w.records) node rw) none
+
+only_out : (a : Bool) → unless a NotOut ≡ None → a ≡ true
+only_out true e = refl
+only_out false e = cc
+
+-- what is sent once more is out
+pub resend_free : (w : Known) (s : ℕ) → order_refusal (order.Resend s) w ≡ None → is_spawn_out w.records s ≡ true
+resend_free w s none = only_out (is_spawn_out w.records s) none
+
+-- ---- messages
+
+record_there : (f : SpawnRec → Option Refusal) (o : Option SpawnRec) (a : Bool) → first_of (unless a WrongMessage ∷ option_map_or f o (Some UnknownSpawn) ∷ []) ≡ None → (r : SpawnRec) × (o ≡ Some r) × (f r ≡ None)
+record_there f o false e = cc
+record_there f None true e = cc
+record_there f (Some r) true e = (r, refl, one (f r) e)
+  where
+    one : (l : Option Refusal) → first_of (l ∷ []) ≡ None → l ≡ None
+    one None e = refl
+    one (Some x) e = cc
+
+sent_free : (a : Bool) (l : Option Refusal) → first_of (unless a WrongSender ∷ l ∷ []) ≡ None → l ≡ None
+sent_free true None e = refl
+sent_free true (Some r) e = cc
+sent_free false l e = cc
+
+-- a message that isn't refused is about a spawn of which there is a record, and isn't refused for
+-- what it says
+pub take_free : (m : Message) (w : Known) → take_refusal m w ≡ None → (r : SpawnRec) × (record_of w.records (spawn_in m.body) ≡ Some r) × (body_refusal m.body w r ≡ None)
+take_free m w none =
+    let there = record_there (record_refusal m w) (record_of w.records (spawn_in m.body)) (bytes_eq m.receiver w.name && is_for_masters m.body) none in
+    (there.0, there.1, sent_free (bytes_eq m.sender there.0.worker) (body_refusal m.body w there.0) there.2)
+
+fit_if_out : (a b : Bool) → unless (not a || b) WrongShape ≡ None → a ≡ true → b ≡ true
+fit_if_out true true e out = refl
+fit_if_out true false e out = cc
+fit_if_out false b e out = cc
+
+-- and a part that comes back fits while its spawn is out
+pub part_free : (p : Copied) (w : Known) (r : SpawnRec) → body_refusal (Return p) w r ≡ None → is_out r ≡ true → is_fit w.ticket r p ≡ true
+part_free p w r none out = fit_if_out (is_out r) (is_fit w.ticket r p) none out

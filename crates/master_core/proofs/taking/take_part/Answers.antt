@@ -1,0 +1,58 @@
+use Rattle.std.proofs.Common.{◌≡◌, ◌∙◌, suc, ◌<◌, true, length, sym, ap, subst}
+use Rattle.master_core.proofs.Merging.{put_there}
+use Rattle.master_core.proofs.RecordPlaces.{out_read, out_there}
+use Rattle.master_core.specs.Master.{is_spawn_out, known}
+use Rattle.master_core.proofs.taking.take_part.Goals as goal
+
+pub index_mut-requires : goal.index_mut-requires
+index_mut-requires c =
+    let records = c.args.records.now.items in
+    let s = c.args.part.spawn_id in
+    let k = c.place_of-place.result in
+    let number : suc k ≡ s = c.place_of-place.ensures ∙ c.spawn_id-then-is_spawn_out.ensures in
+    let out : is_spawn_out records s ≡ true =
+    ap (λ rs. is_spawn_out rs s) (sym c.as_slice.ensures.value) ∙ ap (is_spawn_out c.as_slice.result.now) (sym c.spawn_id.ensures) ∙ sym c.is_spawn_out.ensures ∙ c.if-is_spawn_out.true in
+    subst (λ n. k < n) (ap length (sym c.as_slice.ensures.value) ∙ c.as_slice.ensures.len) (out_there records s k c.requires.numbered number out).1.within
+
+pub put_in-requires-clause-out : goal.put_in-requires-clause-out
+put_in-requires-clause-out c =
+    let records = c.args.records.now.items in
+    let s = c.args.part.spawn_id in
+    let k = c.place_of-place.result in
+    let number : suc k ≡ s = c.place_of-place.ensures ∙ c.spawn_id-then-is_spawn_out.ensures in
+    let out : is_spawn_out records s ≡ true =
+    ap (λ rs. is_spawn_out rs s) (sym c.as_slice.ensures.value) ∙ ap (is_spawn_out c.as_slice.result.now) (sym c.spawn_id.ensures) ∙ sym c.is_spawn_out.ensures ∙ c.if-is_spawn_out.true in
+    (out_read records s k c.index_mut.result.now c.requires.numbered number out c.index_mut.ensures.value).out
+
+pub put_in-requires-clause-good : goal.put_in-requires-clause-good
+put_in-requires-clause-good c =
+    let records = c.args.records.now.items in
+    let s = c.args.part.spawn_id in
+    let k = c.place_of-place.result in
+    let number : suc k ≡ s = c.place_of-place.ensures ∙ c.spawn_id-then-is_spawn_out.ensures in
+    let out : is_spawn_out records s ≡ true =
+    ap (λ rs. is_spawn_out rs s) (sym c.as_slice.ensures.value) ∙ ap (is_spawn_out c.as_slice.result.now) (sym c.spawn_id.ensures) ∙ sym c.is_spawn_out.ensures ∙ c.if-is_spawn_out.true in
+    let own = out_read records s k c.index_mut.result.now c.requires.numbered number out c.index_mut.ensures.value in
+    c.requires.apart.good k c.index_mut.result.now own.there own.out
+
+pub put_in-requires-clause-fits : goal.put_in-requires-clause-fits
+put_in-requires-clause-fits c =
+    let records = c.args.records.now.items in
+    let s = c.args.part.spawn_id in
+    let k = c.place_of-place.result in
+    let number : suc k ≡ s = c.place_of-place.ensures ∙ c.spawn_id-then-is_spawn_out.ensures in
+    let out : is_spawn_out records s ≡ true =
+    ap (λ rs. is_spawn_out rs s) (sym c.as_slice.ensures.value) ∙ ap (is_spawn_out c.as_slice.result.now) (sym c.spawn_id.ensures) ∙ sym c.is_spawn_out.ensures ∙ c.if-is_spawn_out.true in
+    let own = out_read records s k c.index_mut.result.now c.requires.numbered number out c.index_mut.ensures.value in
+    c.requires.fits c.index_mut.result.now own.found own.out
+
+pub returns-in_ok-put_in-clause-ok : goal.returns-in_ok-put_in-clause-ok
+returns-in_ok-put_in-clause-ok c name workers =
+    let records = c.args.records.now.items in
+    let s = c.args.part.spawn_id in
+    let k = c.place_of-place.result in
+    let number : suc k ≡ s = c.place_of-place.ensures ∙ c.spawn_id-then-is_spawn_out.ensures in
+    let out : is_spawn_out records s ≡ true =
+    ap (λ rs. is_spawn_out rs s) (sym c.as_slice.ensures.value) ∙ ap (is_spawn_out c.as_slice.result.now) (sym c.spawn_id.ensures) ∙ sym c.is_spawn_out.ensures ∙ c.if-is_spawn_out.true in
+    let own = out_read records s k c.index_mut.result.now c.requires.numbered number out c.index_mut.ensures.value in
+    put_there (known name workers c.args.ticket.now records) c.args.part c.args.at k c.index_mut.result.now c.put_in.new.ticket c.put_in.new.spawn c.requires.numbered own c.in_ok-put_in.ensures.merged c.in_ok-put_in.ensures.phase

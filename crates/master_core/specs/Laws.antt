@@ -1,0 +1,118 @@
+-- Laws of masters: what they may change, what orders and messages change, and what goes out.
+use Rattle.std.specs.Prelude.{◌≡◌, ◌⊎◌, ℕ, true, false, List, Some, None, Ok}
+use Rattle.ticket_items.specs.declared.edit.Edit.{Edit}
+use Rattle.ticket_rows.specs.Edit.{target}
+use Rattle.ticket_tree.specs.Part.{Copied}
+use Rattle.message_items.specs.Reply.{is_answer}
+use Rattle.message_items.specs.declared.body.Body.TheVariants.{Return}
+use Rattle.message_items.specs.declared.message.Message.{Message}
+use Rattle.message_items.specs.declared.reply.Reply.TheVariants as reply
+use Rattle.spawn.specs.Parts.{part_for}
+use Rattle.spawn.specs.Records.{is_out}
+use Rattle.spawn.specs.declared.records.spawn_rec.SpawnRec.{SpawnRec}
+use Rattle.spawn.specs.declared.tables.holder.Holder.TheVariants as held_by
+use Rattle.master_core.specs.Master.{IsKept, Known, holder, is_spawn_out, may_change, merged_record}
+use Rattle.master_core.specs.Master.{record_of}
+use Rattle.master_core.specs.Messages.{IsValidBody, after_taking, merged, take_refusal, taken_reply}
+use Rattle.master_core.specs.Orders.{after_order, order_message, order_refusal, ordered}
+use Rattle.master_core.specs.Orders.{spawn_sent, submit_of}
+use Rattle.master_core.specs.declared.order.Order.{Order}
+use Rattle.master_core.specs.declared.order.Order.TheVariants as order
+
+-- ---- what may be changed
+
+-- what the master may change no spawn holds
+abbrev pub MayChangeIsHeld : Type 0
+MayChangeIsHeld =
+    (w : Known) (x : List ℕ) → may_change w x ≡ true → holder w x ≡ Some held_by.Master
+
+-- an edit that isn't refused is of what may be changed
+abbrev pub EditIsOfHeld : Type 0
+EditIsOfHeld =
+    (w : Known) (e : Edit) → order_refusal (order.Edit e) w ≡ None
+    → may_change w (target e) ≡ true
+
+-- ---- what an order changes
+
+-- what always holds of a master holds after an order
+abbrev pub OrderIsKept : Type 0
+OrderIsKept = (o : Order) (at : ℕ) (w : Known) → IsKept w → IsKept (after_order o at w)
+
+-- an order changes the record of no spawn, and no part of one that is out
+abbrev pub OrderKeepsSpawns : Type 0
+OrderKeepsSpawns =
+    (o : Order) (at : ℕ) (w : Known) (s : ℕ) (r : SpawnRec) → IsKept w
+    → record_of w.records s ≡ Some r
+    → (record_of (after_order o at w).records s ≡ Some r)
+    × (is_out r ≡ true → part_for (after_order o at w).ticket r ≡ part_for w.ticket r)
+
+-- ---- what a message changes
+
+-- what always holds of a master holds after a message
+abbrev pub MessageIsKept : Type 0
+MessageIsKept =
+    (m : Message) (at : ℕ) (w : Known) → IsValidBody m.body → IsKept w
+    → IsKept (after_taking m at w)
+
+-- a message changes nothing but where a part that comes back is put in
+abbrev pub MessageChangesByMerge : Type 0
+MessageChangesByMerge =
+    (m : Message) (at : ℕ) (w : Known)
+    → (after_taking m at w ≡ w)
+    ⊎ ((p : Copied) × (r : SpawnRec) × (m.body ≡ Return p) × (take_refusal m w ≡ None)
+    × (record_of w.records p.spawn_id ≡ Some r) × (is_out r ≡ true)
+    × (taken_reply m w ≡ Ok (reply.Merged p.spawn_id)) × (after_taking m at w ≡ merged p at w r))
+
+-- an answer changes nothing
+abbrev pub AnswerChangesNothing : Type 0
+AnswerChangesNothing =
+    (m : Message) (at : ℕ) (w : Known) → is_answer m.body ≡ true → after_taking m at w ≡ w
+
+-- a message changes the record of a spawn only as it merges it, which was out, and no part of one
+-- that stays out
+abbrev pub MessageKeepsSpawns : Type 0
+MessageKeepsSpawns =
+    (m : Message) (at : ℕ) (w : Known) (s : ℕ) (r : SpawnRec) → IsValidBody m.body → IsKept w
+    → record_of w.records s ≡ Some r
+    → ((is_out r ≡ true) × (taken_reply m w ≡ Ok (reply.Merged s))
+    × (record_of (after_taking m at w).records s ≡ Some (merged_record r)))
+    ⊎ ((record_of (after_taking m at w).records s ≡ Some r)
+    × (is_out r ≡ true → part_for (after_taking m at w).ticket r ≡ part_for w.ticket r))
+
+-- ---- merged once
+
+-- once a part is put in its spawn isn't out
+abbrev pub MergedIsIn : Type 0
+MergedIsIn =
+    (m : Message) (at : ℕ) (w : Known) (s : ℕ) → taken_reply m w ≡ Ok (reply.Merged s)
+    → (is_spawn_out w.records s ≡ true) × (is_spawn_out (after_taking m at w).records s ≡ false)
+
+-- what has come in stays so, whatever is ordered or comes
+abbrev pub InStaysIn : Type 0
+InStaysIn =
+    (w : Known) (s : ℕ) (r : SpawnRec) → record_of w.records s ≡ Some r → is_out r ≡ false
+    → ((o : Order) (at : ℕ) → record_of (after_order o at w).records s ≡ Some r)
+    × ((m : Message) (at : ℕ) → record_of (after_taking m at w).records s ≡ Some r)
+
+-- a part that comes back once more, whatever it holds, changes nothing and was put in before
+abbrev pub ReturnIsAlready : Type 0
+ReturnIsAlready =
+    (m : Message) (at : ℕ) (w : Known) (p : Copied) → m.body ≡ Return p → take_refusal m w ≡ None
+    → is_spawn_out w.records p.spawn_id ≡ false
+    → (after_taking m at w ≡ w) × (taken_reply m w ≡ Ok (reply.Already p.spawn_id))
+
+-- ---- what goes out
+
+-- what goes out is made of the record of the new spawn, or of the one that is sent once more, as it
+-- is after the order; and that spawn is out
+abbrev pub SubmitIsOfRecord : Type 0
+SubmitIsOfRecord =
+    (o : Order) (at : ℕ) (w : Known) (s : ℕ) → IsKept w → order_refusal o w ≡ None
+    → spawn_sent o w ≡ Some s
+    → (r : SpawnRec) × (record_of (ordered o at w).records s ≡ Some r) × (is_out r ≡ true)
+    × (order_message o at w ≡ Some (submit_of w.name (ordered o at w).ticket r))
+
+-- and where no spawn is sent nothing goes out
+abbrev pub NothingIsSent : Type 0
+NothingIsSent =
+    (o : Order) (at : ℕ) (w : Known) → spawn_sent o w ≡ None → order_message o at w ≡ None

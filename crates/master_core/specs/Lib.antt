@@ -1,0 +1,4 @@
+pub mod Master
+pub mod Orders
+pub mod Messages
+pub mod Laws

@@ -1,0 +1,101 @@
+-- What a master does with an order: why it is refused, and else what becomes of the ticket and of
+-- the records, what is replied and what goes out.
+use Rattle.std.specs.Prelude.{ℕ, List, [], ◌∷◌, ◌++◌, if◌then◌else◌}
+use Rattle.std.specs.Prelude.{Option, Some, None, is_some}
+use Rattle.std.specs.Option.{option_map, option_map_or}
+use Rattle.ticket_items.specs.Ids.{mem}
+use Rattle.ticket_items.specs.declared.edit.Edit.{Edit}
+use Rattle.ticket_items.specs.declared.refusal.Refusal.{Refusal}
+use Rattle.ticket_items.specs.declared.refusal.Refusal.TheVariants.{NotHeld, NotOut, UnknownWorker}
+use Rattle.ticket_rows.specs.Edit.{edited, lookups, target}
+use Rattle.ticket_rows.specs.EditRefusal.{later_refusal, unknown_refusal}
+use Rattle.ticket_rows.specs.Ticket.{Job, first_of, unless}
+use Rattle.message_items.specs.declared.body.Body.TheVariants.{Submit}
+use Rattle.message_items.specs.declared.message.Message.{Message}
+use Rattle.message_items.specs.declared.reply.Reply.{Reply}
+use Rattle.message_items.specs.declared.reply.Reply.TheVariants as reply
+use Rattle.spawn.specs.Parts.{part_for}
+use Rattle.spawn.specs.Spawning.{new_record, spawn_refusal, spawned}
+use Rattle.spawn.specs.declared.records.spawn_rec.SpawnRec.{SpawnRec}
+use Rattle.spawn.specs.declared.tables.holder.Holder.{Holder}
+use Rattle.spawn.specs.declared.tables.holder.Holder.TheVariants as held_by
+use Rattle.master_core.specs.declared.order.Order.{Order}
+use Rattle.master_core.specs.declared.order.Order.TheVariants as order
+use Rattle.master_core.specs.Master.{Known, holder, is_spawn_out, next_number, record_of}
+
+-- ---- refusals
+
+-- why what a holder has can't be changed by the master, if it can't: a spawn has it
+abbrev pub held_refusal : Holder → Option Refusal
+held_refusal held_by.Master = None
+held_refusal (held_by.Spawn s) = Some (NotHeld s)
+
+-- why the master can't change what has an id, if it can't
+abbrev pub not_held : Known → List ℕ → Option Refusal
+not_held w x = option_map_or held_refusal (holder w x) None
+
+-- why an edit is refused, if it is: what isn't there comes first, then who holds its target, and
+-- then all else
+abbrev pub edit_refusal : Edit → Known → Option Refusal
+edit_refusal e w =
+    first_of
+    (unknown_refusal e (lookups w.ticket.rows) ∷ not_held w (target e)
+    ∷ later_refusal e (lookups w.ticket.rows) ∷ [])
+
+-- why an order is refused, if it is
+abbrev pub order_refusal : Order → Known → Option Refusal
+order_refusal (order.Edit e) w = edit_refusal e w
+order_refusal (order.Spawn node worker rw) w =
+    first_of
+    (unless (mem worker w.workers) UnknownWorker
+    ∷ spawn_refusal w.ticket.rows w.records (next_number w.records) node rw ∷ [])
+order_refusal (order.Resend s) w = unless (is_spawn_out w.records s) NotOut
+
+-- ---- what becomes of the ticket and the records
+
+-- the record of the next spawn
+abbrev pub next_record : Known → List ℕ → List ℕ → List (List ℕ) → ℕ → SpawnRec
+next_record w node worker rw at =
+    new_record w.ticket.rows (next_number w.records) node worker rw at
+
+-- the master after an order at a time that isn't refused
+abbrev pub ordered : Order → ℕ → Known → Known
+ordered (order.Edit e) at w = record w { ticket = edited e at w.ticket }
+ordered (order.Spawn node worker rw) at w =
+    record w {
+      ticket = spawned w.ticket (next_record w node worker rw at);
+      records = w.records ++ next_record w node worker rw at ∷ [];
+    }
+ordered (order.Resend s) at w = w
+
+-- the master after an order at a time. A refusal changes nothing
+abbrev pub after_order : Order → ℕ → Known → Known
+after_order o at w = if is_some (order_refusal o w) then w else ordered o at w
+
+-- ---- what is replied, and what goes out
+
+abbrev pub order_reply : Order → Known → Reply
+order_reply (order.Edit e) w = reply.Edited
+order_reply (order.Spawn node worker rw) w = reply.Spawned (next_number w.records)
+order_reply (order.Resend s) w = reply.Sent s
+
+-- the spawn whose part an order sends out
+abbrev pub spawn_sent : Order → Known → Option ℕ
+spawn_sent (order.Edit e) w = None
+spawn_sent (order.Spawn node worker rw) w = Some (next_number w.records)
+spawn_sent (order.Resend s) w = Some s
+
+-- the message by which the master of a name sends the part of a spawn out, as its ticket is
+abbrev pub submit_of : List ℕ → Job → SpawnRec → Message
+submit_of name t r =
+    record { sender = name; receiver = r.worker; at = r.at; body = Submit (part_for t r) }
+
+-- the message that goes out: the part of a spawn, as the ticket is after the order
+abbrev pub order_message : Order → ℕ → Known → Option Message
+order_message (order.Edit e) at w = None
+order_message (order.Spawn node worker rw) at w =
+    Some
+    (submit_of w.name (spawned w.ticket (next_record w node worker rw at))
+    (next_record w node worker rw at))
+order_message (order.Resend s) at w =
+    option_map (submit_of w.name w.ticket) (record_of w.records s)

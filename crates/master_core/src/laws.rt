@@ -1,0 +1,42 @@
+//! Laws of the words that the contracts of this crate use. Each function does nothing: its contract
+//! is the law.
+
+ghost use Rattle.master_core.specs.Laws as law;
+
+/// What the master may change no spawn holds, and an edit that isn't refused is of what it may
+/// change.
+pub fn what_a_master_may_change_it_holds()
+    ensures held { law.MayChangeIsHeld }
+    ensures edits { law.EditIsOfHeld }
+{}
+
+/// An order changes the record of no spawn and no part of one that is out. What always holds of a
+/// master holds then.
+pub fn an_order_changes_no_spawn()
+    ensures spawns { law.OrderKeepsSpawns }
+    ensures kept { law.OrderIsKept }
+{}
+
+/// A message changes nothing but where it puts in a part that comes back, and then no part of
+/// another spawn that is out; an answer changes nothing. What always holds of a master holds then.
+pub fn a_message_changes_by_a_merge_alone()
+    ensures merge { law.MessageChangesByMerge }
+    ensures answers { law.AnswerChangesNothing }
+    ensures spawns { law.MessageKeepsSpawns }
+    ensures kept { law.MessageIsKept }
+{}
+
+/// A part is put in once: its spawn is out before and not after, it stays in whatever is ordered or
+/// comes, and the part changes nothing when it comes again.
+pub fn a_spawn_is_merged_once()
+    ensures merged { law.MergedIsIn }
+    ensures stays { law.InStaysIn }
+    ensures again { law.ReturnIsAlready }
+{}
+
+/// What goes out is made of the record of the new spawn, or of the one that is sent once more, and
+/// that spawn is out; an edit sends nothing.
+pub fn what_goes_out_tells_the_record()
+    ensures sent { law.SubmitIsOfRecord }
+    ensures none { law.NothingIsSent }
+{}

@@ -1,0 +1,14 @@
+//! A master: it owns a ticket, sends parts of it to workers, and puts in what comes back.
+#![tactic(auto)]
+
+mod editing;
+pub mod laws;
+mod master;
+mod names;
+mod order;
+mod ordering;
+mod records;
+mod taking;
+
+pub use master::Master;
+pub use order::Order;

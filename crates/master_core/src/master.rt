@@ -1,0 +1,181 @@
+use crate::names::are_apart;
+use crate::order::Order;
+use crate::ordering::do_order;
+use crate::taking;
+use crate::taking::take_body;
+use message_items::answering::{answer_to, told_of};
+use message_items::{Done, Message, Outcome};
+use spawn::{Holder, SpawnRec, marked};
+use std::alloc::{AllocError, Global};
+use std::marker::Model;
+use ticket_tree::{Id, Ids, Marks, Refusal, Ticket};
+
+/// A controller that owns a job's ticket (JDF 1.5, 4.4). It spawns nodes of it to its workers, and
+/// keeps a record of each spawn.
+#[derive(Debug, Drop)]
+pub struct Master {
+    name: Id,
+    workers: Ids,
+    ticket: Ticket,
+    records: Vec<SpawnRec>,
+}
+
+impl Model for Master {
+    ghost use Rattle.master_core.specs.Master.{IsKept, Known, known};
+
+    ghost Value = { Known };
+
+    ghost view = { λ a. known a.name a.workers a.ticket a.records.items };
+
+    ghost invariant = { λ a. IsKept (known a.name a.workers a.ticket a.records.items) };
+}
+
+impl Master {
+    ghost use Rattle.std.specs.Prelude.{◌≡◌, ◌⊎◌, ◌∷◌, true, false, [], Err, OnOk, OnErr};
+    ghost use Rattle.std.specs.Prelude.{IfOk, IfErr, IfNone, IfSome, IsErrOf, IsOk};
+    ghost use Rattle.ticket_items.specs.Ids.{are_distinct};
+    ghost use Rattle.message_items.specs.Reply.{is_answer};
+    ghost use Rattle.spawn.specs.Marking as marking;
+    ghost use Rattle.master_core.specs.Master as master;
+    ghost use Rattle.master_core.specs.Master.{IsKept};
+    ghost use Rattle.master_core.specs.Messages as messages;
+    ghost use Rattle.master_core.specs.Orders as orders;
+
+    /// A master of this name with these workers, none of whom has a part of its ticket. Refuses
+    /// `SameName` where two of the names are equal (our own), and else `Memory`.
+    pub fn new(alloc: Global, name: Id, workers: Ids, ticket: Ticket) -> Result<Master, Refusal>
+        ensures ok { IfOk result (λ m. m ≡ master.known name workers ticket []) }
+        ensures kept { IfOk result (λ m. IsKept m) }
+        ensures refused { IsErrOf result Refusal.SameName → are_distinct (name ∷ workers) ≡ false }
+        ensures memory { are_distinct (name ∷ workers) ≡ true
+            → IfErr result (λ e. e ≡ Refusal.Memory) }
+        ensures only { IfErr result (λ e. (e ≡ Refusal.SameName) ⊎ (e ≡ Refusal.Memory)) }
+    {
+        if !are_apart(alloc, &name, workers.as_slice())? {
+            return Err(Refusal::SameName);
+        }
+        // A ticket has valid rows.
+        let _rows = ticket.rows();
+        Ok(Master {
+            name,
+            workers,
+            ticket,
+            records: Vec::new(alloc),
+        })
+    }
+
+    /// Its name.
+    pub fn name(&self) -> &Id
+        ensures { result.now ≡ self.now.name }
+    {
+        &self.name
+    }
+
+    /// The names of its workers.
+    pub fn workers(&self) -> &[Id]
+        ensures { result.now ≡ self.now.workers }
+    {
+        self.workers.as_slice()
+    }
+
+    /// Its ticket as it has it: what is out stands in it as it was.
+    pub fn ticket(&self) -> &Ticket
+        ensures { result.now ≡ self.now.ticket }
+    {
+        &self.ticket
+    }
+
+    /// The records of its spawns, in the order in which they went out, the first of which has the
+    /// number 1, the next 2 and so on. Each went to a worker; no two controllers have one name; the
+    /// ticket is valid; each record of a spawn that is out is good in it, and no two of those claim
+    /// one node or resource.
+    pub fn records(&self) -> &[SpawnRec]
+        ensures records { result.now ≡ self.now.records }
+        ensures kept { IsKept self.now }
+    {
+        self.records.as_slice()
+    }
+
+    /// Who holds a node or a resource: the spawn that is out and claims it, or else the master.
+    /// `None` where the id is unknown. Needs no memory.
+    pub fn holder_of(&self, id: &Id) -> Option<Holder>
+        ensures { result ≡ master.holder self.now id.now }
+    {
+        spawn::holder_of(&self.ticket, self.records.as_slice(), id)
+    }
+
+    /// Whether it may change a node or a resource: it holds it. Needs no memory.
+    pub fn may_change(&self, id: &Id) -> bool
+        ensures { result ≡ master.may_change self.now id.now }
+    {
+        match self.holder_of(id) {
+            Some(Holder::Master) => true,
+            Some(Holder::Spawn(_)) => false,
+            None => false,
+        }
+    }
+
+    /// What its ticket shows of the spawns that are out (JDF 1.5, 4.4). Refuses `Memory` alone.
+    pub fn shown(&self, alloc: Global) -> Result<Marks, Refusal>
+        ensures ok { IfOk result
+            (λ marks. marks ≡ marking.marks self.now.ticket.rows self.now.records) }
+        ensures memory { IfErr result (λ e. e ≡ Refusal.Memory) }
+    {
+        marked(alloc, &self.ticket, self.records.as_slice())
+    }
+
+    /// Does what it is told, at a time in seconds since 1970: it edits its ticket, spawns a node to
+    /// a worker, or sends the part of a spawn once more. Refuses the first that holds, without
+    /// memory: an edit as `UnknownNode` or `UnknownResource` where what it names isn't there, as
+    /// `NotHeld` where a spawn that is out holds its target, and then as `Ticket::apply` does; a
+    /// spawn as `UnknownWorker` where no worker has the name, and then as `spawn::may_spawn` says;
+    /// to send once more as `NotOut` where no spawn that is out has the number. Then refuses
+    /// `Memory`. A refusal changes nothing.
+    pub fn order(&mut self, alloc: Global, order: Order, at: u64) -> Result<Done, Refusal>
+        ensures state { OnOk result (self.new ≡ orders.ordered order at self.old) }
+        ensures reply { IfOk result (λ done. done.reply ≡ orders.order_reply order self.old) }
+        ensures message { IfOk result
+            (λ done. done.message ≡ orders.order_message order at self.old) }
+        ensures err { OnErr result (self.new ≡ self.old) }
+        ensures refused { IfSome (orders.order_refusal order self.old) (λ e. result ≡ Err e) }
+        ensures memory { IfNone (orders.order_refusal order self.old)
+            (IfErr result (λ e. e ≡ Refusal.Memory)) }
+    {
+        do_order(
+            alloc,
+            &self.name,
+            self.workers.as_slice(),
+            &mut self.ticket,
+            &mut self.records,
+            order,
+            at,
+        )
+    }
+
+    /// Takes a message, whoever sent it and whatever it says, at a time in seconds since 1970. The
+    /// reply is what it was taken as, or the first refusal that holds: `WrongMessage` where it is
+    /// for another, or is neither a part that comes back nor the answer to one that went out;
+    /// `UnknownSpawn` where there is no record of the spawn; `WrongSender` where it isn't from the
+    /// worker to whom that went; and for a part that comes back while the spawn is out `WrongShape`
+    /// where it doesn't fit. A refusal changes nothing, nor does an answer or a part that was put
+    /// in before. A command is answered, refused or not; an answer isn't, and takes no memory.
+    /// Where memory runs out nothing is changed.
+    pub fn take(&mut self, alloc: Global, message: Message, at: u64) -> Result<Outcome, AllocError>
+        ensures state { OnOk result (self.new ≡ messages.after_taking message at self.old) }
+        ensures reply { IfOk result
+            (λ outcome. outcome.reply ≡ messages.taken_reply message self.old) }
+        ensures answer { IfOk result
+            (λ outcome. outcome.answer ≡ messages.taken_answer message at self.old) }
+        ensures err { OnErr result (self.new ≡ self.old) }
+        ensures answers { is_answer message.body ≡ true → IsOk result }
+    {
+        let refusal = taking::refusal_of(self, &message);
+        let reply = taking::reply_or(refusal, self, &message.body);
+        let told = told_of(refusal, taking::end_of(&message.body));
+        let answer = answer_to(alloc, &self.name, &message, at, told)?;
+        if refusal.is_none() {
+            take_body(alloc, &mut self.ticket, &mut self.records, message.body, at)?;
+        }
+        Ok(Outcome { reply, answer })
+    }
+}

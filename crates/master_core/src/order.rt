@@ -1,0 +1,13 @@
+use ticket_tree::{Edit, Id, Ids, SpawnId};
+
+/// What a master is told to do.
+#[derive(Debug, Drop)]
+pub enum Order {
+    /// To change its ticket.
+    Edit(Edit),
+    /// To send a node with all below it to a worker, with copies of these resources that may be
+    /// changed.
+    Spawn { node: Id, worker: Id, rw: Ids },
+    /// To send the part of a spawn once more.
+    Resend(SpawnId),
+}

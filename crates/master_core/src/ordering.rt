@@ -1,0 +1,167 @@
+//! What a master does with an order.
+
+ghost use Rattle.std.specs.Prelude.{◌≡◌, ◌++◌, ◌∷◌, [], true, false, None, OnOk, OnErr};
+ghost use Rattle.std.specs.Prelude.{IfOk, IfErr, IfNone, IfSome};
+ghost use Rattle.spawn.specs.Laws.{StandApart};
+ghost use Rattle.spawn.specs.Records.{IsGood, is_out};
+ghost use Rattle.spawn.specs.Spawning as spawning;
+ghost use Rattle.master_core.specs.Master as master;
+ghost use Rattle.master_core.specs.Orders as orders;
+
+use crate::editing::do_edit;
+use crate::order::Order;
+use crate::records::{next_number, record_of};
+use message_items::{Body, Done, Message, Reply};
+use spawn::{SpawnRec, may_spawn, part_for};
+use std::alloc::{AllocError, Global};
+use ticket_items::is_among;
+use ticket_tree::{Duplicate, Id, Ids, Refusal, SpawnId, Ticket};
+
+/// The names of a sender and a receiver, copied.
+fn names_of(alloc: Global, sender: &Id, receiver: &Id) -> Result<(Id, Id), AllocError>
+    ensures { IfOk result (λ names. (names.0 ≡ sender.now) × (names.1 ≡ receiver.now)) }
+{
+    Ok((sender.copy(alloc)?, receiver.copy(alloc)?))
+}
+
+/// Spawns a node to a worker at a time, and answers the spawn and the message that sends its part.
+fn spawn_to(
+    alloc: Global,
+    name: &Id,
+    ticket: &mut Ticket,
+    records: &mut Vec<SpawnRec>,
+    node: Id,
+    worker: Id,
+    rw: Ids,
+    at: u64,
+) -> Result<(SpawnId, Message), Refusal>
+    ensures ticket { OnOk result (ticket.new
+        ≡ spawning.spawned ticket.old
+        (spawning.new_record ticket.old.rows (master.next_number records.old.items)
+        node worker rw at)) }
+    ensures records { OnOk result (records.new.items
+        ≡ records.old.items
+        ++ spawning.new_record ticket.old.rows (master.next_number records.old.items)
+        node worker rw at ∷ []) }
+    ensures id { IfOk result (λ s. s.0 ≡ master.next_number records.old.items) }
+    ensures message { IfOk result (λ s. s.1
+        ≡ orders.submit_of name.now ticket.new
+        (spawning.new_record ticket.old.rows (master.next_number records.old.items)
+        node worker rw at)) }
+    ensures ticket_stays { OnErr result (ticket.new ≡ ticket.old) }
+    ensures records_stay { OnErr result (records.new.items ≡ records.old.items) }
+    ensures refused { IfSome (spawning.spawn_refusal ticket.old.rows records.old.items
+        (master.next_number records.old.items) node rw) (λ e. result ≡ Err e) }
+    ensures memory { IfNone (spawning.spawn_refusal ticket.old.rows records.old.items
+        (master.next_number records.old.items) node rw)
+        (IfErr result (λ e. e ≡ Refusal.Memory)) }
+{
+    let number = next_number(records.as_slice());
+    let Ok((sender, receiver)) = names_of(alloc, name, &worker) else {
+        may_spawn(ticket, records.as_slice(), number, &node, rw.as_slice())?;
+        return Err(Refusal::Memory);
+    };
+    let (id, part) = spawn::spawn(alloc, ticket, records, number, node, worker, rw, at)?;
+    let message = Message {
+        sender,
+        receiver,
+        at,
+        body: Body::Submit(part),
+    };
+    Ok((id, message))
+}
+
+/// The message by which the master of a name sends the part of a spawn that is out.
+fn submit_of(
+    alloc: Global,
+    name: &Id,
+    ticket: &Ticket,
+    spawn: &SpawnRec,
+) -> Result<Message, Refusal>
+    requires out { is_out spawn.now ≡ true }
+    requires good { IsGood ticket.now.rows spawn.now }
+    ensures ok { IfOk result (λ message. message
+        ≡ orders.submit_of name.now ticket.now spawn.now) }
+    ensures memory { IfErr result (λ e. e ≡ Refusal.Memory) }
+{
+    Ok(Message {
+        sender: name.copy(alloc)?,
+        receiver: spawn.worker.copy(alloc)?,
+        at: spawn.at,
+        body: Body::Submit(part_for(alloc, ticket, spawn)?),
+    })
+}
+
+/// The record of a spawn that is out.
+fn record_out<'a>(records: &'a [SpawnRec], spawn: SpawnId) -> Result<&'a SpawnRec, Refusal>
+    requires { master.IsNumbered records.now }
+    ensures found { IfOk result (λ r. (is_out r.now ≡ true)
+        × (master.record_of records.now spawn ≡ Some r.now)) }
+    ensures refused { IfErr result (λ e. (e ≡ Refusal.NotOut)
+        × (master.is_spawn_out records.now spawn ≡ false)) }
+{
+    match record_of(records, spawn) {
+        None => Err(Refusal::NotOut),
+        Some(record) => {
+            if record.is_out() {
+                Ok(record)
+            } else {
+                Err(Refusal::NotOut)
+            }
+        }
+    }
+}
+
+/// Does what the master of a name is told to do, that has these workers, ticket and records.
+pub fn do_order(
+    alloc: Global,
+    name: &Id,
+    workers: &[Id],
+    ticket: &mut Ticket,
+    records: &mut Vec<SpawnRec>,
+    order: Order,
+    at: u64,
+) -> Result<Done, Refusal>
+    requires numbered { master.IsNumbered records.old.items }
+    requires apart { StandApart ticket.old.rows records.old.items }
+    ensures state { OnOk result (master.known name.now workers.now ticket.new records.new.items
+        ≡ orders.ordered order at
+        (master.known name.now workers.now ticket.old records.old.items)) }
+    ensures reply { IfOk result (λ done. done.reply
+        ≡ orders.order_reply order
+        (master.known name.now workers.now ticket.old records.old.items)) }
+    ensures message { IfOk result (λ done. done.message
+        ≡ orders.order_message order at
+        (master.known name.now workers.now ticket.old records.old.items)) }
+    ensures ticket_stays { OnErr result (ticket.new ≡ ticket.old) }
+    ensures records_stay { OnErr result (records.new.items ≡ records.old.items) }
+    ensures free { OnOk result (orders.order_refusal order
+        (master.known name.now workers.now ticket.old records.old.items) ≡ None) }
+    ensures refused { IfSome (orders.order_refusal order
+        (master.known name.now workers.now ticket.old records.old.items)) (λ e. result ≡ Err e) }
+    ensures memory { IfNone (orders.order_refusal order
+        (master.known name.now workers.now ticket.old records.old.items))
+        (IfErr result (λ e. e ≡ Refusal.Memory)) }
+{
+    match order {
+        Order::Edit(edit) => do_edit(alloc, ticket, records.as_slice(), edit, at),
+        Order::Spawn { node, worker, rw } => {
+            if !is_among(workers, &worker) {
+                return Err(Refusal::UnknownWorker);
+            }
+            let (id, message) = spawn_to(alloc, name, ticket, records, node, worker, rw, at)?;
+            Ok(Done {
+                reply: Reply::Spawned(id),
+                message: Some(message),
+            })
+        }
+        Order::Resend(spawn) => {
+            let record = record_out(records.as_slice(), spawn)?;
+            let message = submit_of(alloc, name, ticket, record)?;
+            Ok(Done {
+                reply: Reply::Sent(spawn),
+                message: Some(message),
+            })
+        }
+    }
+}

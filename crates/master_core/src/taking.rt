@@ -1,0 +1,218 @@
+//! What a master does with a message.
+
+ghost use Rattle.std.specs.Prelude.{◌≡◌, ℕ, List, true, OnOk, OnErr, IsOk};
+ghost use Rattle.ticket_rows.specs.Copies.{with_copies};
+ghost use Rattle.ticket_rows.specs.Ticket.{IsValid};
+ghost use Rattle.ticket_tree.specs.Part.{Copied};
+ghost use Rattle.message_items.specs.Reply as replies;
+ghost use Rattle.spawn.specs.Laws.{StandApart};
+ghost use Rattle.spawn.specs.Records.{IsGood, is_out};
+ghost use Rattle.spawn.specs.declared.records.spawn_rec.SpawnRec.{SpawnRec};
+ghost use Rattle.merge.specs.Alike as alike;
+ghost use Rattle.merge.specs.Put.{put};
+ghost use Rattle.master_core.specs.Master as masters;
+ghost use Rattle.master_core.specs.Messages as messages;
+
+use crate::master::Master;
+use crate::records::{is_spawn_out, place_of, record_of};
+use merge::laws::whether_a_part_fits_is_a_test;
+use merge::{fits, merge};
+use message_items::answering::spawn_in;
+use message_items::{Body, Command, Message, QueueStatus, Reply};
+use spawn::SpawnRec;
+use std::alloc::{AllocError, Global};
+use ticket_tree::{Part, Refusal, Ticket};
+
+/// Whether a message is one for a master.
+fn is_for_masters(body: &Body) -> bool
+    ensures { result ≡ messages.is_for_masters body.now }
+{
+    match body {
+        Body::Submit(_) => false,
+        Body::Return(_) => true,
+        Body::Answer { of, .. } => match of {
+            Command::Submit => true,
+            Command::Return => false,
+        },
+    }
+}
+
+/// Whether a part that comes back has the shape of what the ticket still has of the spawn.
+fn is_fit(ticket: &Ticket, spawn: &SpawnRec, part: &Part) -> bool
+    ensures { result ≡ alike.is_fit ticket.now spawn.now part.now }
+{
+    whether_a_part_fits_is_a_test();
+    fits(ticket, spawn, part)
+}
+
+/// Why what a message says of a spawn is refused.
+fn body_refusal(master: &Master, spawn: &SpawnRec, body: &Body) -> Option<Refusal>
+    ensures { result ≡ messages.body_refusal body.now master.now spawn.now }
+{
+    match body {
+        Body::Submit(_) => None,
+        Body::Return(part) => {
+            if spawn.is_out() && !is_fit(master.ticket(), spawn, part) {
+                Some(Refusal::WrongShape)
+            } else {
+                None
+            }
+        }
+        Body::Answer { .. } => None,
+    }
+}
+
+/// Why a message is refused: the first reason that holds. Needs no memory.
+pub fn refusal_of(master: &Master, message: &Message) -> Option<Refusal>
+    ensures { result ≡ messages.take_refusal message.now master.now }
+{
+    if message.receiver != *master.name() || !is_for_masters(&message.body) {
+        return Some(Refusal::WrongMessage);
+    }
+    match record_of(master.records(), spawn_in(&message.body)) {
+        None => Some(Refusal::UnknownSpawn),
+        Some(spawn) => {
+            if message.sender != spawn.worker {
+                return Some(Refusal::WrongSender);
+            }
+            body_refusal(master, spawn, &message.body)
+        }
+    }
+}
+
+/// What a message is taken as.
+fn reply_to(master: &Master, body: &Body) -> Reply
+    ensures { result ≡ messages.take_reply body.now master.now }
+{
+    match body {
+        Body::Submit(part) => Reply::Noted(part.spawn_id()),
+        Body::Return(part) => {
+            if is_spawn_out(master.records(), part.spawn_id()) {
+                Reply::Merged(part.spawn_id())
+            } else {
+                Reply::Already(part.spawn_id())
+            }
+        }
+        Body::Answer { spawn_id, .. } => Reply::Noted(*spawn_id),
+    }
+}
+
+/// The reply to a message: what it is taken as, or the refusal.
+pub fn reply_or(refusal: Option<Refusal>, master: &Master, body: &Body) -> Result<Reply, Refusal>
+    ensures { result ≡ replies.refused_or refusal (messages.take_reply body.now master.now) }
+{
+    match refusal {
+        Some(refusal) => Err(refusal),
+        None => Ok(reply_to(master, body)),
+    }
+}
+
+/// The Status of the queue entry of a part that came back.
+fn end_of_part(part: &Part) -> QueueStatus
+    ensures { result ≡ messages.end_of_part part.now }
+{
+    match part.rows().as_slice().first() {
+        None => QueueStatus::Completed,
+        Some(root) => {
+            if root.status.as_str() == "Aborted" {
+                QueueStatus::Aborted
+            } else {
+                QueueStatus::Completed
+            }
+        }
+    }
+}
+
+/// The Status of the queue entry of the part that a message carries.
+pub fn end_of(body: &Body) -> QueueStatus
+    ensures { result ≡ messages.end_of body.now }
+{
+    match body {
+        Body::Submit(part) => end_of_part(part),
+        Body::Return(part) => end_of_part(part),
+        Body::Answer { .. } => QueueStatus::Completed,
+    }
+}
+
+/// Puts in a part that fits, of a spawn that is out.
+fn put_in(
+    alloc: Global,
+    ticket: &mut Ticket,
+    spawn: &mut SpawnRec,
+    part: Part,
+    at: u64,
+) -> Result<(), AllocError>
+    requires out { is_out spawn.old ≡ true }
+    requires good { IsGood ticket.old.rows spawn.old }
+    requires fits { alike.is_fit ticket.old spawn.old part ≡ true }
+    ensures merged { OnOk result (ticket.new ≡ put ticket.old spawn.old part at) }
+    ensures phase { OnOk result (spawn.new ≡ masters.merged_record spawn.old) }
+    ensures ticket_stays { OnErr result (ticket.new ≡ ticket.old) }
+    ensures spawn_stays { OnErr result (spawn.new ≡ spawn.old) }
+{
+    whether_a_part_fits_is_a_test();
+    match merge(alloc, ticket, spawn, part, at) {
+        Ok(()) => Ok(()),
+        Err(refusal) => match refusal {
+            Refusal::Memory => Err(AllocError),
+            _ => unreachable!(),
+        },
+    }
+}
+
+/// Takes a part that comes back: where its spawn is out it is put in, at a time.
+fn take_part(
+    alloc: Global,
+    ticket: &mut Ticket,
+    records: &mut Vec<SpawnRec>,
+    part: Part,
+    at: u64,
+) -> Result<(), AllocError>
+    requires numbered { masters.IsNumbered records.old.items }
+    requires apart { StandApart ticket.old.rows records.old.items }
+    requires fits { (r : SpawnRec) → masters.record_of records.old.items part.spawn_id ≡ Some r
+        → is_out r ≡ true → alike.is_fit ticket.old r part ≡ true }
+    ensures ok { (name : List ℕ) (workers : List (List ℕ)) → OnOk result
+        (masters.known name workers ticket.new records.new.items
+        ≡ messages.taken (Body.Return part) at
+        (masters.known name workers ticket.old records.old.items)) }
+    ensures ticket_stays { OnErr result (ticket.new ≡ ticket.old) }
+    ensures records_stay { OnErr result (records.new.items ≡ records.old.items) }
+    ensures valid { IsValid (with_copies part.rows part.rw part.ro) }
+{
+    // A part has valid rows.
+    let _rows = part.rows();
+    if is_spawn_out(records.as_slice(), part.spawn_id()) {
+        let place = place_of(part.spawn_id());
+        put_in(alloc, ticket, &mut records[place], part, at)?;
+    }
+    Ok(())
+}
+
+/// Takes what a message says that isn't refused. An answer takes no memory.
+pub fn take_body(
+    alloc: Global,
+    ticket: &mut Ticket,
+    records: &mut Vec<SpawnRec>,
+    body: Body,
+    at: u64,
+) -> Result<(), AllocError>
+    requires numbered { masters.IsNumbered records.old.items }
+    requires apart { StandApart ticket.old.rows records.old.items }
+    requires fits { (p : Copied) (r : SpawnRec) → body ≡ Body.Return p
+        → masters.record_of records.old.items p.spawn_id ≡ Some r → is_out r ≡ true
+        → alike.is_fit ticket.old r p ≡ true }
+    ensures ok { (name : List ℕ) (workers : List (List ℕ)) → OnOk result
+        (masters.known name workers ticket.new records.new.items
+        ≡ messages.taken body at (masters.known name workers ticket.old records.old.items)) }
+    ensures ticket_stays { OnErr result (ticket.new ≡ ticket.old) }
+    ensures records_stay { OnErr result (records.new.items ≡ records.old.items) }
+    ensures valid { messages.IsValidBody body }
+    ensures answers { replies.is_answer body ≡ true → IsOk result }
+{
+    match body {
+        Body::Submit(_) => Ok(()),
+        Body::Return(part) => take_part(alloc, ticket, records, part, at),
+        Body::Answer { .. } => Ok(()),
+    }
+}
