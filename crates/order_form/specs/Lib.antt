@@ -1,0 +1,5 @@
+pub mod SpawnNamed
+pub mod WorkerForm
+pub mod MasterForm
+pub mod DraftedWorkerOrder
+pub mod DraftedMasterOrder

@@ -1,0 +1,157 @@
+//! The orders of masters.
+
+ghost use Rattle.std.specs.Prelude.{◌≡◌, true, IfOk, IfErr};
+ghost use Rattle.serde_json.specs.View.{view};
+ghost use Rattle.json_forms.specs.Judged.{Answers};
+ghost use Rattle.json_forms.specs.Read.{Gives};
+ghost use Rattle.order_form.specs.DraftedMasterOrder.{drafted_master_order};
+ghost use Rattle.order_form.specs.MasterForm as forms;
+
+use crate::spawn_named::names_spawn;
+use json_forms::{AnyText, Borrowed, Draft, Drafts, EditDraft, has_only, text_under, under};
+use master_core::Order;
+use serde_json::Value;
+use std::alloc::Global;
+use ticket_tree::{Id, Refusal, SpawnId};
+
+/// A master's order by its members and their kinds alone: its ids, names and texts may be any.
+#[derive(Drop)]
+enum MasterOrderDraft<'a> {
+    Edit(EditDraft<'a>),
+    Spawn {
+        node: Borrowed<'a, Id>,
+        worker: Borrowed<'a, Id>,
+        rw: Drafts<Borrowed<'a, Id>>,
+    },
+    Resend(Borrowed<'a, AnyText>),
+}
+
+/// An order to edit the ticket.
+#[tactic(auto, unfolding(crate::specs::MasterForm::edit_form))]
+fn edit<'a>(alloc: Global, value: &'a Value) -> Result<MasterOrderDraft<'a>, Refusal>
+    ensures { Gives drafted_master_order result (forms.edit_form (view value.now)) }
+{
+    if !has_only(value, &["Edit", "Order"]) {
+        return Err(Refusal::NotProfile);
+    }
+    let edit = under(alloc, value, "Edit")?;
+    Ok(MasterOrderDraft::Edit(edit))
+}
+
+/// An order to send a node to a worker.
+#[tactic(auto, unfolding(crate::specs::MasterForm::spawn_form))]
+fn spawn<'a>(alloc: Global, value: &'a Value) -> Result<MasterOrderDraft<'a>, Refusal>
+    ensures { Gives drafted_master_order result (forms.spawn_form (view value.now)) }
+{
+    if !has_only(value, &["Node", "Order", "RW", "Worker"]) {
+        return Err(Refusal::NotProfile);
+    }
+    let node = under(alloc, value, "Node")?;
+    let rw = under(alloc, value, "RW")?;
+    let worker = under(alloc, value, "Worker")?;
+    Ok(MasterOrderDraft::Spawn { node, worker, rw })
+}
+
+/// An order to send the part of a spawn once more.
+#[tactic(auto, unfolding(crate::specs::MasterForm::resend_form))]
+fn resend<'a>(alloc: Global, value: &'a Value) -> Result<MasterOrderDraft<'a>, Refusal>
+    ensures { Gives drafted_master_order result (forms.resend_form (view value.now)) }
+{
+    if !has_only(value, &["Order", "SpawnID"]) {
+        return Err(Refusal::NotProfile);
+    }
+    let spawn = under(alloc, value, "SpawnID")?;
+    Ok(MasterOrderDraft::Resend(spawn))
+}
+
+/// The draft of an order of a kind.
+#[tactic(auto, unfolding(crate::specs::MasterForm::kind_form))]
+fn draft_of_kind<'a>(
+    alloc: Global,
+    kind: &str,
+    value: &'a Value,
+) -> Result<MasterOrderDraft<'a>, Refusal>
+    ensures { Gives drafted_master_order result (forms.kind_form kind.now (view value.now)) }
+{
+    if kind == "Edit" {
+        edit(alloc, value)
+    } else if kind == "Spawn" {
+        spawn(alloc, value)
+    } else if kind == "Resend" {
+        resend(alloc, value)
+    } else {
+        Err(Refusal::NotProfile)
+    }
+}
+
+impl<'a> MasterOrderDraft<'a> {
+    /// The draft that a value is. Refuses `NotProfile`, and `Memory`.
+    #[tactic(auto, unfolding(crate::specs::MasterForm::master_order_form))]
+    fn of(alloc: Global, value: &'a Value) -> Result<MasterOrderDraft<'a>, Refusal>
+        ensures { Gives drafted_master_order result (forms.master_order_form (view value.now)) }
+    {
+        let kind = text_under(value, "Order").ok_or(Refusal::NotProfile)?;
+        draft_of_kind(alloc, kind, value)
+    }
+
+    /// Whether its ids and names are valid, and its SpawnID names a spawn.
+    fn has_names(&self) -> bool
+        ensures { result ≡ forms.order_has_names (drafted_master_order self.now) }
+    {
+        match self {
+            MasterOrderDraft::Edit(edit) => edit.has_names(),
+            MasterOrderDraft::Spawn { node, worker, rw } => node.has_names()
+                && worker.has_names()
+                && rw.has_names(),
+            MasterOrderDraft::Resend(spawn) => names_spawn(spawn.as_str()),
+        }
+    }
+
+    /// Whether the texts of its edit are valid.
+    fn has_texts(&self) -> bool
+        ensures { result ≡ forms.order_has_texts (drafted_master_order self.now) }
+    {
+        match self {
+            MasterOrderDraft::Edit(edit) => edit.has_texts(),
+            MasterOrderDraft::Spawn { .. } => true,
+            MasterOrderDraft::Resend(_) => true,
+        }
+    }
+
+    /// The order. Refuses `Memory` alone.
+    fn build(&self, alloc: Global) -> Result<Order, Refusal>
+        requires names { forms.order_has_names (drafted_master_order self.now) ≡ true }
+        requires texts { forms.order_has_texts (drafted_master_order self.now) ≡ true }
+        ensures ok { IfOk result (λ order. order ≡ drafted_master_order self.now) }
+        ensures memory { IfErr result (λ e. e ≡ Refusal.Memory) }
+    {
+        match self {
+            MasterOrderDraft::Edit(edit) => Ok(Order::Edit(edit.build(alloc)?)),
+            MasterOrderDraft::Spawn { node, worker, rw } => Ok(Order::Spawn {
+                node: node.build(alloc)?,
+                worker: worker.build(alloc)?,
+                rw: rw.build(alloc)?,
+            }),
+            MasterOrderDraft::Resend(spawn) => {
+                Ok(Order::Resend(SpawnId::parse(spawn.as_str())?))
+            }
+        }
+    }
+}
+
+/// The master's order that a value is: to edit its ticket, to send a node to a worker with copies
+/// of these resources that may be changed, or to send the part of a spawn once more. Refuses the
+/// first of `NotProfile`, `BadId` (also where the SpawnID names no spawn) and `BadText` that stands
+/// in it, and `Memory`.
+pub fn master_order_of(alloc: Global, value: &Value) -> Result<Order, Refusal>
+    ensures { Answers result (forms.master_order_read (view value.now)) }
+{
+    let draft = MasterOrderDraft::of(alloc, value)?;
+    if !draft.has_names() {
+        return Err(Refusal::BadId);
+    }
+    if !draft.has_texts() {
+        return Err(Refusal::BadText);
+    }
+    draft.build(alloc)
+}
