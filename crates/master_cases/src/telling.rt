@@ -1,0 +1,131 @@
+//! Replies, messages, holders and the ticket in words.
+
+ghost use Rattle.std.specs.Prelude.{◌≡◌};
+ghost use Rattle.message_items.specs.Words as words;
+
+use crate::arguments::ids_in;
+use jmf_message::encode;
+use json_profile::{shown_value, text_of};
+use master_core::Master;
+use message_items::{Body, Message, Reply};
+use spawn::Holder;
+use std::alloc::{AllocError, Global};
+use ticket_tree::{Id, Refusal, SpawnId};
+
+fn reply_word(reply: Reply) -> &'static str {
+    match reply {
+        Reply::Edited => "Edited",
+        Reply::Spawned(_) => "Spawned",
+        Reply::Sent(_) => "Sent",
+        Reply::Finished(_) => "Finished",
+        Reply::Merged(_) => "Merged",
+        Reply::Already(_) => "Already",
+        Reply::Noted(_) => "Noted",
+        Reply::Taken(_) => "Taken",
+        Reply::Again(_) => "Again",
+        Reply::Acked(_) => "Acked",
+    }
+}
+
+/// The spawn that a reply tells of.
+fn spawn_in(reply: Reply) -> Option<SpawnId> {
+    match reply {
+        Reply::Edited => None,
+        Reply::Spawned(spawn)
+        | Reply::Sent(spawn)
+        | Reply::Finished(spawn)
+        | Reply::Merged(spawn)
+        | Reply::Already(spawn)
+        | Reply::Noted(spawn)
+        | Reply::Taken(spawn)
+        | Reply::Again(spawn)
+        | Reply::Acked(spawn) => Some(spawn),
+    }
+}
+
+/// A reply as its word and spawn.
+pub fn reply_words(alloc: Global, reply: Reply) -> Result<String, AllocError> {
+    let mut told = String::from_str(alloc, reply_word(reply))?;
+    if let Some(spawn) = spawn_in(reply) {
+        told.push(' ')?;
+        told.push_str(spawn.to_id(alloc)?.as_str())?;
+    }
+    Ok(told)
+}
+
+/// Whether the number of a refusal that a message tells is one of 1 to 999.
+fn may_be_sent(body: &Body) -> bool
+    ensures { result ≡ words.may_be_sent body.now }
+{
+    match body {
+        Body::Submit(_) => true,
+        Body::Return(_) => true,
+        Body::Answer { result, .. } => match result {
+            Ok(_) => true,
+            Err(reason) => 1 <= *reason && *reason <= 999,
+        },
+    }
+}
+
+/// Appends the text of a message, if there is one.
+pub fn push_message(
+    alloc: Global,
+    told: &mut Vec<u8>,
+    message: Option<&Message>,
+) -> Result<(), AllocError> {
+    match message {
+        None => Ok(()),
+        Some(message) => {
+            if !may_be_sent(&message.body) {
+                return told.extend_from_slice(b" Not to be sent");
+            }
+            told.push(b' ')?;
+            told.extend_from_slice(encode(alloc, message)?.as_slice())
+        }
+    }
+}
+
+/// Appends the name of a holder.
+fn push_holder(alloc: Global, told: &mut String, holder: &Holder) -> Result<(), AllocError> {
+    match holder {
+        Holder::Master => told.push_str(" Master"),
+        Holder::Spawn(spawn) => {
+            told.push(' ')?;
+            told.push_str(spawn.to_id(alloc)?.as_str())
+        }
+    }
+}
+
+/// Appends who holds an id, and whether the master may change it.
+fn push_held(alloc: Global, told: &mut String, master: &Master, id: &Id) -> Result<(), AllocError> {
+    told.push_str(id.as_str())?;
+    let holder = master.holder_of(id);
+    match &holder {
+        None => told.push_str(" None")?,
+        Some(holder) => push_holder(alloc, told, holder)?,
+    }
+    told.push_str(if master.may_change(id) {
+        " may"
+    } else {
+        " may not"
+    })
+}
+
+/// `holders ID,..`: who holds each, and whether the master may change it.
+pub fn holders(alloc: Global, master: &Master, text: &[u8]) -> Result<Vec<u8>, Refusal> {
+    let mut told = String::new(alloc);
+    for id in ids_in(alloc, text)?.as_slice() {
+        if !told.is_empty() {
+            told.push_str(", ")?;
+        }
+        push_held(alloc, &mut told, master, id)?;
+    }
+    Ok(told.into_bytes())
+}
+
+/// `show`: the ticket with the marks of what is out.
+pub fn show(alloc: Global, master: &Master) -> Result<Vec<u8>, Refusal> {
+    let marks = master.shown(alloc)?;
+    let value = shown_value(alloc, master.ticket(), &marks)?;
+    Ok(text_of(alloc, &value)?)
+}
