@@ -32,3 +32,4 @@ pub mod Checked
 pub mod Entries
 pub mod PartShows
 pub mod CutPlaces
+pub mod FirstHolder

@@ -1,4 +1,5 @@
 pub mod first_holding;
 pub mod holder;
+pub mod holding;
 pub mod marking;
 pub mod table;

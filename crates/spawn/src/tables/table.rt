@@ -1,18 +1,13 @@
 //! Who holds what: the one table of holders, by the records of the spawns that are out.
 
-ghost use Rattle.std.specs.Prelude.{◌≡◌, ◌&&◌, ◌||◌};
-ghost use Rattle.std.specs.List.{find};
+ghost use Rattle.std.specs.Prelude.{◌≡◌};
 ghost use Rattle.std.specs.Option.{option_copied};
-ghost use Rattle.ticket_items.specs.Ids.{mem};
-ghost use Rattle.ticket_rows.specs.Place.{node_places};
-ghost use Rattle.ticket_rows.specs.Place as tree;
 ghost use Rattle.ticket_rows.specs.Ticket.{IsValid};
-ghost use Rattle.spawn.specs.Records.{is_out};
 ghost use Rattle.spawn.specs.Table as table;
 
 use crate::records::spawn_rec::SpawnRec;
 use crate::tables::holder::Holder;
-use ticket_items::is_among;
+use crate::tables::holding::holding;
 use ticket_tree::{Id, Ticket};
 
 /// The node that an id names, or in whose pool the resource is that it names.
@@ -24,25 +19,6 @@ fn stand_of<'a>(ticket: &'a Ticket, id: &'a Id) -> Option<&'a Id>
         Some(_) => Some(id),
         None => ticket.home_of(id),
     }
-}
-
-/// Whether a spawn is out whose claim has what stands under this id at this node.
-fn holds(ticket: &Ticket, spawn: &SpawnRec, node: &Id, id: &Id) -> bool
-    ensures { result ≡ (is_out spawn.now
-        && (tree.is_below (node_places ticket.now.rows) node.now spawn.now.node
-        || mem id.now spawn.now.rw)) }
-{
-    spawn.is_out() && (ticket.is_below(node, &spawn.node) || is_among(spawn.rw.as_slice(), id))
-}
-
-/// The first spawn that holds what stands under this id at this node.
-fn holding<'a>(ticket: &Ticket, records: &'a [SpawnRec], node: &Id, id: &Id) -> Option<&'a SpawnRec>
-    ensures { option_copied result
-        ≡ find (λ r. is_out r
-        && (tree.is_below (node_places ticket.now.rows) node.now r.node
-        || mem id.now r.rw)) records.now }
-{
-    records.iter().find(|spawn| holds(ticket, spawn, node, id))
 }
 
 /// Who holds a node or a resource: the first spawn that is out and claims it, or else the master.
