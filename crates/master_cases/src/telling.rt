@@ -10,43 +10,12 @@ use master_core::Master;
 use message_items::{Body, Message, Reply};
 use spawn::Holder;
 use std::alloc::{AllocError, Global};
-use ticket_tree::{Id, Refusal, SpawnId};
-
-fn reply_word(reply: Reply) -> &'static str {
-    match reply {
-        Reply::Edited => "Edited",
-        Reply::Spawned(_) => "Spawned",
-        Reply::Sent(_) => "Sent",
-        Reply::Finished(_) => "Finished",
-        Reply::Merged(_) => "Merged",
-        Reply::Already(_) => "Already",
-        Reply::Noted(_) => "Noted",
-        Reply::Taken(_) => "Taken",
-        Reply::Again(_) => "Again",
-        Reply::Acked(_) => "Acked",
-    }
-}
-
-/// The spawn that a reply tells of.
-fn spawn_in(reply: Reply) -> Option<SpawnId> {
-    match reply {
-        Reply::Edited => None,
-        Reply::Spawned(spawn)
-        | Reply::Sent(spawn)
-        | Reply::Finished(spawn)
-        | Reply::Merged(spawn)
-        | Reply::Already(spawn)
-        | Reply::Noted(spawn)
-        | Reply::Taken(spawn)
-        | Reply::Again(spawn)
-        | Reply::Acked(spawn) => Some(spawn),
-    }
-}
+use ticket_tree::{Id, Refusal};
 
 /// A reply as its word and spawn.
 pub fn reply_words(alloc: Global, reply: Reply) -> Result<String, AllocError> {
-    let mut told = String::from_str(alloc, reply_word(reply))?;
-    if let Some(spawn) = spawn_in(reply) {
+    let mut told = String::from_str(alloc, reply.word())?;
+    if let Some(spawn) = reply.spawn() {
         told.push(' ')?;
         told.push_str(spawn.to_id(alloc)?.as_str())?;
     }

@@ -9,23 +9,7 @@ ghost use Rattle.master_core.specs.Orders as orders;
 use message_items::{Done, Reply};
 use spawn::{Holder, SpawnRec, holder_of};
 use std::alloc::Global;
-use ticket_tree::{Edit, Id, Refusal, Ticket};
-
-/// The id that an edit changes.
-fn target(edit: &Edit) -> &Id
-    ensures { result.now ≡ edits.target edit.now }
-{
-    match edit {
-        Edit::SetStatus { node, .. } => node,
-        Edit::SetAttr { node, .. } => node,
-        Edit::SetResStatus { resource, .. } => resource,
-        Edit::SetResAttr { resource, .. } => resource,
-        Edit::Note { node, .. } => node,
-        Edit::AddNode { node, .. } => node,
-        Edit::AddResource { node, .. } => node,
-        Edit::AddLink { node, .. } => node,
-    }
-}
+use ticket_tree::{Edit, Id, Refusal, Ticket, target_of};
 
 /// Why what a holder has can't be changed by the master.
 fn held_refusal(holder: Holder) -> Option<Refusal>
@@ -54,11 +38,11 @@ fn refusal_of(ticket: &Ticket, records: &[SpawnRec], edit: &Edit) -> Option<Refu
         ≡ orders.edit_refusal edit.now (master.known name workers ticket.now records.now) }
 {
     match ticket.check(edit) {
-        Ok(()) => not_held(ticket, records, target(edit)),
+        Ok(()) => not_held(ticket, records, target_of(edit)),
         Err(refusal) => match refusal {
             Refusal::UnknownNode => Some(Refusal::UnknownNode),
             Refusal::UnknownResource => Some(Refusal::UnknownResource),
-            later => not_held(ticket, records, target(edit)).or(Some(later)),
+            later => not_held(ticket, records, target_of(edit)).or(Some(later)),
         },
     }
 }

@@ -1,5 +1,5 @@
 -- What a controller replies, and the answer that a command gets.
-use Rattle.std.specs.Prelude.{ℕ, List, Option, Some, None, Result, Ok, Err}
+use Rattle.std.specs.Prelude.{ℕ, List, codes, Option, Some, None, Result, Ok, Err}
 use Rattle.std.specs.Option.{option_map}
 use Rattle.ticket_items.specs.Refusal.{number_of}
 use Rattle.ticket_items.specs.declared.refusal.Refusal.{Refusal}
@@ -11,6 +11,7 @@ use Rattle.message_items.specs.declared.command.Command.TheVariants as command
 use Rattle.message_items.specs.declared.message.Message.{Message}
 use Rattle.message_items.specs.declared.queue_status.QueueStatus.{QueueStatus}
 use Rattle.message_items.specs.declared.reply.Reply.{Reply}
+use Rattle.message_items.specs.declared.reply.Reply.TheVariants as replies
 
 -- the command that a message gives
 abbrev pub command_given : Body → Option Command
@@ -37,3 +38,30 @@ answer_message name m at told c =
 -- its answer to a message: to a command that message, and to an answer none
 abbrev pub answer_to : List ℕ → Message → ℕ → Result QueueStatus ℕ → Option Message
 answer_to name m at told = option_map (answer_message name m at told) (command_given m.body)
+
+-- ---- replies in words
+
+abbrev pub word_of : Reply → List ℕ
+word_of replies.Edited = codes "Edited"
+word_of (replies.Spawned s) = codes "Spawned"
+word_of (replies.Sent s) = codes "Sent"
+word_of (replies.Finished s) = codes "Finished"
+word_of (replies.Merged s) = codes "Merged"
+word_of (replies.Already s) = codes "Already"
+word_of (replies.Noted s) = codes "Noted"
+word_of (replies.Taken s) = codes "Taken"
+word_of (replies.Again s) = codes "Again"
+word_of (replies.Acked s) = codes "Acked"
+
+-- the spawn that a reply tells of
+abbrev pub spawn_told : Reply → Option ℕ
+spawn_told replies.Edited = None
+spawn_told (replies.Spawned s) = Some s
+spawn_told (replies.Sent s) = Some s
+spawn_told (replies.Finished s) = Some s
+spawn_told (replies.Merged s) = Some s
+spawn_told (replies.Already s) = Some s
+spawn_told (replies.Noted s) = Some s
+spawn_told (replies.Taken s) = Some s
+spawn_told (replies.Again s) = Some s
+spawn_told (replies.Acked s) = Some s

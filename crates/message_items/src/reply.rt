@@ -24,3 +24,44 @@ pub enum Reply {
     /// The part of a spawn that was given back has come.
     Acked(SpawnId),
 }
+
+impl Reply {
+    ghost use Rattle.std.specs.Prelude.{◌≡◌};
+    ghost use Rattle.message_items.specs.Reply as replies;
+
+    /// Its word.
+    pub fn word(self) -> &'static str
+        ensures { result.now ≡ replies.word_of self }
+    {
+        match self {
+            Reply::Edited => "Edited",
+            Reply::Spawned(_) => "Spawned",
+            Reply::Sent(_) => "Sent",
+            Reply::Finished(_) => "Finished",
+            Reply::Merged(_) => "Merged",
+            Reply::Already(_) => "Already",
+            Reply::Noted(_) => "Noted",
+            Reply::Taken(_) => "Taken",
+            Reply::Again(_) => "Again",
+            Reply::Acked(_) => "Acked",
+        }
+    }
+
+    /// The spawn that it tells of. That something is edited tells of none.
+    pub fn spawn(self) -> Option<SpawnId>
+        ensures { result ≡ replies.spawn_told self }
+    {
+        match self {
+            Reply::Edited => None,
+            Reply::Spawned(spawn)
+            | Reply::Sent(spawn)
+            | Reply::Finished(spawn)
+            | Reply::Merged(spawn)
+            | Reply::Already(spawn)
+            | Reply::Noted(spawn)
+            | Reply::Taken(spawn)
+            | Reply::Again(spawn)
+            | Reply::Acked(spawn) => Some(spawn),
+        }
+    }
+}

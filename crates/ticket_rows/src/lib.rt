@@ -10,6 +10,7 @@ pub mod resolved;
 pub mod rows;
 mod rows_iter;
 
+pub use edit::target::target_of;
 pub use edit::{edits, one_row, part_edits};
 pub use last_place::LastPlace;
 pub use rows_iter::Rows;

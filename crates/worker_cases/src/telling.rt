@@ -16,20 +16,12 @@ fn push_words(text: &mut String, words: &[&str]) -> Result<(), AllocError> {
 
 /// A reply as its word and spawn.
 pub fn reply_words(alloc: Global, reply: Reply) -> Result<String, AllocError> {
-    let (word, spawn) = match reply {
-        Reply::Edited => return String::from_str(alloc, "Edited"),
-        Reply::Spawned(spawn) => ("Spawned", spawn),
-        Reply::Sent(spawn) => ("Sent", spawn),
-        Reply::Finished(spawn) => ("Finished", spawn),
-        Reply::Merged(spawn) => ("Merged", spawn),
-        Reply::Already(spawn) => ("Already", spawn),
-        Reply::Noted(spawn) => ("Noted", spawn),
-        Reply::Taken(spawn) => ("Taken", spawn),
-        Reply::Again(spawn) => ("Again", spawn),
-        Reply::Acked(spawn) => ("Acked", spawn),
-    };
-    let number = spawn.number();
-    format!(in alloc; "{word} S{number}")
+    let mut told = String::from_str(alloc, reply.word())?;
+    if let Some(spawn) = reply.spawn() {
+        told.push(' ')?;
+        told.push_str(spawn.to_id(alloc)?.as_str())?;
+    }
+    Ok(told)
 }
 
 fn push_resources(text: &mut String, resources: &[Resource]) -> Result<(), AllocError> {

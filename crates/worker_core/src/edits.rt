@@ -11,23 +11,7 @@ ghost use Rattle.worker_core.specs.Orders as orders;
 
 use crate::entry::Entry;
 use ticket_rows::{pools, rows};
-use ticket_tree::{Edit, Id, NodeRow, Part, Refusal, Resource, is_structural};
-
-/// The id that an edit changes.
-fn target(edit: &Edit) -> &Id
-    ensures { result.now ≡ edits.target edit.now }
-{
-    match edit {
-        Edit::SetStatus { node, .. } => node,
-        Edit::SetAttr { node, .. } => node,
-        Edit::SetResStatus { resource, .. } => resource,
-        Edit::SetResAttr { resource, .. } => resource,
-        Edit::Note { node, .. } => node,
-        Edit::AddNode { node, .. } => node,
-        Edit::AddResource { node, .. } => node,
-        Edit::AddLink { node, .. } => node,
-    }
-}
+use ticket_tree::{Edit, Id, NodeRow, Part, Refusal, Resource, is_structural, target_of};
 
 /// Whether an edit changes a node, and not a resource.
 fn is_of_node(edit: &Edit) -> bool
@@ -65,7 +49,7 @@ fn is_here(edit: &Edit, part: &Part) -> bool
     ensures { result ≡ orders.is_here edit.now part.now }
 {
     let nodes = part.rows();
-    let id = target(edit);
+    let id = target_of(edit);
     if is_of_node(edit) {
         has_node(nodes.as_slice(), id)
     } else {
@@ -77,7 +61,7 @@ fn is_here(edit: &Edit, part: &Part) -> bool
 fn is_to_read(edit: &Edit, part: &Part) -> bool
     ensures { result ≡ orders.is_to_read edit.now part.now }
 {
-    !is_of_node(edit) && has_copy(part.ro(), target(edit))
+    !is_of_node(edit) && has_copy(part.ro(), target_of(edit))
 }
 
 /// Why what an edit gives is refused: a Status that only a spawn gives.

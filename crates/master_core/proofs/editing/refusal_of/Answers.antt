@@ -12,7 +12,7 @@ returns-in-Ok c name workers =
     let e = c.args.edit.now in
     let at = lookups c.args.ticket.now.rows in
     let w = known name workers c.args.ticket.now c.args.records.now in
-    c.not_held.ensures name workers ∙ ap (not_held w) c.target.ensures ∙ none_first (unknown_refusal e at) (not_held w (target e)) (later_refusal e at) c.in-Ok.ensures
+    c.not_held.ensures name workers ∙ ap (not_held w) c.target_of.ensures ∙ none_first (unknown_refusal e at) (not_held w (target e)) (later_refusal e at) c.in-Ok.ensures
 
 pub returns-in_default : goal.returns-in_default
 returns-in_default c name workers =
@@ -20,7 +20,7 @@ returns-in_default c name workers =
     let at = lookups c.args.ticket.now.rows in
     let w = known name workers c.args.ticket.now c.args.records.now in
     let held = not_held w (target e) in
-    let told = c.not_held-in_default.ensures name workers ∙ ap (not_held w) c.target-in_default.ensures in
+    let told = c.not_held-in_default.ensures name workers ∙ ap (not_held w) c.target_of-in_default.ensures in
     c.or.ensures
     ∙ ap (λ o. option_or o (Some c.in-Err.refusal)) told
     ∙ later_first (unknown_refusal e at) held (later_refusal e at) c.in-Err.refusal (unknown_is e at) c.in-Err.ensures c.in_default.not-UnknownNode c.in_default.not-UnknownResource
