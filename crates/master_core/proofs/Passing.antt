@@ -1,6 +1,6 @@
 -- What is told of a refusal, as it is passed on.
-use Rattle.std.proofs.Common.{◌≡◌, ◌∙◌, Bool, true, false, [], ◌∷◌, Option, Some, None, Result, Ok, Err, IfErr, IfNone, IfSome, OnOk, is_some, not, refl, sym, ap}
-use Rattle.std.specs.Result.{IsErrAnd}
+use Rattle.std.proofs.Common.{◌≡◌, ◌∙◌, Bool, true, false, [], ◌∷◌, Option, Some, None, Result, Ok, Err, IfErr, IfNone, IfOk, IfSome, OnOk, is_some, refl, sym, ap, subst}
+use Rattle.std.specs.Result.{IsErrAnd, result_and}
 use Rattle.ticket_items.specs.declared.refusal.Refusal.{Refusal}
 use Rattle.ticket_items.specs.declared.refusal.Refusal.TheVariants.{Memory}
 use Rattle.ticket_rows.specs.Ticket.{first_of, unless}
@@ -61,10 +61,16 @@ behind_test true r None passed = refl
 behind_test true r (Some q) passed = refl
 behind_test false r o passed = cc
 
-none_at : (o : Option Refusal) (b : Bool) → is_some o ≡ not b → b ≡ true → o ≡ None
-none_at None b e t = refl
-none_at (Some r) b e t = cc
-
 -- no refusal, where none was told
-pub no_refusal : (o seen : Option Refusal) (b : Bool) → seen ≡ o → is_some seen ≡ not b → b ≡ true → o ≡ None
-no_refusal o seen b same e t = sym same ∙ none_at seen b e t
+pub no_refusal : (o : Option Refusal) (b : Bool) → b ≡ is_some o → b ≡ false → o ≡ None
+no_refusal None b told e = refl
+no_refusal (Some r) b told e = cc
+
+-- what holds where the first went well, and of what is answered then, holds of the answer of both
+pub ok_of_both : {X Y E : Type 0} {P Q : Type 0} (first : Result X E) (y : Y) (both : Result Y E) → both ≡ result_and first (Ok y) → OnOk first P → (P → Q) → OnOk both Q
+ok_of_both {Q = Q} (Ok x) y both is p f = subst (λ r. OnOk r Q) (sym is) (f p)
+ok_of_both {Q = Q} (Err e) y both is p f = subst (λ r. OnOk r Q) (sym is) tt
+
+pub answer_of_both : {X Y E : Type 0} (P : Y → Type 0) (first : Result X E) (y : Y) (both : Result Y E) → both ≡ result_and first (Ok y) → P y → IfOk both P
+answer_of_both P (Ok x) y both is p = subst (λ r. IfOk r P) (sym is) p
+answer_of_both P (Err e) y both is p = subst (λ r. IfOk r P) (sym is) tt

@@ -67,7 +67,10 @@ pub fn do_edit(
         (IfErr result (λ e. e ≡ Refusal.Memory)) }
 {
     match refusal_of(ticket, records, &edit) {
-        Some(refusal) => Err(refusal),
+        Some(refusal) => {
+            drop(edit);
+            Err(refusal)
+        }
         None => {
             ticket.apply(alloc, edit, at)?;
             Ok(Done {

@@ -2,13 +2,13 @@ use crate::names::are_apart;
 use crate::order::Order;
 use crate::ordering::do_order;
 use crate::taking;
-use crate::taking::take_body;
-use message_items::answering::{answer_to, told_of};
+use crate::taking::take_unless;
 use message_items::{Done, Message, Outcome};
 use spawn::{Holder, SpawnRec, marked};
 use std::alloc::{AllocError, Global};
 use std::marker::Model;
-use ticket_tree::{Id, Ids, Marks, Refusal, Ticket};
+use ticket_items::copies;
+use ticket_tree::{Duplicate, Id, Ids, Marks, Refusal, Ticket};
 
 /// A controller that owns a job's ticket (JDF 1.5, 4.4). It spawns nodes of it to its workers, and
 /// keeps a record of each spawn.
@@ -170,12 +170,37 @@ impl Master {
         ensures answers { is_answer message.body ≡ true → IsOk result }
     {
         let refusal = taking::refusal_of(self, &message);
-        let reply = taking::reply_or(refusal, self, &message.body);
-        let told = told_of(refusal, taking::end_of(&message.body));
-        let answer = answer_to(alloc, &self.name, &message, at, told)?;
-        if refusal.is_none() {
-            take_body(alloc, &mut self.ticket, &mut self.records, message.body, at)?;
+        let refused = refusal.is_some();
+        match taking::outcome_of(alloc, self, refusal, &message, at) {
+            Ok(outcome) => {
+                let ticket = &mut self.ticket;
+                take_unless(refused, alloc, ticket, &mut self.records, message.body, at).and(Ok(
+                    outcome,
+                ))
+            }
+            Err(error) => {
+                drop(message);
+                Err(error)
+            }
         }
-        Ok(Outcome { reply, answer })
     }
+}
+
+impl Clone for Master {
+    ghost use Rattle.std.specs.Prelude.{◌≡◌};
+
+    ghost is_clone = { λ master copied. copied ≡ master };
+
+    fn clone(&self) -> Result<Master, AllocError> {
+        Ok(Master {
+            name: self.name.clone()?,
+            workers: self.workers.clone()?,
+            ticket: self.ticket.clone()?,
+            records: copies(*self.records.allocator(), self.records.as_slice())?,
+        })
+    }
+}
+
+impl Duplicate for Master {
+    ghost equal = { λ _ _ same. same };
 }

@@ -1,6 +1,6 @@
 //! What a master does with an order.
 
-ghost use Rattle.std.specs.Prelude.{◌≡◌, ◌++◌, ◌∷◌, [], true, false, None, OnOk, OnErr};
+ghost use Rattle.std.specs.Prelude.{◌≡◌, ◌++◌, ◌∷◌, [], true, false, None, Some, OnOk, OnErr};
 ghost use Rattle.std.specs.Prelude.{IfOk, IfErr, IfNone, IfSome};
 ghost use Rattle.spawn.specs.Laws.{StandApart};
 ghost use Rattle.spawn.specs.Records.{IsGood, is_out};
@@ -24,7 +24,7 @@ fn names_of(alloc: Global, sender: &Id, receiver: &Id) -> Result<(Id, Id), Alloc
     Ok((sender.copy(alloc)?, receiver.copy(alloc)?))
 }
 
-/// Spawns a node to a worker at a time, and answers the spawn and the message that sends its part.
+/// Spawns a node to a worker at a time, and has the message go out that sends its part.
 fn spawn_to(
     alloc: Global,
     name: &Id,
@@ -34,7 +34,7 @@ fn spawn_to(
     worker: Id,
     rw: Ids,
     at: u64,
-) -> Result<(SpawnId, Message), Refusal>
+) -> Result<Done, Refusal>
     ensures ticket { OnOk result (ticket.new
         ≡ spawning.spawned ticket.old
         (spawning.new_record ticket.old.rows (master.next_number records.old.items)
@@ -43,11 +43,12 @@ fn spawn_to(
         ≡ records.old.items
         ++ spawning.new_record ticket.old.rows (master.next_number records.old.items)
         node worker rw at ∷ []) }
-    ensures id { IfOk result (λ s. s.0 ≡ master.next_number records.old.items) }
-    ensures message { IfOk result (λ s. s.1
-        ≡ orders.submit_of name.now ticket.new
+    ensures reply { IfOk result
+        (λ done. done.reply ≡ Reply.Spawned (master.next_number records.old.items)) }
+    ensures message { IfOk result (λ done. done.message
+        ≡ Some (orders.submit_of name.now ticket.new
         (spawning.new_record ticket.old.rows (master.next_number records.old.items)
-        node worker rw at)) }
+        node worker rw at))) }
     ensures ticket_stays { OnErr result (ticket.new ≡ ticket.old) }
     ensures records_stay { OnErr result (records.new.items ≡ records.old.items) }
     ensures refused { IfSome (spawning.spawn_refusal ticket.old.rows records.old.items
@@ -58,8 +59,8 @@ fn spawn_to(
 {
     let number = next_number(records.as_slice());
     let Ok((sender, receiver)) = names_of(alloc, name, &worker) else {
-        may_spawn(ticket, records.as_slice(), number, &node, rw.as_slice())?;
-        return Err(Refusal::Memory);
+        let refused = may_spawn(ticket, records.as_slice(), number, &node, rw.as_slice()).err();
+        return Err(refused.unwrap_or(Refusal::Memory));
     };
     let (id, part) = spawn::spawn(alloc, ticket, records, number, node, worker, rw, at)?;
     let message = Message {
@@ -68,7 +69,10 @@ fn spawn_to(
         at,
         body: Body::Submit(part),
     };
-    Ok((id, message))
+    Ok(Done {
+        reply: Reply::Spawned(id),
+        message: Some(message),
+    })
 }
 
 /// The message by which the master of a name sends the part of a spawn that is out.
@@ -149,11 +153,7 @@ pub fn do_order(
             if !is_among(workers, &worker) {
                 return Err(Refusal::UnknownWorker);
             }
-            let (id, message) = spawn_to(alloc, name, ticket, records, node, worker, rw, at)?;
-            Ok(Done {
-                reply: Reply::Spawned(id),
-                message: Some(message),
-            })
+            spawn_to(alloc, name, ticket, records, node, worker, rw, at)
         }
         Order::Resend(spawn) => {
             let record = record_out(records.as_slice(), spawn)?;

@@ -1,6 +1,7 @@
 //! What a master does with a message.
 
-ghost use Rattle.std.specs.Prelude.{◌≡◌, ℕ, List, true, OnOk, OnErr, IsOk};
+ghost use Rattle.std.specs.Prelude.{◌≡◌, ℕ, List, true, false, if◌then◌else◌, OnOk, OnErr};
+ghost use Rattle.std.specs.Prelude.{IfOk, IsOk};
 ghost use Rattle.ticket_rows.specs.Copies.{with_copies};
 ghost use Rattle.ticket_rows.specs.Ticket.{IsValid};
 ghost use Rattle.ticket_tree.specs.Part.{Copied};
@@ -17,8 +18,8 @@ use crate::master::Master;
 use crate::records::{is_spawn_out, place_of, record_of};
 use merge::laws::whether_a_part_fits_is_a_test;
 use merge::{fits, merge};
-use message_items::answering::spawn_in;
-use message_items::{Body, Command, Message, QueueStatus, Reply};
+use message_items::answering::{answer_to, spawn_in, told_of};
+use message_items::{Body, Command, Message, Outcome, QueueStatus, Reply};
 use spawn::SpawnRec;
 use std::alloc::{AllocError, Global};
 use ticket_tree::{Part, Refusal, Ticket};
@@ -98,11 +99,11 @@ fn reply_to(master: &Master, body: &Body) -> Reply
 }
 
 /// The reply to a message: what it is taken as, or the refusal.
-pub fn reply_or(refusal: Option<Refusal>, master: &Master, body: &Body) -> Result<Reply, Refusal>
-    ensures { result ≡ replies.refused_or refusal (messages.take_reply body.now master.now) }
+fn reply_or(refusal: &Option<Refusal>, master: &Master, body: &Body) -> Result<Reply, Refusal>
+    ensures { result ≡ replies.refused_or refusal.now (messages.take_reply body.now master.now) }
 {
     match refusal {
-        Some(refusal) => Err(refusal),
+        Some(refusal) => Err(*refusal),
         None => Ok(reply_to(master, body)),
     }
 }
@@ -124,7 +125,7 @@ fn end_of_part(part: &Part) -> QueueStatus
 }
 
 /// The Status of the queue entry of the part that a message carries.
-pub fn end_of(body: &Body) -> QueueStatus
+fn end_of(body: &Body) -> QueueStatus
     ensures { result ≡ messages.end_of body.now }
 {
     match body {
@@ -132,6 +133,28 @@ pub fn end_of(body: &Body) -> QueueStatus
         Body::Return(part) => end_of_part(part),
         Body::Answer { .. } => QueueStatus::Completed,
     }
+}
+
+/// What comes of a message: the reply, and the answer to a command. To an answer there is none, and
+/// that takes no memory.
+pub fn outcome_of(
+    alloc: Global,
+    master: &Master,
+    refusal: Option<Refusal>,
+    message: &Message,
+    at: u64,
+) -> Result<Outcome, AllocError>
+    ensures reply { IfOk result (λ outcome. outcome.reply
+        ≡ replies.refused_or refusal (messages.take_reply message.now.body master.now)) }
+    ensures answer { IfOk result (λ outcome. outcome.answer
+        ≡ replies.answer_to master.now.name message.now at
+        (replies.told_of refusal (messages.end_of message.now.body))) }
+    ensures answers { replies.is_answer message.now.body ≡ true → IsOk result }
+{
+    let reply = reply_or(&refusal, master, &message.body);
+    let told = told_of(refusal, end_of(&message.body));
+    let answer = answer_to(alloc, master.name(), message, at, told)?;
+    Ok(Outcome { reply, answer })
 }
 
 /// Puts in a part that fits, of a spawn that is out.
@@ -184,13 +207,15 @@ fn take_part(
     let _rows = part.rows();
     if is_spawn_out(records.as_slice(), part.spawn_id()) {
         let place = place_of(part.spawn_id());
-        put_in(alloc, ticket, &mut records[place], part, at)?;
+        put_in(alloc, ticket, &mut records[place], part, at)
+    } else {
+        drop(part);
+        Ok(())
     }
-    Ok(())
 }
 
 /// Takes what a message says that isn't refused. An answer takes no memory.
-pub fn take_body(
+fn take_body(
     alloc: Global,
     ticket: &mut Ticket,
     records: &mut Vec<SpawnRec>,
@@ -214,5 +239,36 @@ pub fn take_body(
         Body::Submit(_) => Ok(()),
         Body::Return(part) => take_part(alloc, ticket, records, part, at),
         Body::Answer { .. } => Ok(()),
+    }
+}
+
+/// Takes what a message says, unless it is refused. An answer takes no memory.
+pub fn take_unless(
+    refused: bool,
+    alloc: Global,
+    ticket: &mut Ticket,
+    records: &mut Vec<SpawnRec>,
+    body: Body,
+    at: u64,
+) -> Result<(), AllocError>
+    requires numbered { masters.IsNumbered records.old.items }
+    requires apart { StandApart ticket.old.rows records.old.items }
+    requires fits { refused ≡ false → (p : Copied) (r : SpawnRec) → body ≡ Body.Return p
+        → masters.record_of records.old.items p.spawn_id ≡ Some r → is_out r ≡ true
+        → alike.is_fit ticket.old r p ≡ true }
+    ensures ok { (name : List ℕ) (workers : List (List ℕ)) → OnOk result
+        (masters.known name workers ticket.new records.new.items
+        ≡ if refused then masters.known name workers ticket.old records.old.items else
+        messages.taken body at (masters.known name workers ticket.old records.old.items)) }
+    ensures ticket_stays { OnErr result (ticket.new ≡ ticket.old) }
+    ensures records_stay { OnErr result (records.new.items ≡ records.old.items) }
+    ensures valid { refused ≡ false → messages.IsValidBody body }
+    ensures answers { replies.is_answer body ≡ true → IsOk result }
+{
+    if refused {
+        drop(body);
+        Ok(())
+    } else {
+        take_body(alloc, ticket, records, body, at)
     }
 }

@@ -44,11 +44,11 @@ fn tell(alloc: Global, ticket: &mut Ticket, spawn: &SpawnRec, at: u64) -> Result
 {
     // What its rows tell: the ticket is valid, so that a parent stands in it.
     let _rows = ticket.rows();
-    let audit = merged_audit(alloc, spawn, at)?;
     let Some(parent) = parent_of(ticket, &spawn.node) else {
         return Err(Refusal::UnknownNode);
     };
     let parent = parent.copy(alloc)?;
+    let audit = merged_audit(alloc, spawn, at)?;
     ticket.append(alloc, &parent, audit)
 }
 
@@ -83,13 +83,21 @@ pub fn merge(
     ensures memory { Fits ticket.old spawn.old part → IfErr result (λ e. e ≡ Refusal.Memory) }
 {
     if !fits(ticket, spawn, &part) {
+        drop(part);
         return Err(Refusal::WrongShape);
     }
     // What their rows tell: both are valid.
     let _rows = ticket.rows();
     let _part_rows = part.rows();
-    tell(alloc, ticket, spawn, at)?;
-    put_back(ticket, part);
-    spawn.phase = Phase::Merged;
-    Ok(())
+    match tell(alloc, ticket, spawn, at) {
+        Ok(()) => {
+            put_back(ticket, part);
+            spawn.phase = Phase::Merged;
+            Ok(())
+        }
+        Err(refusal) => {
+            drop(part);
+            Err(refusal)
+        }
+    }
 }

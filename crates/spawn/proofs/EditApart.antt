@@ -1,13 +1,12 @@
 -- Claims of spawns that are out stay apart as the master edits what it holds.
-use Rattle.std.proofs.Common.{◌≡◌, ◌∙◌, ◌⊎◌, ℕ, ◌&&◌, ◌||◌, not, Bool, true, false, cond, List, [], ◌∷◌, map, Option, Some, None, is_some, slice_get, inl, inr, refl, sym, ap}
-use Rattle.std.proofs.lemmas.Bool.{true≢false}
+use Rattle.std.proofs.Common.{◌≡◌, ◌∙◌, ℕ, ◌&&◌, ◌||◌, not, Bool, true, false, cond, List, [], ◌∷◌, map, Option, Some, None, is_some, slice_get, inl, inr, refl, sym, ap}
 use Rattle.std.specs.List.{filter}
 use Rattle.std.specs.Option.{option_map_or, option_and_then}
 use Rattle.std.specs.Str.{bytes_eq}
 use Rattle.ticket_items.proofs.Apart.{bytes_eq-same}
 use Rattle.ticket_items.specs.Ids.{mem, are_distinct}
-use Rattle.ticket_rows.specs.Edit.{edited_rows, refusal_of, target}
-use Rattle.ticket_rows.specs.Place.{Place, fixed, fixed_at, is_node, places, node_places, place_at, below, parent, up}
+use Rattle.ticket_rows.specs.Edit.{edited_rows}
+use Rattle.ticket_rows.specs.Place.{Place, fixed_at, is_node, places, node_places, place_at, below, parent}
 use Rattle.ticket_rows.specs.Ticket.{IsValid}
 use Rattle.ticket_items.specs.declared.node_row.NodeRow.{NodeRow}
 use Rattle.ticket_tree.proofs.ByKind.{found_among, found_by_kind, ids_apart, place_of_node}
@@ -15,9 +14,8 @@ use Rattle.ticket_tree.proofs.Parents.{one_parent_each}
 use Rattle.ticket_tree.proofs.StaysValid.{edit_is_valid}
 use Rattle.spawn.proofs.EditKeeps.{edit_keeps_claims}
 use Rattle.spawn.specs.Claim.{claim, ids_of, is_claimed, linked_outside}
-use Rattle.spawn.specs.Laws.{EditKeepsApart, StandApart}
+use Rattle.spawn.specs.Laws.{EditKeepsApart}
 use Rattle.spawn.specs.Records.{IsGood, is_out}
-use Rattle.spawn.specs.Table.{holds}
 use Rattle.spawn.specs.declared.records.spawn_rec.SpawnRec.{SpawnRec}
 
 -- ---- what is found among those that pass

@@ -18,7 +18,7 @@ use Rattle.worker_core.proofs.AtNumber.{All-at_number, any_number, distinct-push
 use Rattle.worker_core.proofs.EditedPart.{edited_sound, ending_free, root_ended}
 use Rattle.worker_core.proofs.Refusals.{body_free, edit_free, ordered_on}
 use Rattle.worker_core.specs.Laws.{MessageIsKept, OrderIsKept}
-use Rattle.worker_core.specs.Messages.{IsValidBody, body_refusal, take_refusal, taken, taken_entries}
+use Rattle.worker_core.specs.Messages.{IsValidBody, after_taking, body_refusal, take_refusal, taken}
 use Rattle.worker_core.specs.Numbers.{are_distinct_numbers, has_number}
 use Rattle.worker_core.specs.Orders.{edit_refusal, edited_entry, ending, finished_entry, order_refusal, ordered, ordered_entries}
 use Rattle.worker_core.specs.Worker.{IsKept, IsKeptEntry, Known, entry_of, has_ended_so, is_of, is_open_stage, known, new_entry, numbers}
@@ -116,15 +116,15 @@ kept_taken (Submit p) at w valid kept none = submit_kept (entry_of w.entries p.s
 kept_taken (Return p) at w valid kept none = record { apart = kept.apart; once = kept.once; each = kept.each }
 kept_taken (Answer c s told) at w valid kept none = record { apart = kept.apart; once = kept.once; each = kept.each }
 
-message_either : (refusal : Option Refusal) (m : Message) (at : ℕ) (w : Known) → take_refusal m w ≡ refusal → IsValidBody m.body → IsKept w → IsKept (cond (is_some refusal) w (taken m.body at w))
-message_either None m at w e valid kept = kept_taken m.body at w valid kept (body_free m w e)
+message_either : (refusal : Option Refusal) (m : Message) (at : ℕ) (w : Known) → take_refusal m w ≡ refusal → (refusal ≡ None → IsValidBody m.body) → IsKept w → IsKept (cond (is_some refusal) w (taken m.body at w))
+message_either None m at w e valid kept = kept_taken m.body at w (valid refl) kept (body_free m w e)
 message_either (Some r) m at w e valid kept = kept
 
 pub message_is_kept : MessageIsKept
-message_is_kept m at w valid kept = message_either (take_refusal m w) m at w refl valid kept
+message_is_kept m at w valid kept = message_either (take_refusal m w) m at w refl (λ _. valid) kept
 
--- a worker whose entries are what a message makes of them that isn't refused, or that had no memory for it, is kept
-pub kept_put : {X E : Type 0} (result : Result X E) (m : Message) (at : ℕ) (w : Known) (entries : List Entry) → OnOk result (entries ≡ taken_entries m.body at w.entries) → OnErr result (entries ≡ w.entries) → IsValidBody m.body → take_refusal m w ≡ None → IsKept w
+-- a worker whose entries are what a message makes of them, or that had no memory for it, is kept
+pub kept_told : {X E : Type 0} (result : Result X E) (m : Message) (at : ℕ) (w : Known) (entries : List Entry) → OnOk result (known w.name w.master entries ≡ after_taking m at w) → OnErr result (entries ≡ w.entries) → OnOk result (take_refusal m w ≡ None → IsValidBody m.body) → IsKept w
     → IsKept (known w.name w.master entries)
-kept_put (Ok x) m at w entries made stays valid free kept = subst (λ es. IsKept (known w.name w.master es)) (sym made) (kept_taken m.body at w valid kept (body_free m w free))
-kept_put (Err e) m at w entries made stays valid free kept = subst (λ es. IsKept (known w.name w.master es)) (sym stays) kept
+kept_told (Ok x) m at w entries made stays valid kept = subst IsKept (sym made) (message_either (take_refusal m w) m at w refl valid kept)
+kept_told (Err e) m at w entries made stays valid kept = subst (λ es. IsKept (known w.name w.master es)) (sym stays) kept

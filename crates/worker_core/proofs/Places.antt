@@ -1,9 +1,8 @@
 -- What is found at the place of an entry.
-use Rattle.std.proofs.Common.{◌≡◌, ℕ, List, Option, Some, None, not, Bool, true, is_some, refl, sym, ap, ◌∙◌, get_or}
+use Rattle.std.proofs.Common.{◌≡◌, ℕ, List, Some, None, sym, ap, ◌∙◌, get_or}
 use Rattle.std.specs.List.{position}
 use Rattle.std.specs.Option.{option_map_or}
 use Rattle.ticket_items.proofs.Places.{none_at_position}
-use Rattle.ticket_items.specs.declared.refusal.Refusal.{Refusal}
 use Rattle.ticket_items.specs.declared.refusal.Refusal.TheVariants.{UnknownEntry}
 use Rattle.worker_core.proofs.AtNumber.{found_there}
 use Rattle.worker_core.proofs.Kept.{number_of}
@@ -25,11 +24,3 @@ refused_at o entries s k e same found is = refused_on o entries e (ap (entry_of 
 -- the place of the entry of a spawn, in the entries as they were seen
 pub place_seen : (o : Order) (entries seen : List Entry) (s k : ℕ) → seen ≡ entries → spawn_of_order o ≡ s → position (is_of (spawn_of_order o)) seen ≡ Some k → position (is_of s) entries ≡ Some k
 place_seen o entries seen s k same of found = ap (position (is_of s)) (sym same) ∙ ap (λ n. position (is_of n) seen) (sym of) ∙ found
-
-none_at : (o : Option Refusal) (b : Bool) → is_some o ≡ not b → b ≡ true → o ≡ None
-none_at None b e t = refl
-none_at (Some r) b e t = cc
-
--- no refusal, where none was told
-pub no_refusal : (o seen : Option Refusal) (b : Bool) → seen ≡ o → is_some seen ≡ not b → b ≡ true → o ≡ None
-no_refusal o seen b same e t = sym same ∙ none_at seen b e t

@@ -83,6 +83,12 @@ abbrev pub finished_entry : End → ℕ → Entry → Entry
 finished_entry how at entry =
     record { phase = Done how; part = edited_part (ending entry.part how) at entry.part; at = at }
 
+-- an entry after an order at a time that isn't refused
+abbrev pub ordered_entry : Order → ℕ → Entry → Entry
+ordered_entry (order.Edit s e) at entry = edited_entry e at entry
+ordered_entry (order.Finish s how) at entry = finished_entry how at entry
+ordered_entry (order.Resend s) at entry = entry
+
 -- the entries after an order at a time that isn't refused
 abbrev pub ordered_entries : Order → ℕ → List Entry → List Entry
 ordered_entries (order.Edit s e) at entries = with_entry s (edited_entry e at) entries
@@ -107,6 +113,12 @@ order_reply (order.Resend s) = reply.Sent s
 abbrev pub return_of : List ℕ → List ℕ → Entry → Message
 return_of name master entry =
     record { sender = name; receiver = master; at = entry.at; body = Return entry.part }
+
+-- the message that goes out after an order on an entry, which is then so
+abbrev pub entry_message : Order → List ℕ → List ℕ → Entry → Option Message
+entry_message (order.Edit s e) name master entry = None
+entry_message (order.Finish s how) name master entry = Some (return_of name master entry)
+entry_message (order.Resend s) name master entry = Some (return_of name master entry)
 
 -- the message that goes out: it gives back the part of an entry that is finished, as that is then
 abbrev pub order_message : Order → ℕ → Known → Option Message

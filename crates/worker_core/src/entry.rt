@@ -1,8 +1,8 @@
 use crate::stage::Stage;
-use ticket_tree::Part;
+use ticket_tree::{Duplicate, Part};
 
 /// A part that a worker took. It is kept for good.
-#[derive(Debug, Drop)]
+#[derive(Clone, Debug, Drop)]
 pub struct Entry {
     pub phase: Stage,
     pub part: Part,
@@ -29,4 +29,10 @@ impl Entry {
             at,
         }
     }
+}
+
+impl Duplicate for Entry {
+    ghost use Rattle.std.proofs.Common.{rules};
+
+    ghost equal = { Prim.search rules };
 }

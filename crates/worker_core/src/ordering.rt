@@ -1,6 +1,6 @@
 //! What a worker does with an order.
 
-ghost use Rattle.std.specs.Prelude.{◌≡◌, true, None, Some, OnOk, OnErr, IfOk, IfErr};
+ghost use Rattle.std.specs.Prelude.{◌≡◌, true, None, Some, Ok, Err, OnOk, OnErr, IfOk, IfErr};
 ghost use Rattle.std.specs.Prelude.{IfNone, IfSome, MatchResult};
 ghost use Rattle.std.specs.List.{position};
 ghost use Rattle.ticket_tree.specs.Part.{edited_part, refusal_of_part};
@@ -15,7 +15,7 @@ use crate::entry::Entry;
 use crate::order::Order;
 use crate::stage::Stage;
 use message_items::{Body, Done, Message, Reply};
-use std::alloc::{AllocError, Global};
+use std::alloc::Global;
 use ticket_tree::{Duplicate, Edit, Id, Name, Part, Refusal};
 
 /// Why an order on an entry is refused: the first reason that holds.
@@ -76,6 +76,38 @@ fn ending(alloc: Global, part: &Part, end: End) -> Result<Edit, Refusal>
     }
 }
 
+/// Gives the node of a part the Status of an end.
+fn end_part(alloc: Global, part: &mut Part, end: End, at: u64) -> Result<(), Refusal>
+    ensures ok { OnOk result (part.new ≡ edited_part (orders.ending part.old end) at part.old) }
+    ensures err { OnErr result (part.new ≡ part.old) }
+    ensures memory { IfErr result (λ e. e ≡ Refusal.Memory) }
+{
+    let edit = ending(alloc, part, end)?;
+    part.apply(alloc, edit, at)
+}
+
+/// A copy of a part, whose node has the Status of an end.
+fn ended_part(alloc: Global, part: &Part, end: End, at: u64) -> Result<Part, Refusal>
+    ensures part { IfOk result
+        (λ ended. ended ≡ edited_part (orders.ending part.now end) at part.now) }
+    ensures memory { IfErr result (λ e. e ≡ Refusal.Memory) }
+{
+    let mut ended = part.copy(alloc)?;
+    end_part(alloc, &mut ended, end, at).and(Ok(ended))
+}
+
+/// Ends the work on an entry.
+fn end_entry(alloc: Global, entry: &mut Entry, end: End, at: u64) -> Result<(), Refusal>
+    ensures ok { OnOk result (entry.new ≡ orders.finished_entry end at entry.old) }
+    ensures err { OnErr result (entry.new ≡ entry.old) }
+    ensures memory { IfErr result (λ e. e ≡ Refusal.Memory) }
+{
+    end_part(alloc, &mut entry.part, end, at)?;
+    entry.phase = Stage::Done(end);
+    entry.at = at;
+    Ok(())
+}
+
 /// Ends the work on an entry, and answers its part as it is then.
 fn finish(alloc: Global, entry: &mut Entry, end: End, at: u64) -> Result<Part, Refusal>
     ensures ok { OnOk result (entry.new ≡ orders.finished_entry end at entry.old) }
@@ -84,14 +116,8 @@ fn finish(alloc: Global, entry: &mut Entry, end: End, at: u64) -> Result<Part, R
     ensures err { OnErr result (entry.new ≡ entry.old) }
     ensures memory { IfErr result (λ e. e ≡ Refusal.Memory) }
 {
-    let mut returned = entry.part.copy(alloc)?;
-    let edit = ending(alloc, &returned, end)?;
-    returned.apply(alloc, edit, at)?;
-    let own = ending(alloc, &entry.part, end)?;
-    entry.part.apply(alloc, own, at)?;
-    entry.phase = Stage::Done(end);
-    entry.at = at;
-    Ok(returned)
+    let part = ended_part(alloc, &entry.part, end, at)?;
+    end_entry(alloc, entry, end, at).and(Ok(part))
 }
 
 /// Ends the work on an entry, and answers the message that gives its part back.
@@ -121,9 +147,10 @@ fn finish_to(
 }
 
 /// The message that gives the part of an entry back.
-fn return_of(alloc: Global, name: &Id, master: &Id, entry: &Entry) -> Result<Message, AllocError>
-    ensures { IfOk result (λ message. message
+fn return_of(alloc: Global, name: &Id, master: &Id, entry: &Entry) -> Result<Message, Refusal>
+    ensures message { IfOk result (λ message. message
         ≡ orders.return_of name.now master.now entry.now) }
+    ensures memory { IfErr result (λ e. e ≡ Refusal.Memory) }
 {
     Ok(Message {
         sender: name.copy(alloc)?,
@@ -131,6 +158,64 @@ fn return_of(alloc: Global, name: &Id, master: &Id, entry: &Entry) -> Result<Mes
         at: entry.at,
         body: Body::Return(entry.part.copy(alloc)?),
     })
+}
+
+/// Does an edit, that isn't refused, of the part of an entry.
+fn edit_entry(alloc: Global, entry: &mut Entry, edit: Edit, at: u64) -> Result<Done, Refusal>
+    requires { orders.edit_refusal edit entry.old ≡ None }
+    ensures ok { OnOk result (entry.new ≡ orders.edited_entry edit at entry.old) }
+    ensures reply { IfOk result (λ done. done.reply ≡ Reply.Edited) }
+    ensures message { IfOk result (λ done. done.message ≡ None) }
+    ensures err { OnErr result (entry.new ≡ entry.old) }
+    ensures memory { IfErr result (λ e. e ≡ Refusal.Memory) }
+{
+    entry.part.apply(alloc, edit, at)?;
+    Ok(Done {
+        reply: Reply::Edited,
+        message: None,
+    })
+}
+
+/// What is done by an order that has a message go out.
+fn sent(reply: Reply, message: Result<Message, Refusal>) -> Result<Done, Refusal>
+    ensures { MatchResult message (λ m. result ≡ Ok (record { reply = reply; message = Some m }))
+        (λ e. result ≡ Err e) }
+{
+    match message {
+        Ok(message) => Ok(Done {
+            reply,
+            message: Some(message),
+        }),
+        Err(refusal) => Err(refusal),
+    }
+}
+
+/// Does what a worker is told to do with an entry, where that isn't refused.
+fn order_entry(
+    alloc: Global,
+    name: &Id,
+    master: &Id,
+    entry: &mut Entry,
+    order: Order,
+    at: u64,
+) -> Result<Done, Refusal>
+    requires { orders.entry_refusal order entry.old ≡ None }
+    ensures entry { OnOk result (entry.new ≡ orders.ordered_entry order at entry.old) }
+    ensures reply { IfOk result (λ done. done.reply ≡ orders.order_reply order) }
+    ensures message { IfOk result (λ done. done.message
+        ≡ orders.entry_message order name.now master.now
+        (orders.ordered_entry order at entry.old)) }
+    ensures err { OnErr result (entry.new ≡ entry.old) }
+    ensures memory { IfErr result (λ e. e ≡ Refusal.Memory) }
+{
+    match order {
+        Order::Edit(_, edit) => edit_entry(alloc, entry, edit, at),
+        Order::Finish(spawn, end) => sent(
+            Reply::Finished(spawn),
+            finish_to(alloc, name, master, entry, end, at),
+        ),
+        Order::Resend(spawn) => sent(Reply::Sent(spawn), return_of(alloc, name, master, entry)),
+    }
 }
 
 /// Does what the worker of a name is told to do with the entries that it has of its master.
@@ -155,28 +240,11 @@ pub fn do_order(
     ensures memory { IfNone (orders.order_refusal order entries.old.items)
         (IfErr result (λ e. e ≡ Refusal.Memory)) }
 {
-    let place = open_to(&order, entries.as_slice())?;
-    match order {
-        Order::Edit(_, edit) => {
-            entries[place].part.apply(alloc, edit, at)?;
-            Ok(Done {
-                reply: Reply::Edited,
-                message: None,
-            })
-        }
-        Order::Finish(spawn, end) => {
-            let message = finish_to(alloc, name, master, &mut entries[place], end, at)?;
-            Ok(Done {
-                reply: Reply::Finished(spawn),
-                message: Some(message),
-            })
-        }
-        Order::Resend(spawn) => {
-            let message = return_of(alloc, name, master, &entries[place])?;
-            Ok(Done {
-                reply: Reply::Sent(spawn),
-                message: Some(message),
-            })
+    match open_to(&order, entries.as_slice()) {
+        Ok(place) => order_entry(alloc, name, master, &mut entries[place], order, at),
+        Err(refusal) => {
+            drop(order);
+            Err(refusal)
         }
     }
 }

@@ -1,16 +1,18 @@
 //! What a worker does with a message.
 
-ghost use Rattle.std.specs.Prelude.{◌≡◌, true, OnOk, OnErr, IsOk, Ok, Err};
+ghost use Rattle.std.specs.Prelude.{◌≡◌, true, false, if◌then◌else◌, Ok, Err, None};
+ghost use Rattle.std.specs.Prelude.{OnOk, OnErr, IfOk, IsOk};
 ghost use Rattle.ticket_rows.specs.Copies.{with_copies};
 ghost use Rattle.ticket_rows.specs.Ticket.{IsValid};
 ghost use Rattle.message_items.specs.Reply as replies;
 ghost use Rattle.worker_core.specs.Messages as messages;
 ghost use Rattle.worker_core.specs.Worker as worker;
 
-use crate::entries::entry_of;
+use crate::entries::{entry_of, status_of};
 use crate::entry::Entry;
-use message_items::{Body, Command, Message, QueueStatus, Reply};
-use std::alloc::AllocError;
+use message_items::answering::{answer_to, spawn_in, told_of};
+use message_items::{Body, Command, Message, Outcome, QueueStatus, Reply};
+use std::alloc::{AllocError, Global};
 use ticket_tree::{Id, Part, Refusal, SpawnId};
 
 /// Whether a message is one for a worker.
@@ -67,7 +69,7 @@ fn body_refusal(entries: &[Entry], body: &Body) -> Option<Refusal>
 
 /// Why a message is refused by the worker of a name that has these entries of its master: the first
 /// reason that holds. Needs no memory.
-pub fn refusal_of(name: &Id, master: &Id, entries: &[Entry], message: &Message) -> Option<Refusal>
+fn refusal_of(name: &Id, master: &Id, entries: &[Entry], message: &Message) -> Option<Refusal>
     ensures { result
         ≡ messages.take_refusal message.now (worker.known name.now master.now entries.now) }
 {
@@ -112,13 +114,36 @@ fn reply_to(entries: &[Entry], body: &Body) -> Reply
 }
 
 /// The reply to a message: what it is taken as, or the refusal.
-pub fn reply_or(refusal: Option<Refusal>, entries: &[Entry], body: &Body) -> Result<Reply, Refusal>
-    ensures { result ≡ replies.refused_or refusal (messages.take_reply body.now entries.now) }
+fn reply_or(refusal: &Option<Refusal>, entries: &[Entry], body: &Body) -> Result<Reply, Refusal>
+    ensures { result ≡ replies.refused_or refusal.now (messages.take_reply body.now entries.now) }
 {
     match refusal {
-        Some(refusal) => Err(refusal),
+        Some(refusal) => Err(*refusal),
         None => Ok(reply_to(entries, body)),
     }
+}
+
+/// What comes of a message: the reply, and the answer to a command. To an answer there is none, and
+/// that takes no memory.
+fn outcome_of(
+    alloc: Global,
+    name: &Id,
+    entries: &[Entry],
+    refusal: Option<Refusal>,
+    message: &Message,
+    at: u64,
+) -> Result<Outcome, AllocError>
+    ensures reply { IfOk result (λ outcome. outcome.reply
+        ≡ replies.refused_or refusal (messages.take_reply message.now.body entries.now)) }
+    ensures answer { IfOk result (λ outcome. outcome.answer
+        ≡ replies.answer_to name.now message.now at (replies.told_of refusal
+        (worker.status_in entries.now (replies.spawn_in message.now.body)))) }
+    ensures answers { replies.is_answer message.now.body ≡ true → IsOk result }
+{
+    let reply = reply_or(&refusal, entries, &message.body);
+    let status = status_of(entries, spawn_in(&message.body));
+    let answer = answer_to(alloc, name, message, at, told_of(refusal, status))?;
+    Ok(Outcome { reply, answer })
 }
 
 /// Makes an entry of a part that is taken at a time, where there is none of its spawn.
@@ -136,7 +161,7 @@ fn enter(entries: &mut Vec<Entry>, part: Part, at: u64) -> Result<(), AllocError
 }
 
 /// Takes what a message says that isn't refused. An answer takes no memory.
-pub fn take_body(entries: &mut Vec<Entry>, body: Body, at: u64) -> Result<(), AllocError>
+fn take_body(entries: &mut Vec<Entry>, body: Body, at: u64) -> Result<(), AllocError>
     ensures ok { OnOk result
         (entries.new.items ≡ messages.taken_entries body at entries.old.items) }
     ensures err { OnErr result (entries.new.items ≡ entries.old.items) }
@@ -147,5 +172,58 @@ pub fn take_body(entries: &mut Vec<Entry>, body: Body, at: u64) -> Result<(), Al
         Body::Submit(part) => enter(entries, part, at),
         Body::Return(_) => Ok(()),
         Body::Answer { .. } => Ok(()),
+    }
+}
+
+/// Takes what a message says, unless it is refused. An answer takes no memory.
+fn take_unless(
+    refused: bool,
+    entries: &mut Vec<Entry>,
+    body: Body,
+    at: u64,
+) -> Result<(), AllocError>
+    ensures ok { OnOk result (entries.new.items ≡ if refused then entries.old.items else
+        messages.taken_entries body at entries.old.items) }
+    ensures err { OnErr result (entries.new.items ≡ entries.old.items) }
+    ensures valid { refused ≡ false → messages.IsValidBody body }
+    ensures answers { replies.is_answer body ≡ true → IsOk result }
+{
+    if refused {
+        drop(body);
+        Ok(())
+    } else {
+        take_body(entries, body, at)
+    }
+}
+
+/// Takes a message as the worker of a name that has these entries of its master.
+pub fn do_take(
+    alloc: Global,
+    name: &Id,
+    master: &Id,
+    entries: &mut Vec<Entry>,
+    message: Message,
+    at: u64,
+) -> Result<Outcome, AllocError>
+    ensures state { OnOk result (worker.known name.now master.now entries.new.items
+        ≡ messages.after_taking message at
+        (worker.known name.now master.now entries.old.items)) }
+    ensures reply { IfOk result (λ outcome. outcome.reply ≡ messages.taken_reply message
+        (worker.known name.now master.now entries.old.items)) }
+    ensures answer { IfOk result (λ outcome. outcome.answer ≡ messages.taken_answer message at
+        (worker.known name.now master.now entries.old.items)) }
+    ensures err { OnErr result (entries.new.items ≡ entries.old.items) }
+    ensures answers { replies.is_answer message.body ≡ true → IsOk result }
+    ensures valid { OnOk result (messages.take_refusal message
+        (worker.known name.now master.now entries.old.items) ≡ None
+        → messages.IsValidBody message.body) }
+{
+    let refusal = refusal_of(name, master, entries.as_slice(), &message);
+    match outcome_of(alloc, name, entries.as_slice(), refusal, &message, at) {
+        Ok(outcome) => take_unless(refusal.is_some(), entries, message.body, at).and(Ok(outcome)),
+        Err(error) => {
+            drop(message);
+            Err(error)
+        }
     }
 }

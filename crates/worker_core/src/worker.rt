@@ -1,12 +1,13 @@
+use crate::entries;
 use crate::entry::Entry;
 use crate::order::Order;
 use crate::ordering::do_order;
-use crate::{entries, taking};
-use message_items::answering::{answer_to, spawn_in, told_of};
+use crate::taking::do_take;
 use message_items::{Done, Message, Outcome};
 use std::alloc::{AllocError, Global};
 use std::marker::Model;
-use ticket_tree::{Id, Refusal, SpawnId};
+use ticket_items::copies;
+use ticket_tree::{Duplicate, Id, Refusal, SpawnId};
 
 /// A controller that works on parts of another's ticket, which is its master (JDF 1.5, 4.4). It
 /// keeps each part that it takes, in the order in which they come.
@@ -130,14 +131,31 @@ impl Worker {
         ensures err { OnErr result (self.new ≡ self.old) }
         ensures answers { is_answer message.body ≡ true → IsOk result }
     {
-        let entries = self.entries.as_slice();
-        let refusal = taking::refusal_of(&self.name, &self.master, entries, &message);
-        let reply = taking::reply_or(refusal, entries, &message.body);
-        let status = entries::status_of(entries, spawn_in(&message.body));
-        let answer = answer_to(alloc, &self.name, &message, at, told_of(refusal, status))?;
-        if refusal.is_none() {
-            taking::take_body(&mut self.entries, message.body, at)?;
-        }
-        Ok(Outcome { reply, answer })
+        do_take(
+            alloc,
+            &self.name,
+            &self.master,
+            &mut self.entries,
+            message,
+            at,
+        )
     }
+}
+
+impl Clone for Worker {
+    ghost use Rattle.std.specs.Prelude.{◌≡◌};
+
+    ghost is_clone = { λ worker copied. copied ≡ worker };
+
+    fn clone(&self) -> Result<Worker, AllocError> {
+        Ok(Worker {
+            name: self.name.clone()?,
+            master: self.master.clone()?,
+            entries: copies(*self.entries.allocator(), self.entries.as_slice())?,
+        })
+    }
+}
+
+impl Duplicate for Worker {
+    ghost equal = { λ _ _ same. same };
 }

@@ -9,15 +9,22 @@ use crate::claims::id_set::{IdSet, has, set_of};
 use std::alloc::{AllocError, Global};
 use ticket_tree::{Duplicate, Id, NodeRow, Resource};
 
+/// A row, so many levels higher.
+fn lifted_row(alloc: Global, row: &NodeRow, levels: u32) -> Result<NodeRow, AllocError>
+    ensures { IfOk result (λ r. r ≡ parts.lifted levels row.now) }
+{
+    let mut copy = row.copy(alloc)?;
+    copy.depth = copy.depth.saturating_sub(levels);
+    Ok(copy)
+}
+
 /// The rows, each so many levels higher.
 pub fn lifted_rows(alloc: Global, rows: &[NodeRow], levels: u32) -> Result<Vec<NodeRow>, AllocError>
     ensures { IfOk result (λ v. v.items ≡ map (parts.lifted levels) rows.now) }
 {
     let mut lifted = Vec::with_capacity(alloc, rows.len())?;
     for row in rows {
-        let mut copy = row.copy(alloc)?;
-        copy.depth = copy.depth.saturating_sub(levels);
-        lifted.push(copy)?;
+        lifted.push(lifted_row(alloc, row, levels)?)?;
     }
     Ok(lifted)
 }

@@ -7,7 +7,7 @@ ghost use Rattle.ticket_rows.specs.OneRow.{appended};
 ghost use Rattle.ticket_rows.specs.Place.{node_places, up};
 ghost use Rattle.ticket_rows.specs.Ticket.{IsValid, has_node};
 ghost use Rattle.spawn.specs.Parts as parts;
-ghost use Rattle.spawn.specs.Records.{IsGood};
+ghost use Rattle.spawn.specs.Records.{IsGood, is_out};
 ghost use Rattle.spawn.specs.Spawning as spawning;
 ghost use Rattle.spawn.specs.Spawning.{spawn_refusal};
 
@@ -83,95 +83,85 @@ fn spawned_audit(alloc: Global, ticket: &Ticket, spawn: &SpawnRec) -> Result<Aud
 }
 
 /// The id of the last of some ancestors.
-fn parent_id(alloc: Global, ancestors: &[Ancestor]) -> Result<Id, Refusal>
-    requires some { is_some (slice_get ancestors.now (length ancestors.now - 1)) ≡ true }
-    ensures ok { IfOk result (λ id. option_map (λ a. a.node_id)
-        (slice_get ancestors.now (length ancestors.now - 1)) ≡ Some id) }
-    ensures memory { IfErr result (λ e. e ≡ Refusal.Memory) }
+fn parent_in<'a>(ancestors: &'a [Ancestor]) -> &'a Id
+    requires { is_some (slice_get ancestors.now (length ancestors.now - 1)) ≡ true }
+    ensures { option_map (λ a. a.node_id) (slice_get ancestors.now (length ancestors.now - 1))
+        ≡ Some result.now }
 {
     match ancestors.last() {
-        None => Err(Refusal::IsRoot),
-        Some(parent) => Ok(parent.node_id.copy(alloc)?),
+        None => unreachable!(),
+        Some(parent) => &parent.node_id,
     }
 }
 
-/// All that a spawn makes.
-#[derive(Drop)]
-struct Prepared {
-    spawn: SpawnRec,
-    part: Part,
-    parent: Id,
-    audit: Audit,
+/// Puts the audit that tells of a spawn last at the parent of its node.
+fn tell(alloc: Global, ticket: &mut Ticket, spawn: &SpawnRec, parent: &Id) -> Result<(), Refusal>
+    requires known { has_node ticket.old.rows spawn.now.node ≡ true }
+    requires parent { has_node ticket.old.rows parent.now ≡ true }
+    ensures ok { OnOk result (ticket.new ≡ record ticket.old {
+      rows = appended parent.now
+          (spawning.spawned_audit ticket.old.rows spawn.now) ticket.old.rows;
+    }) }
+    ensures err { OnErr result (ticket.new ≡ ticket.old) }
+    ensures memory { IfErr result (λ e. e ≡ Refusal.Memory) }
+{
+    let audit = spawned_audit(alloc, ticket, spawn)?;
+    ticket.append(alloc, parent, audit)
 }
 
-/// What a spawn of a node makes that stands below another.
-fn prepare(
+/// The part of a spawn of a node that stands below another; the ticket then tells of the spawn.
+fn send_out(alloc: Global, ticket: &mut Ticket, spawn: &SpawnRec) -> Result<Part, Refusal>
+    requires valid { IsValid ticket.old.rows }
+    requires out { is_out spawn.now ≡ true }
+    requires good { IsGood ticket.old.rows spawn.now }
+    requires known { has_node ticket.old.rows spawn.now.node ≡ true }
+    requires parent { is_some (up (node_places ticket.old.rows) spawn.now.node) ≡ true }
+    ensures ticket { OnOk result (ticket.new ≡ spawning.spawned ticket.old spawn.now) }
+    ensures part { IfOk result (λ p. p ≡ parts.part_for ticket.old spawn.now) }
+    ensures err { OnErr result (ticket.new ≡ ticket.old) }
+    ensures memory { IfErr result (λ e. e ≡ Refusal.Memory) }
+{
+    let part = part_for(alloc, ticket, spawn)?;
+    let parent = parent_in(part.ancestors());
+    tell(alloc, ticket, spawn, parent).and(Ok(part))
+}
+
+/// Puts the record of a spawn of a node that stands below another last among the records, and its
+/// audit last at the parent, and answers its part.
+fn enter(
     alloc: Global,
-    ticket: &Ticket,
+    ticket: &mut Ticket,
+    records: &mut Vec<SpawnRec>,
     id: SpawnId,
     node: Id,
     worker: Id,
     rw: &[Id],
     at: u64,
-) -> Result<Prepared, Refusal>
-    requires known { has_node ticket.now.rows node ≡ true }
-    requires parent { is_some (up (node_places ticket.now.rows) node) ≡ true }
-    ensures spawn { IfOk result (λ p. p.spawn
-        ≡ spawning.new_record ticket.now.rows id node worker rw.now at) }
-    ensures part { IfOk result (λ p. p.part
-        ≡ parts.part_for ticket.now
-        (spawning.new_record ticket.now.rows id node worker rw.now at)) }
-    ensures parent_id { IfOk result (λ p. p.parent ≡ spawning.parent_of ticket.now.rows node) }
-    ensures audit { IfOk result (λ p. p.audit
-        ≡ spawning.spawned_audit ticket.now.rows
-        (spawning.new_record ticket.now.rows id node worker rw.now at)) }
-    ensures valid { OnOk result (IsValid ticket.now.rows) }
-    ensures memory { IfErr result (λ e. e ≡ Refusal.Memory) }
-{
-    // What its rows tell: the ticket is valid.
-    let _rows = ticket.rows();
-    let spawn = new_record(alloc, ticket, id, node, worker, rw, at)?;
-    let part = part_for(alloc, ticket, &spawn)?;
-    let parent = parent_id(alloc, part.ancestors())?;
-    let audit = spawned_audit(alloc, ticket, &spawn)?;
-    Ok(Prepared {
-        spawn,
-        part,
-        parent,
-        audit,
-    })
-}
-
-/// Puts the record of a spawn last among the records, and its audit last at the parent, which is
-/// there, and answers its part.
-fn enter(
-    alloc: Global,
-    ticket: &mut Ticket,
-    records: &mut Vec<SpawnRec>,
-    made: Prepared,
 ) -> Result<Part, Refusal>
-    requires known { has_node ticket.old.rows made.parent ≡ true }
-    ensures ticket { OnOk result (ticket.new
-        ≡ record ticket.old { rows = appended made.parent made.audit ticket.old.rows }) }
-    ensures records { OnOk result (records.new.items ≡ records.old.items ++ made.spawn ∷ []) }
-    ensures part { IfOk result (λ p. p ≡ made.part) }
+    requires known { has_node ticket.old.rows node ≡ true }
+    requires parent { is_some (up (node_places ticket.old.rows) node) ≡ true }
+    ensures ticket { OnOk result (ticket.new ≡ spawning.spawned ticket.old
+        (spawning.new_record ticket.old.rows id node worker rw.now at)) }
+    ensures records { OnOk result (records.new.items ≡ records.old.items
+        ++ spawning.new_record ticket.old.rows id node worker rw.now at ∷ []) }
+    ensures part { IfOk result (λ p. p ≡ parts.part_for ticket.old
+        (spawning.new_record ticket.old.rows id node worker rw.now at)) }
+    ensures valid { OnOk result (IsValid ticket.old.rows) }
     ensures ticket_stays { OnErr result (ticket.new ≡ ticket.old) }
     ensures records_stay { OnErr result (records.new.items ≡ records.old.items) }
     ensures memory { IfErr result (λ e. e ≡ Refusal.Memory) }
 {
-    let Prepared {
-        spawn,
-        part,
-        parent,
-        audit,
-    } = made;
+    // What its rows tell: the ticket is valid.
+    let _rows = ticket.rows();
     let before = records.len();
-    records.push(spawn)?;
-    if let Err(refusal) = ticket.append(alloc, &parent, audit) {
-        records.truncate(before);
-        return Err(refusal);
+    records.push(new_record(alloc, ticket, id, node, worker, rw, at)?)?;
+    match send_out(alloc, ticket, &records[before]) {
+        Ok(part) => Ok(part),
+        Err(refusal) => {
+            records.truncate(before);
+            Err(refusal)
+        }
     }
-    Ok(part)
 }
 
 /// Spawns a node with all below it to a worker (JDF 1.5, 4.4), at a time in seconds since 1970: the
@@ -211,7 +201,6 @@ pub fn spawn(
     let others = records.as_slice();
     check_spawn(alloc, ticket, others, number, &node, rw.as_slice())?;
     let id = SpawnId::new(number)?;
-    let made = prepare(alloc, ticket, id, node, worker, rw.as_slice(), at)?;
-    let part = enter(alloc, ticket, records, made)?;
+    let part = enter(alloc, ticket, records, id, node, worker, rw.as_slice(), at)?;
     Ok((id, part))
 }

@@ -3,28 +3,28 @@ use Rattle.ticket_items.specs.Ids.{mem}
 use Rattle.ticket_items.specs.declared.refusal.Refusal.TheVariants.{Memory, UnknownWorker}
 use Rattle.spawn.proofs.Lawful.{placed}
 use Rattle.spawn.specs.Spawning.{spawn_refusal}
-use Rattle.master_core.proofs.Passing.{behind_test, done_free, done_was, if_free, memory_through, refused_through}
+use Rattle.master_core.proofs.Passing.{behind_test, done_free}
 use Rattle.master_core.specs.Master.{is_of, known, next_number, record_of}
 use Rattle.master_core.specs.Orders.{edit_refusal, order_refusal}
 use Rattle.master_core.proofs.ordering.do_order.Goals as goal
 
-pub returns-in_err-id-in-Spawn-clause-refused : goal.returns-in_err-id-in-Spawn-clause-refused
-returns-in_err-id-in-Spawn-clause-refused c =
+pub returns-else-not-is_among-clause-refused : goal.returns-else-not-is_among-clause-refused
+returns-else-not-is_among-clause-refused c =
     let records = c.args.records.now.items in
     let w = known c.args.name.now c.args.workers.now c.args.ticket.now records in
     let refusal = spawn_refusal c.args.ticket.now.rows records (next_number records) c.in-Spawn.node c.in-Spawn.rw in
     let there : mem c.in-Spawn.worker c.args.workers.now ≡ true = sym c.is_among.ensures ∙ c.if-not-is_among.false in
     let same : refusal ≡ order_refusal c.args.order w = sym (behind_test (mem c.in-Spawn.worker c.args.workers.now) UnknownWorker refusal there) ∙ sym (ap (λ o. order_refusal o w) c.in-Spawn.is) in
-    subst (λ o. IfSome o (λ e. c.from_residual.result ≡ Err e)) same (refused_through refusal c.spawn_to.result c.from_residual.result c.in_err-id-in-Spawn.field-0.0 c.spawn_to.ensures.refused c.in_err-id-in-Spawn.was c.from_residual.ensures.1)
+    subst (λ o. IfSome o (λ e. c.spawn_to.result ≡ Err e)) same c.spawn_to.ensures.refused
 
-pub returns-in_err-id-in-Spawn-clause-memory : goal.returns-in_err-id-in-Spawn-clause-memory
-returns-in_err-id-in-Spawn-clause-memory c =
+pub returns-else-not-is_among-clause-memory : goal.returns-else-not-is_among-clause-memory
+returns-else-not-is_among-clause-memory c =
     let records = c.args.records.now.items in
     let w = known c.args.name.now c.args.workers.now c.args.ticket.now records in
     let refusal = spawn_refusal c.args.ticket.now.rows records (next_number records) c.in-Spawn.node c.in-Spawn.rw in
     let there : mem c.in-Spawn.worker c.args.workers.now ≡ true = sym c.is_among.ensures ∙ c.if-not-is_among.false in
     let same : refusal ≡ order_refusal c.args.order w = sym (behind_test (mem c.in-Spawn.worker c.args.workers.now) UnknownWorker refusal there) ∙ sym (ap (λ o. order_refusal o w) c.in-Spawn.is) in
-    subst (λ o. IfNone o (IfErr c.from_residual.result (λ e. e ≡ Memory))) same (memory_through refusal c.spawn_to.result c.from_residual.result c.in_err-id-in-Spawn.field-0.0 c.spawn_to.ensures.memory c.in_err-id-in-Spawn.was c.from_residual.ensures.1)
+    subst (λ o. IfNone o (IfErr c.spawn_to.result (λ e. e ≡ Memory))) same c.spawn_to.ensures.memory
 
 pub submit_of-requires-clause-good : goal.submit_of-requires-clause-good
 submit_of-requires-clause-good c =
@@ -65,21 +65,3 @@ returns-in-Edit-clause-memory c =
     let seen = known name workers ticket c.as_slice.result.now in
     let same : edit_refusal c.in-Edit.edit seen ≡ order_refusal c.args.order w = ap (λ rs. edit_refusal c.in-Edit.edit (known name workers ticket rs)) c.as_slice.ensures.value ∙ sym (ap (λ o. order_refusal o w) c.in-Edit.is) in
     subst (λ o. IfNone o (IfErr c.do_edit.result (λ e. e ≡ Memory))) same (c.do_edit.ensures.memory name workers)
-
-pub returns-in_ok-id-in-Spawn-clause-free : goal.returns-in_ok-id-in-Spawn-clause-free
-returns-in_ok-id-in-Spawn-clause-free c =
-    let records = c.args.records.now.items in
-    let w = known c.args.name.now c.args.workers.now c.args.ticket.now records in
-    let refusal = spawn_refusal c.args.ticket.now.rows records (next_number records) c.in-Spawn.node c.in-Spawn.rw in
-    let there : mem c.in-Spawn.worker c.args.workers.now ≡ true = sym c.is_among.ensures ∙ c.if-not-is_among.false in
-    let same : refusal ≡ order_refusal c.args.order w = sym (behind_test (mem c.in-Spawn.worker c.args.workers.now) UnknownWorker refusal there) ∙ sym (ap (λ o. order_refusal o w) c.in-Spawn.is) in
-    sym same ∙ done_was refusal c.spawn_to.result _ c.spawn_to.ensures.refused c.in_ok-id-in-Spawn.was
-
-pub returns-in_ok-id-in-Spawn-clause-refused : goal.returns-in_ok-id-in-Spawn-clause-refused
-returns-in_ok-id-in-Spawn-clause-refused c =
-    let records = c.args.records.now.items in
-    let w = known c.args.name.now c.args.workers.now c.args.ticket.now records in
-    let refusal = spawn_refusal c.args.ticket.now.rows records (next_number records) c.in-Spawn.node c.in-Spawn.rw in
-    let there : mem c.in-Spawn.worker c.args.workers.now ≡ true = sym c.is_among.ensures ∙ c.if-not-is_among.false in
-    let same : refusal ≡ order_refusal c.args.order w = sym (behind_test (mem c.in-Spawn.worker c.args.workers.now) UnknownWorker refusal there) ∙ sym (ap (λ o. order_refusal o w) c.in-Spawn.is) in
-    if_free (order_refusal c.args.order w) _ (sym same ∙ done_was refusal c.spawn_to.result _ c.spawn_to.ensures.refused c.in_ok-id-in-Spawn.was)

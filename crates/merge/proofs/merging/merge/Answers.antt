@@ -13,7 +13,7 @@ put_back-requires-clause-nodes c =
     let r = c.args.spawn.now in
     let p = c.args.part in
     let fits = c.if-not-fits.ensures.0 refl in
-    subst (λ rows. MayTakeNodes rows p.rows) (sym (ap (λ s. s.rows) c.in_ok-tell.ensures.ok))
+    subst (λ rows. MayTakeNodes rows p.rows) (sym (ap (λ s. s.rows) c.in-Ok.ensures.ok))
     (nodes_told (parent_of t.rows r.node) (merged_audit r c.args.at) t.rows p.rows (part_nodes t r p c.rows-rows.ensures.valid c.rows-part_rows.ensures.valid fits))
 
 pub put_back-requires-clause-copies : goal.put_back-requires-clause-copies
@@ -22,15 +22,15 @@ put_back-requires-clause-copies c =
     let r = c.args.spawn.now in
     let p = c.args.part in
     let fits = c.if-not-fits.ensures.0 refl in
-    subst (λ rows. MayTakeResources rows p.rw) (sym (ap (λ s. s.rows) c.in_ok-tell.ensures.ok))
+    subst (λ rows. MayTakeResources rows p.rw) (sym (ap (λ s. s.rows) c.in-Ok.ensures.ok))
     (copies_told (parent_of t.rows r.node) (merged_audit r c.args.at) t.rows p.rw (part_copies t r p c.rows-rows.ensures.valid fits))
 
-pub returns-clause-merged : goal.returns-clause-merged
-returns-clause-merged c =
+pub returns-in-Ok-clause-merged : goal.returns-in-Ok-clause-merged
+returns-in-Ok-clause-merged c =
     let t = c.args.ticket.now in
     let r = c.args.spawn.now in
     let p = c.args.part in
     let fits = c.if-not-fits.ensures.0 refl in
     c.put_back.ensures
-    ∙ ap (λ (s : Job). record s { rows = with_nodes p.rows (with_resources p.rw s.rows) }) c.in_ok-tell.ensures.ok
+    ∙ ap (λ (s : Job). record s { rows = with_nodes p.rows (with_resources p.rw s.rows) }) c.in-Ok.ensures.ok
     ∙ ap (λ rows. record t { rows = rows }) (put_told (parent_of t.rows r.node) (merged_audit r c.args.at) p t.rows (parent_of_out t r p c.rows-rows.ensures.valid c.requires.good fits))

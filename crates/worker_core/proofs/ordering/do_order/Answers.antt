@@ -1,69 +1,60 @@
-use Rattle.std.proofs.Common.{◌≡◌, ◌∙◌, Option, Some, None, Result, Ok, Err, IfErr, IfNone, refl, sym, ap, subst, slice_set}
+use Rattle.std.proofs.Common.{◌≡◌, ◌∙◌, ℕ, List, true, Some, Result, Ok, Err, OnOk, IfOk, refl, sym, ap, get_or, slice_set}
+use Rattle.std.proofs.lemmas.List.{set-get_or}
+use Rattle.std.specs.List.{position}
 use Rattle.std.specs.Option.{option_map}
-use Rattle.std.specs.Result.{IsErrAnd}
-use Rattle.ticket_items.specs.declared.refusal.Refusal.{Refusal}
-use Rattle.ticket_items.specs.declared.refusal.Refusal.TheVariants.{Memory}
-use Rattle.ticket_tree.specs.Part.{refusal_of_part}
+use Rattle.message_items.specs.declared.done.Done.{Done}
 use Rattle.worker_core.proofs.AtNumber.{found_there, write_at_number}
 use Rattle.worker_core.proofs.Kept.{number_of}
 use Rattle.worker_core.proofs.Places.{place_seen, refused_at}
-use Rattle.worker_core.proofs.Refusals.{edit_free}
-use Rattle.worker_core.specs.Orders.{edit_refusal, edited_entry, entry_refusal, finished_entry, order_message, order_refusal, ordered_entries, return_of, spawn_of_order}
-use Rattle.worker_core.specs.Worker.{known}
+use Rattle.worker_core.specs.Numbers.{are_distinct_numbers}
+use Rattle.worker_core.specs.Orders.{edited_entry, entry_message, finished_entry, order_message, order_refusal, ordered_entries, ordered_entry, return_of, spawn_of_order}
+use Rattle.worker_core.specs.Worker.{Known, entry_of, is_of, known, numbers}
+use Rattle.worker_core.specs.declared.entry.Entry.{Entry}
+use Rattle.worker_core.specs.declared.order.Order.{Order}
+use Rattle.worker_core.specs.declared.order.Order.TheVariants as order
 use Rattle.worker_core.proofs.ordering.do_order.Goals as goal
 
--- what isn't refused wants memory alone
-told_memory : {X : Type 0} (o p : Option Refusal) (result : Result X Refusal) (e : Refusal) → IsErrAnd result (λ r. r ≡ e) → p ≡ None → IfNone p (e ≡ Memory) → IfNone o (IfErr result (λ r. r ≡ Memory))
-told_memory None p (Ok x) e is free want = tt
-told_memory None p (Err r) e is free want = is ∙ subst (λ q. IfNone q (e ≡ Memory)) free want
-told_memory (Some r) p result e is free want = tt
+-- the entries with what an order makes of the one of its spawn
+written : (o : Order) (at : ℕ) (entries : List Entry) (k : ℕ) (x : Entry) → are_distinct_numbers (numbers entries) ≡ true → position (is_of (spawn_of_order o)) entries ≡ Some k → x ≡ get_or entries k x → slice_set entries k (ordered_entry o at x) ≡ ordered_entries o at entries
+written (order.Edit s e) at entries k x once here is = write_at_number number_of s (edited_entry e at) entries entries k x refl once here is
+written (order.Finish s how) at entries k x once here is = write_at_number number_of s (finished_entry how at) entries entries k x refl once here is
+written (order.Resend s) at entries k x once here is = ap (slice_set entries k) is ∙ set-get_or entries k x
 
-pub returns-in_err-apply-in-Edit-clause-memory : goal.returns-in_err-apply-in-Edit-clause-memory
-returns-in_err-apply-in-Edit-clause-memory c =
+-- what goes out of the entry of an order's spawn
+gone_out : (o : Order) (at : ℕ) (w : Known) (x : Entry) → entry_of w.entries (spawn_of_order o) ≡ Some x → entry_message o w.name w.master (ordered_entry o at x) ≡ order_message o at w
+gone_out (order.Edit s e) at w x here = refl
+gone_out (order.Finish s how) at w x here = sym (ap (option_map (λ e. return_of w.name w.master (finished_entry how at e))) here)
+gone_out (order.Resend s) at w x here = sym (ap (option_map (return_of w.name w.master)) here)
+
+on_ok : {X E : Type 0} {P Q : Type 0} (result : Result X E) → OnOk result P → (P → Q) → OnOk result Q
+on_ok (Ok x) p f = f p
+on_ok (Err e) p f = tt
+
+if_ok : {X E : Type 0} {P Q : X → Type 0} (result : Result X E) → IfOk result P → ((x : X) → P x → Q x) → IfOk result Q
+if_ok (Ok x) p f = f x p
+if_ok (Err e) p f = tt
+
+pub order_entry-requires : goal.order_entry-requires
+order_entry-requires c =
+    let o = c.args.order in
+    let entries = c.args.entries.now.items in
+    let here = place_seen o entries c.as_slice.result.now (spawn_of_order o) c.in-Ok.place c.as_slice.ensures.value refl c.in-Ok.ensures.place in
+    sym (refused_at o entries (spawn_of_order o) c.in-Ok.place c.index_mut.result.now refl here c.index_mut.ensures.value) ∙ ap (order_refusal o) (sym c.as_slice.ensures.value) ∙ c.in-Ok.ensures.refusal
+
+pub returns-in-Ok-clause-entries : goal.returns-in-Ok-clause-entries
+returns-in-Ok-clause-entries c =
+    let o = c.args.order in
     let entries = c.args.entries.now.items in
     let x = c.index_mut.result.now in
-    let s = c.in-Edit.field-0 in
-    let at = place_seen c.args.order entries c.as_slice.result.now s c.in_ok-place.place c.as_slice.ensures.value (ap spawn_of_order c.in-Edit.is) c.in_ok-place.ensures.place in
-    let none : edit_refusal c.in-Edit.edit x ≡ None =
-    sym (ap (λ o. entry_refusal o x) c.in-Edit.is) ∙ sym (refused_at c.args.order entries s c.in_ok-place.place x (sym (ap spawn_of_order c.in-Edit.is)) at c.index_mut.ensures.value) ∙ ap (order_refusal c.args.order) (sym c.as_slice.ensures.value) ∙ c.in_ok-place.ensures.refusal in
-    told_memory (order_refusal c.args.order entries) (refusal_of_part c.in-Edit.edit x.part) c.from_residual-in_err-apply-in-Edit.result c.in_err-apply-in-Edit.field-0.0 c.from_residual-in_err-apply-in-Edit.ensures.1 (edit_free c.in-Edit.edit x none).part c.in_err-apply-in-Edit.ensures.memory
+    let here = place_seen o entries c.as_slice.result.now (spawn_of_order o) c.in-Ok.place c.as_slice.ensures.value refl c.in-Ok.ensures.place in
+    on_ok c.order_entry.result c.order_entry.ensures.entry (λ made. ap (slice_set entries c.in-Ok.place) made ∙ written o c.args.at entries c.in-Ok.place x c.requires here c.index_mut.ensures.value)
 
-pub returns-in_ok-apply-in-Edit-clause-entries : goal.returns-in_ok-apply-in-Edit-clause-entries
-returns-in_ok-apply-in-Edit-clause-entries c =
+pub returns-in-Ok-clause-message : goal.returns-in-Ok-clause-message
+returns-in-Ok-clause-message c =
+    let o = c.args.order in
     let entries = c.args.entries.now.items in
+    let w = known c.args.name.now c.args.master.now entries in
     let x = c.index_mut.result.now in
-    let s = c.in-Edit.field-0 in
-    let at = place_seen c.args.order entries c.as_slice.result.now s c.in_ok-place.place c.as_slice.ensures.value (ap spawn_of_order c.in-Edit.is) c.in_ok-place.ensures.place in
-    ap (λ p. slice_set entries c.in_ok-place.place (record x { part = p })) c.in_ok-apply-in-Edit.ensures.ok
-    ∙ write_at_number number_of s (edited_entry c.in-Edit.edit c.args.at) entries entries c.in_ok-place.place x refl c.requires at c.index_mut.ensures.value
-    ∙ sym (ap (λ o. ordered_entries o c.args.at entries) c.in-Edit.is)
-
-pub returns-in_ok-message-in-Finish-clause-entries : goal.returns-in_ok-message-in-Finish-clause-entries
-returns-in_ok-message-in-Finish-clause-entries c =
-    let entries = c.args.entries.now.items in
-    let x = c.index_mut-in-Finish.result.now in
-    let s = c.in-Finish.spawn in
-    let at = place_seen c.args.order entries c.as_slice.result.now s c.in_ok-place.place c.as_slice.ensures.value (ap spawn_of_order c.in-Finish.is) c.in_ok-place.ensures.place in
-    ap (slice_set entries c.in_ok-place.place) c.in_ok-message-in-Finish.ensures.ok
-    ∙ write_at_number number_of s (finished_entry c.in-Finish.end c.args.at) entries entries c.in_ok-place.place x refl c.requires at c.index_mut-in-Finish.ensures.value
-    ∙ sym (ap (λ o. ordered_entries o c.args.at entries) c.in-Finish.is)
-
-pub returns-in_ok-message-in-Finish-clause-message : goal.returns-in_ok-message-in-Finish-clause-message
-returns-in_ok-message-in-Finish-clause-message c =
-    let entries = c.args.entries.now.items in
-    let x = c.index_mut-in-Finish.result.now in
-    let s = c.in-Finish.spawn in
-    let at = place_seen c.args.order entries c.as_slice.result.now s c.in_ok-place.place c.as_slice.ensures.value (ap spawn_of_order c.in-Finish.is) c.in_ok-place.ensures.place in
-    ap Some c.in_ok-message-in-Finish.ensures.message
-    ∙ sym (ap (option_map (λ e. return_of c.args.name.now c.args.master.now (finished_entry c.in-Finish.end c.args.at e))) (found_there number_of s entries c.in_ok-place.place x at c.index_mut-in-Finish.ensures.value))
-    ∙ sym (ap (λ o. order_message o c.args.at (known c.args.name.now c.args.master.now entries)) c.in-Finish.is)
-
-pub returns-in_ok-message-in-Resend-clause-message : goal.returns-in_ok-message-in-Resend-clause-message
-returns-in_ok-message-in-Resend-clause-message c =
-    let entries = c.args.entries.now.items in
-    let x = c.index.result.now in
-    let s = c.in-Resend.spawn in
-    let at = place_seen c.args.order entries c.as_slice.result.now s c.in_ok-place.place c.as_slice.ensures.value (ap spawn_of_order c.in-Resend.is) c.in_ok-place.ensures.place in
-    ap Some c.in_ok-message-in-Resend.ensures
-    ∙ sym (ap (option_map (return_of c.args.name.now c.args.master.now)) (found_there number_of s entries c.in_ok-place.place x at c.index.ensures))
-    ∙ sym (ap (λ o. order_message o c.args.at (known c.args.name.now c.args.master.now entries)) c.in-Resend.is)
+    let here = place_seen o entries c.as_slice.result.now (spawn_of_order o) c.in-Ok.place c.as_slice.ensures.value refl c.in-Ok.ensures.place in
+    let found = found_there number_of (spawn_of_order o) entries c.in-Ok.place x here c.index_mut.ensures.value in
+    if_ok c.order_entry.result c.order_entry.ensures.message (λ (done : Done) told. told ∙ gone_out o c.args.at w x found)
