@@ -9,6 +9,7 @@ ghost use Rattle.serde_json.specs.Written.{compact_text, has_float};
 ghost use Rattle.json_writer.specs.PartWritten.{part_data};
 ghost use Rattle.ticket_items.specs.Names.{is_name};
 ghost use Rattle.jmf_message.specs.Decoded.{IsDecodedAs, message_read};
+ghost use Rattle.jmf_message.specs.JmfForm.{jmf_data};
 ghost use Rattle.jmf_message.specs.Known.{IsKnown, IsWritten};
 ghost use Rattle.message_items.specs.Words.{may_be_sent};
 ghost use Rattle.jmf_message.specs.Written as written;
@@ -38,6 +39,22 @@ fn jmf_for(alloc: Global, message: &Message) -> Result<Jmf, AllocError>
         version: AnyText::of_str(alloc, VERSION)?,
         family: family_for(alloc, sender, &message.body)?,
     })
+}
+
+/// Puts the JMF object of a message into its document.
+fn put_jmf(
+    alloc: Global,
+    members: &mut Map<String, Value>,
+    message: &Message,
+) -> Result<(), AllocError>
+    ensures put { OnOk result (members_view members.new.entries
+        ≡ put (codes "JMF") (jmf_data (written.jmf_for message.now))
+        (members_view members.old.entries)) }
+    ensures sender { is_name message.now.sender ≡ true }
+    ensures receiver { is_name message.now.receiver ≡ true }
+{
+    let jmf = jmf_for(alloc, message)?;
+    put(alloc, members, "JMF", &jmf)
 }
 
 /// Puts a part into a message's document.
@@ -79,9 +96,8 @@ fn document_value(alloc: Global, message: &Message) -> Result<Value, AllocError>
     ensures receiver { is_name message.now.receiver ≡ true }
     ensures known { OnOk result (IsKnown message.now.body) }
 {
-    let jmf = jmf_for(alloc, message)?;
     let mut members = Map::new(alloc);
-    put(alloc, &mut members, "JMF", &jmf)?;
+    put_jmf(alloc, &mut members, message)?;
     put_part_of(alloc, &mut members, &message.body)?;
     Ok(Value::Object(members))
 }

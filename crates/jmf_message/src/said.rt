@@ -5,6 +5,7 @@ ghost use Rattle.std.specs.Option.{option_map, option_map_or};
 ghost use Rattle.json_forms.specs.Judged.{Answers};
 ghost use Rattle.json_reader.specs.DraftedPart.{drafted_part};
 ghost use Rattle.jmf_message.specs.Said as said;
+ghost use Rattle.jmf_message.specs.Written as written;
 ghost use Rattle.message_items.specs.Words.{is_told, may_be_sent};
 
 use crate::command_message::CommandMessage;
@@ -76,6 +77,21 @@ fn result_in(reason: u64, entry: &Option<QueueEntry>) -> Option<Result<QueueStat
     }
 }
 
+/// Whether a response is that to this command of a spawn, with this result.
+fn is_right_response(
+    alloc: Global,
+    response: &ResponseMessage,
+    asked: Command,
+    spawn: SpawnId,
+    told: Result<QueueStatus, u16>,
+) -> Result<bool, AllocError>
+    ensures { IfOk result (λ right. right
+        ≡ said.same_response response.now (written.response_for asked spawn told)) }
+{
+    let right = response_for(alloc, asked, spawn, told)?;
+    Ok(response.is_same(&right))
+}
+
 /// The body of a response. Refuses `WrongMessage` where it doesn't say what it may, and `Memory`.
 #[tactic(auto, unfolding(crate::specs::Said::response_body))]
 pub fn response_body(alloc: Global, response: &ResponseMessage) -> Result<Body, Refusal>
@@ -86,8 +102,7 @@ pub fn response_body(alloc: Global, response: &ResponseMessage) -> Result<Body, 
     let of = Command::named(response.kind.as_str()).ok_or(Refusal::WrongMessage)?;
     let spawn_id = spawn_behind(of, response.reference.as_str()).ok_or(Refusal::WrongMessage)?;
     let result = result_in(response.reason, &response.entry).ok_or(Refusal::WrongMessage)?;
-    let right = response_for(alloc, of, spawn_id, result)?;
-    if !response.is_same(&right) {
+    if !is_right_response(alloc, response, of, spawn_id, result)? {
         return Err(Refusal::WrongMessage);
     }
     Ok(Body::Answer {

@@ -1,5 +1,6 @@
 -- Lists that are read item by item.
-use Rattle.std.proofs.Common.{◌≡◌, ℕ, zero, suc, ◌<◌, List, [], ◌∷◌, length, get_or, map, Option, Some, None, Result, Ok, Err, refl, sym, ap, ◌∙◌, subst, arith}
+use Rattle.std.proofs.Common.{◌≡◌, ℕ, zero, suc, ◌<◌, List, [], ◌∷◌, ◌++◌, ◌+◌, length, get_or, map, take, Option, Some, None, Result, Ok, Err, refl, sym, ap, ◌∙◌, subst, arith}
+use Rattle.std.proofs.lemmas.List.{take_more, map-append}
 use Rattle.std.specs.Option.{option_map}
 use Rattle.std.specs.Prelude.{IsErrAnd}
 use Rattle.serde_json.specs.Data.{Data}
@@ -49,3 +50,20 @@ Fails-each e form vs i v within is fails =
 pub Gives-failed : {X Y : Type 0} (seen : X → Y) (r : Result X Refusal) (e : Refusal) (o : Option Y) → IsErrAnd r (λ f. f ≡ e) → Fails e o → Gives seen r o
 Gives-failed seen (Ok x) e o same fails = absurd same
 Gives-failed seen (Err f) e o same fails = subst (λ g. Fails g o) (sym same) fails
+
+-- ---- built
+
+-- one more is made of its item
+pub map-more : {X Y : Type 0} (made : X → Y) (xs : List X) (i : ℕ) (x : X) (y : Y) (before after : List Y) → i < length xs → x ≡ get_or xs i x → y ≡ made x → before ≡ map made (take i xs) → after ≡ before ++ y ∷ [] → after ≡ map made (take (i + 1) xs)
+map-more made xs i x y before after within is same so_far pushed =
+    let item = take_more xs i x within in
+    let joined = map-append made (take i xs) (get_or xs i x ∷ []) in
+    cc
+
+-- one more is read of its item
+pub map-more_both : {X Y Z : Type 0} (read : X → Z) (seen : Y → Z) (xs : List X) (i : ℕ) (x : X) (y : Y) (before after : List Y) → i < length xs → x ≡ get_or xs i x → read x ≡ seen y → map read (take i xs) ≡ map seen before → after ≡ before ++ y ∷ [] → map read (take (i + 1) xs) ≡ map seen after
+map-more_both read seen xs i x y before after within is same so_far pushed =
+    let item = take_more xs i x within in
+    let joined = map-append read (take i xs) (get_or xs i x ∷ []) in
+    let seen_joined = map-append seen before (y ∷ []) in
+    cc

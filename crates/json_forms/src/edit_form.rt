@@ -11,6 +11,10 @@ ghost use Rattle.json_forms.specs.Edits as edits;
 ghost use Rattle.json_forms.specs.Read.{Gives};
 
 use crate::draft::Draft;
+use crate::edit_build::{
+    build_add_link, build_add_node, build_add_resource, build_note, build_set_attr,
+    build_set_resource_attr, build_set_resource_status, build_set_status,
+};
 use crate::form::Form;
 use crate::members::member::{has_only, text_under};
 use crate::members::object::{put, put_text};
@@ -295,53 +299,26 @@ impl<'a> Draft<'a> for EditDraft<'a> {
 
     fn build(&self, alloc: Global) -> Result<Edit, Refusal> {
         match self {
-            EditDraft::SetStatus { node, status } => Ok(Edit::SetStatus {
-                node: node.build(alloc)?,
-                status: status.build(alloc)?,
-            }),
-            EditDraft::SetAttr { node, name, value } => Ok(Edit::SetAttr {
-                node: node.build(alloc)?,
-                name: name.build(alloc)?,
-                value: value.build(alloc)?,
-            }),
-            EditDraft::SetResStatus { resource, status } => Ok(Edit::SetResStatus {
-                resource: resource.build(alloc)?,
-                status: status.build(alloc)?,
-            }),
+            EditDraft::SetStatus { node, status } => build_set_status(alloc, node, status),
+            EditDraft::SetAttr { node, name, value } => build_set_attr(alloc, node, name, value),
+            EditDraft::SetResStatus { resource, status } => {
+                build_set_resource_status(alloc, resource, status)
+            }
             EditDraft::SetResAttr {
                 resource,
                 name,
                 value,
-            } => Ok(Edit::SetResAttr {
-                resource: resource.build(alloc)?,
-                name: name.build(alloc)?,
-                value: value.build(alloc)?,
-            }),
-            EditDraft::Note { node, text } => Ok(Edit::Note {
-                node: node.build(alloc)?,
-                text: text.build(alloc)?,
-            }),
+            } => build_set_resource_attr(alloc, resource, name, value),
+            EditDraft::Note { node, text } => build_note(alloc, node, text),
             EditDraft::AddNode {
                 node,
                 id,
                 kind,
                 job_part,
                 status,
-            } => Ok(Edit::AddNode {
-                node: node.build(alloc)?,
-                id: id.build(alloc)?,
-                kind: kind.build(alloc)?,
-                job_part: job_part.build(alloc)?,
-                status: status.build(alloc)?,
-            }),
-            EditDraft::AddResource { node, resource } => Ok(Edit::AddResource {
-                node: node.build(alloc)?,
-                resource: resource.build(alloc)?,
-            }),
-            EditDraft::AddLink { node, link } => Ok(Edit::AddLink {
-                node: node.build(alloc)?,
-                link: link.build(alloc)?,
-            }),
+            } => build_add_node(alloc, node, id, kind, job_part, status),
+            EditDraft::AddResource { node, resource } => build_add_resource(alloc, node, resource),
+            EditDraft::AddLink { node, link } => build_add_link(alloc, node, link),
         }
     }
 }

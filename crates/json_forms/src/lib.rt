@@ -3,6 +3,7 @@
 #![tactic(auto)]
 
 mod draft;
+mod edit_build;
 mod edit_form;
 mod form;
 mod lists;

@@ -1,5 +1,5 @@
 -- What the tests of drafts say of their parts.
-use Rattle.std.proofs.Common.{◌≡◌, ℕ, ◌&&◌, Bool, true, false, List, [], ◌∷◌, map, Option, Some, None, refl, sym, ap}
+use Rattle.std.proofs.Common.{◌≡◌, ◌&&◌, Bool, true, false, List, [], ◌∷◌, map, Option, Some, None, refl, sym, ap}
 use Rattle.std.proofs.lemmas.Bool.{and_parts}
 use Rattle.std.proofs.lemmas.List.Folds.{list_all-map}
 use Rattle.std.specs.List.{list_all}
@@ -13,32 +13,39 @@ use Rattle.json_form.specs.Draft.{RawTicket, resources_of, are_bare}
 use Rattle.json_form.specs.Form.{built_fault, node_has_names, pools_have_names, row_has_names, row_has_texts}
 use Rattle.json_form.specs.PoolForm.{resource_has_names, resource_has_texts, marked_has_names, marked_has_texts, link_has_names, audit_has_names, audit_has_texts, shows_nothing}
 use Rattle.json_reader.specs.Drafted.{drafted_raw, drafted_resources, drafted_row, drafted_rows}
-use Rattle.json_reader.specs.DraftedPool.{drafted_marked, drafted_resource, drafted_shown}
+use Rattle.json_reader.specs.DraftedPool.{drafted_resource, drafted_shown}
 use Rattle.json_reader.specs.declared.node_draft.NodeDraft.{NodeDraft}
 use Rattle.json_forms.specs.declared.resources.marked_form.MarkedDraft.{MarkedDraft}
 
--- the ids and the names of a row
-pub record NamesOfRow (r : NodeRow) : Type 0 where
+-- the id and the names of a row itself
+pub record NamesOfNode (r : NodeRow) : Type 0 where
   pub id : is_name r.id ≡ true
   pub kind : is_name r.kind ≡ true
   pub job_part : is_name r.job_part ≡ true
   pub status : is_name r.status ≡ true
   pub attrs : list_all (λ p. is_name p.0) r.attrs ≡ true
+
+pub names_of_node : (r : NodeRow) → node_has_names r ≡ true → NamesOfNode r
+unfolding node_has_names
+names_of_node r h =
+    let first = and_parts _ _ h in
+    let second = and_parts _ _ first.0 in
+    let third = and_parts _ _ second.0 in
+    let fourth = and_parts _ _ third.0 in
+    record { id = fourth.0; kind = fourth.1; job_part = third.1; status = second.1; attrs = first.1 }
+
+-- the ids and the names in its pools
+pub record NamesOfPools (r : NodeRow) : Type 0 where
   pub resources : list_all resource_has_names r.resources ≡ true
   pub links : list_all link_has_names r.links ≡ true
   pub audits : list_all audit_has_names r.audits ≡ true
 
-pub names_of_row : (r : NodeRow) → row_has_names r ≡ true → NamesOfRow r
-unfolding node_has_names pools_have_names
-names_of_row r h =
-    let both = and_parts _ _ h in
-    let first = and_parts _ _ both.0 in
-    let second = and_parts _ _ first.0 in
-    let third = and_parts _ _ second.0 in
-    let fourth = and_parts _ _ third.0 in
-    let pools = and_parts _ _ both.1 in
+pub names_of_pools : (r : NodeRow) → row_has_names r ≡ true → NamesOfPools r
+unfolding pools_have_names
+names_of_pools r h =
+    let pools = and_parts _ _ (and_parts _ _ h).1 in
     let two = and_parts _ _ pools.0 in
-    record { id = fourth.0; kind = fourth.1; job_part = third.1; status = second.1; attrs = first.1; resources = two.0; links = two.1; audits = pools.1 }
+    record { resources = two.0; links = two.1; audits = pools.1 }
 
 -- the texts of a row
 pub record TextsOfRow (r : NodeRow) : Type 0 where

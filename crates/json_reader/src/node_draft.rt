@@ -1,7 +1,7 @@
 use crate::resource_drafts::{build_resources, show_nothing};
 use json_forms::{AttrsDraft, AuditDraft, Borrowed, Draft, Drafts, LinkDraft, MarkedDraft};
 use std::alloc::Global;
-use ticket_tree::{Id, Name, NodeRow, Refusal};
+use ticket_tree::{Attrs, Id, Name, NodeRow, Refusal};
 
 /// A node of a draft, with its depth and its pools: any texts for its ids and names. Depths are
 /// counted no further than 33.
@@ -18,8 +18,20 @@ pub struct NodeDraft<'a> {
     pub audits: Drafts<AuditDraft<'a>>,
 }
 
+/// What a node has of its own, beside its depth and its pools.
+#[derive(Drop)]
+struct NodeOwn {
+    id: Id,
+    kind: Name,
+    job_part: Name,
+    status: Name,
+    attrs: Attrs,
+}
+
 impl<'a> NodeDraft<'a> {
     ghost use Rattle.std.specs.Prelude.{◌≡◌, true, IfOk, IfErr};
+    ghost use Rattle.std.specs.List.{list_all};
+    ghost use Rattle.ticket_items.specs.Names.{is_text};
     ghost use Rattle.json_form.specs.Draft.{are_bare};
     ghost use Rattle.json_form.specs.Form.{node_has_names, pools_have_names, row_has_names};
     ghost use Rattle.json_form.specs.Form.{row_has_texts};
@@ -76,16 +88,48 @@ impl<'a> NodeDraft<'a> {
         ensures ok { IfOk result (λ row. row ≡ drafted_row self.now) }
         ensures memory { IfErr result (λ e. e ≡ Refusal.Memory) }
     {
+        let resources = build_resources(alloc, self.resources.as_slice())?;
+        let links = self.links.build(alloc)?;
+        let audits = self.audits.build(alloc)?;
+        let NodeOwn {
+            id,
+            kind,
+            job_part,
+            status,
+            attrs,
+        } = self.build_own(alloc)?;
         Ok(NodeRow {
-            id: self.id.build(alloc)?,
+            id,
             depth: self.depth,
+            kind,
+            job_part,
+            status,
+            attrs,
+            resources,
+            links,
+            audits,
+        })
+    }
+
+    /// What the node has of its own. Refuses `Memory` alone.
+    fn build_own(&self, alloc: Global) -> Result<NodeOwn, Refusal>
+        requires names { node_has_names (drafted_row self.now) ≡ true }
+        requires texts { list_all (λ p. is_text p.1) self.now.attrs ≡ true }
+        ensures ok { IfOk result (λ own. own ≡ record {
+          id = self.now.id;
+          kind = self.now.kind;
+          job_part = self.now.job_part;
+          status = self.now.status;
+          attrs = self.now.attrs;
+        }) }
+        ensures memory { IfErr result (λ e. e ≡ Refusal.Memory) }
+    {
+        Ok(NodeOwn {
+            id: self.id.build(alloc)?,
             kind: self.kind.build(alloc)?,
             job_part: self.job_part.build(alloc)?,
             status: self.status.build(alloc)?,
             attrs: self.attrs.build(alloc)?,
-            resources: build_resources(alloc, self.resources.as_slice())?,
-            links: self.links.build(alloc)?,
-            audits: self.audits.build(alloc)?,
         })
     }
 }

@@ -1,3 +1,4 @@
 pub mod Forests
 pub mod PartRoots
+pub mod Pools
 pub mod Taken

@@ -11,7 +11,8 @@ ghost use Rattle.json_form.specs.PartForm.{copies_have_texts};
 ghost use Rattle.json_form.specs.PoolForm.{nothing_shown, resource_has_names, resource_has_texts};
 ghost use Rattle.json_form.specs.PoolWritten.{all_showing, raw_data};
 ghost use Rattle.json_writer.specs.PartWritten as written;
-ghost use Rattle.json_writer.specs.Written.{node_object};
+ghost use Rattle.json_writer.specs.Marked.{no_marks, marked_rows};
+ghost use Rattle.json_writer.specs.Written.{children, node_object, trees};
 
 use crate::forest::{forest, take_children};
 use crate::marked::no_marks;
@@ -73,6 +74,32 @@ fn root_map(
     node_map(alloc, root, &no_marks(alloc), resources, children)
 }
 
+/// A part's root with all below it as members of an object, with the copies behind its own
+/// resources.
+fn tree_map(
+    alloc: Global,
+    root: &NodeRow,
+    later: &[&NodeRow],
+    copies: Vec<Value>,
+) -> Result<Map<String, Value>, AllocError>
+    ensures members { IfOk result (λ m. object (members_view m.entries)
+        ≡ node_object root.now
+        (items_of
+        (map raw_data (all_showing nothing_shown root.now.resources)
+        ++ map view copies.items))
+        (children root.now.depth (trees (marked_rows no_marks (map (λ r. r.now) later.now))))) }
+    ensures names { OnOk result (row_has_names root.now ≡ true) }
+    ensures texts { OnOk result (row_has_texts root.now ≡ true) }
+    ensures later_names { OnOk result
+        (list_all row_has_names (map (λ r. r.now) later.now) ≡ true) }
+    ensures later_texts { OnOk result
+        (list_all row_has_texts (map (λ r. r.now) later.now) ≡ true) }
+{
+    let mut trees = forest(alloc, later, &no_marks(alloc))?;
+    let children = take_children(alloc, &mut trees, root.depth)?;
+    root_map(alloc, root, copies, children)
+}
+
 /// The root of a part with all below it, and with what else a part has.
 pub fn rows_value(
     alloc: Global,
@@ -96,9 +123,7 @@ pub fn rows_value(
     let Some((root, later)) = rows.split_first() else {
         return Ok(Value::Null);
     };
-    let mut trees = forest(alloc, later, &no_marks(alloc))?;
-    let children = take_children(alloc, &mut trees, root.depth)?;
-    let mut members = root_map(alloc, root, copies, children)?;
+    let mut members = tree_map(alloc, root, later, copies)?;
     put_list(alloc, &mut members, "AncestorPool", ancestors)?;
     put_text(alloc, &mut members, "JobID", job)?;
     put_text(alloc, &mut members, "SpawnID", spawn)?;

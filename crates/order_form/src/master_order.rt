@@ -2,7 +2,7 @@
 
 ghost use Rattle.std.specs.Prelude.{◌≡◌, true, IfOk, IfErr};
 ghost use Rattle.serde_json.specs.View.{view};
-ghost use Rattle.json_forms.specs.Judged.{Answers};
+ghost use Rattle.json_forms.specs.Judged.{Answers, first_fault, sound};
 ghost use Rattle.json_forms.specs.Read.{Gives};
 ghost use Rattle.order_form.specs.DraftedMasterOrder.{drafted_master_order};
 ghost use Rattle.order_form.specs.MasterForm as forms;
@@ -118,6 +118,21 @@ impl<'a> MasterOrderDraft<'a> {
         }
     }
 
+    /// The order. Refuses the first of `BadId` and `BadText` that stands in it, and `Memory`.
+    fn checked(&self, alloc: Global) -> Result<Order, Refusal>
+        ensures { Answers result
+            (sound (first_fault forms.order_has_names forms.order_has_texts
+            (drafted_master_order self.now)) (drafted_master_order self.now)) }
+    {
+        if !self.has_names() {
+            return Err(Refusal::BadId);
+        }
+        if !self.has_texts() {
+            return Err(Refusal::BadText);
+        }
+        self.build(alloc)
+    }
+
     /// The order. Refuses `Memory` alone.
     fn build(&self, alloc: Global) -> Result<Order, Refusal>
         requires names { forms.order_has_names (drafted_master_order self.now) ≡ true }
@@ -127,16 +142,30 @@ impl<'a> MasterOrderDraft<'a> {
     {
         match self {
             MasterOrderDraft::Edit(edit) => Ok(Order::Edit(edit.build(alloc)?)),
-            MasterOrderDraft::Spawn { node, worker, rw } => Ok(Order::Spawn {
-                node: node.build(alloc)?,
-                worker: worker.build(alloc)?,
-                rw: rw.build(alloc)?,
-            }),
+            MasterOrderDraft::Spawn { node, worker, rw } => build_spawn(alloc, node, worker, rw),
             MasterOrderDraft::Resend(spawn) => {
                 Ok(Order::Resend(SpawnId::parse(spawn.as_str())?))
             }
         }
     }
+}
+
+/// An order to send a node to a worker, built of its parts. Refuses `Memory` alone.
+fn build_spawn(
+    alloc: Global,
+    node: &Borrowed<Id>,
+    worker: &Borrowed<Id>,
+    rw: &Drafts<Borrowed<Id>>,
+) -> Result<Order, Refusal>
+    requires names { forms.order_has_names (Order.Spawn node.now worker.now rw.now) ≡ true }
+    ensures ok { IfOk result (λ order. order ≡ Order.Spawn node.now worker.now rw.now) }
+    ensures memory { IfErr result (λ e. e ≡ Refusal.Memory) }
+{
+    Ok(Order::Spawn {
+        node: node.build(alloc)?,
+        worker: worker.build(alloc)?,
+        rw: rw.build(alloc)?,
+    })
 }
 
 /// The master's order that a value is: to edit its ticket, to send a node to a worker with copies
@@ -147,11 +176,5 @@ pub fn master_order_of(alloc: Global, value: &Value) -> Result<Order, Refusal>
     ensures { Answers result (forms.master_order_read (view value.now)) }
 {
     let draft = MasterOrderDraft::of(alloc, value)?;
-    if !draft.has_names() {
-        return Err(Refusal::BadId);
-    }
-    if !draft.has_texts() {
-        return Err(Refusal::BadText);
-    }
-    draft.build(alloc)
+    draft.checked(alloc)
 }

@@ -2,7 +2,7 @@
 
 ghost use Rattle.std.specs.Prelude.{◌≡◌, true, IfOk, IfErr};
 ghost use Rattle.serde_json.specs.View.{view};
-ghost use Rattle.json_forms.specs.Judged.{Answers};
+ghost use Rattle.json_forms.specs.Judged.{Answers, first_fault, sound};
 ghost use Rattle.json_forms.specs.Read.{Gives};
 ghost use Rattle.order_form.specs.DraftedWorkerOrder.{drafted_worker_order};
 ghost use Rattle.order_form.specs.WorkerForm as forms;
@@ -135,6 +135,21 @@ impl<'a> WorkerOrderDraft<'a> {
         }
     }
 
+    /// The order. Refuses the first of `BadId` and `BadText` that stands in it, and `Memory`.
+    fn checked(&self, alloc: Global) -> Result<Order, Refusal>
+        ensures { Answers result
+            (sound (first_fault forms.order_has_names forms.order_has_texts
+            (drafted_worker_order self.now)) (drafted_worker_order self.now)) }
+    {
+        if !self.has_names() {
+            return Err(Refusal::BadId);
+        }
+        if !self.has_texts() {
+            return Err(Refusal::BadText);
+        }
+        self.build(alloc)
+    }
+
     /// The order. Refuses `Memory` alone.
     fn build(&self, alloc: Global) -> Result<Order, Refusal>
         requires names { forms.order_has_names (drafted_worker_order self.now) ≡ true }
@@ -164,11 +179,5 @@ pub fn worker_order_of(alloc: Global, value: &Value) -> Result<Order, Refusal>
     ensures { Answers result (forms.worker_order_read (view value.now)) }
 {
     let draft = WorkerOrderDraft::of(alloc, value)?;
-    if !draft.has_names() {
-        return Err(Refusal::BadId);
-    }
-    if !draft.has_texts() {
-        return Err(Refusal::BadText);
-    }
-    draft.build(alloc)
+    draft.checked(alloc)
 }

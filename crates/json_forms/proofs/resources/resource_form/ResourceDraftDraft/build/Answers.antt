@@ -1,4 +1,3 @@
-use Rattle.std.proofs.Common.{refl}
 use Rattle.json_forms.specs.DraftedResources.{drafted_resource}
 use Rattle.json_forms.proofs.ResourceNames.{names_of_resource}
 use Rattle.json_forms.proofs.resources.resource_form.ResourceDraftDraft.build.Goals as goal
