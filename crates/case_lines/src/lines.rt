@@ -5,6 +5,7 @@ use crate::refused::refusal_line;
 use std::alloc::{AllocError, Global};
 use std::io;
 use std::io::{Read, Write};
+use std::str::from_utf8;
 
 /// Answers each line of the input on a line of the output, after the whole input was read. A line
 /// that is empty or begins with `#` is its own answer, and tells what the cases behind it are
@@ -40,7 +41,7 @@ fn push_answer<A: Answers>(
         output.extend_from_slice(line)?;
     } else {
         let (word, text) = word_and_text(line);
-        match cases.answer(alloc, word, text) {
+        match cases.answer(alloc, from_utf8(word).unwrap_or(""), text) {
             Ok(answer) => output.extend_from_slice(answer.as_slice())?,
             Err(refusal) => { output.extend_from_slice(refusal_line(alloc, &refusal)?.as_bytes())? }
         }

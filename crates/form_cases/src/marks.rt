@@ -51,9 +51,12 @@ fn resources_of(alloc: Global, items: &[Value]) -> Result<Vec<ResMark>, Refusal>
 fn mark_of(alloc: Global, value: &Value) -> Result<ResMark, Refusal> {
     let status = text_under(value, "SpawnStatus").and_then(|word| spawn_status_named(word));
     let id = text_under(value, "ID").ok_or(Refusal::NotProfile)?;
+    let id = Id::new(alloc, id)?;
+    let status = status.ok_or(Refusal::NotProfile)?;
+    let spawn_ids = spawn_ids_of(alloc, items_of(value, "SpawnIDs")?)?;
     Ok(ResMark {
-        id: Id::new(alloc, id)?,
-        status: status.ok_or(Refusal::NotProfile)?,
-        spawn_ids: spawn_ids_of(alloc, items_of(value, "SpawnIDs")?)?,
+        id,
+        status,
+        spawn_ids,
     })
 }

@@ -5,7 +5,7 @@ use crate::telling::{push_message, reply_words};
 use case_lines::{refusal_line, word_and_text};
 use jmf_message::decode;
 use master_core::Master;
-use message_items::Outcome;
+use message_items::{Message, Outcome};
 use std::alloc::Global;
 use ticket_tree::Refusal;
 
@@ -25,6 +25,16 @@ pub fn take(alloc: Global, master: &mut Master, text: &[u8]) -> Result<Vec<u8>, 
     let (at, text) = word_and_text(text);
     let at = number_in(at)?;
     let message = decode(alloc, text)?;
+    taken(alloc, master, message, at)
+}
+
+/// What the master answers to a message.
+fn taken(
+    alloc: Global,
+    master: &mut Master,
+    message: Message,
+    at: u64,
+) -> Result<Vec<u8>, Refusal> {
     match master.take(alloc, message, at) {
         Ok(outcome) => outcome_words(alloc, &outcome),
         Err(_) => said(alloc, "Memory"),

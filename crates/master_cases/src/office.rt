@@ -4,7 +4,7 @@ use case_lines::{Answers, word_and_text};
 use json_profile::{ticket_of, value_of};
 use master_core::Master;
 use std::alloc::Global;
-use ticket_tree::Refusal;
+use ticket_tree::{Refusal, Ticket};
 
 /// Where one master works.
 #[derive(Drop)]
@@ -24,17 +24,22 @@ impl Office {
         let (workers, text) = word_and_text(text);
         let name = id_in(alloc, name)?;
         let workers = ids_in(alloc, workers)?;
-        let ticket = ticket_of(alloc, &value_of(alloc, text)?)?;
+        let ticket = ticket_in(alloc, text)?;
         self.master = Some(Master::new(alloc, name, workers, ticket)?);
         said(alloc, "Begun")
     }
 }
 
+/// The ticket that a text is.
+fn ticket_in(alloc: Global, text: &[u8]) -> Result<Ticket, Refusal> {
+    ticket_of(alloc, &value_of(alloc, text)?)
+}
+
 impl Answers for Office {
-    fn answer(&mut self, alloc: Global, word: &[u8], text: &[u8]) -> Result<Vec<u8>, Refusal> {
+    fn answer(&mut self, alloc: Global, word: &str, text: &[u8]) -> Result<Vec<u8>, Refusal> {
         match word {
-            b"master" => self.begin(alloc, text),
-            b"worker_order" => orders::worker_order(alloc, text),
+            "master" => self.begin(alloc, text),
+            "worker_order" => orders::worker_order(alloc, text),
             _ => match self.master.as_mut() {
                 Some(master) => master_answer(alloc, master, word, text),
                 None => said(alloc, "No master"),
@@ -47,14 +52,14 @@ impl Answers for Office {
 fn master_answer(
     alloc: Global,
     master: &mut Master,
-    word: &[u8],
+    word: &str,
     text: &[u8],
 ) -> Result<Vec<u8>, Refusal> {
     match word {
-        b"order" => orders::order(alloc, master, text),
-        b"take" => messages::take(alloc, master, text),
-        b"holders" => telling::holders(alloc, master, text),
-        b"show" => telling::show(alloc, master),
+        "order" => orders::order(alloc, master, text),
+        "take" => messages::take(alloc, master, text),
+        "holders" => telling::holders(alloc, master, text),
+        "show" => telling::show(alloc, master),
         _ => said(alloc, "No command"),
     }
 }

@@ -8,9 +8,10 @@ use jmf_message::encode;
 use json_profile::{shown_value, text_of};
 use master_core::Master;
 use message_items::{Body, Message, Reply};
+use serde_json::Value;
 use spawn::Holder;
 use std::alloc::{AllocError, Global};
-use ticket_tree::{Id, Refusal};
+use ticket_tree::{Id, Marks, Refusal, Ticket};
 
 /// A reply as its word and spawn.
 pub fn reply_words(alloc: Global, reply: Reply) -> Result<String, AllocError> {
@@ -54,11 +55,16 @@ pub fn push_message(
     }
 }
 
-/// Appends the name of a holder.
-fn push_holder(alloc: Global, told: &mut String, holder: &Holder) -> Result<(), AllocError> {
+/// Appends the name of a holder, or `None`.
+fn push_holder(
+    alloc: Global,
+    told: &mut String,
+    holder: Option<&Holder>,
+) -> Result<(), AllocError> {
     match holder {
-        Holder::Master => told.push_str(" Master"),
-        Holder::Spawn(spawn) => {
+        None => told.push_str(" None"),
+        Some(Holder::Master) => told.push_str(" Master"),
+        Some(Holder::Spawn(spawn)) => {
             told.push(' ')?;
             told.push_str(spawn.to_id(alloc)?.as_str())
         }
@@ -68,11 +74,7 @@ fn push_holder(alloc: Global, told: &mut String, holder: &Holder) -> Result<(), 
 /// Appends who holds an id, and whether the master may change it.
 fn push_held(alloc: Global, told: &mut String, master: &Master, id: &Id) -> Result<(), AllocError> {
     told.push_str(id.as_str())?;
-    let holder = master.holder_of(id);
-    match &holder {
-        None => told.push_str(" None")?,
-        Some(holder) => push_holder(alloc, told, holder)?,
-    }
+    push_holder(alloc, told, master.holder_of(id).as_ref())?;
     told.push_str(if master.may_change(id) {
         " may"
     } else {
@@ -95,6 +97,15 @@ pub fn holders(alloc: Global, master: &Master, text: &[u8]) -> Result<Vec<u8>, R
 /// `show`: the ticket with the marks of what is out.
 pub fn show(alloc: Global, master: &Master) -> Result<Vec<u8>, Refusal> {
     let marks = master.shown(alloc)?;
-    let value = shown_value(alloc, master.ticket(), &marks)?;
-    Ok(text_of(alloc, &value)?)
+    marks_shown(alloc, master.ticket(), &marks)
+}
+
+/// What is written for a ticket that shows marks.
+fn marks_shown(alloc: Global, ticket: &Ticket, marks: &Marks) -> Result<Vec<u8>, Refusal> {
+    written(alloc, &shown_value(alloc, ticket, marks)?)
+}
+
+/// What is written for a value.
+fn written(alloc: Global, value: &Value) -> Result<Vec<u8>, Refusal> {
+    Ok(text_of(alloc, value)?)
 }

@@ -1,5 +1,8 @@
 //! What is written for a copy of a message, and what it says.
 
+ghost use Rattle.std.specs.Prelude.{◌≡◌, true};
+ghost use Rattle.message_items.specs.Words.{may_be_sent};
+
 use crate::words::answer_of;
 use case_lines::Answers;
 use jmf_message::{Body, Command, Message, decode, encode, id_of};
@@ -11,14 +14,29 @@ use ticket_tree::{Duplicate, Part, Refusal};
 pub struct Messages;
 
 impl Answers for Messages {
-    fn answer(&mut self, alloc: Global, word: &[u8], text: &[u8]) -> Result<Vec<u8>, Refusal> {
+    fn answer(&mut self, alloc: Global, word: &str, text: &[u8]) -> Result<Vec<u8>, Refusal> {
         match word {
-            b"message" => message_again(alloc, text),
-            b"told" => told(alloc, &decode(alloc, text)?),
-            b"id" => message_id(alloc, &decode(alloc, text)?),
-            b"answer" => answer_of(alloc, text),
-            _ => Err(Refusal::NotProfile),
+            "answer" => answer_of(alloc, text),
+            _ => message_answer(alloc, word, text),
         }
+    }
+}
+
+/// The answer to the text of a message.
+fn message_answer(alloc: Global, word: &str, text: &[u8]) -> Result<Vec<u8>, Refusal> {
+    let message = decode(alloc, text)?;
+    made_of(alloc, word, &message)
+}
+
+/// What is made of a message.
+fn made_of(alloc: Global, word: &str, message: &Message) -> Result<Vec<u8>, Refusal>
+    requires { may_be_sent message.now.body ≡ true }
+{
+    match word {
+        "message" => message_again(alloc, message),
+        "told" => told(alloc, message),
+        "id" => message_id(alloc, message),
+        _ => Err(Refusal::NotProfile),
     }
 }
 
@@ -28,12 +46,22 @@ fn bytes_of(alloc: Global, text: &str) -> Result<Vec<u8>, Refusal> {
     Ok(bytes)
 }
 
-fn message_again(alloc: Global, text: &[u8]) -> Result<Vec<u8>, Refusal> {
-    let message = decode(alloc, text)?;
+/// The text of a copy of a message.
+fn message_again(alloc: Global, message: &Message) -> Result<Vec<u8>, Refusal>
+    requires { may_be_sent message.now.body ≡ true }
+{
     let copy = message.copy(alloc)?;
-    Ok(encode(alloc, &copy)?)
+    written(alloc, &copy)
 }
 
+/// The text of a message.
+pub fn written(alloc: Global, message: &Message) -> Result<Vec<u8>, Refusal>
+    requires { may_be_sent message.now.body ≡ true }
+{
+    Ok(encode(alloc, message)?)
+}
+
+/// The ID of a message.
 fn message_id(alloc: Global, message: &Message) -> Result<Vec<u8>, Refusal> {
     let id = id_of(alloc, message)?;
     bytes_of(alloc, id.as_str())

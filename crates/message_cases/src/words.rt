@@ -3,7 +3,8 @@
 ghost use Rattle.std.specs.Prelude.{◌≡◌, true, IfOk};
 ghost use Rattle.message_items.specs.Words.{is_told};
 
-use jmf_message::{Body, Command, Message, QueueStatus, encode};
+use crate::messages::written;
+use jmf_message::{Body, Command, Message, QueueStatus};
 use std::alloc::Global;
 use std::str;
 use ticket_tree::{Id, Refusal, SpawnId};
@@ -49,12 +50,29 @@ fn result_of(word: &str) -> Result<Result<QueueStatus, u16>, Refusal>
 pub fn answer_of(alloc: Global, text: &[u8]) -> Result<Vec<u8>, Refusal> {
     let text = str::from_utf8(text).map_err(|_| Refusal::NotProfile)?;
     let mut words = text.split(' ');
-    let sender = Id::new(alloc, words.next().unwrap_or(""))?;
-    let receiver = Id::new(alloc, words.next().unwrap_or(""))?;
+    let sender = words.next().unwrap_or("");
+    let receiver = words.next().unwrap_or("");
     let at = number_of(words.next().unwrap_or(""))?;
     let of = command_of(words.next().unwrap_or(""))?;
     let spawn_id = SpawnId::parse(words.next().unwrap_or(""))?;
-    let result = result_of(words.next().unwrap_or(""))?;
+    let told = result_of(words.next().unwrap_or(""))?;
+    answer_text(alloc, sender, receiver, at, of, spawn_id, told)
+}
+
+/// The text of the answer to a command on the part of a spawn.
+fn answer_text(
+    alloc: Global,
+    sender: &str,
+    receiver: &str,
+    at: u64,
+    of: Command,
+    spawn_id: SpawnId,
+    told: Result<QueueStatus, u16>,
+) -> Result<Vec<u8>, Refusal>
+    requires { is_told told ≡ true }
+{
+    let sender = Id::new(alloc, sender)?;
+    let receiver = Id::new(alloc, receiver)?;
     let message = Message {
         sender,
         receiver,
@@ -62,8 +80,8 @@ pub fn answer_of(alloc: Global, text: &[u8]) -> Result<Vec<u8>, Refusal> {
         body: Body::Answer {
             of,
             spawn_id,
-            result,
+            result: told,
         },
     };
-    Ok(encode(alloc, &message)?)
+    written(alloc, &message)
 }

@@ -33,12 +33,24 @@ pub fn number_in(bytes: &[u8]) -> Result<u64, Refusal> {
         .ok_or(Refusal::NotProfile)
 }
 
+/// The number of 32 bits that bytes are. Refuses `NotProfile` where they are none.
+pub fn u32_in(bytes: &[u8]) -> Result<u32, Refusal> {
+    u32::try_from(number_in(bytes)?)
+        .ok()
+        .ok_or(Refusal::NotProfile)
+}
+
+/// The spawn that bytes name. Refuses `BadId` where they name none.
+pub fn spawn_in(bytes: &[u8]) -> Result<SpawnId, Refusal> {
+    SpawnId::parse(text_in(bytes)?)
+}
+
 /// The record of the spawn that bytes name, if that spawn went out. Refuses `BadId` where they
 /// name none.
 pub fn record_in<'a>(
     records: &'a [SpawnRec],
     bytes: &[u8],
 ) -> Result<Option<&'a SpawnRec>, Refusal> {
-    let id = SpawnId::parse(text_in(bytes)?)?;
+    let id = spawn_in(bytes)?;
     Ok(records.iter().find(|record| record.id == id))
 }

@@ -1,10 +1,11 @@
 //! Who holds what, and what the ticket shows of spawns.
 
 use crate::arguments::{id_in, record_in, said, yes_or_no};
-use json_profile::{shown_value, text_of};
+use crate::telling::written;
+use json_profile::shown_value;
 use spawn::{Holder, SpawnRec, holder_of, is_good, marked};
 use std::alloc::Global;
-use ticket_tree::{Refusal, Ticket};
+use ticket_tree::{Marks, Refusal, Ticket};
 
 /// `holder ID`: who may change a node or a resource.
 pub fn holder(
@@ -43,6 +44,10 @@ pub fn good(
 /// `shown`: what is written for the ticket with the marks of the spawns that are out.
 pub fn shown(alloc: Global, ticket: &Ticket, records: &[SpawnRec]) -> Result<Vec<u8>, Refusal> {
     let marks = marked(alloc, ticket, records)?;
-    let value = shown_value(alloc, ticket, &marks)?;
-    Ok(text_of(alloc, &value)?)
+    marks_shown(alloc, ticket, &marks)
+}
+
+/// What is written for a ticket that shows marks.
+fn marks_shown(alloc: Global, ticket: &Ticket, marks: &Marks) -> Result<Vec<u8>, Refusal> {
+    written(alloc, &shown_value(alloc, ticket, marks)?)
 }

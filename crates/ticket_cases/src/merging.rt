@@ -1,12 +1,12 @@
 //! Parts that come back.
 
-use crate::arguments::{number_in, record_in, said, text_in, yes_or_no};
+use crate::arguments::{number_in, record_in, said, spawn_in, yes_or_no};
 use crate::parts::part_in;
 use case_lines::word_and_text;
 use merge::{fits, merge};
 use spawn::{SpawnRec, is_good};
 use std::alloc::Global;
-use ticket_tree::{Part, Refusal, SpawnId, Ticket};
+use ticket_tree::{Refusal, Ticket};
 
 /// `fits SPAWN PART`: whether a part has the shape of what went out.
 pub fn fits_spawn(
@@ -32,30 +32,30 @@ pub fn merge_part(
 ) -> Result<Vec<u8>, Refusal> {
     let (spawn, text) = word_and_text(text);
     let (at, text) = word_and_text(text);
-    let spawn = SpawnId::parse(text_in(spawn)?)?;
+    let spawn = spawn_in(spawn)?;
     let at = number_in(at)?;
-    let part = part_in(alloc, text)?;
     let place = records.iter().position(|record| record.id == spawn);
     match place.and_then(|place| records.get_mut(place)) {
-        Some(record) => said(alloc, merged(alloc, ticket, record, part, at)?),
+        Some(record) => merged(alloc, ticket, record, text, at),
         None => said(alloc, "Unknown"),
     }
 }
 
-/// Merges a part, if its spawn is out and good.
+/// Merges the part that a text is, if its spawn is out and good.
 fn merged(
     alloc: Global,
     ticket: &mut Ticket,
     record: &mut SpawnRec,
-    part: Part,
+    text: &[u8],
     at: u64,
-) -> Result<&'static str, Refusal> {
+) -> Result<Vec<u8>, Refusal> {
     if !record.is_out() {
-        return Ok("Not out");
+        return said(alloc, "Not out");
     }
     if !is_good(ticket, record) {
-        return Ok("Not good");
+        return said(alloc, "Not good");
     }
+    let part = part_in(alloc, text)?;
     merge(alloc, ticket, record, part, at)?;
-    Ok("Merged")
+    said(alloc, "Merged")
 }

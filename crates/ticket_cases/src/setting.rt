@@ -1,12 +1,14 @@
 //! Edits, and audits that are put at a node.
 
 use crate::arguments::{id_in, number_in, said, text_in};
+use crate::telling::written;
 use case_lines::word_and_text;
-use json_profile::{edit_of, text_of, ticket_value, value_of};
+use json_profile::{edit_of, ticket_value, value_of};
 use std::alloc::Global;
 use ticket_tree::{Audit, Duplicate, Edit, Refusal, Text, Ticket};
 
-fn edit_in(alloc: Global, text: &[u8]) -> Result<Edit, Refusal> {
+/// The edit that a text is.
+pub fn edit_in(alloc: Global, text: &[u8]) -> Result<Edit, Refusal> {
     edit_of(alloc, &value_of(alloc, text)?)
 }
 
@@ -33,8 +35,13 @@ fn check_text(alloc: Global, ticket: &Ticket, text: &[u8]) -> Result<(), Refusal
 /// `edit_copy AT EDIT`: the text of a copy of the ticket on which it was done.
 pub fn edit_copy(alloc: Global, ticket: &Ticket, text: &[u8]) -> Result<Vec<u8>, Refusal> {
     let mut copy = ticket.copy(alloc)?;
-    edit(alloc, &mut copy, text)?;
-    Ok(text_of(alloc, &ticket_value(alloc, &copy)?)?)
+    edited(alloc, &mut copy, text)
+}
+
+/// The text of a ticket after an edit.
+fn edited(alloc: Global, ticket: &mut Ticket, text: &[u8]) -> Result<Vec<u8>, Refusal> {
+    edit(alloc, ticket, text)?;
+    written(alloc, &ticket_value(alloc, ticket)?)
 }
 
 /// `append ID TEXT`: puts a note of the time 5 last at a node.

@@ -1,3 +1,4 @@
+use crate::arguments::said;
 use crate::{finding, marking, merging, one_row, parts, setting, spawning, telling, trees};
 use case_lines::Answers;
 use json_profile::{ticket_of, value_of};
@@ -25,11 +26,11 @@ impl Shop {
 
     /// `ticket TEXT`: a new job, of which nothing is out.
     fn begin(&mut self, alloc: Global, text: &[u8]) -> Result<Vec<u8>, Refusal> {
-        let ticket = ticket_of(alloc, &value_of(alloc, text)?)?;
+        let ticket = ticket_in(alloc, text)?;
         self.given = Vec::from_slice(alloc, text)?;
         self.ticket = Some(ticket);
         self.records = Vec::new(alloc);
-        Ok(Vec::from_slice(alloc, b"Begun")?)
+        said(alloc, "Begun")
     }
 
     /// `again`: the job that was begun last, from its beginning.
@@ -40,28 +41,32 @@ impl Shop {
 
     /// `exchange TEXT`: another ticket for the same spawns.
     fn exchange(&mut self, alloc: Global, text: &[u8]) -> Result<Vec<u8>, Refusal> {
-        let ticket = ticket_of(alloc, &value_of(alloc, text)?)?;
-        self.ticket = Some(ticket);
-        Ok(Vec::from_slice(alloc, b"Exchanged")?)
+        self.ticket = Some(ticket_in(alloc, text)?);
+        said(alloc, "Exchanged")
     }
 }
 
+/// The ticket that a text is.
+fn ticket_in(alloc: Global, text: &[u8]) -> Result<Ticket, Refusal> {
+    ticket_of(alloc, &value_of(alloc, text)?)
+}
+
 impl Answers for Shop {
-    fn answer(&mut self, alloc: Global, word: &[u8], text: &[u8]) -> Result<Vec<u8>, Refusal> {
+    fn answer(&mut self, alloc: Global, word: &str, text: &[u8]) -> Result<Vec<u8>, Refusal> {
         match word {
-            b"ticket" => self.begin(alloc, text),
-            b"again" => self.begin_again(alloc),
-            b"exchange" => self.exchange(alloc, text),
-            b"spawn_id" => spawning::spawn_id(alloc, text),
-            b"spawn_number" => spawning::spawn_number(alloc, text),
-            b"tree" => trees::tree(alloc, text),
-            b"part_tree" => trees::part_tree(alloc, text),
-            b"sound" => parts::sound(alloc, text),
-            b"rows_of_part" => parts::rows_of_part(alloc, text),
-            b"edit_part" => parts::edit_part(alloc, text),
+            "ticket" => self.begin(alloc, text),
+            "again" => self.begin_again(alloc),
+            "exchange" => self.exchange(alloc, text),
+            "spawn_id" => spawning::spawn_id(alloc, text),
+            "spawn_number" => spawning::spawn_number(alloc, text),
+            "tree" => trees::tree(alloc, text),
+            "part_tree" => trees::part_tree(alloc, text),
+            "sound" => parts::sound(alloc, text),
+            "rows_of_part" => parts::rows_of_part(alloc, text),
+            "edit_part" => parts::edit_part(alloc, text),
             _ => match self.ticket.as_mut() {
                 Some(ticket) => job_answer(alloc, ticket, &mut self.records, word, text),
-                None => Ok(Vec::from_slice(alloc, b"No job")?),
+                None => said(alloc, "No job"),
             },
         }
     }
@@ -72,16 +77,16 @@ fn job_answer(
     alloc: Global,
     ticket: &mut Ticket,
     records: &mut Vec<SpawnRec>,
-    word: &[u8],
+    word: &str,
     text: &[u8],
 ) -> Result<Vec<u8>, Refusal> {
     match word {
-        b"edit" => setting::edit(alloc, ticket, text),
-        b"append" => setting::append(alloc, ticket, text),
-        b"complete" => one_row::complete_node(alloc, ticket, text),
-        b"use_up" => one_row::use_up_resource(alloc, ticket, text),
-        b"spawn" => spawning::spawn_node(alloc, ticket, records, text),
-        b"merge" => merging::merge_part(alloc, ticket, records.as_mut_slice(), text),
+        "edit" => setting::edit(alloc, ticket, text),
+        "append" => setting::append(alloc, ticket, text),
+        "complete" => one_row::complete_node(alloc, ticket, text),
+        "use_up" => one_row::use_up_resource(alloc, ticket, text),
+        "spawn" => spawning::spawn_node(alloc, ticket, records, text),
+        "merge" => merging::merge_part(alloc, ticket, records.as_mut_slice(), text),
         _ => told(alloc, ticket, records.as_slice(), word, text),
     }
 }
@@ -91,18 +96,18 @@ fn told(
     alloc: Global,
     ticket: &Ticket,
     records: &[SpawnRec],
-    word: &[u8],
+    word: &str,
     text: &[u8],
 ) -> Result<Vec<u8>, Refusal> {
     match word {
-        b"rows" => finding::rows(alloc, ticket),
-        b"node" => finding::node(alloc, ticket, text),
-        b"resource" => finding::resource(alloc, ticket, text),
-        b"home" => finding::home(alloc, ticket, text),
-        b"subtree" => finding::subtree(alloc, ticket, text),
-        b"below" => finding::below(alloc, ticket, text),
-        b"check" => setting::check(alloc, ticket, text),
-        b"edit_copy" => setting::edit_copy(alloc, ticket, text),
+        "rows" => finding::rows(alloc, ticket),
+        "node" => finding::node(alloc, ticket, text),
+        "resource" => finding::resource(alloc, ticket, text),
+        "home" => finding::home(alloc, ticket, text),
+        "subtree" => finding::subtree(alloc, ticket, text),
+        "below" => finding::below(alloc, ticket, text),
+        "check" => setting::check(alloc, ticket, text),
+        "edit_copy" => setting::edit_copy(alloc, ticket, text),
         _ => told_of_spawns(alloc, ticket, records, word, text),
     }
 }
@@ -112,17 +117,17 @@ fn told_of_spawns(
     alloc: Global,
     ticket: &Ticket,
     records: &[SpawnRec],
-    word: &[u8],
+    word: &str,
     text: &[u8],
 ) -> Result<Vec<u8>, Refusal> {
     match word {
-        b"may_spawn" => spawning::may_spawn_node(alloc, ticket, records, text),
-        b"part_for" => spawning::part_again(alloc, ticket, records, text),
-        b"holder" => marking::holder(alloc, ticket, records, text),
-        b"good" => marking::good(alloc, ticket, records, text),
-        b"shown" => marking::shown(alloc, ticket, records),
-        b"records" => telling::records(alloc, records),
-        b"fits" => merging::fits_spawn(alloc, ticket, records, text),
-        _ => Ok(Vec::from_slice(alloc, b"No command")?),
+        "may_spawn" => spawning::may_spawn_node(alloc, ticket, records, text),
+        "part_for" => spawning::part_again(alloc, ticket, records, text),
+        "holder" => marking::holder(alloc, ticket, records, text),
+        "good" => marking::good(alloc, ticket, records, text),
+        "shown" => marking::shown(alloc, ticket, records),
+        "records" => telling::records(alloc, records),
+        "fits" => merging::fits_spawn(alloc, ticket, records, text),
+        _ => said(alloc, "No command"),
     }
 }

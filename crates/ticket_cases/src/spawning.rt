@@ -1,7 +1,8 @@
 //! Spawns of nodes, and their parts.
 
-use crate::arguments::{number_in, record_in, said, text_in};
-use json_profile::{number_under, part_value, text_of, text_under, value_of};
+use crate::arguments::{record_in, said, spawn_in, u32_in};
+use crate::parts::part_text;
+use json_profile::{number_under, text_under, value_of};
 use serde_json::Value;
 use spawn::{SpawnRec, is_good, may_spawn, part_for, spawn};
 use std::alloc::Global;
@@ -43,14 +44,21 @@ fn number_of(value: &Value) -> Result<u32, Refusal> {
 
 /// The request `{"At":..,"Node":..,"Number":..,"RW":[..],"Worker":..}`.
 fn request_in(alloc: Global, text: &[u8]) -> Result<Request, Refusal> {
-    let value = value_of(alloc, text)?;
-    let number = number_of(&value)?;
-    let at = number_under(&value, "At").ok_or(Refusal::NotProfile)?;
+    request_of(alloc, &value_of(alloc, text)?)
+}
+
+/// The request that a value is.
+fn request_of(alloc: Global, value: &Value) -> Result<Request, Refusal> {
+    let number = number_of(value)?;
+    let at = number_under(value, "At").ok_or(Refusal::NotProfile)?;
+    let node = id_under(alloc, value, "Node")?;
+    let worker = id_under(alloc, value, "Worker")?;
+    let rw = rw_under(alloc, value)?;
     Ok(Request {
         number,
-        node: id_under(alloc, &value, "Node")?,
-        worker: id_under(alloc, &value, "Worker")?,
-        rw: rw_under(alloc, &value)?,
+        node,
+        worker,
+        rw,
         at,
     })
 }
@@ -70,9 +78,14 @@ pub fn spawn_node(
         at,
     } = request_in(alloc, text)?;
     let (id, part) = spawn(alloc, ticket, records, number, node, worker, rw, at)?;
+    spawned_line(alloc, id, &part)
+}
+
+/// A spawn's id, and the text of its part.
+fn spawned_line(alloc: Global, id: SpawnId, part: &Part) -> Result<Vec<u8>, Refusal> {
     let number = id.number();
     let mut line = format!(in alloc; "Spawned S{number} ")?.into_bytes();
-    line.extend_from_slice(part_text(alloc, &part)?.as_slice())?;
+    line.extend_from_slice(part_text(alloc, part)?.as_slice())?;
     Ok(line)
 }
 
@@ -104,32 +117,29 @@ pub fn part_again(
     let Some(record) = record_in(records, text)? else {
         return said(alloc, "Unknown");
     };
-    let record = record.copy(alloc)?;
+    let copy = record.copy(alloc)?;
+    part_told(alloc, ticket, &copy)
+}
+
+/// The text of the part of a spawn, if it is out and good.
+fn part_told(alloc: Global, ticket: &Ticket, record: &SpawnRec) -> Result<Vec<u8>, Refusal> {
     if !record.is_out() {
         return said(alloc, "Not out");
     }
-    if !is_good(ticket, &record) {
+    if !is_good(ticket, record) {
         return said(alloc, "Not good");
     }
-    let part = part_for(alloc, ticket, &record)?;
-    part_text(alloc, &part)
-}
-
-fn part_text(alloc: Global, part: &Part) -> Result<Vec<u8>, Refusal> {
-    let value = part_value(alloc, part)?;
-    Ok(text_of(alloc, &value)?)
+    part_text(alloc, &part_for(alloc, ticket, record)?)
 }
 
 /// `spawn_id TEXT`: the number of the spawn that a text names.
 pub fn spawn_id(alloc: Global, text: &[u8]) -> Result<Vec<u8>, Refusal> {
-    let number = SpawnId::parse(text_in(text)?)?.number();
+    let number = spawn_in(text)?.number();
     Ok(format!(in alloc; "{number}")?.into_bytes())
 }
 
 /// `spawn_number NUMBER`: the id of the spawn of a number.
 pub fn spawn_number(alloc: Global, text: &[u8]) -> Result<Vec<u8>, Refusal> {
-    let number = u32::try_from(number_in(text)?)
-        .ok()
-        .ok_or(Refusal::NotProfile)?;
-    said(alloc, SpawnId::new(number)?.to_id(alloc)?.as_str())
+    let spawn = SpawnId::new(u32_in(text)?)?;
+    said(alloc, spawn.to_id(alloc)?.as_str())
 }

@@ -1,5 +1,7 @@
 //! Nodes, resources and records in words.
 
+use json_profile::text_of;
+use serde_json::Value;
 use spawn::{Phase, SpawnRec};
 use std::alloc::{AllocError, Global};
 use ticket_tree::{Id, NodeRow, Refusal, Resource};
@@ -38,6 +40,11 @@ fn push_ids(text: &mut String, ids: &[Id]) -> Result<(), AllocError> {
     Ok(())
 }
 
+/// What is written for a value.
+pub fn written(alloc: Global, value: &Value) -> Result<Vec<u8>, Refusal> {
+    Ok(text_of(alloc, value)?)
+}
+
 /// `records`: each spawn with its phase, time, node, worker and copies.
 pub fn records(alloc: Global, records: &[SpawnRec]) -> Result<Vec<u8>, Refusal> {
     let mut text = String::from_str(alloc, "Records")?;
@@ -47,13 +54,18 @@ pub fn records(alloc: Global, records: &[SpawnRec]) -> Result<Vec<u8>, Refusal> 
     Ok(text.into_bytes())
 }
 
-fn push_record(alloc: Global, text: &mut String, record: &SpawnRec) -> Result<(), AllocError> {
+/// The spawn of a record, and since when it is out or merged.
+fn phase_words(alloc: Global, record: &SpawnRec) -> Result<String, AllocError> {
     let (id, at) = (record.id.number(), record.at);
     let phase = match record.phase {
         Phase::Out => "out",
         Phase::Merged => "merged",
     };
-    text.push_str(format!(in alloc; "; S{id} {phase} since {at},")?.as_str())?;
+    format!(in alloc; "; S{id} {phase} since {at},")
+}
+
+fn push_record(alloc: Global, text: &mut String, record: &SpawnRec) -> Result<(), AllocError> {
+    text.push_str(phase_words(alloc, record)?.as_str())?;
     push_words(text, &[record.node.as_str(), "to", record.worker.as_str()])?;
     text.push_str(", to change")?;
     push_ids(text, record.rw.as_slice())?;

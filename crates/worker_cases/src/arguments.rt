@@ -2,7 +2,7 @@
 
 use std::alloc::Global;
 use std::str::from_utf8;
-use ticket_tree::{Id, Name, Refusal, SpawnId};
+use ticket_tree::{Id, Name, Refusal, SpawnId, Text};
 
 /// A text as an answer.
 pub fn said(alloc: Global, text: &str) -> Result<Vec<u8>, Refusal> {
@@ -22,6 +22,11 @@ pub fn id_in(alloc: Global, bytes: &[u8]) -> Result<Id, Refusal> {
 /// The name that bytes are.
 pub fn name_in(alloc: Global, bytes: &[u8]) -> Result<Name, Refusal> {
     Name::new(alloc, text_in(bytes)?)
+}
+
+/// The text that bytes are.
+pub fn value_in(alloc: Global, bytes: &[u8]) -> Result<Text, Refusal> {
+    Text::new(alloc, text_in(bytes)?)
 }
 
 /// The spawn that bytes name.

@@ -29,9 +29,9 @@ impl Bench {
 }
 
 impl Answers for Bench {
-    fn answer(&mut self, alloc: Global, word: &[u8], text: &[u8]) -> Result<Vec<u8>, Refusal> {
+    fn answer(&mut self, alloc: Global, word: &str, text: &[u8]) -> Result<Vec<u8>, Refusal> {
         match word {
-            b"worker" => self.begin(alloc, text),
+            "worker" => self.begin(alloc, text),
             _ => match self.worker.as_mut() {
                 Some(worker) => worker_answer(alloc, worker, word, text),
                 None => said(alloc, "No worker"),
@@ -40,23 +40,35 @@ impl Answers for Bench {
     }
 }
 
-/// The answer to a command for the worker.
+/// The answer to a command that the worker carries out, or to another one.
 fn worker_answer(
     alloc: Global,
     worker: &mut Worker,
-    word: &[u8],
+    word: &str,
     text: &[u8],
 ) -> Result<Vec<u8>, Refusal> {
     match word {
-        b"take" => messages::take(alloc, worker, text),
-        b"edit" => orders::edit(alloc, worker, text),
-        b"finish" => orders::finish(alloc, worker, text),
-        b"resend" => orders::resend(alloc, worker, text),
-        b"may_change" => may_change(alloc, worker, text),
-        b"entries" => Ok(entries_words(alloc, worker.entries())?.into_bytes()),
-        b"names" => names(alloc, worker),
+        "take" => messages::take(alloc, worker, text),
+        "edit" => orders::edit(alloc, worker, text),
+        "finish" => orders::finish(alloc, worker, text),
+        "resend" => orders::resend(alloc, worker, text),
+        _ => told(alloc, worker, word, text),
+    }
+}
+
+/// The answer to a command that tells of the worker.
+fn told(alloc: Global, worker: &Worker, word: &str, text: &[u8]) -> Result<Vec<u8>, Refusal> {
+    match word {
+        "may_change" => may_change(alloc, worker, text),
+        "entries" => entries(alloc, worker),
+        "names" => names(alloc, worker),
         _ => said(alloc, "No command"),
     }
+}
+
+/// `entries`: each with its stage, its time and its part.
+fn entries(alloc: Global, worker: &Worker) -> Result<Vec<u8>, Refusal> {
+    Ok(entries_words(alloc, worker.entries())?.into_bytes())
 }
 
 /// `may_change SPAWN ID`.

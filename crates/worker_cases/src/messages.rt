@@ -1,6 +1,6 @@
 //! Messages.
 
-use crate::arguments::{id_in, number_in, said, spawn_in};
+use crate::arguments::{id_in, number_in, said, spawn_in, text_in};
 use crate::printing::{printing, stray};
 use crate::telling::{push_message, reply_words};
 use case_lines::{refusal_line, word_and_text};
@@ -9,13 +9,21 @@ use std::alloc::Global;
 use ticket_tree::{Refusal, SpawnId};
 use worker_core::Worker;
 
+/// The Status of this name.
+fn status_named(word: &str) -> Option<QueueStatus> {
+    match word {
+        "Running" => Some(QueueStatus::Running),
+        "Completed" => Some(QueueStatus::Completed),
+        "Aborted" => Some(QueueStatus::Aborted),
+        _ => None,
+    }
+}
+
 /// What an answer tells: a Status, or the number of a refusal.
 fn told_in(word: &[u8]) -> Result<Result<QueueStatus, u16>, Refusal> {
-    match word {
-        b"Running" => Ok(Ok(QueueStatus::Running)),
-        b"Completed" => Ok(Ok(QueueStatus::Completed)),
-        b"Aborted" => Ok(Ok(QueueStatus::Aborted)),
-        _ => match u16::try_from(number_in(word)?) {
+    match status_named(text_in(word)?) {
+        Some(status) => Ok(Ok(status)),
+        None => match u16::try_from(number_in(word)?) {
             Ok(reason) => Ok(Err(reason)),
             Err(_) => Err(Refusal::NotProfile),
         },
@@ -31,17 +39,32 @@ fn answer(of: Command, spawn_id: SpawnId, word: &[u8]) -> Result<Body, Refusal> 
     })
 }
 
+/// The part of a spawn goes out.
+fn submit(alloc: Global, spawn: SpawnId) -> Result<Body, Refusal> {
+    Ok(Body::Submit(printing(alloc, spawn)?))
+}
+
+/// The part of a spawn that came from nowhere goes out.
+fn submit_stray(alloc: Global, spawn: SpawnId) -> Result<Body, Refusal> {
+    Ok(Body::Submit(stray(alloc, spawn)?))
+}
+
+/// The part of a spawn comes back.
+fn give_back(alloc: Global, spawn: SpawnId) -> Result<Body, Refusal> {
+    Ok(Body::Return(printing(alloc, spawn)?))
+}
+
 /// What a message says, by a word, a spawn and what an answer tells.
 fn body_in(alloc: Global, text: &[u8]) -> Result<Body, Refusal> {
     let (word, text) = word_and_text(text);
     let (spawn, told) = word_and_text(text);
     let spawn = spawn_in(spawn)?;
-    match word {
-        b"submit" => Ok(Body::Submit(printing(alloc, spawn)?)),
-        b"stray" => Ok(Body::Submit(stray(alloc, spawn)?)),
-        b"return" => Ok(Body::Return(printing(alloc, spawn)?)),
-        b"submitted" => answer(Command::Submit, spawn, told),
-        b"returned" => answer(Command::Return, spawn, told),
+    match text_in(word)? {
+        "submit" => submit(alloc, spawn),
+        "stray" => submit_stray(alloc, spawn),
+        "return" => give_back(alloc, spawn),
+        "submitted" => answer(Command::Submit, spawn, told),
+        "returned" => answer(Command::Return, spawn, told),
         _ => Err(Refusal::NotProfile),
     }
 }
@@ -56,18 +79,37 @@ fn outcome_words(alloc: Global, outcome: &Outcome) -> Result<Vec<u8>, Refusal> {
     Ok(told.into_bytes())
 }
 
-/// `take AT SENDER RECEIVER WORD SPAWN ..`.
-pub fn take(alloc: Global, worker: &mut Worker, text: &[u8]) -> Result<Vec<u8>, Refusal> {
-    let (at, text) = word_and_text(text);
+/// The message that words tell: `SENDER RECEIVER WORD SPAWN ..`.
+fn message_in(alloc: Global, text: &[u8]) -> Result<Message, Refusal> {
     let (sender, text) = word_and_text(text);
     let (receiver, text) = word_and_text(text);
-    let message = Message {
-        sender: id_in(alloc, sender)?,
-        receiver: id_in(alloc, receiver)?,
+    let sender = id_in(alloc, sender)?;
+    let receiver = id_in(alloc, receiver)?;
+    let body = body_in(alloc, text)?;
+    Ok(Message {
+        sender,
+        receiver,
         at: 100,
-        body: body_in(alloc, text)?,
-    };
-    match worker.take(alloc, message, number_in(at)?) {
+        body,
+    })
+}
+
+/// `take AT MESSAGE`.
+pub fn take(alloc: Global, worker: &mut Worker, text: &[u8]) -> Result<Vec<u8>, Refusal> {
+    let (at, text) = word_and_text(text);
+    let at = number_in(at)?;
+    let message = message_in(alloc, text)?;
+    taken(alloc, worker, message, at)
+}
+
+/// What a worker answers to a message.
+fn taken(
+    alloc: Global,
+    worker: &mut Worker,
+    message: Message,
+    at: u64,
+) -> Result<Vec<u8>, Refusal> {
+    match worker.take(alloc, message, at) {
         Ok(outcome) => outcome_words(alloc, &outcome),
         Err(_) => said(alloc, "Memory"),
     }

@@ -53,15 +53,20 @@ fn links(alloc: Global) -> Result<Links, Refusal> {
 
 /// The node of the printing.
 fn row(alloc: Global) -> Result<NodeRow, Refusal> {
+    let id = Id::new(alloc, "n1")?;
+    let kind = Name::new(alloc, "ConventionalPrinting")?;
+    let job_part = Name::new(alloc, "p1")?;
+    let status = Name::new(alloc, "Waiting")?;
+    let links = links(alloc)?;
     Ok(NodeRow {
-        id: Id::new(alloc, "n1")?,
+        id,
         depth: 1,
-        kind: Name::new(alloc, "ConventionalPrinting")?,
-        job_part: Name::new(alloc, "p1")?,
-        status: Name::new(alloc, "Waiting")?,
+        kind,
+        job_part,
+        status,
         attrs: Attrs::new(alloc),
         resources: Items::new(Vec::new(alloc)),
-        links: links(alloc)?,
+        links,
         audits: Items::new(Vec::new(alloc)),
     })
 }
@@ -76,20 +81,20 @@ fn above(alloc: Global) -> Result<Ancestors, Refusal> {
     Ok(Items::new(ancestors))
 }
 
-/// The part with these nodes above it.
-fn part(alloc: Global, spawn: SpawnId, ancestors: Ancestors) -> Result<Part, Refusal> {
+/// The nodes of the part: the printing alone.
+fn rows(alloc: Global) -> Result<Vec<NodeRow>, Refusal> {
     let mut rows = Vec::new(alloc);
     rows.push(row(alloc)?)?;
+    Ok(rows)
+}
+
+/// The part with these nodes above it.
+fn part(alloc: Global, spawn: SpawnId, ancestors: Ancestors) -> Result<Part, Refusal> {
     let job = Name::new(alloc, "J1")?;
-    Part::new(
-        alloc,
-        job,
-        spawn,
-        ancestors,
-        rows,
-        sheets(alloc)?,
-        paper(alloc)?,
-    )
+    let rows = rows(alloc)?;
+    let sheets = sheets(alloc)?;
+    let paper = paper(alloc)?;
+    Part::new(alloc, job, spawn, ancestors, rows, sheets, paper)
 }
 
 /// The part of a spawn.

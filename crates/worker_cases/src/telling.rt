@@ -2,7 +2,7 @@
 
 use message_items::{Body, Command, Message, QueueStatus, Reply};
 use std::alloc::{AllocError, Global};
-use ticket_tree::{Audit, NodeRow, Part, Resource};
+use ticket_tree::{Attrs, Audit, NodeRow, Part, Resource, SpawnId};
 use worker_core::{End, Entry, Stage};
 
 /// Appends words, each behind a space.
@@ -24,9 +24,30 @@ pub fn reply_words(alloc: Global, reply: Reply) -> Result<String, AllocError> {
     Ok(told)
 }
 
-fn push_resources(text: &mut String, resources: &[Resource]) -> Result<(), AllocError> {
+/// Appends resources behind what may be done with them.
+fn push_resources(text: &mut String, may: &str, resources: &[Resource]) -> Result<(), AllocError> {
+    text.push_str(may)?;
     for resource in resources {
         push_words(text, &[resource.id.as_str(), resource.status.as_str()])?;
+    }
+    Ok(())
+}
+
+/// Appends an audit, if it is a note.
+fn push_audit(alloc: Global, text: &mut String, audit: &Audit) -> Result<(), AllocError> {
+    match audit {
+        Audit::Notification { at, text: note } => {
+            let (at, note) = (*at, note.as_str());
+            text.push_str(format!(in alloc; " {note} at {at}")?.as_str())
+        }
+        _ => Ok(()),
+    }
+}
+
+/// Appends attributes, each with its value.
+fn push_attrs(text: &mut String, attrs: &Attrs) -> Result<(), AllocError> {
+    for (name, value) in attrs.iter() {
+        push_words(text, &[name.as_str(), value.as_str()])?;
     }
     Ok(())
 }
@@ -34,29 +55,27 @@ fn push_resources(text: &mut String, resources: &[Resource]) -> Result<(), Alloc
 /// Appends the attributes and the notes of a node.
 fn push_row(alloc: Global, text: &mut String, row: &NodeRow) -> Result<(), AllocError> {
     push_words(text, &[row.id.as_str(), row.status.as_str()])?;
-    for (name, value) in row.attrs.iter() {
-        push_words(text, &[name.as_str(), value.as_str()])?;
-    }
+    push_attrs(text, &row.attrs)?;
     for audit in row.audits.as_slice() {
-        if let Audit::Notification { at, text: note } = audit {
-            let (at, note) = (*at, note.as_str());
-            text.push_str(format!(in alloc; " {note} at {at}")?.as_str())?;
-        }
+        push_audit(alloc, text, audit)?;
     }
     Ok(())
 }
 
+/// Appends a spawn, of which is told behind it.
+fn push_spawn(alloc: Global, text: &mut String, spawn: SpawnId) -> Result<(), AllocError> {
+    let number = spawn.number();
+    text.push_str(format!(in alloc; " S{number}:")?.as_str())
+}
+
 /// Appends a part: its spawn, its nodes, and its copies to change and to read.
 fn push_part(alloc: Global, text: &mut String, part: &Part) -> Result<(), AllocError> {
-    let number = part.spawn_id().number();
-    text.push_str(format!(in alloc; " S{number}:")?.as_str())?;
+    push_spawn(alloc, text, part.spawn_id())?;
     for row in part.rows().as_slice() {
         push_row(alloc, text, row)?;
     }
-    text.push_str(", to change")?;
-    push_resources(text, part.rw())?;
-    text.push_str(", to read")?;
-    push_resources(text, part.ro())
+    push_resources(text, ", to change", part.rw())?;
+    push_resources(text, ", to read", part.ro())
 }
 
 fn command_word(command: Command) -> &'static str {
@@ -74,6 +93,22 @@ fn status_word(status: QueueStatus) -> &'static str {
     }
 }
 
+/// Appends an answer: to what, and a Status or the number of a refusal.
+fn push_answer(
+    alloc: Global,
+    text: &mut String,
+    of: Command,
+    spawn: SpawnId,
+    told: Result<QueueStatus, u16>,
+) -> Result<(), AllocError> {
+    push_words(text, &["to", command_word(of)])?;
+    push_spawn(alloc, text, spawn)?;
+    match told {
+        Ok(status) => push_words(text, &[status_word(status)]),
+        Err(reason) => text.push_str(format!(in alloc; " {reason}")?.as_str()),
+    }
+}
+
 fn push_body(alloc: Global, text: &mut String, body: &Body) -> Result<(), AllocError> {
     match body {
         Body::Submit(part) => push_part(alloc, text, part),
@@ -82,18 +117,19 @@ fn push_body(alloc: Global, text: &mut String, body: &Body) -> Result<(), AllocE
             of,
             spawn_id,
             result,
-        } => {
-            let (word, number) = (command_word(*of), spawn_id.number());
-            text.push_str(format!(in alloc; " to {word} S{number}:")?.as_str())?;
-            match result {
-                Ok(status) => push_words(text, &[status_word(*status)]),
-                Err(reason) => text.push_str(format!(in alloc; " {reason}")?.as_str()),
-            }
-        }
+        } => push_answer(alloc, text, *of, *spawn_id, *result),
     }
 }
 
-/// Appends a message, if there is one: from whom to whom, when, and what it says.
+/// Appends a message: from whom to whom, when, and what it says.
+fn push_sent(alloc: Global, text: &mut String, message: &Message) -> Result<(), AllocError> {
+    let (sender, receiver) = (message.sender.as_str(), message.receiver.as_str());
+    let at = message.at;
+    text.push_str(format!(in alloc; ", from {sender} to {receiver} at {at},")?.as_str())?;
+    push_body(alloc, text, &message.body)
+}
+
+/// Appends a message, if there is one.
 pub fn push_message(
     alloc: Global,
     text: &mut String,
@@ -101,16 +137,7 @@ pub fn push_message(
 ) -> Result<(), AllocError> {
     match message {
         None => Ok(()),
-        Some(message) => {
-            text.push_str(", from")?;
-            push_words(
-                text,
-                &[message.sender.as_str(), "to", message.receiver.as_str()],
-            )?;
-            let at = message.at;
-            text.push_str(format!(in alloc; " at {at},")?.as_str())?;
-            push_body(alloc, text, &message.body)
-        }
+        Some(message) => push_sent(alloc, text, message),
     }
 }
 
@@ -122,13 +149,18 @@ fn stage_word(stage: Stage) -> &'static str {
     }
 }
 
+/// Appends an entry with its stage, its time and its part.
+fn push_entry(alloc: Global, text: &mut String, entry: &Entry) -> Result<(), AllocError> {
+    let (stage, at) = (stage_word(entry.phase), entry.at);
+    text.push_str(format!(in alloc; "; {stage} since {at},")?.as_str())?;
+    push_part(alloc, text, &entry.part)
+}
+
 /// `entries`: each entry with its stage, its time and its part.
 pub fn entries_words(alloc: Global, entries: &[Entry]) -> Result<String, AllocError> {
     let mut text = String::from_str(alloc, "Entries")?;
     for entry in entries {
-        let (stage, at) = (stage_word(entry.phase), entry.at);
-        text.push_str(format!(in alloc; "; {stage} since {at},")?.as_str())?;
-        push_part(alloc, &mut text, &entry.part)?;
+        push_entry(alloc, &mut text, entry)?;
     }
     Ok(text)
 }

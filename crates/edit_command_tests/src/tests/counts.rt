@@ -2,7 +2,22 @@
 
 use super::fakes::{Sink, Source};
 use counted::Counted;
+use std::alloc::Global;
 use std::io::{ErrorKind, Read, Write};
+
+/// What a read answers, and the calls, the failures and the interruptions that are counted then.
+fn read_and_counts(
+    reader: &mut Counted<Source<'_>>,
+    buffer: &mut [u8],
+) -> (Option<usize>, u64, u64, u64) {
+    let answer = reader.read(buffer).ok();
+    (
+        answer,
+        reader.calls(),
+        reader.failures(),
+        reader.interruptions(),
+    )
+}
 
 #[test]
 fn counts_reads(rt: HostRuntime) {
@@ -10,13 +25,8 @@ fn counts_reads(rt: HostRuntime) {
     source.interruptions = 2;
     source.fails = true;
     let mut reader = Counted::new(source);
-    let mut buffer = [0u8; 4];
-    assert_eq!(rt; reader.read(&mut []).ok(), Some(0));
-    assert_eq!(rt;
-        (reader.calls(), reader.failures(), reader.interruptions()),
-        (0, 0, 0)
-    );
-    for (answer, calls, failures, interruptions) in [
+    assert_eq!(rt; read_and_counts(&mut reader, &mut []), (Some(0), 0, 0, 0));
+    for row in [
         (None, 1, 0, 1),
         (None, 2, 0, 2),
         (Some(1), 3, 0, 2),
@@ -24,26 +34,32 @@ fn counts_reads(rt: HostRuntime) {
         (None, 5, 1, 2),
         (None, 6, 2, 2),
     ] {
-        assert_eq!(rt; reader.read(&mut buffer).ok(), answer, "at {calls}");
-        assert_eq!(rt; reader.calls(), calls);
-        assert_eq!(rt; reader.failures(), failures, "at {calls}");
-        assert_eq!(rt; reader.interruptions(), interruptions, "at {calls}");
+        assert_eq!(rt; read_and_counts(&mut reader, &mut [0u8; 4]), row);
     }
     assert_eq!(rt; reader.into_inner().calls, 6);
+}
+
+/// How many bytes a write takes, and the calls and the failures that are counted then.
+fn write_and_counts(writer: &mut Counted<Sink>, bytes: &[u8]) -> (usize, u64, u64) {
+    let taken = writer.write(bytes).ok().unwrap_or(0);
+    (taken, writer.calls(), writer.failures())
+}
+
+/// Whether the calls of a writer that has room for a byte, and then fails so, are counted.
+fn counts_until(alloc: Global, end: Option<ErrorKind>) -> bool {
+    let mut writer = Counted::new(Sink::new(alloc, 1, end));
+    let empty = writer.write(b"").ok() == Some(0) && writer.flush().is_ok();
+    let none = write_and_counts(&mut writer, b"") == (0, 0, 0);
+    let one = write_and_counts(&mut writer, b"ab") == (1, 1, 0);
+    let full = write_and_counts(&mut writer, b"b") == (0, 2, 1);
+    let interruptions = writer.interruptions();
+    let calls = writer.into_inner().calls;
+    empty && none && one && full && interruptions == 0 && calls == 2
 }
 
 #[test]
 fn counts_writes(rt: HostRuntime) {
     for end in [Some(ErrorKind::Other), Some(ErrorKind::Interrupted), None] {
-        let mut writer = Counted::new(Sink::new(rt.alloc(), 1, end));
-        assert_eq!(rt; writer.write(b"").ok(), Some(0));
-        assert!(rt; writer.flush().is_ok());
-        assert_eq!(rt; (writer.calls(), writer.failures()), (0, 0));
-        assert_eq!(rt; writer.write(b"ab").ok(), Some(1));
-        assert_eq!(rt; (writer.calls(), writer.failures()), (1, 0));
-        assert!(rt; writer.write(b"b").ok().unwrap_or(0) == 0);
-        assert_eq!(rt; (writer.calls(), writer.failures()), (2, 1));
-        assert_eq!(rt; writer.interruptions(), 0);
-        assert_eq!(rt; writer.into_inner().calls, 2);
+        assert!(rt; counts_until(rt.alloc(), end));
     }
 }

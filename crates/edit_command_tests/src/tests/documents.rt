@@ -66,7 +66,7 @@ const EACH_KIND: Row = Row {
 };
 
 /// Documents, and how a run over each ends.
-const ROWS: [Row; 14] = [
+static ROWS: [Row; 14] = [
     NOTHING,
     NEW_NODE,
     EACH_KIND,
@@ -164,6 +164,11 @@ fn ends_so(alloc: Global, row: &Row) -> Result<bool, AllocError> {
     let ticket = JOB.replacen(alloc, row.of.0, row.of.1, 1)?;
     let input = document(alloc, row.edits, ticket.as_str())?;
     let ended = run_on(alloc, input.as_str());
+    is_end_of(alloc, row, &ended)
+}
+
+/// Whether this is how a row says that its run ends.
+fn is_end_of(alloc: Global, row: &Row, ended: &Ended) -> Result<bool, AllocError> {
     if row.status == 3 {
         let told = ended.told.as_slice() == row.lines.as_bytes();
         return Ok(told && ended.status == 3 && ended.written.is_empty());
@@ -203,11 +208,16 @@ fn chain(alloc: Global, nodes: u32) -> Result<String, AllocError> {
 const AT_LEVEL_33: &str =
     r#"{"Edit":"AddNode","ID":"n32","JobPartID":"p","Node":"n31","Status":"Waiting","Type":"Cutting"}"#;
 
+/// How a run ends over edits of a chain of so many nodes.
+fn run_on_chain(alloc: Global, edits: &str, nodes: u32) -> Result<Ended, AllocError> {
+    let chain = chain(alloc, nodes)?;
+    let input = document(alloc, edits, chain.as_str())?;
+    Ok(run_on(alloc, input.as_str()))
+}
+
 #[test]
 fn takes_32_levels(rt: HostRuntime) -> Result<(), Fail> {
-    let chain_32 = chain(rt.alloc(), 32)?;
-    let input = document(rt.alloc(), AT_LEVEL_33, chain_32.as_str())?;
-    let ended = run_on(rt.alloc(), input.as_str());
+    let ended = run_on_chain(rt.alloc(), AT_LEVEL_33, 32)?;
     assert_eq!(rt; ended.status, 1);
     assert!(rt;
         ended
@@ -215,9 +225,12 @@ fn takes_32_levels(rt: HostRuntime) -> Result<(), Fail> {
             .as_slice()
             .starts_with(b"Refused 4 TooDeep\n{")
     );
-    let chain_33 = chain(rt.alloc(), 33)?;
-    let input = document(rt.alloc(), "", chain_33.as_str())?;
-    let ended = run_on(rt.alloc(), input.as_str());
+    Ok(())
+}
+
+#[test]
+fn refuses_33_levels(rt: HostRuntime) -> Result<(), Fail> {
+    let ended = run_on_chain(rt.alloc(), "", 33)?;
     assert_eq!(rt; ended.status, 3);
     assert_eq!(rt; ended.told.as_slice(), b"Refused 4 TooDeep\n".as_slice());
     Ok(())

@@ -105,58 +105,78 @@ fn ends_so(alloc: Global, case: &Case) -> bool {
         && told.as_slice() == case.told.as_bytes()
 }
 
+/// Runs over slow streams, and over streams that fail.
+static CASES: [Case; 9] = [
+    SLOW,
+    Case {
+        interruptions: 2,
+        ..SLOW
+    },
+    Case {
+        fails: true,
+        ..FAILED_READ
+    },
+    Case {
+        fails: true,
+        input: "",
+        ..FAILED_READ
+    },
+    FAILED_WRITE,
+    Case {
+        end: Some(ErrorKind::Other),
+        ..FAILED_WRITE
+    },
+    Case {
+        end: Some(ErrorKind::Interrupted),
+        ..FAILED_WRITE
+    },
+    REFUSED,
+    Case {
+        room_to_tell: 3,
+        told: "Ref",
+        ..REFUSED
+    },
+];
+
 #[test]
 fn ends_as_its_streams_allow(rt: HostRuntime) {
-    let cases = [
-        SLOW,
-        Case {
-            interruptions: 2,
-            ..SLOW
-        },
-        Case {
-            fails: true,
-            ..FAILED_READ
-        },
-        Case {
-            fails: true,
-            input: "",
-            ..FAILED_READ
-        },
-        FAILED_WRITE,
-        Case {
-            end: Some(ErrorKind::Other),
-            ..FAILED_WRITE
-        },
-        Case {
-            end: Some(ErrorKind::Interrupted),
-            ..FAILED_WRITE
-        },
-        REFUSED,
-        Case {
-            room_to_tell: 3,
-            told: "Ref",
-            ..REFUSED
-        },
-    ];
-    for (number, case) in cases.iter().enumerate() {
+    for (number, case) in CASES.iter().enumerate() {
         assert!(rt; ends_so(rt.alloc(), case), "case {number}");
     }
 }
 
-#[test]
-fn reads_up_to_its_limits(rt: HostRuntime) {
-    assert!(rt; ends_so(rt.alloc(), &LARGE));
-    assert!(rt; ends_so(rt.alloc(), &TOO_LARGE));
-    let often = Case {
+/// The most that a run reads, and the most interruptions that it takes, each with one more.
+static LIMITS: [Case; 4] = [
+    LARGE,
+    TOO_LARGE,
+    Case {
         interruptions: 2_000_000,
         ..SLOW
-    };
-    assert!(rt; ends_so(rt.alloc(), &often));
-    let too_often = Case {
+    },
+    Case {
         interruptions: 2_000_001,
         ..FAILED_READ
-    };
-    assert!(rt; ends_so(rt.alloc(), &too_often));
+    },
+];
+
+#[test]
+fn reads_up_to_its_limits(rt: HostRuntime) {
+    for (number, case) in LIMITS.iter().enumerate() {
+        assert!(rt; ends_so(rt.alloc(), case), "case {number}");
+    }
+}
+
+/// The status of a run that can't write, the spaces that it leaves, and its calls of the writer.
+fn left_by_run(alloc: Global, source: Source<'static>) -> (u8, usize, u64) {
+    let mut reader = Counted::new(source);
+    let mut writer = Counted::new(Sink::new(alloc, 0, None));
+    let mut faults = Counted::new(Sink::new(alloc, 0, None));
+    let status = run_edit(alloc, &mut reader, &mut writer, &mut faults);
+    (
+        status,
+        reader.into_inner().spaces,
+        writer.into_inner().calls,
+    )
 }
 
 /// Nothing is read behind the block that is too large, and nothing written.
@@ -165,13 +185,5 @@ fn stops_where_it_gives_up(rt: HostRuntime) {
     let mut source = source_of(&TOO_LARGE);
     source.spaces = MAX_INPUT_BYTES + 1_000_000;
     source.step = 1_024;
-    let mut reader = Counted::new(source);
-    let mut writer = Counted::new(Sink::new(rt.alloc(), 0, None));
-    let mut faults = Counted::new(Sink::new(rt.alloc(), 0, None));
-    assert_eq!(rt;
-        run_edit(rt.alloc(), &mut reader, &mut writer, &mut faults),
-        3
-    );
-    assert_eq!(rt; reader.into_inner().spaces, 1_000_000);
-    assert_eq!(rt; writer.into_inner().calls, 0);
+    assert_eq!(rt; left_by_run(rt.alloc(), source), (3, 1_000_000, 0));
 }

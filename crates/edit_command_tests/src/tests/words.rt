@@ -23,6 +23,12 @@ fn owned(alloc: Global, words: &[&str]) -> Result<Vec<String>, AllocError> {
     Ok(owned)
 }
 
+/// What is told for these words over an empty input.
+fn told_for_words(alloc: Global, words: &[&str]) -> Result<Vec<u8>, AllocError> {
+    let words = owned(alloc, words)?;
+    Ok(told_for(alloc, Some(words.as_slice())))
+}
+
 #[test]
 fn runs_edit_alone(rt: HostRuntime) -> Result<(), Fail> {
     let alloc = rt.alloc();
@@ -34,13 +40,9 @@ fn runs_edit_alone(rt: HostRuntime) -> Result<(), Fail> {
         (["jdf_cli", "edit", "edit"].as_slice(), false),
     ];
     for (words, is_edit) in cases {
-        let words = owned(alloc, words)?;
-        let told = told_for(alloc, Some(words.as_slice()));
-        assert_eq!(rt;
-            told.as_slice() == b"Refused 40 NotJson\n".as_slice(),
-            is_edit
-        );
-        assert_eq!(rt; told.is_empty(), !is_edit);
+        let told = told_for_words(alloc, words)?;
+        let refused = b"Refused 40 NotJson\n".as_slice();
+        assert_eq!(rt; told.as_slice(), if is_edit { refused } else { &[] });
     }
     assert!(rt; told_for(alloc, None).is_empty());
     Ok(())

@@ -1,7 +1,7 @@
 use Rattle.std.proofs.Common.{◌≡◌, ◌∙◌, Some, map, sym, ap}
 use Rattle.ticket_tree.proofs.PlainOneRow.{row_of-id}
 use Rattle.ticket_rows.specs.Place.{node_thing}
-use Rattle.ticket_rows.specs.Ticket.{is_reserved, row_of}
+use Rattle.ticket_rows.specs.Ticket.{row_of}
 use Rattle.ticket_cases.proofs.one_row.complete.Goals as goal
 
 pub replace_node-requires : goal.replace_node-requires
@@ -10,10 +10,13 @@ replace_node-requires c =
     let old = c.in-Some.node.now in
     let found : row_of rows c.args.id.now ≡ Some old = sym c.in-Some.ensures.found in
     let same = c.in_ok-row.ensures in
+    let completed = c.in_ok-mark_completed.ensures in
+    let id = completed.id ∙ ap (λ r. r.id) same ∙ row_of-id rows c.args.id.now old found in
     record {
       old = old;
-      there = ap (row_of rows) (ap (λ r. r.id) same ∙ row_of-id rows c.args.id.now old found) ∙ found;
-      thing = ap node_thing same;
-      resources = ap (λ r. map (λ x. x.id) r.resources) same;
-      status = ap is_reserved c.in_ok-row-2.ensures.ok.0;
+      there = ap (row_of rows) id ∙ found;
+      thing = completed.thing ∙ ap node_thing same;
+      resources = ap (map (λ x. x.id)) completed.resources
+          ∙ ap (λ r. map (λ x. x.id) r.resources) same;
+      status = completed.status;
     }

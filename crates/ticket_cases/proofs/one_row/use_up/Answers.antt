@@ -10,8 +10,10 @@ replace_resource-requires c =
     let old = c.in-Some.found.now in
     let found : resource_of rows c.args.id.now ≡ Some old = sym c.in-Some.ensures in
     let same = c.in_ok-resource.ensures in
+    let used = c.in_ok-mark_used_up.ensures in
+    let id = used.id ∙ ap (λ x. x.id) same ∙ resource_of-id rows c.args.id.now old found in
     record {
       old = old;
-      there = ap (resource_of rows) (ap (λ x. x.id) same ∙ resource_of-id rows c.args.id.now old found) ∙ found;
-      thing = ap resource_thing same;
+      there = ap (resource_of rows) id ∙ found;
+      thing = used.thing ∙ ap resource_thing same;
     }
