@@ -1,0 +1,82 @@
+-- A step changes no name: not a controller's, nor those that it knows.
+use Rattle.std.proofs.Common.{◌≡◌, Bool, true, false, cond, ℕ, List, Option, Some, None, refl, ap, is_some}
+use Rattle.std.specs.Option.{option_map_or}
+use Rattle.ticket_items.specs.declared.refusal.Refusal.{Refusal}
+use Rattle.message_items.specs.declared.body.Body.{Body}
+use Rattle.message_items.specs.declared.body.Body.TheVariants.{Submit, Return, Answer}
+use Rattle.message_items.specs.declared.message.Message.{Message}
+use Rattle.master_core.specs.Master as master
+use Rattle.master_core.specs.Messages as master_messages
+use Rattle.master_core.specs.Orders as master_orders
+use Rattle.master_core.specs.declared.order.Order as master_order
+use Rattle.master_core.specs.declared.order.Order.TheVariants as order
+use Rattle.spawn.specs.Records.{is_out}
+use Rattle.spawn.specs.declared.records.spawn_rec.SpawnRec.{SpawnRec}
+use Rattle.ticket_tree.specs.Part.{Copied}
+use Rattle.worker_core.specs.Worker as worker
+use Rattle.worker_core.specs.Messages as worker_messages
+use Rattle.worker_core.specs.Orders as worker_orders
+use Rattle.worker_core.specs.declared.order.Order as worker_order
+use Rattle.world.specs.Stepping.{Moved, ordered_master, ordered_worker, refused, taken_by_master, taken_by_worker}
+
+-- ---- the master
+
+-- the names that a master has after a step are those that it had
+pub record HasNames (old next : master.Known) : Type 0 where
+  pub own : next.name ≡ old.name
+  pub workers : next.workers ≡ old.workers
+
+same : (m : master.Known) → HasNames m m
+same m = record { own = refl; workers = refl }
+
+ordered_names : (o : master_order.Order) (at : ℕ) (m : master.Known) → HasNames m (master_orders.ordered o at m)
+ordered_names (order.Edit e) at m = record { own = refl; workers = refl }
+ordered_names (order.Spawn node to rw) at m = record { own = refl; workers = refl }
+ordered_names (order.Resend s) at m = same m
+
+unless_refused : (r : Option Refusal) (m : master.Known) (v : Moved master.Known Message) → HasNames m v.next → HasNames m (option_map_or (λ e. refused e m) r v).next
+unless_refused None m v names = names
+unless_refused (Some e) m v names = same m
+
+pub ordered_master_names : (o : master_order.Order) (at : ℕ) (m : master.Known) → HasNames m (ordered_master o at m).next
+ordered_master_names o at m = unless_refused (master_orders.order_refusal o m) m _ (ordered_names o at m)
+
+merged_names : (out : Bool) (p : Copied) (at : ℕ) (m : master.Known) (r : SpawnRec) → HasNames m (cond out (master_messages.merged p at m r) m)
+merged_names true p at m r = record { own = refl; workers = refl }
+merged_names false p at m r = same m
+
+returned_names : (found : Option SpawnRec) (p : Copied) (at : ℕ) (m : master.Known) → HasNames m (option_map_or (λ r. cond (is_out r) (master_messages.merged p at m r) m) found m)
+returned_names None p at m = same m
+returned_names (Some r) p at m = merged_names (is_out r) p at m r
+
+taken_names : (body : Body) (at : ℕ) (m : master.Known) → HasNames m (master_messages.taken body at m)
+taken_names (Submit p) at m = same m
+taken_names (Return p) at m = returned_names (master.record_of m.records p.spawn_id) p at m
+taken_names (Answer c s told) at m = same m
+
+if_refused : (b : Bool) (m next : master.Known) → HasNames m next → HasNames m (cond b m next)
+if_refused true m next names = same m
+if_refused false m next names = names
+
+pub taken_by_master_names : (message : Message) (at : ℕ) (m : master.Known) → HasNames m (taken_by_master message at m).next
+taken_by_master_names message at m = if_refused (is_some (master_messages.take_refusal message m)) m _ (taken_names message.body at m)
+
+-- ---- a worker
+
+pub record HasItsNames (old next : worker.Known) : Type 0 where
+  pub own : next.name ≡ old.name
+  pub masters : next.master ≡ old.master
+
+unless_worker_refused : (r : Option Refusal) (w : worker.Known) (v : Moved worker.Known Message) → HasItsNames w v.next → HasItsNames w (option_map_or (λ e. refused e w) r v).next
+unless_worker_refused None w v names = names
+unless_worker_refused (Some e) w v names = record { own = refl; masters = refl }
+
+pub ordered_worker_names : (o : worker_order.Order) (at : ℕ) (w : worker.Known) → HasItsNames w (ordered_worker o at w).next
+ordered_worker_names o at w = unless_worker_refused (worker_orders.order_refusal o w.entries) w _ (record { own = refl; masters = refl })
+
+if_worker_refused : (b : Bool) (w next : worker.Known) → HasItsNames w next → HasItsNames w (cond b w next)
+if_worker_refused true w next names = record { own = refl; masters = refl }
+if_worker_refused false w next names = names
+
+pub taken_by_worker_names : (message : Message) (at : ℕ) (w : worker.Known) → HasItsNames w (taken_by_worker message at w).next
+taken_by_worker_names message at w = if_worker_refused (is_some (worker_messages.take_refusal message w)) w _ (record { own = refl; masters = refl })

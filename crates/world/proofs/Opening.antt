@@ -1,0 +1,41 @@
+-- In the beginning all is in order.
+use Rattle.std.proofs.Common.{◌≡◌, ◌∷◌, false, true, List, [], ℕ, map, refl, sym, ap, ◌∙◌, subst}
+use Rattle.std.proofs.lemmas.Bool.{and_parts, not-true, or_parts}
+use Rattle.std.proofs.lemmas.List.Elements.{All-cons, All-nil}
+use Rattle.std.specs.List.{All}
+use Rattle.std.specs.Str.{bytes_eq}
+use Rattle.ticket_items.specs.Ids.{are_distinct, mem}
+use Rattle.message_items.specs.declared.message.Message.{Message}
+use Rattle.master_core.specs.Master as master
+use Rattle.worker_core.specs.Worker as worker
+use Rattle.world.specs.State.{IsKept, new_worker, state}
+
+-- each new worker has its name
+named : (m : List ℕ) (names : List (List ℕ)) → map (λ (v : worker.Known). v.name) (map (new_worker m) names) ≡ names
+named m [] = refl
+named m (x ∷ names) = ap (λ xs. x ∷ xs) (named m names)
+
+-- and knows the master
+known : (m : List ℕ) (names : List (List ℕ)) → All (λ (v : worker.Known). v.master ≡ m) (map (new_worker m) names)
+known m [] = All-nil _
+known m (x ∷ names) = All-cons (λ (v : worker.Known). v.master ≡ m) (new_worker m x) (map (new_worker m) names) refl (known m names)
+
+-- a new worker of another name is in order
+new_kept : (m x : List ℕ) → bytes_eq x m ≡ false → worker.IsKept (new_worker m x)
+new_kept m x apart = record { apart = apart; once = refl; each = All-nil _ }
+
+kept : (m : List ℕ) (names : List (List ℕ)) → mem m names ≡ false → All worker.IsKept (map (new_worker m) names)
+kept m [] out = All-nil _
+kept m (x ∷ names) out =
+    let parts = or_parts (bytes_eq x m) (mem m names) out in
+    All-cons worker.IsKept (new_worker m x) (map (new_worker m) names) (new_kept m x parts.0) (kept m names parts.1)
+
+pub opening_kept : (m : master.Known) (workers : List worker.Known) (messages : List Message) → master.IsKept m → workers ≡ map (new_worker m.name) m.workers → IsKept (state m workers messages)
+opening_kept m workers messages ok is =
+    let out : mem m.name m.workers ≡ false = not-true _ (and_parts _ _ ok.names).0 in
+    record {
+      master = ok;
+      named = ap (map (λ (v : worker.Known). v.name)) is ∙ named m.name m.workers;
+      known = subst (All (λ (v : worker.Known). v.master ≡ m.name)) (sym is) (known m.name m.workers);
+      workers = subst (All worker.IsKept) (sym is) (kept m.name m.workers out);
+    }

@@ -1,0 +1,21 @@
+use Rattle.std.proofs.Common.{◌≡◌, ◌∙◌, ◌+◌, ◌∷◌, ◌++◌, ◌||◌, List, ℕ, true, false, Err, sym, ap, drop, take}
+use Rattle.std.proofs.lemmas.List.{take-append-drop, drop_more}
+use Rattle.std.specs.Str.{bytes_eq}
+use Rattle.ticket_items.specs.Ids.{mem}
+use Rattle.ticket_items.proofs.Apart.{bytes_eq-same, mem-append, or_true}
+use Rattle.world.proofs.workers.new_workers.Goals as goal
+
+pub returns-in_err-worker-clause-memory : goal.returns-in_err-worker-clause-memory
+returns-in_err-worker-clause-memory c =
+    let i = c.loop-name.name-index in
+    let names = c.args.names.now in
+    let master = c.args.master.now in
+    let x : List ℕ = c.name-item.result in
+    let whole : names ≡ take i names ++ x ∷ drop (i + 1) names =
+    sym (take-append-drop i names) ∙ ap (λ ys. take i names ++ ys) (drop_more names i x c.loop-name-test.true ∙ ap (λ y. y ∷ drop (i + 1) names) (sym c.name-item.is)) in
+    let same : x ≡ master = sym c.in_ok-copy.ensures ∙ c.in_err-worker.ensures.refused.0 (ap Err c.in_err-worker.ensures.only) ∙ c.in_ok-copy-2.ensures in
+    let here : bytes_eq x master ≡ true = ap (λ y. bytes_eq y master) same ∙ bytes_eq-same master in
+    let there : mem master names ≡ true =
+    ap (mem master) whole ∙ mem-append master (take i names) (x ∷ drop (i + 1) names) ∙ ap (λ b. mem master (take i names) || (b || mem master (drop (i + 1) names))) here ∙ or_true (mem master (take i names)) in
+    let no : true ≡ false = sym there ∙ c.requires.apart in
+    cc

@@ -1,0 +1,99 @@
+-- What happens at an event: which step is made, and what is left of it.
+use Rattle.std.specs.Prelude.{ℕ, List, [], ◌∷◌, if◌then◌else◌, Option, None, Result, Ok, Err}
+use Rattle.std.specs.Option.{option_map_or}
+use Rattle.std.specs.Str.{bytes_eq}
+use Rattle.ticket_items.specs.declared.refusal.Refusal.TheVariants.{UnknownWorker}
+use Rattle.message_items.specs.declared.message.Message.{Message}
+use Rattle.master_core.specs.declared.order.Order as master
+use Rattle.worker_core.specs.declared.order.Order as worker
+use Rattle.world.specs.Settling.{answer_without_step, settled_answer, settled_messages}
+use Rattle.world.specs.Settling.{settled_state}
+use Rattle.world.specs.State.{Controllers, State, is_controller, message_at, worker_of}
+use Rattle.world.specs.Stepping.{Moved, master_moved, ordered_master, ordered_worker}
+use Rattle.world.specs.Stepping.{taken_by_master, taken_by_worker, worker_moved}
+use Rattle.world.specs.declared.answer.Answer.{Answer}
+use Rattle.world.specs.declared.event.Event.{Event}
+use Rattle.world.specs.declared.stop.Stop.{Stop}
+use Rattle.world.specs.declared.what.What.{What}
+use Rattle.world.specs.declared.what.What.TheVariants.{MasterOrder, WorkerOrder, Deliver, Restart}
+use Rattle.world.specs.declared.word.Word.{Word}
+use Rattle.world.specs.declared.word.Word.TheVariants.{NoMessage, Refused, Restarted}
+
+-- a step that a controller makes, or the word where none does
+abbrev pub Step : Type 0
+Step = Result (Moved Controllers Message) Word
+
+-- the master's on an order
+abbrev pub master_step : master.Order → ℕ → State → Step
+master_step o at w = Ok (master_moved w.controllers (ordered_master o at w.controllers.master))
+
+-- the one of the worker of a name, if there is one
+abbrev pub worker_step : List ℕ → worker.Order → ℕ → State → Step
+worker_step name o at w =
+    option_map_or (λ v. Ok (worker_moved w.controllers v (ordered_worker o at v)))
+    (worker_of w.controllers.workers name) (Err (Refused UnknownWorker))
+
+-- the master's on a message
+abbrev pub master_takes : Message → ℕ → State → Step
+master_takes m at w = Ok (master_moved w.controllers (taken_by_master m at w.controllers.master))
+
+-- the one of the worker that a message is for, if there is one
+abbrev pub worker_takes : Message → ℕ → State → Step
+worker_takes m at w =
+    option_map_or (λ v. Ok (worker_moved w.controllers v (taken_by_worker m at v)))
+    (worker_of w.controllers.workers m.receiver) (Err NoMessage)
+
+-- the one of the receiver of a message
+abbrev pub receiver_takes : ℕ → State → Message → Step
+receiver_takes at w m =
+    if bytes_eq m.receiver w.controllers.master.name
+    then master_takes m at w else worker_takes m at w
+
+-- the one of the receiver of the message of a number, if there is one
+abbrev pub delivery_step : ℕ → ℕ → State → Step
+delivery_step k at w =
+    option_map_or (receiver_takes at w) (message_at w.messages k) (Err NoMessage)
+
+-- a restart is none: between events each controller is as it is stored
+abbrev pub restart_word : List ℕ → State → Word
+restart_word name w =
+    if is_controller w.controllers name then Restarted else Refused UnknownWorker
+
+-- that of what happens
+abbrev pub step_of : What → ℕ → State → Step
+step_of (MasterOrder o) at w = master_step o at w
+step_of (WorkerOrder name o) at w = worker_step name o at w
+step_of (Deliver k) at w = delivery_step k at w
+step_of (Restart name) at w = Err (restart_word name w)
+
+-- what is answered
+abbrev pub settled_word : Stop → State → Step → Answer
+settled_word stop w (Ok moved) = settled_answer stop w.messages moved.word moved.sent
+settled_word stop w (Err word) = answer_without_step word
+
+-- what is there then
+abbrev pub settled : Stop → State → Step → State
+settled stop w (Ok moved) =
+    record {
+      controllers = settled_state stop w.controllers moved.next;
+      messages = settled_messages stop w.messages moved.sent;
+    }
+settled stop w (Err word) = w
+
+-- ---- one event
+
+abbrev pub answer_to : Event → State → Answer
+answer_to e w = settled_word e.stop w (step_of e.what e.at w)
+
+abbrev pub after : Event → State → State
+after e w = settled e.stop w (step_of e.what e.at w)
+
+-- ---- a list of events
+
+abbrev pub answers_to : List Event → State → List Answer
+answers_to [] w = []
+answers_to (e ∷ events) w = answer_to e w ∷ answers_to events (after e w)
+
+abbrev pub after_all : List Event → State → State
+after_all [] w = w
+after_all (e ∷ events) w = after_all events (after e w)

@@ -1,0 +1,32 @@
+//! The workers of a shop, by their names.
+
+ghost use Rattle.std.specs.Prelude.{◌≡◌, false, map, IfOk, IfErr};
+ghost use Rattle.std.specs.List.{position};
+ghost use Rattle.ticket_items.specs.Ids.{mem};
+ghost use Rattle.world.specs.State as state;
+
+use std::alloc::Global;
+use ticket_tree::{Duplicate, Id, Refusal};
+use worker_core::Worker;
+
+/// The workers of these names as they are in the beginning. Refuses `Memory` alone.
+pub fn new_workers(alloc: Global, master: &Id, names: &[Id]) -> Result<Vec<Worker>, Refusal>
+    requires apart { mem master.now names.now ≡ false }
+    ensures ok { IfOk result
+        (λ workers. workers.items ≡ map (state.new_worker master.now) names.now) }
+    ensures memory { IfErr result (λ e. e ≡ Refusal.Memory) }
+{
+    let mut workers = Vec::with_capacity(alloc, names.len())?;
+    for name in names {
+        let worker = Worker::new(alloc, name.copy(alloc)?, master.copy(alloc)?)?;
+        workers.push(worker)?;
+    }
+    Ok(workers)
+}
+
+/// Where the worker of a name stands.
+pub fn place_of(workers: &[Worker], name: &Id) -> Option<usize>
+    ensures { result ≡ position (state.is_named name.now) workers.now }
+{
+    workers.iter().position(|worker| worker.name() == name)
+}

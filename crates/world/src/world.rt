@@ -1,0 +1,257 @@
+use crate::answer::Answer;
+use crate::event::Event;
+use crate::settling::settle;
+use crate::stepping;
+use crate::stop::Stop;
+use crate::what::What;
+use crate::word::Word;
+use crate::workers::{new_workers, place_of};
+use master_core::Master;
+use message_items::Message;
+use std::alloc::{AllocError, Global};
+use std::marker::Model;
+use ticket_tree::{Duplicate, Id, Ids, Refusal, Ticket};
+use worker_core::Worker;
+
+/// A master, its workers, and every message that they sent. What is kept of a controller is its
+/// stored state, from which it is started again; between events each controller is as it is stored.
+#[derive(Debug, Drop)]
+pub struct World {
+    master: Master,
+    workers: Vec<Worker>,
+    messages: Vec<Message>,
+}
+
+impl Model for World {
+    ghost use Rattle.world.specs.State.{IsKept, State, state};
+
+    ghost Value = { State };
+
+    ghost view = { λ a. state a.master a.workers.items a.messages.items };
+
+    ghost invariant = { λ a. IsKept (state a.master a.workers.items a.messages.items) };
+}
+
+impl World {
+    ghost use Rattle.std.specs.Prelude.{◌≡◌, ◌⊎◌, ◌∷◌, true, false, OnOk, OnErr, IfOk, IfErr};
+    ghost use Rattle.std.specs.Prelude.{◌<◌, ℕ, length, take, IsErrOf};
+    ghost use Rattle.std.specs.Option.{option_copied};
+    ghost use Rattle.ticket_items.specs.Ids.{are_distinct};
+    ghost use Rattle.world.specs.Happening as happening;
+    ghost use Rattle.world.specs.State as state;
+
+    /// A master of this name with this ticket, of which nothing is out, and workers of these names.
+    /// Nothing was sent. Refuses `SameName` where two of the names are equal (our own), and else
+    /// `Memory`.
+    pub fn new(alloc: Global, name: Id, workers: Ids, ticket: Ticket) -> Result<World, Refusal>
+        ensures ok { IfOk result (λ w. w ≡ state.opening name workers ticket) }
+        ensures refused { IsErrOf result Refusal.SameName → are_distinct (name ∷ workers) ≡ false }
+        ensures memory { are_distinct (name ∷ workers) ≡ true
+            → IfErr result (λ e. e ≡ Refusal.Memory) }
+        ensures only { IfErr result (λ e. (e ≡ Refusal.SameName) ⊎ (e ≡ Refusal.Memory)) }
+    {
+        let master = Master::new(alloc, name, workers, ticket)?;
+        let workers = new_workers(alloc, master.name(), master.workers())?;
+        Ok(World {
+            master,
+            workers,
+            messages: Vec::new(alloc),
+        })
+    }
+
+    /// The master.
+    pub fn master(&self) -> &Master
+        ensures { result.now ≡ self.now.controllers.master }
+    {
+        &self.master
+    }
+
+    /// The worker of a name.
+    pub fn worker(&self, name: &Id) -> Option<&Worker>
+        ensures { option_copied result ≡ state.worker_of self.now.controllers.workers name.now }
+    {
+        self.workers.iter().find(|worker| worker.name() == name)
+    }
+
+    /// Every message that was sent, in the order in which they went out. The first has the number
+    /// 1.
+    pub fn messages(&self) -> &[Message]
+        ensures { result.now ≡ self.now.messages }
+    {
+        self.messages.as_slice()
+    }
+
+    /// The message of a number. The first has the number 1.
+    fn message_at(&self, number: u64) -> Option<&Message>
+        ensures { option_copied result ≡ state.message_at self.now.messages number }
+    {
+        match number.checked_sub(1) {
+            None => None,
+            Some(place) => self.messages.get(place as usize),
+        }
+    }
+
+    /// The master is told to do something.
+    fn order_master(
+        &mut self,
+        alloc: Global,
+        order: master_core::Order,
+        at: u64,
+        stop: Stop,
+    ) -> Result<Answer, AllocError>
+        ensures answer { IfOk result (λ a. a
+            ≡ happening.settled_word stop self.old (happening.master_step order at self.old)) }
+        ensures state { OnOk result (self.new
+            ≡ happening.settled stop self.old (happening.master_step order at self.old)) }
+        ensures err { OnErr result (self.new ≡ self.old) }
+    {
+        let moved = stepping::ordered_master(alloc, &self.master, order, at)?;
+        settle(&mut self.master, &mut self.messages, moved, stop)
+    }
+
+    /// The worker of a name is told to do something.
+    fn order_worker(
+        &mut self,
+        alloc: Global,
+        name: &Id,
+        order: worker_core::Order,
+        at: u64,
+        stop: Stop,
+    ) -> Result<Answer, AllocError>
+        ensures answer { IfOk result (λ a. a
+            ≡ happening.settled_word stop self.old
+            (happening.worker_step name.now order at self.old)) }
+        ensures state { OnOk result (self.new
+            ≡ happening.settled stop self.old (happening.worker_step name.now order at self.old)) }
+        ensures err { OnErr result (self.new ≡ self.old) }
+    {
+        match place_of(self.workers.as_slice(), name) {
+            None => {
+                drop(order);
+                Ok(Answer::without_step(Word::Refused(Refusal::UnknownWorker)))
+            }
+            Some(place) => {
+                let stored = &mut self.workers[place];
+                let moved = stepping::ordered_worker(alloc, stored, order, at)?;
+                settle(stored, &mut self.messages, moved, stop)
+            }
+        }
+    }
+
+    /// A message comes to the master.
+    fn deliver_to_master(
+        &mut self,
+        alloc: Global,
+        message: Message,
+        at: u64,
+        stop: Stop,
+    ) -> Result<Answer, AllocError>
+        ensures answer { IfOk result (λ a. a
+            ≡ happening.settled_word stop self.old (happening.master_takes message at self.old)) }
+        ensures state { OnOk result (self.new
+            ≡ happening.settled stop self.old (happening.master_takes message at self.old)) }
+        ensures err { OnErr result (self.new ≡ self.old) }
+    {
+        let moved = stepping::taken_by_master(alloc, &self.master, message, at)?;
+        settle(&mut self.master, &mut self.messages, moved, stop)
+    }
+
+    /// A message comes to the worker that it is for, if there is one.
+    fn deliver_to_worker(
+        &mut self,
+        alloc: Global,
+        message: Message,
+        at: u64,
+        stop: Stop,
+    ) -> Result<Answer, AllocError>
+        ensures answer { IfOk result (λ a. a
+            ≡ happening.settled_word stop self.old (happening.worker_takes message at self.old)) }
+        ensures state { OnOk result (self.new
+            ≡ happening.settled stop self.old (happening.worker_takes message at self.old)) }
+        ensures err { OnErr result (self.new ≡ self.old) }
+    {
+        match place_of(self.workers.as_slice(), &message.receiver) {
+            None => {
+                drop(message);
+                Ok(Answer::without_step(Word::NoMessage))
+            }
+            Some(place) => {
+                let stored = &mut self.workers[place];
+                let moved = stepping::taken_by_worker(alloc, stored, message, at)?;
+                settle(stored, &mut self.messages, moved, stop)
+            }
+        }
+    }
+
+    /// The message of a number is handed to its receiver.
+    fn deliver(
+        &mut self,
+        alloc: Global,
+        number: u64,
+        at: u64,
+        stop: Stop,
+    ) -> Result<Answer, AllocError>
+        ensures answer { IfOk result (λ a. a
+            ≡ happening.settled_word stop self.old (happening.delivery_step number at self.old)) }
+        ensures state { OnOk result (self.new
+            ≡ happening.settled stop self.old (happening.delivery_step number at self.old)) }
+        ensures err { OnErr result (self.new ≡ self.old) }
+    {
+        let Some(message) = self.message_at(number) else {
+            return Ok(Answer::without_step(Word::NoMessage));
+        };
+        let copy = message.copy(alloc)?;
+        if copy.receiver == *self.master.name() {
+            self.deliver_to_master(alloc, copy, at, stop)
+        } else {
+            self.deliver_to_worker(alloc, copy, at, stop)
+        }
+    }
+
+    /// What is said to the restart of the controller of a name, which is as it is stored.
+    fn restart(&self, name: &Id) -> Word
+        ensures { result ≡ happening.restart_word name.now self.now }
+    {
+        if name == self.master.name() || self.worker(name).is_some() {
+            Word::Restarted
+        } else {
+            Word::Refused(Refusal::UnknownWorker)
+        }
+    }
+
+    /// One event. What is told to a controller, or comes to it, is a step: it is made by a copy of
+    /// the controller, whose state is then stored and whose message is sent, as far as the stop
+    /// lets it. Where there is no such controller it is `Refused` as `UnknownWorker`, and where
+    /// there is no such message it is `NoMessage`, at any stop. Where memory runs out nothing is
+    /// changed.
+    pub fn step(&mut self, alloc: Global, event: Event) -> Result<Answer, AllocError>
+        ensures answer { IfOk result (λ a. a ≡ happening.answer_to event self.old) }
+        ensures state { OnOk result (self.new ≡ happening.after event self.old) }
+        ensures err { OnErr result (self.new ≡ self.old) }
+    {
+        let Event { what, at, stop } = event;
+        match what {
+            What::MasterOrder(order) => self.order_master(alloc, order, at, stop),
+            What::WorkerOrder(name, order) => self.order_worker(alloc, &name, order, at, stop),
+            What::Deliver(number) => self.deliver(alloc, number, at, stop),
+            What::Restart(name) => Ok(Answer::without_step(self.restart(&name))),
+        }
+    }
+
+    /// Events in turn, and what comes of each. Where memory runs out the world stands after the
+    /// events before the one at which it did.
+    pub fn run(&mut self, alloc: Global, events: Vec<Event>) -> Result<Vec<Answer>, AllocError>
+        ensures answers { IfOk result
+            (λ answers. answers.items ≡ happening.answers_to events.items self.old) }
+        ensures state { OnOk result (self.new ≡ happening.after_all events.items self.old) }
+        ensures err { OnErr result ((k : ℕ) × (k < length events.items)
+            × (self.new ≡ happening.after_all (take k events.items) self.old)) }
+    {
+        let mut answers = Vec::with_capacity(alloc, events.len())?;
+        for event in events {
+            let answer = self.step(alloc, event)?;
+            answers.extend_from_slice(&[answer])?;
+        }
+        Ok(answers)
+    }
+}
