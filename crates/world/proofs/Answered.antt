@@ -1,12 +1,12 @@
 -- A step by what an order was answered with is the step of the definitions.
-use Rattle.std.proofs.Common.{◌≡◌, Option, Some, None, Result, Ok, Err, IfOk, IfErr, IfNone, IfSome, OnOk, OnErr, refl, sym, ap, ◌∙◌}
+use Rattle.std.proofs.Common.{◌≡◌, Option, Some, None, Result, Ok, Err, IfOk, IfErr, IfNone, IfSome, OnOk, OnErr, ap, ◌∙◌}
 use Rattle.std.specs.Option.{option_map_or}
 use Rattle.ticket_items.specs.declared.refusal.Refusal.{Refusal}
 use Rattle.ticket_items.specs.declared.refusal.Refusal.TheVariants.{Memory}
 use Rattle.message_items.specs.declared.done.Done.{Done}
 use Rattle.message_items.specs.declared.message.Message.{Message}
 use Rattle.message_items.specs.declared.reply.Reply.{Reply}
-use Rattle.world.specs.Stepping.{Moved, done_moved, refused}
+use Rattle.world.specs.Stepping.{done_moved, refused}
 use Rattle.world.specs.declared.word.Word.TheVariants.{Did}
 
 -- what is known of an order that was answered: of a state that it may change, and of its refusal

@@ -1,5 +1,5 @@
 -- What always holds of a shop holds once a controller is stored anew.
-use Rattle.std.proofs.Common.{◌≡◌, ℕ, List, map, get_or, refl, set, slice_set, sym, ap, ◌∙◌, subst, Result, Ok, Err, OnOk, OnErr}
+use Rattle.std.proofs.Common.{◌≡◌, ℕ, List, get_or, set, sym, ◌∙◌, subst, Result, Ok, Err, OnOk, OnErr}
 use Rattle.std.proofs.Math.Seq.{map-set_same}
 use Rattle.std.proofs.lemmas.List.Elements.{All-set}
 use Rattle.std.specs.List.{All}

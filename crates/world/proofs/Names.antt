@@ -1,5 +1,5 @@
 -- A step changes no name: not a controller's, nor those that it knows.
-use Rattle.std.proofs.Common.{◌≡◌, Bool, true, false, cond, ℕ, List, Option, Some, None, refl, ap, is_some}
+use Rattle.std.proofs.Common.{◌≡◌, Bool, true, false, cond, ℕ, Option, Some, None, refl, is_some}
 use Rattle.std.specs.Option.{option_map_or}
 use Rattle.ticket_items.specs.declared.refusal.Refusal.{Refusal}
 use Rattle.message_items.specs.declared.body.Body.{Body}

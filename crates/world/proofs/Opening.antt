@@ -1,10 +1,10 @@
 -- In the beginning all is in order.
-use Rattle.std.proofs.Common.{◌≡◌, ◌∷◌, false, true, List, [], ℕ, map, refl, sym, ap, ◌∙◌, subst}
+use Rattle.std.proofs.Common.{◌≡◌, ◌∷◌, false, List, [], ℕ, map, refl, sym, ap, ◌∙◌, subst}
 use Rattle.std.proofs.lemmas.Bool.{and_parts, not-true, or_parts}
 use Rattle.std.proofs.lemmas.List.Elements.{All-cons, All-nil}
 use Rattle.std.specs.List.{All}
 use Rattle.std.specs.Str.{bytes_eq}
-use Rattle.ticket_items.specs.Ids.{are_distinct, mem}
+use Rattle.ticket_items.specs.Ids.{mem}
 use Rattle.message_items.specs.declared.message.Message.{Message}
 use Rattle.master_core.specs.Master as master
 use Rattle.worker_core.specs.Worker as worker

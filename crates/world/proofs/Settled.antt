@@ -1,5 +1,5 @@
 -- What is answered and stored is what the definitions say: for the master, for a worker that is found, and where none is.
-use Rattle.std.proofs.Common.{◌≡◌, ℕ, List, Option, Some, None, Result, Ok, Err, refl, sym, ap, ◌∙◌}
+use Rattle.std.proofs.Common.{◌≡◌, List, Option, Some, None, Ok, Err, sym, ap, ◌∙◌}
 use Rattle.std.specs.Option.{option_map_or}
 use Rattle.message_items.specs.declared.message.Message.{Message}
 use Rattle.master_core.specs.Master as master

@@ -1,5 +1,5 @@
 -- The definitions computed on a small shop: a product whose printing takes paper and makes sheets, and whose cutting takes the sheets; a master, a press and a bindery.
-use Rattle.std.proofs.Common.{◌≡◌, ℕ, true, false, List, [], ◌∷◌, Option, Some, None, refl}
+use Rattle.std.proofs.Common.{◌≡◌, ℕ, true, false, List, [], ◌∷◌, Some, None, refl}
 use Rattle.std.specs.Option.{option_map}
 use Rattle.std.specs.Prelude.{codes}
 use Rattle.ticket_rows.specs.Ticket.{Job}

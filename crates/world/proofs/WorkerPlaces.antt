@@ -1,11 +1,11 @@
 -- A worker is found at its place, and what is stored there is stored by its name.
-use Rattle.std.proofs.Common.{◌≡◌, ◌<◌, ℕ, Bool, true, false, cond, List, [], ◌∷◌, map, get_or, set, slice_get, Option, Some, None, Result, Ok, Err, OnOk, OnErr, length, refl, subst, sym, ap, ◌∙◌}
+use Rattle.std.proofs.Common.{◌≡◌, ◌<◌, ℕ, Bool, true, false, cond, List, [], ◌∷◌, map, get_or, set, slice_get, Option, Some, None, Result, Ok, OnOk, OnErr, length, refl, subst, sym, ap, ◌∙◌}
 use Rattle.std.proofs.lemmas.Bool.{and_parts}
 use Rattle.std.proofs.lemmas.List.{set-get_or}
 use Rattle.std.proofs.lemmas.Option.{slice_get-get_or}
 use Rattle.std.proofs.lemmas.List.Elements.{All-get_or}
 use Rattle.std.proofs.lemmas.Slice.Eq.{bytes_eq-Decides}
-use Rattle.std.specs.List.{All, find, position}
+use Rattle.std.specs.List.{find, position}
 use Rattle.ticket_items.proofs.AtKey.{write_at_key}
 use Rattle.ticket_items.proofs.Places.{below_length, found_at_position, none_at_position, same_found}
 use Rattle.ticket_items.specs.Ids.{are_distinct}
@@ -16,7 +16,7 @@ use Rattle.world.proofs.Kept.{stored_holds, worker_stored}
 use Rattle.world.proofs.Names.{HasItsNames}
 use Rattle.world.specs.Happening.{settled}
 use Rattle.world.specs.Settling.{settled_messages, settled_state}
-use Rattle.world.specs.State.{Controllers, IsKept, is_named, state, with_worker, worker_of}
+use Rattle.world.specs.State.{IsKept, is_named, state, with_worker, worker_of}
 use Rattle.world.specs.Stepping.{Moved, worker_moved}
 use Rattle.world.specs.declared.stop.Stop.{Stop}
 use Rattle.world.specs.declared.stop.Stop.TheVariants.{Run, BeforeSave, BeforeSend}

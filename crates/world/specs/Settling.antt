@@ -1,6 +1,6 @@
 -- What is left of a step, by where its controller stops: whether its state is stored, and whether
 -- its message is sent. The same for any kind of state and of message.
-use Rattle.std.specs.Prelude.{ℕ, suc, List, [], ◌∷◌, ◌++◌, length, Option, Some, None}
+use Rattle.std.specs.Prelude.{ℕ, suc, List, [], ◌∷◌, ◌++◌, length, Option, None}
 use Rattle.std.specs.Option.{option_map, option_map_or}
 use Rattle.world.specs.declared.answer.Answer.{Answer}
 use Rattle.world.specs.declared.stop.Stop.{Stop}

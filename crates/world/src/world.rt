@@ -74,9 +74,11 @@ impl World {
     }
 
     /// Every message that was sent, in the order in which they went out. The first has the number
-    /// 1.
+    /// 1. The workers are those that the master names, each knows it as its master, and each
+    /// controller is in order.
     pub fn messages(&self) -> &[Message]
-        ensures { result.now ≡ self.now.messages }
+        ensures messages { result.now ≡ self.now.messages }
+        ensures kept { state.IsKept self.now }
     {
         self.messages.as_slice()
     }

@@ -1,8 +1,7 @@
-use Rattle.std.proofs.Common.{◌≡◌, ◌+◌, ◌<◌, ◌≤◌, ◌∷◌, [], List, length, rules, refl, sym, ap, ◌∙◌, arith}
+use Rattle.std.proofs.Common.{rules, refl, arith}
 use Rattle.std.proofs.lemmas.Iterator.Adapters.{YieldsList-from_vec}
 use Rattle.world.proofs.Answered.{on_err}
 use Rattle.world.proofs.Runs.{has_room, next_of, one_more, stands_before}
-use Rattle.world.specs.declared.event.Event.{Event}
 use Rattle.world.proofs.world.World.run.Goals as goal
 
 pub loop-event-init : goal.loop-event-init
