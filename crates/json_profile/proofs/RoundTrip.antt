@@ -13,7 +13,8 @@ use Rattle.json_form.specs.Form.{job_has_names, job_has_texts, ticket_fault, tic
 use Rattle.json_reader.proofs.Faults.{no_fault}
 use Rattle.json_writer.specs.Written.{ticket_data, edit_data}
 use Rattle.json_profile.proofs.Again.{ticket_draft-ticket_data}
-use Rattle.json_profile.proofs.PoolShape.{attrs_plain, attrs_flat}
+use Rattle.json_writer.proofs.Plain.{attrs_plain}
+use Rattle.json_profile.proofs.PoolShape.{attrs_flat}
 
 no_built_fault : (bare : Bool) (o : Option Refusal) → bare ≡ true → o ≡ None → first_of (unless bare ReservedStatus ∷ o ∷ []) ≡ None
 no_built_fault true None p q = refl

@@ -16,7 +16,8 @@ use Rattle.json_writer.specs.Marked.{no_marks, marked_rows}
 use Rattle.json_writer.specs.PartWritten.{part_root_data, copied_root, rows_data, part_data}
 use Rattle.json_writer.specs.Written.{node_data, root_data, Tree, children, others, trees, job_data, shown_data}
 use Rattle.json_profile.proofs.Again.{raws_are_shallow, shallow-marked}
-use Rattle.json_profile.proofs.PoolShape.{attrs_plain, audits_plain, links_plain, pool_plain, ancestors_plain, attrs_flat, audits_low, links_low, pool_low, ancestors_low}
+use Rattle.json_writer.proofs.Plain.{attrs_plain, audits_plain, links_plain, pool_plain, ancestors_plain}
+use Rattle.json_profile.proofs.PoolShape.{attrs_flat, audits_low, links_low, pool_low, ancestors_low}
 
 -- ---- no float
 

@@ -6,7 +6,11 @@ mod text;
 mod write;
 
 pub use json_forms::{EditDraft, has_only, number_under, text_under};
-pub use json_reader::{PartDraft, TicketDraft};
+pub use json_reader::{
+    PartDraft, TicketChecks, TicketDraft, taken_member, taken_ticket, taken_values,
+};
 pub use read::{edit_of, part_of, ticket_of};
 pub use text::{text_of, value_of};
-pub use write::{edit_value, part_value, shown_value, ticket_value};
+pub use write::{
+    edit_value, part_value, push_shown_text, push_ticket_text, shown_value, ticket_value,
+};

@@ -60,7 +60,7 @@ item_rows-more depth vs i v first within is read =
     ap (λ xs. item_rows depth (items_view xs)) (drop_more vs i v within)
     ∙ ap (λ o. o >>= λ rows. option_map (λ rest. rows ++ rest) (item_rows depth (items_view (drop (i + 1) vs)))) (ap (λ x. node_rows node_members depth (view x)) (sym is) ∙ read)
 
-regrouped : (done first : List RawRow) (rest : Option (List RawRow)) → option_map (λ more. (done ++ first) ++ more) rest ≡ option_map (λ more. done ++ more) (option_map (λ more. first ++ more) rest)
+pub regrouped : (done first : List RawRow) (rest : Option (List RawRow)) → option_map (λ more. (done ++ first) ++ more) rest ≡ option_map (λ more. done ++ more) (option_map (λ more. first ++ more) rest)
 regrouped done first None = refl
 regrouped done first (Some more) = ap Some (append_assoc done first more)
 

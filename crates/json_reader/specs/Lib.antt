@@ -1,4 +1,6 @@
+pub mod Checks
 pub mod Drafted
 pub mod DraftedPool
 pub mod DraftedTicket
 pub mod DraftedPart
+pub mod Taken

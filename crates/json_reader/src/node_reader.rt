@@ -61,7 +61,7 @@ const DEEPEST_READ: u32 = 33;
 
 /// A node without its children, of an object with no other members than `names`.
 #[tactic(auto, unfolding(json_form::specs::Draft::own_row))]
-fn own_row<'a>(
+pub fn own_row<'a>(
     alloc: Global,
     names: &[&str],
     depth: u32,
@@ -95,7 +95,7 @@ fn own_row<'a>(
 }
 
 /// The depth of a child.
-fn next_depth(depth: u32) -> u32
+pub fn next_depth(depth: u32) -> u32
     ensures { result ≡ form.next_depth depth }
 {
     depth.saturating_add(1).min(DEEPEST_READ)

@@ -51,7 +51,7 @@ impl<'a> TicketDraft<'a> {
 
     /// Whether its resources show nothing of spawns.
     #[tactic(auto, using(crate::proofs::Faults::bare_in_rows))]
-    fn is_bare(&self) -> bool
+    pub fn is_bare(&self) -> bool
         ensures { result ≡ (drafted_ticket self.now).bare }
     {
         are_bare(self.rows.as_slice())

@@ -39,11 +39,12 @@ taken_more depth start left rest t old new before step deeper pushed =
       others = sym after ∙ before.others;
     }
 
-none_deeper : (depth : ℕ) (ts : List Tree) → has_deeper_front depth ts ≡ false → (children depth ts ≡ no_items) × (others depth ts ≡ ts)
+-- no tree in front stands deeper
+pub none_deeper : (depth : ℕ) (ts : List Tree) → has_deeper_front depth ts ≡ false → (children depth ts ≡ no_items) × (others depth ts ≡ ts)
 none_deeper depth [] h = (refl, refl)
 none_deeper depth (t ∷ ts) h = (ap (λ b. cond b (item t.value (children depth ts)) no_items) h, ap (λ b. cond b (others depth ts) (t ∷ ts)) h)
 
--- no tree in front stands deeper
+-- where none in front stands deeper, all were taken
 pub taken_all : (depth : ℕ) (start left : List TreeValue) (taken : List Value) → IsTakenSoFar depth start left taken → has_deeper_front depth (trees_of left) ≡ false
     → (items_view taken ≡ children depth (trees_of start)) × (trees_of left ≡ others depth (trees_of start))
 taken_all depth start left taken before stop =

@@ -2,3 +2,4 @@ pub mod Written
 pub mod Trees
 pub mod Marked
 pub mod PartWritten
+pub mod TicketText

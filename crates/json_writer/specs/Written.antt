@@ -1,7 +1,7 @@
 -- What is written for tickets: each member of a form, in the byte order of the names.
 use Rattle.std.specs.Prelude.{ℕ, Bool, false, List, [], ◌∷◌, codes, nat_lt, if◌then◌else◌}
 use Rattle.serde_json.specs.Data.{Data, Items, no_items, item, Members, no_members, member, null}
-use Rattle.serde_json.specs.Data.{string, array, object}
+use Rattle.serde_json.specs.Data.{string, array, object, put}
 use Rattle.ticket_rows.specs.Ticket.{Job}
 use Rattle.ticket_items.specs.declared.node_row.NodeRow.{NodeRow}
 use Rattle.ticket_items.specs.declared.marks.Marks.{Marks}
@@ -47,14 +47,12 @@ root_data job r children =
     object (first_members r.row children
     (member (codes "JobID") (string job) (last_members r.row (pool_data r.pool))))
 
--- the part of a node that is of its own kind: attributes and names
-abbrev pub own_members : NodeRow → Members
-own_members r =
-    member (codes "Attr") (object (attr_members r.attrs))
-    (member (codes "ID") (string r.id)
-    (member (codes "JobPartID") (string r.job_part)
-    (member (codes "Status") (string r.status)
-    (member (codes "Type") (string r.kind) no_members))))
+-- ---- members put into an object
+
+-- into the second members, the first one after another
+abbrev pub put_all : Members → Members → Members
+put_all no_members ms = ms
+put_all (member name d more) ms = put_all more (put name d ms)
 
 -- ---- trees
 
