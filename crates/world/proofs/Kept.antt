@@ -1,40 +1,89 @@
--- What always holds of a shop holds once a controller is stored anew.
-use Rattle.std.proofs.Common.{◌≡◌, ℕ, List, get_or, set, sym, ◌∙◌, subst, Result, Ok, Err, OnOk, OnErr}
-use Rattle.std.proofs.Math.Seq.{map-set_same}
-use Rattle.std.proofs.lemmas.List.Elements.{All-set}
+-- What always holds of a shop holds once a step of one of its controllers is settled.
+use Rattle.std.proofs.Common.{◌≡◌, List, Option, Some, None, IfSome, Result, Ok, Err, OnOk, OnErr, sym, ◌∙◌, subst}
+use Rattle.std.proofs.lemmas.List.Elements.{All-weaker}
 use Rattle.std.specs.List.{All}
 use Rattle.message_items.specs.declared.message.Message.{Message}
 use Rattle.master_core.specs.Master as master
 use Rattle.worker_core.specs.Worker as worker
+use Rattle.world.proofs.Later.{AreLater, in_order_later, recorded_later}
+use Rattle.world.proofs.MasterSteps.{with_master}
 use Rattle.world.proofs.Names.{HasItsNames, HasNames}
-use Rattle.world.specs.Settling.{settled_state}
-use Rattle.world.specs.State.{IsKept, state}
+use Rattle.world.proofs.Sending.{IsNew, one_more_in_order}
+use Rattle.world.proofs.Settled.{master_settled}
+use Rattle.world.proofs.Stored.{All-with_worker, names_stay}
+use Rattle.world.proofs.WorkerSteps.{with_next}
+use Rattle.world.specs.Controllers.{Controllers}
+use Rattle.world.specs.Happening.{settled}
+use Rattle.world.specs.Messages.{AreInOrder, AreRecorded, IsInOrder, IsRecorded}
+use Rattle.world.specs.Settling.{settled_messages, settled_state, with_sent}
+use Rattle.world.specs.State.{IsKept, State, state}
+use Rattle.world.specs.Stepping.{Moved, master_moved}
 use Rattle.world.specs.declared.stop.Stop.{Stop}
 use Rattle.world.specs.declared.stop.Stop.TheVariants.{Run, BeforeSave, BeforeSend}
 
--- what holds of the old state and of the next holds of the one that is stored
-pub stored_holds : {S A E : Type 0} (P : S → Type 0) (r : Result A E) (stop : Stop) (old next new : S) → OnOk r (new ≡ settled_state stop old next) → OnErr r (new ≡ old) → P old → P next → P new
-stored_holds P (Ok a) Run old next new is same p q = subst P (sym is) q
-stored_holds P (Ok a) BeforeSave old next new is same p q = subst P (sym is) p
-stored_holds P (Ok a) BeforeSend old next new is same p q = subst P (sym is) q
-stored_holds P (Err e) stop old next new is same p q = subst P (sym same) p
+-- the controllers with these messages
+abbrev pub beside : Controllers → List Message → State
+beside c messages = record { controllers = c; messages = messages }
 
--- another master of the same names
-pub master_stored : (m next : master.Known) (workers : List worker.Known) (old messages : List Message) → IsKept (state m workers old) → master.IsKept next → HasNames m next → IsKept (state next workers messages)
-master_stored m next workers old messages ok kept names =
+-- ---- what was known is known later
+
+messages_later : (c d : Controllers) (messages : List Message) → AreLater c d → AreInOrder c messages → AreInOrder d messages
+messages_later c d messages later ok = record { each = All-weaker (IsInOrder c) (IsInOrder d) (in_order_later c d later) messages ok.each; one = ok.one }
+
+recorded_entries : (c d : Controllers) (v : worker.Known) → AreLater c d → AreRecorded c v → AreRecorded d v
+recorded_entries c d v later all = All-weaker (IsRecorded c v.name) (IsRecorded d v.name) (recorded_later c d later v.name) v.entries all
+
+-- ---- another master, or another worker, of the same names
+
+pub master_stored : (c : Controllers) (next : master.Known) (messages : List Message) → IsKept (beside c messages) → master.IsKept next → HasNames c.master next → AreLater c (with_master c next) → IsKept (beside (with_master c next) messages)
+master_stored c next messages ok kept names later =
     record {
       master = kept;
       named = ok.named ∙ sym names.workers;
-      known = subst (λ n. All (λ (v : worker.Known). v.master ≡ n) workers) (sym names.own) ok.known;
+      known = subst (λ n. All (λ (v : worker.Known). v.master ≡ n) c.workers) (sym names.own) ok.known;
       workers = ok.workers;
+      recorded = All-weaker (AreRecorded c) (AreRecorded (with_master c next)) (λ v. recorded_entries c (with_master c next) v later) c.workers ok.recorded;
+      messages = messages_later c (with_master c next) messages later ok.messages;
     }
 
--- another worker of the same names at a place
-pub worker_stored : (m : master.Known) (workers : List worker.Known) (k : ℕ) (w next : worker.Known) (old messages : List Message) → IsKept (state m workers old) → w.name ≡ (get_or workers k w).name → w.master ≡ m.name → worker.IsKept next → HasItsNames w next → IsKept (state m (set workers k next) messages)
-worker_stored m workers k w next old messages ok there knows kept names =
+pub worker_stored : (c : Controllers) (v next : worker.Known) (messages : List Message) → IsKept (beside c messages) → v.master ≡ c.master.name → worker.IsKept next → HasItsNames v next → AreLater c (with_next c v.name next) → All (IsRecorded c v.name) next.entries → IsKept (beside (with_next c v.name next) messages)
+worker_stored c v next messages ok knows kept names later recorded =
     record {
       master = ok.master;
-      named = map-set_same (λ (v : worker.Known). v.name) workers k next w (names.own ∙ there) ∙ ok.named;
-      known = All-set (λ (v : worker.Known). v.master ≡ m.name) workers k next (names.masters ∙ knows) ok.known;
-      workers = All-set worker.IsKept workers k next kept ok.workers;
+      named = names_stay v.name next c.workers names.own ∙ ok.named;
+      known = All-with_worker (λ (u : worker.Known). u.master ≡ c.master.name) v.name next c.workers (names.masters ∙ knows) ok.known;
+      workers = All-with_worker worker.IsKept v.name next c.workers kept ok.workers;
+      recorded = All-with_worker (AreRecorded c) v.name next c.workers (subst (λ n. All (IsRecorded c n) next.entries) (sym names.own) recorded) ok.recorded;
+      messages = messages_later c (with_next c v.name next) messages later ok.messages;
     }
+
+-- ---- a step that is settled
+
+-- a step after which all is in order, also once what it sends is sent
+pub record Keeps (w : State) (moved : Moved Controllers Message) : Type 0 where
+  pub stored : IsKept (beside moved.next w.messages)
+  pub sent : IfSome moved.sent (IsNew moved.next w.messages)
+
+sent_kept : (c : Controllers) (messages : List Message) (sent : Option Message) → IsKept (beside c messages) → IfSome sent (IsNew c messages) → IsKept (beside c (with_sent messages sent))
+sent_kept c messages None ok new = ok
+sent_kept c messages (Some m) ok new =
+    record {
+      master = ok.master;
+      named = ok.named;
+      known = ok.known;
+      workers = ok.workers;
+      recorded = ok.recorded;
+      messages = one_more_in_order c messages m ok.messages new;
+    }
+
+pub settled_kept : (stop : Stop) (w : State) (moved : Moved Controllers Message) → IsKept w → Keeps w moved → IsKept (settled stop w (Ok moved))
+settled_kept Run w moved ok keeps = sent_kept moved.next w.messages moved.sent keeps.stored keeps.sent
+settled_kept BeforeSave w moved ok keeps = ok
+settled_kept BeforeSend w moved ok keeps = keeps.stored
+
+-- where memory runs out nothing changes
+pub master_kept : {A E : Type 0} (r : Result A E) (stop : Stop) (m stored : master.Known) (workers : List worker.Known) (old new : List Message) (moved : Moved master.Known Message)
+    → OnOk r (stored ≡ settled_state stop m moved.next) → OnOk r (new ≡ settled_messages stop old moved.sent) → OnErr r (stored ≡ m) → OnErr r (new ≡ old)
+    → IsKept (state m workers old) → Keeps (state m workers old) (master_moved (record { master = m; workers = workers }) moved) → IsKept (state stored workers new)
+master_kept (Ok a) stop m stored workers old new moved is sent same unsent ok keeps = subst IsKept (sym (master_settled stop m stored workers old new moved is sent)) (settled_kept stop (state m workers old) _ ok keeps)
+master_kept (Err e) stop m stored workers old new moved is sent same unsent ok keeps = subst (λ n. IsKept (state n workers new)) (sym same) (subst (λ ms. IsKept (state m workers ms)) (sym unsent) ok)

@@ -1,7 +1,17 @@
 pub mod Answered
 pub mod Opening
 pub mod Names
+pub mod Stored
+pub mod PartsGoOut
+pub mod EditedFits
+pub mod Later
+pub mod Sending
+pub mod MasterSteps
+pub mod WorkerSteps
+pub mod Doors
 pub mod Kept
+pub mod AlwaysKept
+pub mod SentTaken
 pub mod WorkerPlaces
 pub mod Settled
 pub mod Runs

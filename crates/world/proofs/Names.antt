@@ -29,7 +29,7 @@ pub record HasNames (old next : master.Known) : Type 0 where
 same : (m : master.Known) → HasNames m m
 same m = record { own = refl; workers = refl }
 
-ordered_names : (o : master_order.Order) (at : ℕ) (m : master.Known) → HasNames m (master_orders.ordered o at m)
+pub ordered_names : (o : master_order.Order) (at : ℕ) (m : master.Known) → HasNames m (master_orders.ordered o at m)
 ordered_names (order.Edit e) at m = record { own = refl; workers = refl }
 ordered_names (order.Spawn node to rw) at m = record { own = refl; workers = refl }
 ordered_names (order.Resend s) at m = same m

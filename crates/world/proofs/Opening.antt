@@ -1,5 +1,5 @@
 -- In the beginning all is in order.
-use Rattle.std.proofs.Common.{◌≡◌, ◌∷◌, false, List, [], ℕ, map, refl, sym, ap, ◌∙◌, subst}
+use Rattle.std.proofs.Common.{◌≡◌, ◌∷◌, false, List, [], ℕ, map, refl, sym, ap, ◌∙◌, subst, arith}
 use Rattle.std.proofs.lemmas.Bool.{and_parts, not-true, or_parts}
 use Rattle.std.proofs.lemmas.List.Elements.{All-cons, All-nil}
 use Rattle.std.specs.List.{All}
@@ -8,6 +8,8 @@ use Rattle.ticket_items.specs.Ids.{mem}
 use Rattle.message_items.specs.declared.message.Message.{Message}
 use Rattle.master_core.specs.Master as master
 use Rattle.worker_core.specs.Worker as worker
+use Rattle.world.specs.Controllers.{Controllers}
+use Rattle.world.specs.Messages.{AreInOrder, AreRecorded}
 use Rattle.world.specs.State.{IsKept, new_worker, state}
 
 -- each new worker has its name
@@ -30,12 +32,24 @@ kept m (x ∷ names) out =
     let parts = or_parts (bytes_eq x m) (mem m names) out in
     All-cons worker.IsKept (new_worker m x) (map (new_worker m) names) (new_kept m x parts.0) (kept m names parts.1)
 
-pub opening_kept : (m : master.Known) (workers : List worker.Known) (messages : List Message) → master.IsKept m → workers ≡ map (new_worker m.name) m.workers → IsKept (state m workers messages)
-opening_kept m workers messages ok is =
+-- none has an entry
+recorded : (c : Controllers) (m : List ℕ) (names : List (List ℕ)) → All (AreRecorded c) (map (new_worker m) names)
+recorded c m [] = All-nil _
+recorded c m (x ∷ names) = All-cons (AreRecorded c) (new_worker m x) (map (new_worker m) names) (All-nil _) (recorded c m names)
+
+-- and nothing was sent
+nothing_sent : (c : Controllers) → AreInOrder c []
+nothing_sent c = record { each = All-nil _; one = λ m n here there both. absurd (omega (arith, here.1)) }
+
+pub opening_kept : (m : master.Known) (workers : List worker.Known) (messages : List Message) → master.IsKept m → workers ≡ map (new_worker m.name) m.workers → messages ≡ [] → IsKept (state m workers messages)
+opening_kept m workers messages ok is none =
     let out : mem m.name m.workers ≡ false = not-true _ (and_parts _ _ ok.names).0 in
+    let c : Controllers = record { master = m; workers = workers } in
     record {
       master = ok;
       named = ap (map (λ (v : worker.Known). v.name)) is ∙ named m.name m.workers;
       known = subst (All (λ (v : worker.Known). v.master ≡ m.name)) (sym is) (known m.name m.workers);
       workers = subst (All worker.IsKept) (sym is) (kept m.name m.workers out);
+      recorded = subst (All (AreRecorded c)) (sym is) (recorded c m.name m.workers);
+      messages = subst (AreInOrder c) (sym none) (nothing_sent c);
     }

@@ -1,19 +1,18 @@
 -- A worker is found at its place, and what is stored there is stored by its name.
-use Rattle.std.proofs.Common.{◌≡◌, ◌<◌, ℕ, Bool, true, false, cond, List, [], ◌∷◌, map, get_or, set, slice_get, Option, Some, None, Result, Ok, OnOk, OnErr, length, refl, subst, sym, ap, ◌∙◌}
+use Rattle.std.proofs.Common.{◌≡◌, ◌<◌, ℕ, true, List, map, get_or, set, slice_get, Some, None, Result, Ok, Err, OnOk, OnErr, length, refl, subst, sym, ap, ◌∙◌}
 use Rattle.std.proofs.lemmas.Bool.{and_parts}
 use Rattle.std.proofs.lemmas.List.{set-get_or}
 use Rattle.std.proofs.lemmas.Option.{slice_get-get_or}
-use Rattle.std.proofs.lemmas.List.Elements.{All-get_or}
 use Rattle.std.proofs.lemmas.Slice.Eq.{bytes_eq-Decides}
-use Rattle.std.specs.List.{find, position}
+use Rattle.std.specs.List.{position}
 use Rattle.ticket_items.proofs.AtKey.{write_at_key}
 use Rattle.ticket_items.proofs.Places.{below_length, found_at_position, none_at_position, same_found}
 use Rattle.ticket_items.specs.Ids.{are_distinct}
+use Rattle.ticket_rows.proofs.AtHome.{find-passes}
 use Rattle.message_items.specs.declared.message.Message.{Message}
 use Rattle.master_core.specs.Master as master
 use Rattle.worker_core.specs.Worker as worker
-use Rattle.world.proofs.Kept.{stored_holds, worker_stored}
-use Rattle.world.proofs.Names.{HasItsNames}
+use Rattle.world.proofs.Kept.{Keeps, settled_kept}
 use Rattle.world.specs.Happening.{settled}
 use Rattle.world.specs.Settling.{settled_messages, settled_state}
 use Rattle.world.specs.State.{IsKept, is_named, state, with_worker, worker_of}
@@ -22,17 +21,6 @@ use Rattle.world.specs.declared.stop.Stop.{Stop}
 use Rattle.world.specs.declared.stop.Stop.TheVariants.{Run, BeforeSave, BeforeSend}
 
 -- ---- what is found
-
-passes_here : {X : Type 0} (b : Bool) (p : X → Bool) (x s : X) (rest : Option X) → p x ≡ b → cond b (Some x) rest ≡ Some s → (rest ≡ Some s → p s ≡ true) → p s ≡ true
-passes_here true p x s rest e found go =
-    let same : x ≡ s = cc in
-    ap p (sym same) ∙ e
-passes_here false p x s rest e found go = go found
-
--- what is found passes the test
-pub find-passes : {X : Type 0} (p : X → Bool) (xs : List X) (s : X) → find p xs ≡ Some s → p s ≡ true
-find-passes p [] s found = cc
-find-passes p (x ∷ xs) s found = passes_here (p x) p x s (find p xs) refl found (find-passes p xs s)
 
 -- a worker of a name at its place
 pub record StandsAt (workers : List worker.Known) (name : List ℕ) (k : ℕ) (x : worker.Known) : Type 0 where
@@ -49,10 +37,6 @@ found workers name k x here =
 
 pub name_of : (workers : List worker.Known) (name : List ℕ) (k : ℕ) (x : worker.Known) → StandsAt workers name k x → x.name ≡ name
 name_of workers name k x here = (bytes_eq-Decides x.name name).0 (find-passes (is_named name) workers x (found workers name k x here))
-
-pub master_of : (m : master.Known) (workers : List worker.Known) (messages : List Message) (name : List ℕ) (k : ℕ) (x : worker.Known) → IsKept (state m workers messages) → StandsAt workers name k x → x.master ≡ m.name
-master_of m workers messages name k x ok here =
-    ap (λ (v : worker.Known). v.master) here.at ∙ All-get_or (λ (v : worker.Known). v.master ≡ m.name) workers k x (within workers name k x here) ok.known
 
 -- ---- what is stored there
 
@@ -75,16 +59,19 @@ settled_there BeforeSave m workers old new name k x stored moved ok here is sent
 settled_there BeforeSend m workers old new name k x stored moved ok here is sent =
     ap (λ ms. state m (set workers k stored) ms) sent ∙ ap (λ s. state m (set workers k s) old) is ∙ ap (λ ws. state m ws old) (put m workers old name k x moved.next ok here)
 
--- and what always holds holds then
-pub kept_there : {A E : Type 0} (r : Result A E) (stop : Stop) (m : master.Known) (workers : List worker.Known) (old new : List Message) (name : List ℕ) (k : ℕ) (x next stored : worker.Known) → IsKept (state m workers old) → StandsAt workers name k x
-    → worker.IsKept next → HasItsNames x next → OnOk r (stored ≡ settled_state stop x next) → OnErr r (stored ≡ x) → IsKept (state m (set workers k stored) new)
-kept_there r stop m workers old new name k x next stored ok here kept names is same =
-    let there = ap (λ (v : worker.Known). v.name) here.at in
-    let knows = master_of m workers old name k x ok here in
-    let was : worker.IsKept x = subst worker.IsKept (sym here.at) (All-get_or worker.IsKept workers k x (within workers name k x here) ok.workers) in
-    stored_holds (λ s. IsKept (state m (set workers k s) new)) r stop x next stored is same
-    (worker_stored m workers k x x old new ok there knows was (record { own = refl; masters = refl }))
-    (worker_stored m workers k x next old new ok there knows kept names)
+-- and what always holds holds then. Where memory runs out nothing changes
+pub kept_there : {A E : Type 0} (r : Result A E) (stop : Stop) (m : master.Known) (workers : List worker.Known) (old new : List Message) (name : List ℕ) (k : ℕ) (x stored : worker.Known) (moved : Moved worker.Known Message) → IsKept (state m workers old) → StandsAt workers name k x
+    → OnOk r (stored ≡ settled_state stop x moved.next) → OnOk r (new ≡ settled_messages stop old moved.sent) → OnErr r (stored ≡ x) → OnErr r (new ≡ old)
+    → Keeps (state m workers old) (worker_moved (record { master = m; workers = workers }) x moved) → IsKept (state m (set workers k stored) new)
+kept_there (Ok a) stop m workers old new name k x stored moved ok here is sent same unsent keeps =
+    subst IsKept (sym (settled_there stop m workers old new name k x stored moved ok here is sent)) (settled_kept stop (state m workers old) _ ok keeps)
+kept_there (Err e) stop m workers old new name k x stored moved ok here is sent same unsent keeps =
+    let there : set workers k stored ≡ workers = ap (set workers k) (same ∙ here.at) ∙ set-get_or workers k x in
+    subst (λ ws. IsKept (state m ws new)) (sym there) (subst (λ ms. IsKept (state m workers ms)) (sym unsent) ok)
+
+-- the worker that stands there is the one of its name
+pub found_own : (workers : List worker.Known) (name : List ℕ) (k : ℕ) (x : worker.Known) → StandsAt workers name k x → worker_of workers x.name ≡ Some x
+found_own workers name k x here = ap (worker_of workers) (name_of workers name k x here) ∙ found workers name k x here
 
 -- ---- as it was looked for
 

@@ -1,5 +1,7 @@
 pub mod Settling
+pub mod Controllers
+pub mod Messages
 pub mod State
 pub mod Stepping
-pub mod MovedView
 pub mod Happening
+pub mod Laws

@@ -33,10 +33,14 @@ abbrev pub word_of : Result Reply Refusal → Word
 word_of (Ok reply) = Did reply
 word_of (Err e) = Refused e
 
--- a state after an order, by what that was answered with
-abbrev pub done_moved : {S : Type 0} → S → Result Done Refusal → Moved S Message
-done_moved s (Ok done) = record { word = Did done.reply; next = s; sent = done.message }
-done_moved s (Err e) = refused e s
+-- what is said and what is sent, by what an order was answered with
+abbrev pub told_word : Result Done Refusal → Word
+told_word (Ok done) = Did done.reply
+told_word (Err e) = Refused e
+
+abbrev pub told_sent : Result Done Refusal → Option Message
+told_sent (Ok done) = done.message
+told_sent (Err e) = None
 
 -- ---- the master
 

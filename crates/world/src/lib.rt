@@ -4,10 +4,11 @@
 
 mod answer;
 mod event;
-mod moved;
+pub mod laws;
 mod settling;
 mod stepping;
 mod stop;
+mod told;
 mod what;
 mod word;
 mod workers;

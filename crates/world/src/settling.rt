@@ -1,63 +1,43 @@
-//! What is left of a step: its state is stored, its message is sent, unless the controller stops
-//! before.
+//! What is left of a step that isn't lost: its message is sent, unless the controller stops before.
 
-ghost use Rattle.std.specs.Prelude.{◌≡◌, IfOk, OnOk, OnErr};
-ghost use Rattle.std.specs.Option.{option_copied};
+ghost use Rattle.std.specs.Prelude.{◌≡◌, ◌<◌, vec_capacity, vec_len};
 ghost use Rattle.world.specs.Settling as settling;
+ghost use Rattle.world.specs.declared.stop.Stop.TheVariants.{BeforeSave};
 
 use crate::answer::Answer;
-use crate::moved::Moved;
 use crate::stop::Stop;
-use crate::word::Word;
+use crate::told::Told;
 use message_items::Message;
-use std::alloc::AllocError;
 
-/// Sends a message, if there is one, and tells its number.
-fn send(messages: &mut Vec<Message>, sent: Option<Message>) -> Result<Option<u64>, AllocError>
-    ensures number { IfOk result (λ number. number ≡ settling.number_of messages.old.items sent) }
-    ensures messages { OnOk result
-        (messages.new.items ≡ settling.with_sent messages.old.items sent) }
-    ensures err { OnErr result (messages.new.items ≡ messages.old.items) }
+/// Sends a message, if there is one, and tells its number. There is room for it.
+fn send(messages: &mut Vec<Message>, sent: Option<Message>) -> Option<u64>
+    requires room { vec_len messages.old < vec_capacity messages.old }
+    ensures number { result ≡ settling.number_of messages.old.items sent }
+    ensures messages { messages.new.items ≡ settling.with_sent messages.old.items sent }
 {
     match sent {
-        None => Ok(None),
+        None => None,
         Some(message) => {
-            messages.push(message)?;
-            Ok(Some(messages.len() as u64))
+            let _ = messages.push(message);
+            Some(messages.len() as u64)
         }
     }
 }
 
-/// Stores the state of a controller and sends what it sends, as far as the stop lets it. Without
-/// memory nothing changes.
-pub fn settle<C: Drop>(
-    stored: &mut C,
-    messages: &mut Vec<Message>,
-    moved: Moved<C>,
-    stop: Stop,
-) -> Result<Answer, AllocError>
-    ensures answer { IfOk result (λ a. a
-        ≡ settling.settled_answer stop messages.old.items moved.word moved.sent) }
-    ensures stored { OnOk result (stored.new ≡ settling.settled_state stop stored.old moved.next) }
-    ensures messages { OnOk result (messages.new.items
-        ≡ settling.settled_messages stop messages.old.items moved.sent) }
-    ensures err_stored { OnErr result (stored.new ≡ stored.old) }
-    ensures err_messages { OnErr result (messages.new.items ≡ messages.old.items) }
+/// What is answered to a step whose state is stored, and sends its message as far as the stop lets
+/// it.
+pub fn settle(messages: &mut Vec<Message>, told: Told, stop: Stop) -> Answer
+    requires room { vec_len messages.old < vec_capacity messages.old }
+    requires stored { ¬ (stop ≡ BeforeSave) }
+    ensures answer { result
+        ≡ settling.settled_answer stop messages.old.items told.word told.sent }
+    ensures messages { messages.new.items
+        ≡ settling.settled_messages stop messages.old.items told.sent }
 {
-    let Moved { word, next, sent } = moved;
-    match stop {
-        Stop::BeforeSave => Ok(Answer {
-            word: Word::Stopped,
-            number: None,
-        }),
-        Stop::BeforeSend => {
-            *stored = next;
-            Ok(Answer { word, number: None })
-        }
-        Stop::Run => {
-            let number = send(messages, sent)?;
-            *stored = next;
-            Ok(Answer { word, number })
-        }
+    let Told { word, sent } = told;
+    if stop == Stop::BeforeSend {
+        return Answer { word, number: None };
     }
+    let number = send(messages, sent);
+    Answer { word, number }
 }

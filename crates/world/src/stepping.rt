@@ -1,18 +1,20 @@
-//! What one controller makes of an order or a message. The step is made by a copy of it, so that
-//! what is stored stays as it is.
+//! What one controller makes of an order or a message: its step, whose state is stored and whose
+//! message is sent as far as the stop lets it. A step that is lost isn't made, and before one that
+//! isn't there is room for its message, so that nothing has to be taken back.
 
-ghost use Rattle.std.specs.Prelude.{◌≡◌, Err, IfOk, OnOk};
-ghost use Rattle.master_core.specs.Master as master;
-ghost use Rattle.worker_core.specs.Worker as worker;
-ghost use Rattle.world.specs.MovedView.{moved_of};
+ghost use Rattle.std.specs.Prelude.{◌≡◌, Err, IfOk, OnErr, OnOk};
+ghost use Rattle.world.specs.Settling as settling;
 ghost use Rattle.world.specs.Stepping as stepping;
 
-use crate::moved::Moved;
+use crate::answer::Answer;
+use crate::settling::settle;
+use crate::stop::Stop;
+use crate::told::Told;
 use crate::word::Word;
 use master_core::Master;
-use message_items::{Done, Message, Reply};
+use message_items::{Done, Message, Outcome, Reply};
 use std::alloc::{AllocError, Global};
-use ticket_tree::{Duplicate, Refusal};
+use ticket_tree::Refusal;
 use worker_core::Worker;
 
 /// What is replied, in a word.
@@ -25,102 +27,153 @@ fn word_of(reply: Result<Reply, Refusal>) -> Word
     }
 }
 
-/// A controller after an order that was answered so.
-fn moved_by<C: Drop>(next: C, done: Result<Done, Refusal>) -> Result<Moved<C>, AllocError>
-    ensures moved { IfOk result (λ m. moved_of m ≡ stepping.done_moved next done) }
+/// What is told of an order that was answered so. Where memory ran out no step was made.
+fn told_of(done: Result<Done, Refusal>) -> Result<Told, AllocError>
+    ensures word { IfOk result (λ t. t.word ≡ stepping.told_word done) }
+    ensures sent { IfOk result (λ t. t.sent ≡ stepping.told_sent done) }
     ensures memory { OnOk result (¬ (done ≡ Err Refusal.Memory)) }
+    ensures err { OnErr result (done ≡ Err Refusal.Memory) }
 {
     match done {
-        Ok(done) => Ok(Moved {
+        Ok(done) => Ok(Told {
             word: Word::Did(done.reply),
-            next,
             sent: done.message,
         }),
         Err(refusal) => {
             if refusal == Refusal::Memory {
                 return Err(AllocError);
             }
-            Ok(Moved {
+            Ok(Told {
                 word: Word::Refused(refusal),
-                next,
                 sent: None,
             })
         }
     }
 }
 
-/// A master after an order.
-pub fn ordered_master(
+/// What is told of a message that came out so.
+fn told_of_message(outcome: Outcome) -> Told
+    ensures word { result.word ≡ stepping.word_of outcome.reply }
+    ensures sent { result.sent ≡ outcome.answer }
+{
+    Told {
+        word: word_of(outcome.reply),
+        sent: outcome.answer,
+    }
+}
+
+/// A master is told to do something. Where memory runs out nothing is changed.
+pub fn master_is_told(
     alloc: Global,
-    stored: &Master,
+    stored: &mut Master,
+    messages: &mut Vec<Message>,
     order: master_core::Order,
     at: u64,
-) -> Result<Moved<Master>, AllocError>
-    ensures moved { IfOk result (λ m. moved_of m ≡ stepping.ordered_master order at stored.now) }
-    ensures kept { IfOk result (λ m. master.IsKept m.next) }
+    stop: Stop,
+) -> Result<Answer, AllocError>
+    ensures answer { IfOk result (λ a. a ≡ settling.settled_answer stop messages.old.items
+        (stepping.ordered_master order at stored.old).word
+        (stepping.ordered_master order at stored.old).sent) }
+    ensures stored { OnOk result (stored.new ≡ settling.settled_state stop stored.old
+        (stepping.ordered_master order at stored.old).next) }
+    ensures messages { OnOk result (messages.new.items
+        ≡ settling.settled_messages stop messages.old.items
+        (stepping.ordered_master order at stored.old).sent) }
+    ensures err_stored { OnErr result (stored.new ≡ stored.old) }
+    ensures err_messages { OnErr result (messages.new.items ≡ messages.old.items) }
 {
-    let mut next = stored.copy(alloc)?;
-    let done = next.order(alloc, order, at);
-    // A master is always in order.
-    let _records = next.records();
-    moved_by(next, done)
+    if stop == Stop::BeforeSave {
+        drop(order);
+        return Ok(Answer::without_step(Word::Stopped));
+    }
+    messages.reserve(1)?;
+    let told = told_of(stored.order(alloc, order, at))?;
+    Ok(settle(messages, told, stop))
 }
 
-/// A master after a message.
-pub fn taken_by_master(
+/// A message comes to a master. Where memory runs out nothing is changed.
+pub fn master_takes(
     alloc: Global,
-    stored: &Master,
+    stored: &mut Master,
+    messages: &mut Vec<Message>,
     message: Message,
     at: u64,
-) -> Result<Moved<Master>, AllocError>
-    ensures moved { IfOk result (λ m. moved_of m ≡ stepping.taken_by_master message at stored.now) }
-    ensures kept { IfOk result (λ m. master.IsKept m.next) }
+    stop: Stop,
+) -> Result<Answer, AllocError>
+    ensures answer { IfOk result (λ a. a ≡ settling.settled_answer stop messages.old.items
+        (stepping.taken_by_master message at stored.old).word
+        (stepping.taken_by_master message at stored.old).sent) }
+    ensures stored { OnOk result (stored.new ≡ settling.settled_state stop stored.old
+        (stepping.taken_by_master message at stored.old).next) }
+    ensures messages { OnOk result (messages.new.items
+        ≡ settling.settled_messages stop messages.old.items
+        (stepping.taken_by_master message at stored.old).sent) }
+    ensures err_stored { OnErr result (stored.new ≡ stored.old) }
+    ensures err_messages { OnErr result (messages.new.items ≡ messages.old.items) }
 {
-    let mut next = stored.copy(alloc)?;
-    let outcome = next.take(alloc, message, at)?;
-    // A master is always in order.
-    let _records = next.records();
-    Ok(Moved {
-        word: word_of(outcome.reply),
-        next,
-        sent: outcome.answer,
-    })
+    if stop == Stop::BeforeSave {
+        drop(message);
+        return Ok(Answer::without_step(Word::Stopped));
+    }
+    messages.reserve(1)?;
+    let told = told_of_message(stored.take(alloc, message, at)?);
+    Ok(settle(messages, told, stop))
 }
 
-/// A worker after an order.
-pub fn ordered_worker(
+/// A worker is told to do something. Where memory runs out nothing is changed.
+pub fn worker_is_told(
     alloc: Global,
-    stored: &Worker,
+    stored: &mut Worker,
+    messages: &mut Vec<Message>,
     order: worker_core::Order,
     at: u64,
-) -> Result<Moved<Worker>, AllocError>
-    ensures moved { IfOk result (λ m. moved_of m ≡ stepping.ordered_worker order at stored.now) }
-    ensures kept { IfOk result (λ m. worker.IsKept m.next) }
+    stop: Stop,
+) -> Result<Answer, AllocError>
+    ensures answer { IfOk result (λ a. a ≡ settling.settled_answer stop messages.old.items
+        (stepping.ordered_worker order at stored.old).word
+        (stepping.ordered_worker order at stored.old).sent) }
+    ensures stored { OnOk result (stored.new ≡ settling.settled_state stop stored.old
+        (stepping.ordered_worker order at stored.old).next) }
+    ensures messages { OnOk result (messages.new.items
+        ≡ settling.settled_messages stop messages.old.items
+        (stepping.ordered_worker order at stored.old).sent) }
+    ensures err_stored { OnErr result (stored.new ≡ stored.old) }
+    ensures err_messages { OnErr result (messages.new.items ≡ messages.old.items) }
 {
-    let mut next = stored.copy(alloc)?;
-    let done = next.order(alloc, order, at);
-    // A worker is always in order.
-    let _entries = next.entries();
-    moved_by(next, done)
+    if stop == Stop::BeforeSave {
+        drop(order);
+        return Ok(Answer::without_step(Word::Stopped));
+    }
+    messages.reserve(1)?;
+    let told = told_of(stored.order(alloc, order, at))?;
+    Ok(settle(messages, told, stop))
 }
 
-/// A worker after a message.
-pub fn taken_by_worker(
+/// A message comes to a worker. Where memory runs out nothing is changed.
+pub fn worker_takes(
     alloc: Global,
-    stored: &Worker,
+    stored: &mut Worker,
+    messages: &mut Vec<Message>,
     message: Message,
     at: u64,
-) -> Result<Moved<Worker>, AllocError>
-    ensures moved { IfOk result (λ m. moved_of m ≡ stepping.taken_by_worker message at stored.now) }
-    ensures kept { IfOk result (λ m. worker.IsKept m.next) }
+    stop: Stop,
+) -> Result<Answer, AllocError>
+    ensures answer { IfOk result (λ a. a ≡ settling.settled_answer stop messages.old.items
+        (stepping.taken_by_worker message at stored.old).word
+        (stepping.taken_by_worker message at stored.old).sent) }
+    ensures stored { OnOk result (stored.new ≡ settling.settled_state stop stored.old
+        (stepping.taken_by_worker message at stored.old).next) }
+    ensures messages { OnOk result (messages.new.items
+        ≡ settling.settled_messages stop messages.old.items
+        (stepping.taken_by_worker message at stored.old).sent) }
+    ensures err_stored { OnErr result (stored.new ≡ stored.old) }
+    ensures err_messages { OnErr result (messages.new.items ≡ messages.old.items) }
 {
-    let mut next = stored.copy(alloc)?;
-    let outcome = next.take(alloc, message, at)?;
-    // A worker is always in order.
-    let _entries = next.entries();
-    Ok(Moved {
-        word: word_of(outcome.reply),
-        next,
-        sent: outcome.answer,
-    })
+    if stop == Stop::BeforeSave {
+        drop(message);
+        return Ok(Answer::without_step(Word::Stopped));
+    }
+    messages.reserve(1)?;
+    let told = told_of_message(stored.take(alloc, message, at)?);
+    Ok(settle(messages, told, stop))
 }

@@ -1,6 +1,5 @@
 use crate::answer::Answer;
 use crate::event::Event;
-use crate::settling::settle;
 use crate::stepping;
 use crate::stop::Stop;
 use crate::what::What;
@@ -35,6 +34,7 @@ impl Model for World {
 impl World {
     ghost use Rattle.std.specs.Prelude.{◌≡◌, ◌⊎◌, ◌∷◌, true, false, OnOk, OnErr, IfOk, IfErr};
     ghost use Rattle.std.specs.Prelude.{◌<◌, ℕ, length, take, IsErrOf};
+    ghost use Rattle.std.specs.List.{Contains};
     ghost use Rattle.std.specs.Option.{option_copied};
     ghost use Rattle.ticket_items.specs.Ids.{are_distinct};
     ghost use Rattle.world.specs.Happening as happening;
@@ -75,7 +75,9 @@ impl World {
 
     /// Every message that was sent, in the order in which they went out. The first has the number
     /// 1. The workers are those that the master names, each knows it as its master, and each
-    /// controller is in order.
+    /// controller is in order. So are the messages: of one spawn one part goes out and one comes
+    /// back, however often, and each is the one that the master makes of its record while it is
+    /// out, or the worker of its entry once that is finished.
     pub fn messages(&self) -> &[Message]
         ensures messages { result.now ≡ self.now.messages }
         ensures kept { state.IsKept self.now }
@@ -107,8 +109,7 @@ impl World {
             ≡ happening.settled stop self.old (happening.master_step order at self.old)) }
         ensures err { OnErr result (self.new ≡ self.old) }
     {
-        let moved = stepping::ordered_master(alloc, &self.master, order, at)?;
-        settle(&mut self.master, &mut self.messages, moved, stop)
+        stepping::master_is_told(alloc, &mut self.master, &mut self.messages, order, at, stop)
     }
 
     /// The worker of a name is told to do something.
@@ -134,13 +135,12 @@ impl World {
             }
             Some(place) => {
                 let stored = &mut self.workers[place];
-                let moved = stepping::ordered_worker(alloc, stored, order, at)?;
-                settle(stored, &mut self.messages, moved, stop)
+                stepping::worker_is_told(alloc, stored, &mut self.messages, order, at, stop)
             }
         }
     }
 
-    /// A message comes to the master.
+    /// A message that was sent to the master comes to it.
     fn deliver_to_master(
         &mut self,
         alloc: Global,
@@ -148,17 +148,25 @@ impl World {
         at: u64,
         stop: Stop,
     ) -> Result<Answer, AllocError>
+        requires sent { Contains self.old.messages message }
+        requires own { message.receiver ≡ self.old.controllers.master.name }
         ensures answer { IfOk result (λ a. a
             ≡ happening.settled_word stop self.old (happening.master_takes message at self.old)) }
         ensures state { OnOk result (self.new
             ≡ happening.settled stop self.old (happening.master_takes message at self.old)) }
         ensures err { OnErr result (self.new ≡ self.old) }
     {
-        let moved = stepping::taken_by_master(alloc, &self.master, message, at)?;
-        settle(&mut self.master, &mut self.messages, moved, stop)
+        stepping::master_takes(
+            alloc,
+            &mut self.master,
+            &mut self.messages,
+            message,
+            at,
+            stop,
+        )
     }
 
-    /// A message comes to the worker that it is for, if there is one.
+    /// A message that was sent comes to the worker that it is for, if there is one.
     fn deliver_to_worker(
         &mut self,
         alloc: Global,
@@ -166,6 +174,7 @@ impl World {
         at: u64,
         stop: Stop,
     ) -> Result<Answer, AllocError>
+        requires sent { Contains self.old.messages message }
         ensures answer { IfOk result (λ a. a
             ≡ happening.settled_word stop self.old (happening.worker_takes message at self.old)) }
         ensures state { OnOk result (self.new
@@ -179,8 +188,7 @@ impl World {
             }
             Some(place) => {
                 let stored = &mut self.workers[place];
-                let moved = stepping::taken_by_worker(alloc, stored, message, at)?;
-                settle(stored, &mut self.messages, moved, stop)
+                stepping::worker_takes(alloc, stored, &mut self.messages, message, at, stop)
             }
         }
     }
@@ -221,11 +229,10 @@ impl World {
         }
     }
 
-    /// One event. What is told to a controller, or comes to it, is a step: it is made by a copy of
-    /// the controller, whose state is then stored and whose message is sent, as far as the stop
-    /// lets it. Where there is no such controller it is `Refused` as `UnknownWorker`, and where
-    /// there is no such message it is `NoMessage`, at any stop. Where memory runs out nothing is
-    /// changed.
+    /// One event. What is told to a controller, or comes to it, is a step: its state is stored and
+    /// its message is sent, as far as the stop lets it. Where there is no such controller it is
+    /// `Refused` as `UnknownWorker`, and where there is no such message it is `NoMessage`, at any
+    /// stop. Where memory runs out nothing is changed.
     pub fn step(&mut self, alloc: Global, event: Event) -> Result<Answer, AllocError>
         ensures answer { IfOk result (λ a. a ≡ happening.answer_to event self.old) }
         ensures state { OnOk result (self.new ≡ happening.after event self.old) }

@@ -1,31 +1,25 @@
-use Rattle.std.proofs.Common.{Ok, ap, refl, subst, sym, ◌∙◌}
-use Rattle.message_items.specs.declared.message.Message.{Message}
-use Rattle.master_core.specs.Master.{Known}
-use Rattle.world.proofs.Kept.{master_stored, stored_holds}
+use Rattle.std.proofs.Common.{ap, subst, sym, ◌∙◌}
+use Rattle.std.specs.List.{Contains}
+use Rattle.world.proofs.AlwaysKept.{master_takes_keeps}
 use Rattle.world.proofs.Answered.{on_ok}
-use Rattle.world.proofs.Names.{HasNames, taken_by_master_names}
+use Rattle.world.proofs.Kept.{master_kept}
 use Rattle.world.proofs.Settled.{master_settled}
 use Rattle.world.specs.Happening.{master_takes, settled}
-use Rattle.world.specs.MovedView.{moved_of}
-use Rattle.world.specs.State.{IsKept, State, state}
-use Rattle.world.specs.Stepping.{Moved, master_moved}
+use Rattle.world.specs.State.{State, state}
+use Rattle.world.specs.Stepping.{taken_by_master}
 use Rattle.world.proofs.world.World.deliver_to_master.Goals as goal
 
 pub invariant_of-self : goal.invariant_of-self
 invariant_of-self c =
-    let m = c.self.inside.master in
-    let workers = c.self.inside.workers.items in
-    let messages = c.settle.new.messages.items in
-    let next = c.in_ok-moved.moved.next in
-    let names : HasNames m next = subst (HasNames m) (sym (ap (λ (v : Moved Known Message). v.next) c.in_ok-moved.ensures.moved)) (taken_by_master_names c.args.message c.args.at m) in
-    stored_holds (λ n. IsKept (state n workers messages)) c.settle.result c.args.stop m next c.settle.new.stored c.settle.ensures.stored c.settle.ensures.err_stored
-    (master_stored m m workers c.self.inside.messages.items messages c.self.invariant c.self.invariant.master (record { own = refl; workers = refl }))
-    (master_stored m next workers c.self.inside.messages.items messages c.self.invariant c.in_ok-moved.ensures.kept names)
+    let w : State = state c.self.inside.master c.self.inside.workers.items c.self.inside.messages.items in
+    let there = subst (λ (v : State). Contains v.messages c.args.message) (sym c.self.view_is) c.requires.sent in
+    let own = c.requires.own ∙ sym (ap (λ (v : State). v.controllers.master.name) c.self.view_is) in
+    let keeps = master_takes_keeps c.args.message c.args.at w c.self.invariant there own in
+    master_kept c.master_takes.result c.args.stop w.controllers.master c.master_takes.new.stored w.controllers.workers w.messages c.master_takes.new.messages.items (taken_by_master c.args.message c.args.at w.controllers.master) c.master_takes.ensures.stored c.master_takes.ensures.messages c.master_takes.ensures.err_stored c.master_takes.ensures.err_messages c.self.invariant keeps
 
 pub returns-clause-state : goal.returns-clause-state
 returns-clause-state c =
     let w : State = state c.self.inside.master c.self.inside.workers.items c.self.inside.messages.items in
-    on_ok _ _ _ c.settle.result c.settle.ensures.stored c.settle.ensures.messages (λ is sent.
-    master_settled c.args.stop w.controllers.master c.settle.new.stored w.controllers.workers w.messages c.settle.new.messages.items (moved_of c.in_ok-moved.moved) is sent
-    ∙ ap (λ v. settled c.args.stop w (Ok (master_moved w.controllers v))) c.in_ok-moved.ensures.moved
+    on_ok _ _ _ c.master_takes.result c.master_takes.ensures.stored c.master_takes.ensures.messages (λ is sent.
+    master_settled c.args.stop w.controllers.master c.master_takes.new.stored w.controllers.workers w.messages c.master_takes.new.messages.items (taken_by_master c.args.message c.args.at w.controllers.master) is sent
     ∙ ap (λ (v : State). settled c.args.stop v (master_takes c.args.message c.args.at v)) c.self.view_is)

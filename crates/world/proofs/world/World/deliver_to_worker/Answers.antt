@@ -1,26 +1,26 @@
-use Rattle.std.proofs.Common.{◌≡◌, ap, subst, sym, ◌∙◌}
-use Rattle.message_items.specs.declared.message.Message.{Message}
-use Rattle.worker_core.specs.Worker.{Known}
+use Rattle.std.proofs.Common.{◌≡◌, ap, refl, subst, sym, ◌∙◌}
+use Rattle.std.specs.List.{Contains}
+use Rattle.world.proofs.AlwaysKept.{worker_takes_keeps}
 use Rattle.world.proofs.Answered.{if_ok, on_ok}
-use Rattle.world.proofs.Names.{HasItsNames, taken_by_worker_names}
 use Rattle.world.proofs.Settled.{found_answers, found_settles, none_answers, none_settles}
-use Rattle.world.proofs.WorkerPlaces.{StandsAt, found, kept_there, none_there, settled_there, stands_at}
+use Rattle.world.proofs.WorkerPlaces.{StandsAt, found, found_own, kept_there, name_of, none_there, settled_there, stands_at}
 use Rattle.world.specs.Happening.{settled, settled_word, worker_takes}
-use Rattle.world.specs.MovedView.{moved_of}
 use Rattle.world.specs.State.{State, state, worker_of}
-use Rattle.world.specs.Stepping.{Moved, taken_by_worker}
+use Rattle.world.specs.Stepping.{taken_by_worker}
 use Rattle.world.specs.declared.word.Word.TheVariants.{NoMessage}
 use Rattle.world.proofs.world.World.deliver_to_worker.Goals as goal
 
-pub invariant_of-self-in-Some : goal.invariant_of-self-in-Some
-invariant_of-self-in-Some c =
-    let workers = c.self.inside.workers.items in
+pub invariant_of-self : goal.invariant_of-self
+invariant_of-self c =
+    let w : State = state c.self.inside.master c.self.inside.workers.items c.self.inside.messages.items in
+    let workers = w.controllers.workers in
     let name = c.args.message.receiver in
     let x = c.index_mut-stored.result.now in
-    let next = c.in_ok-moved-in-Some.moved.next in
     let here : StandsAt workers name c.in-Some.place x = stands_at workers c.as_slice.result.now name c.in-Some.place x c.as_slice.ensures.value (sym c.in-Some.ensures) c.index_mut-stored.ensures.value in
-    let names : HasItsNames x next = subst (HasItsNames x) (sym (ap (λ (v : Moved Known Message). v.next) c.in_ok-moved-in-Some.ensures.moved)) (taken_by_worker_names c.args.message c.args.at x) in
-    kept_there c.settle.result c.args.stop c.self.inside.master workers c.self.inside.messages.items c.settle.new.messages.items name c.in-Some.place x next c.settle.new.stored c.self.invariant here c.in_ok-moved-in-Some.ensures.kept names c.settle.ensures.stored c.settle.ensures.err_stored
+    let own = found_own workers name c.in-Some.place x here in
+    let there = subst (λ (v : State). Contains v.messages c.args.message) (sym c.self.view_is) c.requires.sent in
+    let keeps = worker_takes_keeps c.args.message c.args.at w x c.self.invariant own there (sym (name_of workers name c.in-Some.place x here)) in
+    kept_there c.worker_takes.result c.args.stop w.controllers.master workers w.messages c.worker_takes.new.messages.items name c.in-Some.place x c.worker_takes.new.stored (taken_by_worker c.args.message c.args.at x) c.self.invariant here c.worker_takes.ensures.stored c.worker_takes.ensures.messages c.worker_takes.ensures.err_stored c.worker_takes.ensures.err_messages keeps
 
 pub returns-in-None-clause-answer : goal.returns-in-None-clause-answer
 returns-in-None-clause-answer c =
@@ -35,25 +35,25 @@ returns-in-None-clause-state c =
     let none = none_there w.controllers.workers c.as_slice.result.now c.args.message.receiver c.as_slice.ensures.value (sym c.in-None.ensures) in
     subst (λ (v : State). v ≡ settled c.args.stop v (worker_takes c.args.message c.args.at v)) c.self.view_is (none_settles c.args.stop w (taken_by_worker c.args.message c.args.at) (NoMessage) (worker_of w.controllers.workers c.args.message.receiver) none)
 
-pub returns-in_ok-moved-in-Some-clause-answer : goal.returns-in_ok-moved-in-Some-clause-answer
-returns-in_ok-moved-in-Some-clause-answer c =
+pub returns-in-Some-clause-answer : goal.returns-in-Some-clause-answer
+returns-in-Some-clause-answer c =
     let w : State = state c.self.inside.master c.self.inside.workers.items c.self.inside.messages.items in
     let workers = w.controllers.workers in
     let name = c.args.message.receiver in
     let x = c.index_mut-stored.result.now in
     let here : StandsAt workers name c.in-Some.place x = stands_at workers c.as_slice.result.now name c.in-Some.place x c.as_slice.ensures.value (sym c.in-Some.ensures) c.index_mut-stored.ensures.value in
-    if_ok _ _ c.settle.result c.settle.ensures.answer (λ a e. e ∙ found_answers c.args.stop w (taken_by_worker c.args.message c.args.at) (NoMessage) (worker_of workers name) x (moved_of c.in_ok-moved-in-Some.moved) (found workers name c.in-Some.place x here) c.in_ok-moved-in-Some.ensures.moved
+    if_ok _ _ c.worker_takes.result c.worker_takes.ensures.answer (λ a e. e ∙ found_answers c.args.stop w (taken_by_worker c.args.message c.args.at) (NoMessage) (worker_of workers name) x (taken_by_worker c.args.message c.args.at x) (found workers name c.in-Some.place x here) refl
     ∙ ap (λ (v : State). settled_word c.args.stop v (worker_takes c.args.message c.args.at v)) c.self.view_is)
 
-pub returns-in_ok-moved-in-Some-clause-state : goal.returns-in_ok-moved-in-Some-clause-state
-returns-in_ok-moved-in-Some-clause-state c =
+pub returns-in-Some-clause-state : goal.returns-in-Some-clause-state
+returns-in-Some-clause-state c =
     let w : State = state c.self.inside.master c.self.inside.workers.items c.self.inside.messages.items in
     let workers = w.controllers.workers in
     let name = c.args.message.receiver in
     let x = c.index_mut-stored.result.now in
-    let moved = moved_of c.in_ok-moved-in-Some.moved in
+    let moved = taken_by_worker c.args.message c.args.at x in
     let here : StandsAt workers name c.in-Some.place x = stands_at workers c.as_slice.result.now name c.in-Some.place x c.as_slice.ensures.value (sym c.in-Some.ensures) c.index_mut-stored.ensures.value in
-    on_ok _ _ _ c.settle.result c.settle.ensures.stored c.settle.ensures.messages (λ is sent.
-    settled_there c.args.stop w.controllers.master workers w.messages c.settle.new.messages.items name c.in-Some.place x c.settle.new.stored moved c.self.invariant here is sent
-    ∙ found_settles c.args.stop w (taken_by_worker c.args.message c.args.at) (NoMessage) (worker_of workers name) x moved (found workers name c.in-Some.place x here) c.in_ok-moved-in-Some.ensures.moved
+    on_ok _ _ _ c.worker_takes.result c.worker_takes.ensures.stored c.worker_takes.ensures.messages (λ is sent.
+    settled_there c.args.stop w.controllers.master workers w.messages c.worker_takes.new.messages.items name c.in-Some.place x c.worker_takes.new.stored moved c.self.invariant here is sent
+    ∙ found_settles c.args.stop w (taken_by_worker c.args.message c.args.at) (NoMessage) (worker_of workers name) x moved (found workers name c.in-Some.place x here) refl
     ∙ ap (λ (v : State). settled c.args.stop v (worker_takes c.args.message c.args.at v)) c.self.view_is)

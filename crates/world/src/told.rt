@@ -1,11 +1,10 @@
 use crate::word::Word;
 use message_items::Message;
 
-/// A controller after a step whose state isn't stored yet.
+/// What a controller says at a step that it made.
 #[derive(Drop)]
-pub struct Moved<C> {
+pub struct Told {
     pub word: Word,
-    pub next: C,
     /// What the step sends, if it does.
     pub sent: Option<Message>,
 }

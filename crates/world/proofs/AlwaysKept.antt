@@ -1,0 +1,184 @@
+-- What always holds of a shop holds after each event, and so after all.
+use Rattle.std.proofs.Common.{◌≡◌, ℕ, Bool, true, false, cond, zero, suc, List, [], ◌∷◌, Option, Some, None, Result, Ok, Err, refl, sym, ap, ◌∙◌}
+use Rattle.std.proofs.lemmas.Bool.{true≢false}
+use Rattle.std.proofs.lemmas.List.Elements.{All-contains}
+use Rattle.std.proofs.lemmas.Option.{get_or_from_slice_get, slice_get_within}
+use Rattle.std.proofs.lemmas.Slice.Eq.{bytes_eq-Decides}
+use Rattle.std.specs.List.{All, Contains}
+use Rattle.std.specs.Option.{option_map_or}
+use Rattle.std.specs.Str.{bytes_eq}
+use Rattle.ticket_items.specs.declared.refusal.Refusal.{Refusal}
+use Rattle.ticket_items.specs.declared.refusal.Refusal.TheVariants.{UnknownWorker}
+use Rattle.ticket_rows.proofs.AtHome.{find-passes}
+use Rattle.ticket_items.proofs.Apart.{bytes_eq-same}
+use Rattle.message_items.specs.Reply.{spawn_in}
+use Rattle.message_items.specs.declared.body.Body.{Body}
+use Rattle.message_items.specs.declared.body.Body.TheVariants.{Submit, Return, Answer}
+use Rattle.message_items.specs.declared.message.Message.{Message}
+use Rattle.message_items.specs.declared.queue_status.QueueStatus.{QueueStatus}
+use Rattle.spawn.specs.declared.records.spawn_rec.SpawnRec.{SpawnRec}
+use Rattle.master_core.proofs.MessageKept.{message_is_kept}
+use Rattle.master_core.proofs.OrderKept.{ordered_kept}
+use Rattle.master_core.specs.Master as master
+use Rattle.master_core.specs.Messages as master_messages
+use Rattle.master_core.specs.Orders as master_orders
+use Rattle.master_core.specs.declared.order.Order as master_order
+use Rattle.worker_core.proofs.AtNumber.{found_holds}
+use Rattle.worker_core.proofs.Kept as worker_kept
+use Rattle.worker_core.specs.Messages as worker_messages
+use Rattle.worker_core.specs.Orders as worker_orders
+use Rattle.worker_core.specs.Worker as worker
+use Rattle.worker_core.specs.declared.order.Order as worker_order
+use Rattle.world.proofs.Doors.{master_refuses_nothing, returned_in, returned_told}
+use Rattle.world.proofs.Kept.{Keeps, master_stored, settled_kept, worker_stored}
+use Rattle.world.proofs.Later.{in_order_later}
+use Rattle.world.proofs.MasterSteps as master_steps
+use Rattle.world.proofs.Names.{ordered_names, taken_by_master_names, taken_by_worker_names}
+use Rattle.world.proofs.Sending.{IsTakenBack, answer_is_new}
+use Rattle.world.proofs.WorkerSteps as worker_steps
+use Rattle.world.specs.Controllers.{Controllers, is_named, worker_of}
+use Rattle.world.specs.Happening.{after, after_all, master_takes, receiver_takes, settled, step_of, worker_takes}
+use Rattle.world.specs.Messages.{AreRecorded, IsInOrder}
+use Rattle.world.specs.State.{IsKept, State, message_at}
+use Rattle.world.specs.Stepping.{Moved, master_moved, ordered_master, ordered_worker, refused, taken_by_master, taken_by_worker, worker_moved}
+use Rattle.world.specs.declared.event.Event.{Event}
+use Rattle.world.specs.declared.stop.Stop.{Stop}
+use Rattle.world.specs.declared.what.What.{What}
+use Rattle.world.specs.declared.what.What.TheVariants.{MasterOrder, WorkerOrder, Deliver, Restart}
+use Rattle.world.specs.declared.word.Word.{Word}
+use Rattle.world.specs.declared.word.Word.TheVariants.{NoMessage, Refused}
+
+-- ---- the master
+
+unless_refused : (r : Option Refusal) (w : State) (v : Moved master.Known Message) → IsKept w → (r ≡ None → Keeps w (master_moved w.controllers v)) → Keeps w (master_moved w.controllers (option_map_or (λ e. refused e w.controllers.master) r v))
+unless_refused None w v ok go = go refl
+unless_refused (Some e) w v ok go = record { stored = ok; sent = tt }
+
+pub master_order_keeps : (o : master_order.Order) (at : ℕ) (w : State) → IsKept w → Keeps w (master_moved w.controllers (ordered_master o at w.controllers.master))
+master_order_keeps o at w ok =
+    let c = w.controllers in
+    let next = master_orders.ordered o at c.master in
+    unless_refused (master_orders.order_refusal o c.master) w _ ok (λ none.
+    let later = master_steps.ordered_later o at c ok.master none in
+    let kept = ordered_kept o at c.master ok.master none in
+    let stored = master_stored c next w.messages ok kept (ordered_names o at c.master) later in
+    record { stored = stored; sent = master_steps.ordered_sends o at c w.messages ok.master none kept stored.messages.each })
+
+-- a part that comes back to the master was put in then
+taken_back : (c : Controllers) (m : Message) (at : ℕ) (body : Body) → m.body ≡ body → All (AreRecorded c) c.workers → (h : IsInOrder c m) (later : IsInOrder (master_steps.with_master c (master_messages.after_taking m at c.master)) m)
+    → IsTakenBack later.spawn (master_messages.taken_result m c.master) body
+taken_back c m at (Submit p) says all h later = tt
+taken_back c m at (Answer d s told) says all h later = tt
+taken_back c m at (Return p) says all h later =
+    let none = master_refuses_nothing c m all (ap worker_messages.is_for_workers says) h in (
+      returned_told c m p says none,
+      returned_in m at c.master p h.spawn later.spawn says none (ap (λ b. master.record_of c.master.records (spawn_in b)) (sym says) ∙ h.recorded) (ap (λ b. master.record_of (master_messages.after_taking m at c.master).records (spawn_in b)) (sym says) ∙ later.recorded),
+    )
+
+pub master_takes_keeps : (m : Message) (at : ℕ) (w : State) → IsKept w → Contains w.messages m → m.receiver ≡ w.controllers.master.name → Keeps w (master_moved w.controllers (taken_by_master m at w.controllers.master))
+master_takes_keeps m at w ok there own =
+    let c = w.controllers in
+    let next = master_messages.after_taking m at c.master in
+    let good : IsInOrder c m = All-contains (IsInOrder c) w.messages m ok.messages.each there in
+    let later = master_steps.taken_later m at c ok.master good.for_master in
+    let stored = master_stored c next w.messages ok (message_is_kept m at c.master good.for_master ok.master) (taken_by_master_names m at c.master) later in
+    let d = master_steps.with_master c next in
+    let good_later : IsInOrder d m = in_order_later c d later m good in
+    record { stored = stored; sent = answer_is_new d w.messages c.master.name m.sender m.receiver m.at at m.body (master_messages.taken_result m c.master) stored.messages.each own good_later (taken_back c m at m.body refl ok.recorded good good_later) }
+
+-- ---- a worker
+
+-- what is known of a worker that is found
+record IsThere (w : State) (v : worker.Known) : Type 0 where
+  pub knows : v.master ≡ w.controllers.master.name
+  pub kept : worker.IsKept v
+  pub recorded : AreRecorded w.controllers v
+
+is_there : (w : State) (v : worker.Known) → IsKept w → worker_of w.controllers.workers v.name ≡ Some v → IsThere w v
+is_there w v ok found =
+    let c = w.controllers in
+    record {
+      knows = found_holds (λ (u : worker.Known). u.master ≡ c.master.name) (is_named v.name) c.workers v found ok.known;
+      kept = found_holds worker.IsKept (is_named v.name) c.workers v found ok.workers;
+      recorded = found_holds (AreRecorded c) (is_named v.name) c.workers v found ok.recorded;
+    }
+
+unless_worker_refused : (r : Option Refusal) (w : State) (v : worker.Known) (moved : Moved worker.Known Message) → IsKept w → worker_of w.controllers.workers v.name ≡ Some v → (r ≡ None → Keeps w (worker_moved w.controllers v moved))
+    → Keeps w (worker_moved w.controllers v (option_map_or (λ e. refused e v) r moved))
+unless_worker_refused None w v moved ok found go = go refl
+unless_worker_refused (Some e) w v moved ok found go =
+    let c = w.controllers in
+    let is = is_there w v ok found in
+    record { stored = worker_stored c v v w.messages ok is.knows is.kept (record { own = refl; masters = refl }) (worker_steps.worker_later c v v found refl (λ s x here ended. here)) is.recorded; sent = tt }
+
+pub worker_order_keeps : (o : worker_order.Order) (at : ℕ) (w : State) (v : worker.Known) → IsKept w → worker_of w.controllers.workers v.name ≡ Some v → Keeps w (worker_moved w.controllers v (ordered_worker o at v))
+worker_order_keeps o at w v ok found =
+    let c = w.controllers in
+    let next = worker_orders.ordered o at v in
+    let is = is_there w v ok found in
+    unless_worker_refused (worker_orders.order_refusal o v.entries) w v _ ok found (λ none.
+    let later = worker_steps.worker_later c v next found refl (worker_steps.ordered_stays o at v is.kept none) in
+    let kept = worker_kept.kept_ordered o at v is.kept none in
+    let recorded = worker_steps.ordered_recorded o at c v none is.recorded in
+    let stored = worker_stored c v next w.messages ok is.knows kept (record { own = refl; masters = refl }) later recorded in
+    record { stored = stored; sent = worker_steps.ordered_sends o at c w.messages v found is.knows none kept recorded stored.messages.each })
+
+-- none comes back to a worker
+none_back : (w : State) (v : worker.Known) (sender receiver : List ℕ) (sent : ℕ) (body : Body) (r : SpawnRec) (told : Result QueueStatus ℕ) → receiver ≡ v.name → IsThere w v → IsInOrder w.controllers (record { sender = sender; receiver = receiver; at = sent; body = body }) → IsTakenBack r told body
+none_back w v sender receiver sent (Submit p) r told own is h = tt
+none_back w v sender receiver sent (Answer d s said) r told own is h = tt
+none_back w v sender receiver sent (Return p) r told own is h =
+    let one : v.name ≡ v.master = sym own ∙ h.to ∙ sym is.knows in
+    absurd (true≢false (sym (ap (bytes_eq v.name) (sym one) ∙ bytes_eq-same v.name) ∙ is.kept.apart))
+
+pub worker_takes_keeps : (m : Message) (at : ℕ) (w : State) (v : worker.Known) → IsKept w → worker_of w.controllers.workers v.name ≡ Some v → Contains w.messages m → m.receiver ≡ v.name → Keeps w (worker_moved w.controllers v (taken_by_worker m at v))
+worker_takes_keeps m at w v ok found there own =
+    let c = w.controllers in
+    let next = worker_messages.after_taking m at v in
+    let is = is_there w v ok found in
+    let good : IsInOrder c m = All-contains (IsInOrder c) w.messages m ok.messages.each there in
+    let names = taken_by_worker_names m at v in
+    let later = worker_steps.worker_later c v next found names.own (worker_steps.taken_stays m at v) in
+    let recorded = worker_steps.taken_recorded c m at v own good is.recorded in
+    let stored = worker_stored c v next w.messages ok is.knows (worker_kept.message_is_kept m at v good.for_worker is.kept) names later recorded in
+    let d = worker_steps.with_next c v.name next in
+    let good_later : IsInOrder d m = in_order_later c d later m good in
+    let told = worker_messages.taken_result m at v in
+    record { stored = stored; sent = answer_is_new d w.messages v.name m.sender m.receiver m.at at m.body told stored.messages.each own good_later (none_back w v m.sender m.receiver m.at m.body good_later.spawn told own is good) }
+
+-- ---- one event
+
+found_step : (w : State) (stop : Stop) (f : worker.Known → Moved worker.Known Message) (word : Word) (name : List ℕ) (found : Option worker.Known) → worker_of w.controllers.workers name ≡ found → IsKept w
+    → ((v : worker.Known) → v.name ≡ name → worker_of w.controllers.workers v.name ≡ Some v → Keeps w (worker_moved w.controllers v (f v))) → IsKept (settled stop w (option_map_or (λ v. Ok (worker_moved w.controllers v (f v))) found (Err word)))
+found_step w stop f word name None is ok keeps = ok
+found_step w stop f word name (Some v) is ok keeps =
+    let named : v.name ≡ name = (bytes_eq-Decides v.name name).0 (find-passes (is_named name) w.controllers.workers v is) in
+    settled_kept stop w _ ok (keeps v named (ap (worker_of w.controllers.workers) named ∙ is))
+
+-- the message of a number was sent
+pub message_there : (messages : List Message) (k : ℕ) (m : Message) → message_at messages k ≡ Some m → Contains messages m
+message_there messages zero m found = cc
+message_there messages (suc k) m found = (k, slice_get_within messages k m found, get_or_from_slice_get messages k m m found)
+
+receiver_kept : (mine : Bool) (m : Message) (at : ℕ) (stop : Stop) (w : State) → IsKept w → Contains w.messages m → bytes_eq m.receiver w.controllers.master.name ≡ mine → IsKept (settled stop w (cond mine (master_takes m at w) (worker_takes m at w)))
+receiver_kept true m at stop w ok there mine = settled_kept stop w _ ok (master_takes_keeps m at w ok there ((bytes_eq-Decides m.receiver w.controllers.master.name).0 mine))
+receiver_kept false m at stop w ok there other = found_step w stop (taken_by_worker m at) NoMessage m.receiver (worker_of w.controllers.workers m.receiver) refl ok (λ v named found. worker_takes_keeps m at w v ok found there (sym named))
+
+delivered_kept : (found : Option Message) (k at : ℕ) (stop : Stop) (w : State) → message_at w.messages k ≡ found → IsKept w → IsKept (settled stop w (option_map_or (receiver_takes at w) found (Err NoMessage)))
+delivered_kept None k at stop w is ok = ok
+delivered_kept (Some m) k at stop w is ok = receiver_kept (bytes_eq m.receiver w.controllers.master.name) m at stop w ok (message_there w.messages k m is) refl
+
+what_kept : (what : What) (at : ℕ) (stop : Stop) (w : State) → IsKept w → IsKept (settled stop w (step_of what at w))
+what_kept (MasterOrder o) at stop w ok = settled_kept stop w _ ok (master_order_keeps o at w ok)
+what_kept (WorkerOrder name o) at stop w ok = found_step w stop (ordered_worker o at) (Refused UnknownWorker) name (worker_of w.controllers.workers name) refl ok (λ v named found. worker_order_keeps o at w v ok found)
+what_kept (Deliver k) at stop w ok = delivered_kept (message_at w.messages k) k at stop w refl ok
+what_kept (Restart name) at stop w ok = ok
+
+pub kept_after : (e : Event) (w : State) → IsKept w → IsKept (after e w)
+kept_after e w ok = what_kept e.what e.at e.stop w ok
+
+-- ---- a list of events
+
+pub kept_after_all : (events : List Event) (w : State) → IsKept w → IsKept (after_all events w)
+kept_after_all [] w ok = ok
+kept_after_all (e ∷ events) w ok = kept_after_all events (after e w) (kept_after e w ok)

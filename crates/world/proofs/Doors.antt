@@ -1,0 +1,153 @@
+-- A message that was sent is refused by no one: not by the master that it comes to, and not by the worker.
+use Rattle.std.proofs.Common.{◌≡◌, ◌&&◌, ◌||◌, ℕ, Bool, true, false, cond, not, List, [], ◌∷◌, Option, Some, None, Ok, is_some, is_ok, refl, sym, ap, ◌∙◌, subst}
+use Rattle.std.proofs.lemmas.Bool.{eqb-true, true≢false}
+use Rattle.std.specs.Option.{option_and_then, option_map_or}
+use Rattle.std.specs.Str.{bytes_eq}
+use Rattle.ticket_items.proofs.Apart.{bytes_eq-same}
+use Rattle.ticket_items.proofs.Places.{same_found}
+use Rattle.ticket_items.specs.declared.refusal.Refusal.TheVariants.{BadPart, NotDone, UnknownEntry, UnknownSpawn, WrongMessage, WrongSender, WrongShape}
+use Rattle.ticket_rows.proofs.AtHome.{find-passes}
+use Rattle.ticket_rows.specs.Ticket.{first_of, unless}
+use Rattle.ticket_tree.specs.Part.{Copied, is_sound}
+use Rattle.message_items.specs.Reply.{refused_or, spawn_in, told_of}
+use Rattle.message_items.specs.declared.body.Body.{Body}
+use Rattle.message_items.specs.declared.body.Body.TheVariants.{Submit, Return, Answer}
+use Rattle.message_items.specs.declared.command.Command.TheVariants as command
+use Rattle.message_items.specs.declared.message.Message.{Message}
+use Rattle.message_items.specs.declared.reply.Reply.TheVariants as reply
+use Rattle.spawn.specs.Records.{is_out}
+use Rattle.spawn.specs.declared.records.spawn_rec.SpawnRec.{SpawnRec}
+use Rattle.merge.proofs.Fitting.{fits_part}
+use Rattle.merge.specs.Alike.{is_fit}
+use Rattle.merge.specs.Shape.{Fits}
+use Rattle.master_core.proofs.MessageLaws.{in_stays_in, merged_is_in}
+use Rattle.master_core.proofs.Recorded.{number_is}
+use Rattle.master_core.specs.Master as master
+use Rattle.master_core.specs.Messages as master_messages
+use Rattle.worker_core.proofs.AtNumber.{found_holds}
+use Rattle.worker_core.specs.Messages as worker_messages
+use Rattle.worker_core.specs.Worker as worker
+use Rattle.worker_core.specs.declared.entry.Entry.{Entry}
+use Rattle.world.proofs.Stored.{and_found}
+use Rattle.world.specs.Controllers.{Controllers, entry_at, is_named, worker_of}
+use Rattle.world.specs.Messages.{AreRecorded, IsInOrder, IsRecorded, entry_for}
+use Rattle.std.specs.List.{All}
+
+same_bytes : (x y : List ℕ) → x ≡ y → bytes_eq x y ≡ true
+same_bytes x y e = ap (bytes_eq x) (sym e) ∙ bytes_eq-same x
+
+-- ---- the entry of a spawn
+
+found_through : (o : Option worker.Known) (s : ℕ) (e : Entry) → option_and_then (λ (v : worker.Known). worker.entry_of v.entries s) o ≡ Some e → (v : worker.Known) × (o ≡ Some v) × (worker.entry_of v.entries s ≡ Some e)
+found_through None s e found = cc
+found_through (Some v) s e found = (v, refl, found)
+
+-- an entry that is found is of its spawn, and has a record
+pub entry_recorded : (c : Controllers) (name : List ℕ) (s : ℕ) (e : Entry) → All (AreRecorded c) c.workers → entry_at c.workers name s ≡ Some e → (v : worker.Known) × (e.part.spawn_id ≡ s) × IsRecorded c v.name e
+entry_recorded c name s e all found =
+    let at = found_through (worker_of c.workers name) s e found in
+    let v = at.0 in
+    (v, eqb-true e.part.spawn_id s (find-passes (worker.is_of s) v.entries e at.2), found_holds (IsRecorded c v.name) (worker.is_of s) v.entries e at.2 (found_holds (AreRecorded c) (is_named name) c.workers v at.1 all))
+
+-- ---- the master
+
+-- what isn't for workers is for masters
+for_master : (body : Body) → worker_messages.is_for_workers body ≡ false → master_messages.is_for_masters body ≡ true
+for_master (Submit p) e = absurd (true≢false e)
+for_master (Return p) e = refl
+for_master (Answer command.Submit s told) e = refl
+for_master (Answer command.Return s told) e = absurd (true≢false e)
+
+-- the master refuses what is in order and for it only for what it says
+pub master_asks : (c : Controllers) (m : Message) → worker_messages.is_for_workers m.body ≡ false → (h : IsInOrder c m) → master_messages.body_refusal m.body c.master h.spawn ≡ None → master_messages.take_refusal m c.master ≡ None
+master_asks c m mine h free =
+    let w = c.master in
+    let to : m.receiver ≡ w.name = h.to ∙ ap (λ b. cond b h.spawn.worker w.name) mine in
+    let from : m.sender ≡ h.spawn.worker = h.from ∙ ap (λ b. cond b w.name h.spawn.worker) mine in
+    let rest = option_map_or (master_messages.record_refusal m w) (master.record_of w.records (spawn_in m.body)) (Some UnknownSpawn) in
+    ap (λ b. first_of (unless (b && master_messages.is_for_masters m.body) WrongMessage ∷ rest ∷ [])) (same_bytes m.receiver w.name to)
+    ∙ ap (λ b. first_of (unless b WrongMessage ∷ rest ∷ [])) (for_master m.body mine)
+    ∙ ap (λ o. first_of (None ∷ option_map_or (master_messages.record_refusal m w) o (Some UnknownSpawn) ∷ [])) h.recorded
+    ∙ ap (λ b. first_of (None ∷ first_of (unless b WrongSender ∷ master_messages.body_refusal m.body w h.spawn ∷ []) ∷ [])) (same_bytes m.sender h.spawn.worker from)
+    ∙ ap (λ o. first_of (None ∷ first_of (None ∷ o ∷ []) ∷ [])) free
+
+fit_or_in : (out : Bool) (r : SpawnRec) (fit : Bool) → is_out r ≡ out → (is_out r ≡ true → fit ≡ true) → unless (not (is_out r) || fit) WrongShape ≡ None
+fit_or_in true r fit out fits = ap (λ b. unless (not b || fit) WrongShape) out ∙ ap (λ b. unless b WrongShape) (fits out)
+fit_or_in false r fit out fits = ap (λ b. unless (not b || fit) WrongShape) out
+
+-- a part that was given back fits
+pub return_fits : (c : Controllers) (p : Copied) (sender receiver : List ℕ) (sent : ℕ) → All (AreRecorded c) c.workers → (h : IsInOrder c (record { sender = sender; receiver = receiver; at = sent; body = Return p })) → is_out h.spawn ≡ true → Fits c.master.ticket h.spawn p
+return_fits c p sender receiver sent all h out =
+    let r = h.spawn in
+    let ended = and_found _ (entry_for c r) h.says in
+    let e : Entry = ended.0 in
+    let at = entry_recorded c r.worker r.id e all ended.1 in
+    let there = and_found _ (master.record_of c.master.records e.part.spawn_id) at.2 in
+    let id : e.part.spawn_id ≡ p.spawn_id = at.1 ∙ number_is c.master.records p.spawn_id r h.recorded in
+    let same : there.0 ≡ r = same_found there.0 r (master.record_of c.master.records e.part.spawn_id) there.1 (ap (master.record_of c.master.records) id ∙ h.recorded) in
+    let part : p ≡ e.part = returned_part p e.part (ap (λ (m : Message). m.body) ended.2.1) in
+    subst (Fits c.master.ticket r) (sym part) (subst (λ q. Fits c.master.ticket q e.part) same (there.2.1 (ap is_out same ∙ out)))
+  where
+    returned_part : (x y : Copied) → Return x ≡ Return y → x ≡ y
+    returned_part x y e = cc
+
+-- so the master refuses nothing that was sent to it
+master_takes : (c : Controllers) (sender receiver : List ℕ) (sent : ℕ) (body : Body) → All (AreRecorded c) c.workers → worker_messages.is_for_workers body ≡ false → (h : IsInOrder c (record { sender = sender; receiver = receiver; at = sent; body = body })) → master_messages.body_refusal body c.master h.spawn ≡ None
+master_takes c sender receiver sent (Submit p) all mine h = refl
+master_takes c sender receiver sent (Return p) all mine h = fit_or_in (is_out h.spawn) h.spawn (is_fit c.master.ticket h.spawn p) refl (λ out. fits_part c.master.ticket h.spawn p (return_fits c p sender receiver sent all h out))
+master_takes c sender receiver sent (Answer d s told) all mine h = refl
+
+pub master_refuses_nothing : (c : Controllers) (m : Message) → All (AreRecorded c) c.workers → worker_messages.is_for_workers m.body ≡ false → IsInOrder c m → master_messages.take_refusal m c.master ≡ None
+master_refuses_nothing c m all mine h = master_asks c m mine h (master_takes c m.sender m.receiver m.at m.body all mine h)
+
+-- ---- a worker
+
+sound_or : (a b : Bool) → b ≡ true → unless (a || b) BadPart ≡ None
+sound_or true b e = refl
+sound_or false b e = ap (λ x. unless x BadPart) e
+
+worker_takes : (c : Controllers) (v : worker.Known) (sender receiver : List ℕ) (sent : ℕ) (body : Body) → worker_of c.workers receiver ≡ Some v → worker_messages.is_for_workers body ≡ true → IsInOrder c (record { sender = sender; receiver = receiver; at = sent; body = body }) → worker_messages.body_refusal body v.entries ≡ None
+worker_takes c v sender receiver sent (Submit p) found theirs h = sound_or (is_some (worker.entry_of v.entries p.spawn_id)) (is_sound p) h.sound
+worker_takes c v sender receiver sent (Return p) found theirs h = refl
+worker_takes c v sender receiver sent (Answer command.Submit s told) found theirs h = absurd (true≢false (sym theirs))
+worker_takes c v sender receiver sent (Answer command.Return s told) found theirs h =
+    let r = h.spawn in
+    let ended = and_found _ (entry_for c r) h.says.2 in
+    let here : worker.entry_of v.entries s ≡ Some ended.0 =
+    sym (ap (option_and_then (λ (u : worker.Known). worker.entry_of u.entries s)) found)
+    ∙ ap (λ n. entry_at c.workers n s) h.to
+    ∙ ap (entry_at c.workers r.worker) (sym (number_is c.master.records s r h.recorded))
+    ∙ ended.1 in
+    ap (λ o. option_map_or (λ e. unless (not (worker.is_open e)) NotDone) o (Some UnknownEntry)) here ∙ ap (λ b. unless (not b) NotDone) ended.2.0
+
+-- a worker refuses nothing that was sent to it
+pub worker_refuses_nothing : (c : Controllers) (v : worker.Known) (m : Message) → worker_of c.workers m.receiver ≡ Some v → v.name ≡ m.receiver → v.master ≡ c.master.name → worker_messages.is_for_workers m.body ≡ true → IsInOrder c m → worker_messages.take_refusal m v ≡ None
+worker_refuses_nothing c v m found named knows theirs h =
+    let from : m.sender ≡ v.master = h.from ∙ ap (λ b. cond b c.master.name h.spawn.worker) theirs ∙ sym knows in
+    ap (λ b. first_of (unless (b && worker_messages.is_for_workers m.body) WrongMessage ∷ unless (bytes_eq m.sender v.master) WrongSender ∷ worker_messages.body_refusal m.body v.entries ∷ [])) (same_bytes m.receiver v.name (sym named))
+    ∙ ap (λ b. first_of (unless b WrongMessage ∷ unless (bytes_eq m.sender v.master) WrongSender ∷ worker_messages.body_refusal m.body v.entries ∷ [])) theirs
+    ∙ ap (λ b. first_of (None ∷ unless b WrongSender ∷ worker_messages.body_refusal m.body v.entries ∷ [])) (same_bytes m.sender v.master from)
+    ∙ ap (λ o. first_of (None ∷ None ∷ o ∷ [])) (worker_takes c v m.sender m.receiver m.at m.body found theirs h)
+
+-- ---- what is told of a part that was brought back
+
+-- it wasn't refused, and once it is put in its spawn isn't out
+pub returned_told : (c : Controllers) (m : Message) (p : Copied) → m.body ≡ Return p → master_messages.take_refusal m c.master ≡ None → is_ok (master_messages.taken_result m c.master) ≡ true
+returned_told c m p says none = ap (λ o. is_ok (told_of o (master_messages.end_of m.body))) none
+
+out_next : (o : Option SpawnRec) (r : SpawnRec) → o ≡ Some r → option_map_or is_out o false ≡ false → is_out r ≡ false
+out_next o r found e = ap (λ q. option_map_or is_out q false) (sym found) ∙ e
+
+in_either : (out : Bool) (m : Message) (at : ℕ) (w : master.Known) (p : Copied) (r q : SpawnRec) → is_out r ≡ out → m.body ≡ Return p → master_messages.take_refusal m w ≡ None → master.record_of w.records p.spawn_id ≡ Some r → master.record_of (master_messages.after_taking m at w).records p.spawn_id ≡ Some q → is_out q ≡ false
+in_either false m at w p r q back says none found later =
+    ap is_out (same_found q r (master.record_of (master_messages.after_taking m at w).records p.spawn_id) later ((in_stays_in w p.spawn_id r found back).1 m at)) ∙ back
+in_either true m at w p r q out says none found later =
+    let told : master_messages.taken_reply m w ≡ Ok (reply.Merged p.spawn_id) =
+    ap (λ o. refused_or o (master_messages.take_reply m.body w)) none
+    ∙ ap (λ b. Ok (master_messages.take_reply b w)) says
+    ∙ ap (λ o. Ok (cond (option_map_or is_out o false) (reply.Merged p.spawn_id) (reply.Already p.spawn_id))) found
+    ∙ ap (λ b. Ok (cond b (reply.Merged p.spawn_id) (reply.Already p.spawn_id))) out in
+    out_next (master.record_of (master_messages.after_taking m at w).records p.spawn_id) q later (merged_is_in m at w p.spawn_id told).1
+
+pub returned_in : (m : Message) (at : ℕ) (w : master.Known) (p : Copied) (r q : SpawnRec) → m.body ≡ Return p → master_messages.take_refusal m w ≡ None → master.record_of w.records p.spawn_id ≡ Some r → master.record_of (master_messages.after_taking m at w).records p.spawn_id ≡ Some q → is_out q ≡ false
+returned_in m at w p r q says none found later = in_either (is_out r) m at w p r q refl says none found later

@@ -1,0 +1,97 @@
+-- Controllers as they are later: what stays of what messages say.
+use Rattle.std.proofs.Common.{◌≡◌, ℕ, true, false, cond, List, Some, sym, ap, ◌∙◌, subst}
+use Rattle.std.proofs.lemmas.Bool.{true≢false}
+use Rattle.message_items.specs.Reply.{spawn_in}
+use Rattle.message_items.specs.declared.body.Body.{Body}
+use Rattle.message_items.specs.declared.body.Body.TheVariants.{Submit, Return, Answer}
+use Rattle.message_items.specs.declared.command.Command.TheVariants as command
+use Rattle.message_items.specs.declared.message.Message.{Message}
+use Rattle.spawn.proofs.SoundPart.{false_by}
+use Rattle.spawn.specs.Parts.{part_for}
+use Rattle.spawn.specs.Records.{is_out}
+use Rattle.spawn.specs.declared.records.spawn_rec.SpawnRec.{SpawnRec}
+use Rattle.merge.specs.Shape.{Fits}
+use Rattle.master_core.proofs.Recorded.{number_is}
+use Rattle.master_core.specs.Master.{record_of}
+use Rattle.master_core.specs.Orders.{submit_of}
+use Rattle.worker_core.specs.Messages.{is_for_workers}
+use Rattle.worker_core.specs.Orders.{return_of}
+use Rattle.worker_core.specs.Worker.{is_open}
+use Rattle.worker_core.specs.declared.entry.Entry.{Entry}
+use Rattle.world.proofs.EditedFits.{fits_later}
+use Rattle.world.proofs.Stored.{and_found, found_and}
+use Rattle.world.specs.Controllers.{Controllers, entry_at}
+use Rattle.world.specs.Messages.{HasEnded, IsInOrder, IsRecorded, SaysRight, entry_for}
+
+-- the record of a spawn as it is later: of the same worker; and while it is out it is the same, and so is the part that is made of it
+pub record GoesOn (c d : Controllers) (s : ℕ) (r : SpawnRec) : Type 0 where
+  pub next : SpawnRec
+  pub found : record_of d.master.records s ≡ Some next
+  pub worker : next.worker ≡ r.worker
+  pub same : is_out next ≡ true → next ≡ r
+  pub part : is_out next ≡ true → part_for d.master.ticket r ≡ part_for c.master.ticket r
+
+-- later no record is missing, and what has ended is as it was
+pub record AreLater (c d : Controllers) : Type 0 where
+  pub name : d.master.name ≡ c.master.name
+  pub records : (s : ℕ) (r : SpawnRec) → record_of c.master.records s ≡ Some r → GoesOn c d s r
+  pub ended : (n : List ℕ) (s : ℕ) (e : Entry) → entry_at c.workers n s ≡ Some e → is_open e ≡ false → entry_at d.workers n s ≡ Some e
+
+-- ---- entries
+
+-- an entry that has a record has one later
+pub recorded_later : (c d : Controllers) → AreLater c d → (name : List ℕ) (e : Entry) → IsRecorded c name e → IsRecorded d name e
+recorded_later c d later name e h =
+    let there = and_found _ (record_of c.master.records e.part.spawn_id) h in
+    let on = later.records e.part.spawn_id there.0 there.1 in
+    found_and _ (record_of d.master.records e.part.spawn_id) on.next on.found (
+      on.worker ∙ there.2.0,
+      λ out.
+          let same = on.same out in
+          subst (λ q. Fits d.master.ticket q e.part) (sym same) (fits_later c.master.ticket d.master.ticket there.0 e.part (on.part out) (there.2.1 (ap is_out (sym same) ∙ out))),
+    )
+
+-- ---- a message
+
+-- what has ended has ended later
+ended_later : (c d : Controllers) (r q : SpawnRec) (P Q : Entry → Type 0) → AreLater c d → q.worker ≡ r.worker → q.id ≡ r.id → ((e : Entry) → P e → Q e) → HasEnded c r P → HasEnded d q Q
+ended_later c d r q P Q later worker id go h =
+    let there = and_found _ (entry_for c r) h in
+    let e : Entry = there.0 in
+    let stays = later.ended r.worker r.id e there.1 there.2.0 in
+    found_and _ (entry_for d q) e (ap (λ n. entry_at d.workers n q.id) worker ∙ ap (entry_at d.workers r.worker) id ∙ stays) (there.2.0, go e there.2.1)
+
+submit_later : (c d : Controllers) (m : Message) (s : ℕ) (r : SpawnRec) → AreLater c d → (on : GoesOn c d s r) → (is_out r ≡ true → m ≡ submit_of c.master.name c.master.ticket r) → is_out on.next ≡ true → m ≡ submit_of d.master.name d.master.ticket on.next
+submit_later c d m s r later on was out =
+    let same = on.same out in
+    was (ap is_out (sym same) ∙ out)
+    ∙ ap (λ n. submit_of n c.master.ticket r) (sym later.name)
+    ∙ ap (λ p. record { sender = d.master.name; receiver = r.worker; at = r.at; body = Submit p }) (sym (on.part out))
+    ∙ ap (submit_of d.master.name d.master.ticket) (sym same)
+
+-- a spawn that has come in stays so
+in_later : (c d : Controllers) (s : ℕ) (r : SpawnRec) → (on : GoesOn c d s r) → is_out r ≡ false → is_out on.next ≡ false
+in_later c d s r on back = false_by (is_out on.next) (λ out. true≢false (sym (ap is_out (sym (on.same out)) ∙ out) ∙ back))
+
+says_later : (c d : Controllers) (m : Message) (s : ℕ) (r : SpawnRec) (body : Body) → AreLater c d → (on : GoesOn c d s r) → on.next.id ≡ r.id → SaysRight c r m body → SaysRight d on.next m body
+says_later c d m s r (Submit p) later on id h = submit_later c d m s r later on h
+says_later c d m s r (Return p) later on id h =
+    ended_later c d r on.next _ _ later on.worker id (λ e is. is ∙ ap (λ n. return_of n c.master.name e) (sym on.worker) ∙ ap (λ n. return_of on.next.worker n e) (sym later.name)) h
+says_later c d m s r (Answer command.Submit t told) later on id h = tt
+says_later c d m s r (Answer command.Return t told) later on id h = (h.0, in_later c d s r on h.1, ended_later c d r on.next _ _ later on.worker id (λ e is. tt) h.2)
+
+pub in_order_later : (c d : Controllers) → AreLater c d → (m : Message) → IsInOrder c m → IsInOrder d m
+in_order_later c d later m h =
+    let s = spawn_in m.body in
+    let on = later.records s h.spawn h.recorded in
+    let id : on.next.id ≡ h.spawn.id = number_is d.master.records s on.next on.found ∙ sym (number_is c.master.records s h.spawn h.recorded) in
+    record {
+      spawn = on.next;
+      recorded = on.found;
+      from = h.from ∙ ap (λ n. cond (is_for_workers m.body) n h.spawn.worker) (sym later.name) ∙ ap (cond (is_for_workers m.body) d.master.name) (sym on.worker);
+      to = h.to ∙ ap (λ n. cond (is_for_workers m.body) h.spawn.worker n) (sym later.name) ∙ ap (λ n. cond (is_for_workers m.body) n d.master.name) (sym on.worker);
+      says = says_later c d m s h.spawn m.body later on id h.says;
+      for_master = h.for_master;
+      for_worker = h.for_worker;
+      sound = h.sound;
+    }

@@ -1,0 +1,91 @@
+-- What the master makes of an order or a message: the controllers are later, and what it sends is new.
+use Rattle.std.proofs.Common.{◌≡◌, inl, inr, ℕ, true, List, Option, Some, None, IfSome, refl, sym, ap, ◌∙◌, subst}
+use Rattle.std.proofs.lemmas.Bool.{true≢false}
+use Rattle.std.specs.List.{All}
+use Rattle.message_items.specs.declared.message.Message.{Message}
+use Rattle.spawn.proofs.Lawful.{placed}
+use Rattle.spawn.proofs.SoundPart.{part_is_sound}
+use Rattle.spawn.specs.Parts.{part_for}
+use Rattle.spawn.specs.Records.{is_out}
+use Rattle.spawn.specs.declared.records.spawn_rec.SpawnRec.{SpawnRec}
+use Rattle.master_core.proofs.Kept.{done_order}
+use Rattle.master_core.proofs.OrderLaws.{nothing_is_sent, submit_is_of_record}
+use Rattle.master_core.proofs.PartsKept.{message_keeps_spawns, order_keeps_spawns}
+use Rattle.master_core.proofs.Recorded.{number_is}
+use Rattle.master_core.specs.Master.{IsKept, Known, is_of, merged_record, record_of}
+use Rattle.master_core.specs.Messages.{IsValidBody, after_taking}
+use Rattle.master_core.specs.Orders.{order_message, order_refusal, ordered, spawn_sent, submit_of}
+use Rattle.master_core.specs.declared.order.Order.{Order}
+use Rattle.world.proofs.Later.{AreLater}
+use Rattle.world.proofs.Names.{ordered_names, taken_by_master_names}
+use Rattle.world.proofs.PartsGoOut.{part_is_valid}
+use Rattle.world.proofs.Sending.{IsNew, new_message}
+use Rattle.world.specs.Controllers.{Controllers}
+use Rattle.world.specs.Messages.{IsInOrder}
+
+-- the controllers with the master as it is next
+abbrev pub with_master : Controllers → Known → Controllers
+with_master c next = record c { master = next }
+
+-- ---- orders
+
+pub ordered_later : (o : Order) (at : ℕ) (c : Controllers) → IsKept c.master → order_refusal o c.master ≡ None → AreLater c (with_master c (ordered o at c.master))
+ordered_later o at c kept none =
+    let done = sym (done_order o at c.master none) in
+    record {
+      name = (ordered_names o at c.master).own;
+      records = λ s r found.
+          let stays = order_keeps_spawns o at c.master s r kept found in
+          record {
+            next = r;
+            found = ap (λ (v : Known). record_of v.records s) done ∙ stays.0;
+            worker = refl;
+            same = λ out. refl;
+            part = λ out. ap (λ (v : Known). part_for v.ticket r) done ∙ stays.1 out;
+          };
+      ended = λ n s e there ended. there;
+    }
+
+-- the part of a record that is out may be sent
+submit_is_new : (c : Controllers) (messages : List Message) (s : ℕ) (r : SpawnRec) → IsKept c.master → All (IsInOrder c) messages → record_of c.master.records s ≡ Some r → is_out r ≡ true → IsNew c messages (submit_of c.master.name c.master.ticket r)
+submit_is_new c messages s r kept all found out =
+    let place = placed (is_of s) c.master.records r found in
+    let good = kept.apart.good place.place r place.there out in
+    new_message c messages _ all
+    (record {
+      spawn = r;
+      recorded = ap (record_of c.master.records) (number_is c.master.records s r found) ∙ found;
+      from = refl;
+      to = refl;
+      says = λ _. refl;
+      for_master = tt;
+      for_worker = part_is_valid c.master.ticket r kept.valid good;
+      sound = part_is_sound c.master.ticket r kept.valid good;
+    })
+    out
+
+pub ordered_sends : (o : Order) (at : ℕ) (c : Controllers) (messages : List Message) → IsKept c.master → order_refusal o c.master ≡ None → IsKept (ordered o at c.master) → All (IsInOrder (with_master c (ordered o at c.master))) messages
+    → IfSome (order_message o at c.master) (IsNew (with_master c (ordered o at c.master)) messages)
+ordered_sends o at c messages kept none next all = by (spawn_sent o c.master) refl
+  where
+    by : (sent : Option ℕ) → spawn_sent o c.master ≡ sent → IfSome (order_message o at c.master) (IsNew (with_master c (ordered o at c.master)) messages)
+    by None is = subst (λ m. IfSome m (IsNew (with_master c (ordered o at c.master)) messages)) (sym (nothing_is_sent o at c.master is)) tt
+    by (Some s) is =
+        let d = with_master c (ordered o at c.master) in
+        let sends = submit_is_of_record o at c.master s kept none is in
+        subst (λ m. IfSome m (IsNew d messages)) (sym sends.3)
+        (subst (λ n. IsNew d messages (submit_of n d.master.ticket sends.0)) (ordered_names o at c.master).own (submit_is_new d messages s sends.0 next all sends.1 sends.2))
+
+-- ---- messages
+
+pub taken_later : (m : Message) (at : ℕ) (c : Controllers) → IsKept c.master → IsValidBody m.body → AreLater c (with_master c (after_taking m at c.master))
+taken_later m at c kept valid =
+    record {
+      name = (taken_by_master_names m at c.master).own;
+      records = λ s r found.
+          elim (message_keeps_spawns m at c.master s r valid kept found) [
+            | inl merges ↦ record { next = merged_record r; found = merges.2; worker = refl; same = λ out. absurd (true≢false (sym out)); part = λ out. absurd (true≢false (sym out)) }
+            | inr stays ↦ record { next = r; found = stays.0; worker = refl; same = λ out. refl; part = stays.1 }
+          ];
+      ended = λ n s e there ended. there;
+    }

@@ -1,0 +1,92 @@
+-- What is sent beside messages that are in order: it is in order, and is the same as what gave its command before.
+use Rattle.std.proofs.Common.{◌≡◌, ◌⊎◌, inl, inr, ℕ, true, false, List, [], ◌∷◌, ◌++◌, Result, IfSome, is_ok, is_some, sym, ap, ◌∙◌, subst}
+use Rattle.std.proofs.lemmas.List.Elements.{All-contains, All-push, Contains-push_cases}
+use Rattle.std.specs.List.{All, Contains}
+use Rattle.std.specs.Prelude.{⊤}
+use Rattle.ticket_items.proofs.Places.{same_found}
+use Rattle.message_items.specs.Reply.{answer_to, command_given, spawn_in}
+use Rattle.message_items.specs.declared.body.Body.{Body}
+use Rattle.message_items.specs.declared.body.Body.TheVariants.{Submit, Return, Answer}
+use Rattle.message_items.specs.declared.message.Message.{Message}
+use Rattle.message_items.specs.declared.queue_status.QueueStatus.{QueueStatus}
+use Rattle.spawn.specs.Records.{is_out}
+use Rattle.spawn.specs.declared.records.spawn_rec.SpawnRec.{SpawnRec}
+use Rattle.master_core.specs.Master.{record_of}
+use Rattle.worker_core.specs.declared.entry.Entry.{Entry}
+use Rattle.world.proofs.Stored.{and_found, found_and}
+use Rattle.world.specs.Controllers.{Controllers}
+use Rattle.world.specs.Messages.{AreInOrder, GiveOneCommand, HasEnded, IsInOrder, SaysRight, entry_for}
+
+-- ---- one command
+
+-- a part that goes out now is that of a spawn that is out
+abbrev pub IsFresh : SpawnRec → Body → Type 0
+IsFresh r (Submit p) = is_out r ≡ true
+IsFresh r (Return p) = ⊤
+IsFresh r (Answer c s told) = ⊤
+
+returned_once : (c : Controllers) (n m : Message) (r : SpawnRec) (f : Entry → Message) → HasEnded c r (λ e. n ≡ f e) → HasEnded c r (λ e. m ≡ f e) → n ≡ m
+returned_once c n m r f hn hm =
+    let one = and_found _ (entry_for c r) hn in
+    let two = and_found _ (entry_for c r) hm in
+    one.2.1 ∙ ap f (same_found one.0 two.0 (entry_for c r) one.1 two.1) ∙ sym two.2.1
+
+says_one : (c : Controllers) (n m : Message) (r : SpawnRec) (x y : Body) → SaysRight c r n x → SaysRight c r m y → is_some (command_given x) ≡ true → command_given x ≡ command_given y → IsFresh r y → n ≡ m
+says_one c n m r (Submit p) (Submit q) hn hm given same fresh = hn fresh ∙ sym (hm fresh)
+says_one c n m r (Submit p) (Return q) hn hm given same fresh = cc
+says_one c n m r (Submit p) (Answer d s told) hn hm given same fresh = cc
+says_one c n m r (Return p) (Submit q) hn hm given same fresh = cc
+says_one c n m r (Return p) (Return q) hn hm given same fresh = returned_once c n m r _ hn hm
+says_one c n m r (Return p) (Answer d s told) hn hm given same fresh = cc
+says_one c n m r (Answer d s told) y hn hm given same fresh = cc
+
+one_command : (c : Controllers) (n m : Message) (hn : IsInOrder c n) (hm : IsInOrder c m) → IsFresh hm.spawn m.body → GiveOneCommand n m → n ≡ m
+one_command c n m hn hm fresh both =
+    let same : hn.spawn ≡ hm.spawn = same_found hn.spawn hm.spawn (record_of c.master.records (spawn_in n.body)) hn.recorded (ap (record_of c.master.records) both.spawn ∙ hm.recorded) in
+    says_one c n m hm.spawn n.body m.body (subst (λ r. SaysRight c r n n.body) same hn.says) hm.says both.given both.same fresh
+
+-- ---- one message more
+
+-- a message that may be sent beside others
+pub record IsNew (c : Controllers) (messages : List Message) (m : Message) : Type 0 where
+  pub good : IsInOrder c m
+  pub alike : (n : Message) → Contains messages n → GiveOneCommand n m → n ≡ m
+
+pub new_message : (c : Controllers) (messages : List Message) (m : Message) → All (IsInOrder c) messages → (h : IsInOrder c m) → IsFresh h.spawn m.body → IsNew c messages m
+new_message c messages m all h fresh = record { good = h; alike = λ n there both. one_command c n m (All-contains (IsInOrder c) messages n all there) h fresh both }
+
+turned : (m n : Message) → GiveOneCommand m n → GiveOneCommand n m
+turned m n both = record { given = ap is_some (sym both.same) ∙ both.given; same = sym both.same; spawn = sym both.spawn }
+
+both_one : (c : Controllers) (messages : List Message) (m a b : Message) → AreInOrder c messages → IsNew c messages m → Contains messages a ⊎ (m ≡ a) → Contains messages b ⊎ (m ≡ b) → GiveOneCommand a b → a ≡ b
+both_one c messages m a b ok new (inl old) (inl old') both = ok.one a b old old' both
+both_one c messages m a b ok new (inl old) (inr is) both = new.alike a old (subst (GiveOneCommand a) (sym is) both) ∙ is
+both_one c messages m a b ok new (inr is) (inl old) both = sym is ∙ sym (new.alike b old (turned m b (subst (λ x. GiveOneCommand x b) (sym is) both)))
+both_one c messages m a b ok new (inr is) (inr is') both = sym is ∙ is'
+
+pub one_more_in_order : (c : Controllers) (messages : List Message) (m : Message) → AreInOrder c messages → IsNew c messages m → AreInOrder c (messages ++ m ∷ [])
+one_more_in_order c messages m ok new =
+    record {
+      each = All-push (IsInOrder c) messages m ok.each new.good;
+      one = λ a b here there both. both_one c messages m a b ok new (Contains-push_cases messages m a here) (Contains-push_cases messages m b there) both;
+    }
+
+-- ---- answers
+
+-- a part that was brought back was put in, and isn't refused
+abbrev pub IsTakenBack : SpawnRec → Result QueueStatus ℕ → Body → Type 0
+IsTakenBack r told (Submit p) = ⊤
+IsTakenBack r told (Return p) = (is_ok told ≡ true) × (is_out r ≡ false)
+IsTakenBack r told (Answer c s said) = ⊤
+
+-- the answer to a message that is in order goes back the same way
+pub answer_is_new : (c : Controllers) (messages : List Message) (name sender receiver : List ℕ) (sent at : ℕ) (body : Body) (told : Result QueueStatus ℕ) → All (IsInOrder c) messages → receiver ≡ name → (h : IsInOrder c (record { sender = sender; receiver = receiver; at = sent; body = body })) → IsTakenBack h.spawn told body
+    → IfSome (answer_to name (record { sender = sender; receiver = receiver; at = sent; body = body }) at told) (IsNew c messages)
+answer_is_new c messages name sender receiver sent at (Submit p) told all own h taken =
+    new_message c messages _ all (record { spawn = h.spawn; recorded = h.recorded; from = sym own ∙ h.to; to = h.from; says = tt; for_master = tt; for_worker = tt; sound = tt }) tt
+answer_is_new c messages name sender receiver sent at (Return p) told all own h taken =
+    let ended = and_found _ (entry_for c h.spawn) h.says in
+    new_message c messages _ all
+    (record { spawn = h.spawn; recorded = h.recorded; from = sym own ∙ h.to; to = h.from; says = (taken.0, taken.1, found_and _ (entry_for c h.spawn) ended.0 ended.1 (ended.2.0, tt)); for_master = tt; for_worker = tt; sound = tt })
+    tt
+answer_is_new c messages name sender receiver sent at (Answer d s t) told all own h taken = tt
