@@ -1,4 +1,5 @@
-pub mod Calls
 pub mod Documents
+pub mod Edits
+pub mod Parts
 pub mod Runs
 mod Worked

@@ -1,29 +1,25 @@
 -- Edits done in turn.
 use Rattle.std.proofs.Common.{◌≡◌, ℕ, ◌+◌, ◌<◌, ◌≤◌, ◌||◌, Bool, true, false, List, [], ◌∷◌, ◌++◌}
-use Rattle.std.proofs.Common.{length, get_or, drop, map, Option, Some, is_some, refl, sym, ap, ◌∙◌}
+use Rattle.std.proofs.Common.{length, get_or, drop, Option, Some, is_some, refl, sym, ap, ◌∙◌}
 use Rattle.std.proofs.Common.{append_assoc, append-nil, subst, ⊎_elim}
 use Rattle.std.proofs.lemmas.List.{drop_more, drop_all}
 use Rattle.std.proofs.lemmas.List.Folds.{list_any-append}
 use Rattle.ticket_rows.specs.Ticket.{Job}
 use Rattle.ticket_items.specs.declared.edit.Edit.{Edit}
 use Rattle.ticket_items.specs.declared.refusal.Refusal.{Refusal}
-use Rattle.json_forms.specs.DraftedEdits.{drafted_edit}
-use Rattle.json_forms.specs.declared.edit_form.EditDraft.{EditDraft}
 use Rattle.ticket_rows.specs.Edit.{refusal_of}
 use Rattle.ticket_items.specs.declared.refusal.Refusal.TheVariants.{Memory}
 use Rattle.edit_command.specs.Document.{Document}
 use Rattle.edit_command.specs.Run.{Runs, IsRun, IsRunOf, IsOutcome, NoneOutOfMemory, after}
 use Rattle.edit_command.specs.Run.{edit_line, lines, has_refusal, outcomes_of, end_of, output_of}
-use Rattle.edit_command.specs.Run.{done_status, status_of, ticket_text}
-
-abbrev pub drafted_edits : List EditDraft → List Edit
-drafted_edits ds = map drafted_edit ds
+use Rattle.command_streams.specs.Ends.{done_status}
+use Rattle.edit_command.specs.Run.{status_of, ticket_text}
 
 -- the edits before a place have outcomes; whatever the others do, all do that behind these
-pub record IsRunSoFar (start : Job) (at : ℕ) (edits : List EditDraft) (i : ℕ) (now : Job)
+pub record IsRunSoFar (start : Job) (at : ℕ) (edits : List Edit) (i : ℕ) (now : Job)
     (old new : List ℕ) (refused : Bool) : Type 0 where
   pub outcomes : List (Option Refusal)
-  pub rest : (more : List (Option Refusal)) (end : Job) → Runs now at (drafted_edits (drop i edits)) more end → Runs start at (drafted_edits edits) (outcomes ++ more) end
+  pub rest : (more : List (Option Refusal)) (end : Job) → Runs now at (drop i edits) more end → Runs start at edits (outcomes ++ more) end
   pub text : new ≡ old ++ lines outcomes
   pub status : refused ≡ has_refusal outcomes
 
@@ -36,32 +32,32 @@ or_none : (a : Bool) → (a || false) ≡ a
 or_none true = refl
 or_none false = refl
 
-pub run_more : (start : Job) (at : ℕ) (edits : List EditDraft) (i : ℕ) (d : EditDraft) (e : Edit)
+pub run_more : (start : Job) (at : ℕ) (edits : List Edit) (i : ℕ) (e : Edit)
     (o : Option Refusal) (before now : Job) (first old new : List ℕ) (refused later : Bool)
     → IsRunSoFar start at edits i before first old refused
-    → i < length edits → e ≡ drafted_edit (get_or edits i d) → IsOutcome e before o
+    → i < length edits → e ≡ get_or edits i e → IsOutcome e before o
     → now ≡ after o e at before → new ≡ old ++ edit_line o → later ≡ (refused || is_some o)
     → IsRunSoFar start at edits (i + 1) now first new later
-run_more start at edits i d e o before now first old new refused later so_far within is outcome moved wrote told =
-    let cut : drafted_edits (drop i edits) ≡ e ∷ drafted_edits (drop (i + 1) edits) = ap drafted_edits (drop_more edits i d within) ∙ ap (λ x. x ∷ drafted_edits (drop (i + 1) edits)) (sym is) in
+run_more start at edits i e o before now first old new refused later so_far within is outcome moved wrote told =
+    let cut : drop i edits ≡ e ∷ drop (i + 1) edits = drop_more edits i e within ∙ ap (λ x. x ∷ drop (i + 1) edits) (sym is) in
     record {
       outcomes = so_far.outcomes ++ o ∷ [];
       rest = λ more end h.
-          let step : Runs before at (e ∷ drafted_edits (drop (i + 1) edits)) (o ∷ more) end = (outcome, subst (λ t. Runs t at (drafted_edits (drop (i + 1) edits)) more end) moved h) in
-          subst (λ os. Runs start at (drafted_edits edits) os end) (sym (append_assoc so_far.outcomes (o ∷ []) more)) (so_far.rest (o ∷ more) end (subst (λ es. Runs before at es (o ∷ more) end) (sym cut) step));
+          let step : Runs before at (e ∷ drop (i + 1) edits) (o ∷ more) end = (outcome, subst (λ t. Runs t at (drop (i + 1) edits) more end) moved h) in
+          subst (λ os. Runs start at edits os end) (sym (append_assoc so_far.outcomes (o ∷ []) more)) (so_far.rest (o ∷ more) end (subst (λ es. Runs before at es (o ∷ more) end) (sym cut) step));
       text = wrote ∙ ap (λ xs. xs ++ edit_line o) so_far.text ∙ append_assoc first (lines so_far.outcomes) (edit_line o) ∙ ap (λ xs. first ++ xs) (sym (lines-push so_far.outcomes o));
       status = told ∙ ap (λ b. b || is_some o) so_far.status ∙ ap (λ b. has_refusal so_far.outcomes || b) (sym (or_none (is_some o))) ∙ sym (list_any-append is_some so_far.outcomes (o ∷ []));
     }
 
-pub run_all : (start : Job) (at : ℕ) (edits : List EditDraft) (i : ℕ) (now : Job) (old new : List ℕ)
+pub run_all : (start : Job) (at : ℕ) (edits : List Edit) (i : ℕ) (now : Job) (old new : List ℕ)
     (refused : Bool)
     → IsRunSoFar start at edits i now old new refused → length edits ≤ i
-    → IsRun start at (drafted_edits edits) old new now refused
+    → IsRun start at edits old new now refused
 run_all start at edits i now old new refused so_far past =
-    let none : drafted_edits (drop i edits) ≡ [] = ap drafted_edits (drop_all i edits past) in
+    let none : drop i edits ≡ [] = drop_all i edits past in
     record {
       outcomes = so_far.outcomes;
-      runs = subst (λ os. Runs start at (drafted_edits edits) os now) (append-nil so_far.outcomes) (so_far.rest [] now (subst (λ es. Runs now at es [] now) (sym none) refl));
+      runs = subst (λ os. Runs start at edits os now) (append-nil so_far.outcomes) (so_far.rest [] now (subst (λ es. Runs now at es [] now) (sym none) refl));
       text = so_far.text;
       status = so_far.status;
     }

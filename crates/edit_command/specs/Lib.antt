@@ -1,7 +1,5 @@
-pub mod Fault
 pub mod Document
-pub mod Drafted
+pub mod Checks
+pub mod Known
+pub mod OwnedDocument
 pub mod Run
-pub mod Streams
-pub mod Ends
-pub mod Words

@@ -1,6 +1,6 @@
 -- What `edit` does with a document, and what it writes.
 use Rattle.std.specs.Prelude.{◌≡◌, ℕ, Bool, List, [], ◌∷◌, ◌++◌, codes, Option, Some, None, is_some}
-use Rattle.std.specs.Prelude.{Ok, ◌⊎◌, if◌then◌else◌}
+use Rattle.std.specs.Prelude.{Ok, ◌⊎◌}
 use Rattle.std.specs.List.{flat_map, list_any}
 use Rattle.serde_json.specs.Written.{compact_text}
 use Rattle.ticket_rows.specs.Edit.{refusal_of, edited}
@@ -10,7 +10,8 @@ use Rattle.ticket_items.specs.declared.refusal.Refusal.{Refusal}
 use Rattle.ticket_items.specs.declared.refusal.Refusal.TheVariants.{Memory}
 use Rattle.json_writer.specs.Written.{ticket_data}
 use Rattle.edit_command.specs.Document.{Document, IsReadAs}
-use Rattle.edit_command.specs.Fault.{refusal_line}
+use Rattle.command_streams.specs.Fault.{refusal_line}
+use Rattle.command_streams.specs.Ends.{done_status}
 
 -- ---- one edit
 
@@ -79,10 +80,6 @@ pub record IsRunOf (document : Document) (text : List ℕ) (refused : Bool) : Ty
 abbrev pub IsOutput : List ℕ → List ℕ → Bool → Type 0
 IsOutput input text refused =
     (document : Document) × IsReadAs input (Ok document) × IsRunOf document text refused
-
--- the exit status where the output was written: 1 where an edit was refused
-abbrev pub done_status : Bool → ℕ
-done_status refused = if refused then 1 else 0
 
 -- ---- where memory never runs out
 

@@ -1,17 +1,29 @@
 //! The command `edit`.
 
-ghost use Rattle.std.specs.Prelude.{IfOk, IfErr};
-ghost use Rattle.edit_command.specs.Ends.{Edits, Ends, GivesUp};
-ghost use Rattle.edit_command.specs.Streams.{used};
+ghost use Rattle.command_streams.specs.Ends.{Ends};
+ghost use Rattle.command_streams.specs.Streams.{used};
+ghost use Rattle.edit_command.specs.Document.{IsRefusalOf};
+ghost use Rattle.edit_command.specs.Run.{IsOutput};
 
 use crate::edit_output::edit_output;
-use crate::fault::Fault;
-use crate::input::read_input;
-use crate::output::write_bytes;
-use crate::told::tell;
+use command_streams::{Command, Output, run_command};
 use counted::Counted;
 use std::alloc::Global;
 use std::io::{Read, Write};
+use ticket_tree::Refusal;
+
+/// The command `edit`.
+struct Edit;
+
+impl Command for Edit {
+    ghost is_output = { IsOutput };
+
+    ghost is_refusal = { IsRefusalOf };
+
+    fn output(alloc: Global, input: Vec<u8>) -> Result<Output, Refusal> {
+        edit_output(alloc, input)
+    }
+}
 
 /// Reads a ticket and edits of it, does the edits, and writes a line for each and the text of the
 /// ticket that they leave. Answers the exit status: 0 where all edits were done, 1 where one was
@@ -25,31 +37,8 @@ pub fn run_edit<R: Read, W: Write, F: Write>(
     writer: &mut Counted<W>,
     faults: &mut Counted<F>,
 ) -> u8
-    ensures { Ends (used R.remaining reader.old reader.new) (used W.contents writer.old writer.new)
-        (used F.contents faults.old faults.new) result }
+    ensures { Ends IsOutput IsRefusalOf (used R.remaining reader.old reader.new)
+        (used W.contents writer.old writer.new) (used F.contents faults.old faults.new) result }
 {
-    match edit(alloc, reader, writer) {
-        Ok(refused) => u8::from(refused),
-        Err(fault) => {
-            tell(faults, &fault);
-            fault.status()
-        }
-    }
-}
-
-/// The command, up to telling why it gave up. Answers whether an edit was refused.
-fn edit<R: Read, W: Write>(
-    alloc: Global,
-    reader: &mut Counted<R>,
-    writer: &mut Counted<W>,
-) -> Result<bool, Fault>
-    ensures done { IfOk result (Edits (used R.remaining reader.old reader.new)
-        (used W.contents writer.old writer.new)) }
-    ensures gives_up { IfErr result (λ fault. GivesUp fault
-        (used R.remaining reader.old reader.new) (used W.contents writer.old writer.new)) }
-{
-    let input = read_input(alloc, reader)?;
-    let output = edit_output(alloc, input)?;
-    write_bytes(writer, output.text.as_slice())?;
-    Ok(output.refused)
+    run_command::<Edit, R, W, F>(alloc, reader, writer, faults)
 }

@@ -2,7 +2,8 @@
 
 ghost use Rattle.std.specs.Prelude.{◌≡◌, Bool, List, ℕ};
 ghost use Rattle.edit_command.specs.Document.{Document};
-ghost use Rattle.edit_command.specs.Run.{IsRunOf, NoneOutOfMemory, done_status, output_of};
+ghost use Rattle.command_streams.specs.Ends.{done_status};
+ghost use Rattle.edit_command.specs.Run.{IsRunOf, NoneOutOfMemory, output_of};
 ghost use Rattle.edit_command.specs.Run.{status_of};
 
 /// Where memory ran out for no edit, what is written for a document is one text: the line of each

@@ -3,17 +3,13 @@
 #![tactic(auto)]
 
 mod command;
-mod document_draft;
+mod document_checks;
+mod document_parts;
+mod edit_checks;
 mod edit_output;
-mod fault;
-mod input;
+mod edit_taker;
 pub mod laws;
-mod output;
+mod owned_document;
 mod run;
-mod told;
-mod words;
 
 pub use command::run_edit;
-pub use fault::Fault;
-pub use input::{MAX_INPUT_BYTES, MAX_INTERRUPTIONS};
-pub use words::{NO_COMMAND, run_words};

@@ -1,15 +1,10 @@
 //! The edits of a document, one after another, and what is written of them.
 
-ghost use Rattle.std.specs.Prelude.{◌≡◌, ◌||◌, ◌++◌, true, is_some, map, IfErr, IfOk, OnOk, Ok};
+ghost use Rattle.std.specs.Prelude.{◌≡◌, ◌||◌, ◌++◌, is_some, IfErr, IfOk, OnOk, Ok};
 ghost use Rattle.std.specs.Result.{result_err};
-ghost use Rattle.std.specs.List.{list_all};
-ghost use Rattle.json_form.specs.Form.{edit_has_names, edit_has_texts};
-ghost use Rattle.json_forms.specs.DraftedEdits.{drafted_edit};
 ghost use Rattle.edit_command.specs.Run as run;
 
-use crate::fault::refusal_line;
-use json_forms::Draft;
-use json_profile::EditDraft;
+use command_streams::refusal_line;
 use std::alloc::{AllocError, Global};
 use ticket_tree::{Edit, Refusal, Ticket};
 
@@ -51,18 +46,15 @@ pub fn run_edits(
     alloc: Global,
     ticket: &mut Ticket,
     at: u64,
-    edits: &[EditDraft<'_>],
+    edits: Vec<Edit>,
     text: &mut Vec<u8>,
 ) -> Result<bool, Refusal>
-    requires names { list_all (λ e. edit_has_names (drafted_edit e)) edits.now ≡ true }
-    requires texts { list_all (λ e. edit_has_texts (drafted_edit e)) edits.now ≡ true }
     ensures done { IfOk result (run.IsRun ticket.old at
-        (map drafted_edit edits.now) text.old.items text.new.items ticket.new) }
+        edits.items text.old.items text.new.items ticket.new) }
     ensures memory { IfErr result (λ e. e ≡ Refusal.Memory) }
 {
     let mut refused = false;
-    for draft in edits {
-        let edit = draft.build(alloc)?;
+    for edit in edits {
         let outcome = apply_edit(alloc, ticket, edit, at);
         push_line(text, &outcome)?;
         refused = is_refused(refused, &outcome);

@@ -1,9 +1,10 @@
 //! `jdf_cli edit` reads a job ticket and edits of it from standard input, does the edits, and
-//! prints a line for each and the ticket that they leave.
+//! prints a line for each and the ticket that they leave. `jdf_cli world` reads a script, lets its
+//! events happen, and prints a line for each and the ticket that the master is left with.
 #![tactic(auto)]
 
+use command_line::run_words;
 use counted::Counted;
-use edit_command::run_words;
 use std::alloc::AllocError;
 use std::process::ExitCode;
 use std::{env, io};

@@ -11,4 +11,5 @@ mod records;
 mod taking;
 
 pub use master::Master;
+pub use names::are_apart;
 pub use order::Order;

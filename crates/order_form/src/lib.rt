@@ -5,5 +5,5 @@ mod master_order;
 mod spawn_named;
 mod worker_order;
 
-pub use master_order::master_order_of;
-pub use worker_order::worker_order_of;
+pub use master_order::{MasterOrderDraft, master_order_of};
+pub use worker_order::{WorkerOrderDraft, worker_order_of};

@@ -14,15 +14,20 @@ use serde_json::Value;
 use std::alloc::Global;
 use ticket_tree::{Id, Refusal, SpawnId};
 
-/// A master's order by its members and their kinds alone: its ids, names and texts may be any.
+/// A master's order by its members and their kinds alone: its ids, names and texts may be any. A
+/// document of several orders is read as drafts first, so that each refusal is looked for in all of
+/// it before the next one is.
 #[derive(Drop)]
-enum MasterOrderDraft<'a> {
+pub enum MasterOrderDraft<'a> {
+    /// To edit the ticket.
     Edit(EditDraft<'a>),
+    /// To send a node to a worker, with copies of these resources that may be changed.
     Spawn {
         node: Borrowed<'a, Id>,
         worker: Borrowed<'a, Id>,
         rw: Drafts<Borrowed<'a, Id>>,
     },
+    /// To send the part of the spawn that this text names once more.
     Resend(Borrowed<'a, AnyText>),
 }
 
@@ -87,7 +92,7 @@ fn draft_of_kind<'a>(
 impl<'a> MasterOrderDraft<'a> {
     /// The draft that a value is. Refuses `NotProfile`, and `Memory`.
     #[tactic(auto, unfolding(crate::specs::MasterForm::master_order_form))]
-    fn of(alloc: Global, value: &'a Value) -> Result<MasterOrderDraft<'a>, Refusal>
+    pub fn of(alloc: Global, value: &'a Value) -> Result<MasterOrderDraft<'a>, Refusal>
         ensures { Gives drafted_master_order result (forms.master_order_form (view value.now)) }
     {
         let kind = text_under(value, "Order").ok_or(Refusal::NotProfile)?;
@@ -95,7 +100,7 @@ impl<'a> MasterOrderDraft<'a> {
     }
 
     /// Whether its ids and names are valid, and its SpawnID names a spawn.
-    fn has_names(&self) -> bool
+    pub fn has_names(&self) -> bool
         ensures { result ≡ forms.order_has_names (drafted_master_order self.now) }
     {
         match self {
@@ -108,7 +113,7 @@ impl<'a> MasterOrderDraft<'a> {
     }
 
     /// Whether the texts of its edit are valid.
-    fn has_texts(&self) -> bool
+    pub fn has_texts(&self) -> bool
         ensures { result ≡ forms.order_has_texts (drafted_master_order self.now) }
     {
         match self {
@@ -133,8 +138,8 @@ impl<'a> MasterOrderDraft<'a> {
         self.build(alloc)
     }
 
-    /// The order. Refuses `Memory` alone.
-    fn build(&self, alloc: Global) -> Result<Order, Refusal>
+    /// The order of a draft whose names and texts were checked before. Refuses `Memory` alone.
+    pub fn build(&self, alloc: Global) -> Result<Order, Refusal>
         requires names { forms.order_has_names (drafted_master_order self.now) ≡ true }
         requires texts { forms.order_has_texts (drafted_master_order self.now) ≡ true }
         ensures ok { IfOk result (λ order. order ≡ drafted_master_order self.now) }

@@ -14,17 +14,22 @@ use std::alloc::Global;
 use ticket_tree::{Refusal, SpawnId};
 use worker_core::{End, Order};
 
-/// A worker's order by its members and their kinds alone: its ids, names and texts may be any.
+/// A worker's order by its members and their kinds alone: its ids, names and texts may be any, also
+/// that of its spawn. A document of several orders is read as drafts first, so that each refusal is
+/// looked for in all of it before the next one is.
 #[derive(Drop)]
-enum WorkerOrderDraft<'a> {
+pub enum WorkerOrderDraft<'a> {
+    /// To edit the part of a spawn.
     Edit {
         spawn: Borrowed<'a, AnyText>,
         edit: EditDraft<'a>,
     },
+    /// To end the work on it.
     Finish {
         spawn: Borrowed<'a, AnyText>,
         end: End,
     },
+    /// To give it back once more.
     Resend {
         spawn: Borrowed<'a, AnyText>,
     },
@@ -105,7 +110,7 @@ fn draft_of_kind<'a>(
 impl<'a> WorkerOrderDraft<'a> {
     /// The draft that a value is. Refuses `NotProfile`, and `Memory`.
     #[tactic(auto, unfolding(crate::specs::WorkerForm::worker_order_form))]
-    fn of(alloc: Global, value: &'a Value) -> Result<WorkerOrderDraft<'a>, Refusal>
+    pub fn of(alloc: Global, value: &'a Value) -> Result<WorkerOrderDraft<'a>, Refusal>
         ensures { Gives drafted_worker_order result (forms.worker_order_form (view value.now)) }
     {
         let kind = text_under(value, "Order").ok_or(Refusal::NotProfile)?;
@@ -113,7 +118,7 @@ impl<'a> WorkerOrderDraft<'a> {
     }
 
     /// Whether its SpawnID names a spawn, and the ids and names of its edit are valid.
-    fn has_names(&self) -> bool
+    pub fn has_names(&self) -> bool
         ensures { result ≡ forms.order_has_names (drafted_worker_order self.now) }
     {
         match self {
@@ -125,7 +130,7 @@ impl<'a> WorkerOrderDraft<'a> {
     }
 
     /// Whether the texts of its edit are valid.
-    fn has_texts(&self) -> bool
+    pub fn has_texts(&self) -> bool
         ensures { result ≡ forms.order_has_texts (drafted_worker_order self.now) }
     {
         match self {
@@ -150,8 +155,8 @@ impl<'a> WorkerOrderDraft<'a> {
         self.build(alloc)
     }
 
-    /// The order. Refuses `Memory` alone.
-    fn build(&self, alloc: Global) -> Result<Order, Refusal>
+    /// The order of a draft whose names and texts were checked before. Refuses `Memory` alone.
+    pub fn build(&self, alloc: Global) -> Result<Order, Refusal>
         requires names { forms.order_has_names (drafted_worker_order self.now) ≡ true }
         requires texts { forms.order_has_texts (drafted_worker_order self.now) ≡ true }
         ensures ok { IfOk result (λ order. order ≡ drafted_worker_order self.now) }

@@ -1,8 +1,9 @@
 //! Runs of `edit` over readers and writers that are slow, cut, interrupted or fail.
 
 use super::fakes::{Sink, Source};
+use command_streams::MAX_INPUT_BYTES;
 use counted::Counted;
-use edit_command::{MAX_INPUT_BYTES, run_edit};
+use edit_command::run_edit;
 use std::alloc::Global;
 use std::io::ErrorKind;
 

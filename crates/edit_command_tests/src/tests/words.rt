@@ -1,18 +1,26 @@
 //! What the words of the command line call for.
 
-use super::fakes::Sink;
+use command_line::run_words;
 use counted::Counted;
-use edit_command::run_words;
 use std::alloc::{AllocError, Global};
 use std::test::Fail;
 
-/// What is told for words over an empty input.
-fn told_for(alloc: Global, words: Option<&[String]>) -> Vec<u8> {
-    let mut reader = Counted::new(b"".as_slice());
-    let mut writer = Counted::new(Sink::new(alloc, 0, None));
+/// A document of no edits.
+const DOCUMENT: &str =
+    r#"{"At":5,"Edits":[],"Ticket":{"ID":"n0","JobID":"J0","JobPartID":"p0","Status":"Waiting","Type":"Product"}}"#;
+
+/// The ticket in it, as `edit` writes it.
+const TICKET: &str =
+    r#"{"Attr":{},"AuditPool":[],"ID":"n0","JDF":[],"JobID":"J0","JobPartID":"p0","ResourceLinkPool":[],"ResourcePool":[],"Status":"Waiting","Type":"Product"}
+"#;
+
+/// What is written and told for words over the document.
+fn output_for(alloc: Global, words: Option<&[String]>) -> (Vec<u8>, Vec<u8>) {
+    let mut reader = Counted::new(DOCUMENT.as_bytes());
+    let mut writer = Counted::new(Vec::new(alloc));
     let mut faults = Counted::new(Vec::new(alloc));
     let _ = run_words(alloc, words, &mut reader, &mut writer, &mut faults);
-    faults.into_inner()
+    (writer.into_inner(), faults.into_inner())
 }
 
 fn owned(alloc: Global, words: &[&str]) -> Result<Vec<String>, AllocError> {
@@ -23,27 +31,28 @@ fn owned(alloc: Global, words: &[&str]) -> Result<Vec<String>, AllocError> {
     Ok(owned)
 }
 
-/// What is told for these words over an empty input.
-fn told_for_words(alloc: Global, words: &[&str]) -> Result<Vec<u8>, AllocError> {
-    let words = owned(alloc, words)?;
-    Ok(told_for(alloc, Some(words.as_slice())))
-}
-
 #[test]
-fn runs_edit_alone(rt: HostRuntime) -> Result<(), Fail> {
+fn runs_the_command_that_stands_alone(rt: HostRuntime) -> Result<(), Fail> {
     let alloc = rt.alloc();
     let cases = [
-        (["jdf_cli"].as_slice(), true),
-        (["jdf_cli", "edit"].as_slice(), true),
-        (["jdf_cli", "Edit"].as_slice(), false),
-        (["jdf_cli", "world"].as_slice(), false),
-        (["jdf_cli", "edit", "edit"].as_slice(), false),
+        (["jdf_cli"].as_slice(), TICKET, ""),
+        (["jdf_cli", "edit"].as_slice(), TICKET, ""),
+        (["jdf_cli", "Edit"].as_slice(), "", ""),
+        (
+            ["jdf_cli", "world"].as_slice(),
+            "",
+            "Refused 41 NotProfile\n",
+        ),
+        (["jdf_cli", "edit", "edit"].as_slice(), "", ""),
+        (["jdf_cli", "world", "world"].as_slice(), "", ""),
     ];
-    for (words, is_edit) in cases {
-        let told = told_for_words(alloc, words)?;
-        let refused = b"Refused 40 NotJson\n".as_slice();
-        assert_eq!(rt; told.as_slice(), if is_edit { refused } else { &[] });
+    for (words, wanted, refused) in cases {
+        let words = owned(alloc, words)?;
+        let (written, told) = output_for(alloc, Some(words.as_slice()));
+        assert_eq!(rt; written.as_slice(), wanted.as_bytes());
+        assert_eq!(rt; told.as_slice(), refused.as_bytes());
     }
-    assert!(rt; told_for(alloc, None).is_empty());
+    let (written, told) = output_for(alloc, None);
+    assert!(rt; written.is_empty() && told.is_empty());
     Ok(())
 }

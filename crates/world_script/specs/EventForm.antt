@@ -1,0 +1,107 @@
+-- The form of an event of a script, and the event that JSON data is. The ids, names and texts of a
+-- draft may be any bytes, and a SpawnID any text.
+use Rattle.std.specs.Prelude.{ℕ, ◌&&◌, Bool, true, List, [], ◌∷◌, codes, if◌then◌else◌, Option}
+use Rattle.std.specs.Prelude.{Some, None}
+use Rattle.std.specs.Option.{option_map}
+use Rattle.std.specs.Str.{bytes_eq}
+use Rattle.serde_json.specs.Data.{Data}
+use Rattle.serde_json.specs.Find.{as_str, get}
+use Rattle.ticket_items.specs.Names.{is_name}
+use Rattle.json_forms.specs.Read.{◌>>=◌, provided, has_only, number_under, text_under}
+use Rattle.order_form.specs.MasterForm as master_form
+use Rattle.order_form.specs.WorkerForm as worker_form
+use Rattle.world.specs.declared.event.Event.{Event}
+use Rattle.world.specs.declared.stop.Stop.{Stop}
+use Rattle.world.specs.declared.stop.Stop.TheVariants.{Run, BeforeSave, BeforeSend}
+use Rattle.world.specs.declared.what.What.{What}
+use Rattle.world.specs.declared.what.What.TheVariants.{MasterOrder, WorkerOrder, Deliver, Restart}
+
+-- ---- by members and their kinds alone
+
+-- an order to the controller of a name: to the master, whose name is the first, or to a worker
+abbrev pub order_to : List ℕ → List ℕ → Data → Option What
+order_to master name d =
+    if bytes_eq name master then option_map MasterOrder (master_form.master_order_form d)
+    else option_map (WorkerOrder name) (worker_form.worker_order_form d)
+
+abbrev pub order_members : List (List ℕ)
+order_members = codes "At" ∷ codes "Event" ∷ codes "Order" ∷ codes "Stop" ∷ codes "To" ∷ []
+
+-- a controller is told to do something
+unfoldable pub order_form : List ℕ → Data → Option What
+order_form master d = do
+  _ ← provided (has_only order_members d)
+  name ← text_under (codes "To") d
+  order ← get (codes "Order") d
+  order_to master name order
+
+abbrev pub deliver_members : List (List ℕ)
+deliver_members = codes "At" ∷ codes "Deliver" ∷ codes "Event" ∷ codes "Stop" ∷ []
+
+-- a message is handed to its receiver
+unfoldable pub deliver_form : Data → Option What
+deliver_form d = do
+  _ ← provided (has_only deliver_members d)
+  number ← number_under (codes "Deliver") d
+  Some (Deliver number)
+
+abbrev pub restart_members : List (List ℕ)
+restart_members = codes "At" ∷ codes "Event" ∷ codes "Stop" ∷ codes "To" ∷ []
+
+-- a controller stops, and is started again
+unfoldable pub restart_form : Data → Option What
+restart_form d = do
+  _ ← provided (has_only restart_members d)
+  name ← text_under (codes "To") d
+  Some (Restart name)
+
+-- what happens, of the kind that a word names
+unfoldable pub kind_form : List ℕ → List ℕ → Data → Option What
+kind_form master kind d =
+    if bytes_eq kind (codes "Order") then order_form master d
+    else (if bytes_eq kind (codes "Deliver") then deliver_form d
+    else (if bytes_eq kind (codes "Restart") then restart_form d else None))
+
+-- what happens, of the kind that its `Event` names
+unfoldable pub what_form : List ℕ → Data → Option What
+what_form master d = text_under (codes "Event") d >>= λ kind. kind_form master kind d
+
+-- where the controller stops, by its word
+abbrev pub stop_named : List ℕ → Option Stop
+stop_named word =
+    if bytes_eq word (codes "Run") then Some Run else
+    (if bytes_eq word (codes "BeforeSave") then Some BeforeSave else
+    (if bytes_eq word (codes "BeforeSend") then Some BeforeSend else None))
+
+-- the one that stands under `Stop`: it doesn't stop where nothing does
+abbrev pub stop_of : Option Data → Option Stop
+stop_of None = Some Run
+stop_of (Some d) = as_str d >>= stop_named
+
+-- an event of a shop whose master has this name
+unfoldable pub event_form : List ℕ → Data → Option Event
+event_form master d = do
+  at ← number_under (codes "At") d
+  stop ← stop_of (get (codes "Stop") d)
+  what ← what_form master d
+  Some (record { what = what; at = at; stop = stop })
+
+-- ---- ids, names and texts
+
+abbrev pub what_has_names : What → Bool
+what_has_names (MasterOrder o) = master_form.order_has_names o
+what_has_names (WorkerOrder name o) = is_name name && worker_form.order_has_names o
+what_has_names (Deliver number) = true
+what_has_names (Restart name) = is_name name
+
+abbrev pub what_has_texts : What → Bool
+what_has_texts (MasterOrder o) = master_form.order_has_texts o
+what_has_texts (WorkerOrder name o) = worker_form.order_has_texts o
+what_has_texts (Deliver number) = true
+what_has_texts (Restart name) = true
+
+abbrev pub event_has_names : Event → Bool
+event_has_names e = what_has_names e.what
+
+abbrev pub event_has_texts : Event → Bool
+event_has_texts e = what_has_texts e.what

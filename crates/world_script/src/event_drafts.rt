@@ -1,0 +1,61 @@
+//! The events of a script, in turn.
+
+ghost use Rattle.std.specs.Prelude.{◌≡◌, true, IfOk, IfErr};
+ghost use Rattle.std.specs.List.{list_all};
+ghost use Rattle.serde_json.specs.View.{items_view};
+ghost use Rattle.json_forms.specs.Listed.{each};
+ghost use Rattle.json_forms.specs.Read.{Gives};
+ghost use Rattle.world_script.specs.DraftedEvent.{drafted_event, drafted_events};
+ghost use Rattle.world_script.specs.EventForm.{event_form, event_has_names, event_has_texts};
+
+use crate::event_draft::EventDraft;
+use serde_json::Value;
+use std::alloc::Global;
+use ticket_tree::{Items, Refusal};
+use world::Event;
+
+/// The drafts that the items are, in a shop whose master has this name. Refuses `NotProfile`, and
+/// `Memory`.
+pub fn event_drafts<'a>(
+    alloc: Global,
+    master: &str,
+    items: &'a [Value],
+) -> Result<Vec<EventDraft<'a>>, Refusal>
+    ensures { Gives (λ v. drafted_events v.items) result
+        (each (event_form master.now) (items_view items.now)) }
+{
+    let mut drafts = Vec::with_capacity(alloc, items.len())?;
+    for item in items {
+        let draft = EventDraft::of(alloc, master, item)?;
+        drafts.push(draft)?;
+    }
+    Ok(drafts)
+}
+
+/// Whether the ids and names of all are valid.
+pub fn have_names(drafts: &[EventDraft<'_>]) -> bool
+    ensures { result ≡ list_all (λ d. event_has_names (drafted_event d)) drafts.now }
+{
+    drafts.iter().all(|draft| draft.has_names())
+}
+
+/// Whether the texts of all are valid.
+pub fn have_texts(drafts: &[EventDraft<'_>]) -> bool
+    ensures { result ≡ list_all (λ d. event_has_texts (drafted_event d)) drafts.now }
+{
+    drafts.iter().all(|draft| draft.has_texts())
+}
+
+/// The events of drafts whose names and texts are valid. Refuses `Memory` alone.
+pub fn build_events(alloc: Global, drafts: &[EventDraft<'_>]) -> Result<Items<Event>, Refusal>
+    requires names { list_all (λ d. event_has_names (drafted_event d)) drafts.now ≡ true }
+    requires texts { list_all (λ d. event_has_texts (drafted_event d)) drafts.now ≡ true }
+    ensures ok { IfOk result (λ events. events ≡ drafted_events drafts.now) }
+    ensures memory { IfErr result (λ e. e ≡ Refusal.Memory) }
+{
+    let mut events = Vec::with_capacity(alloc, drafts.len())?;
+    for draft in drafts {
+        events.push(draft.build(alloc)?)?;
+    }
+    Ok(Items::new(events))
+}

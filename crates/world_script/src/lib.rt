@@ -1,0 +1,16 @@
+//! Scripts as JSON, in our own profile: a shop and what happens in it; and the text of what came of
+//! an event.
+#![tactic(auto)]
+
+mod answer;
+mod event_draft;
+mod event_drafts;
+mod read;
+mod script;
+mod script_draft;
+mod stop_word;
+mod what_draft;
+
+pub use answer::answer_text;
+pub use read::script_of;
+pub use script::Script;

@@ -1,0 +1,33 @@
+//! From bytes to a script.
+
+ghost use Rattle.std.specs.Prelude.{Ok, IfOk, IfErr};
+ghost use Rattle.serde_json.specs.View.{view};
+ghost use Rattle.json_forms.specs.Judged.{Answers};
+ghost use Rattle.world_script.specs.Script.{IsReadAs, IsRefusalOf, script_read};
+
+use crate::script::Script;
+use crate::script_draft::ScriptDraft;
+use json_profile::value_of;
+use serde_json::Value;
+use std::alloc::Global;
+use ticket_tree::Refusal;
+
+/// The script that a value is, or its first refusal.
+fn script_in(alloc: Global, value: &Value) -> Result<Script, Refusal>
+    ensures { Answers result (script_read (view value.now)) }
+{
+    let draft = ScriptDraft::of(alloc, value)?;
+    draft.build(alloc)
+}
+
+/// The script that bytes are. Refuses the first of `NotJson`, `NotProfile`, `BadId` (also where a
+/// SpawnID names no spawn), `BadText`, `ReservedStatus`, `DuplicateId`, `TooDeep`, `UnresolvedLink`
+/// and `SameName` (our own: where two of the names of the master and its workers are equal), each
+/// looked for in all of it before the next one is; `Memory` may come before any.
+pub fn script_of(alloc: Global, bytes: &[u8]) -> Result<Script, Refusal>
+    ensures ok { IfOk result (λ script. IsReadAs bytes.now (Ok script)) }
+    ensures refused { IfErr result (IsRefusalOf bytes.now) }
+{
+    let value = value_of(alloc, bytes)?;
+    script_in(alloc, &value)
+}
