@@ -1,4 +1,4 @@
-//! The tests of `edit_command` and of `counted`, which call them as the program does.
+//! The tests of `edit_command`, `command_line` and `counted`, which call them as the program does.
 #![tactic(auto)]
 
 #[cfg(test)]
