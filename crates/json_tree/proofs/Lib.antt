@@ -1,0 +1,3 @@
+pub mod Finding
+mod Ranges
+mod Values
