@@ -6,9 +6,7 @@ mod text;
 mod write;
 
 pub use json_forms::{EditDraft, has_only, number_under, text_under};
-pub use json_reader::{
-    PartDraft, TicketChecks, TicketDraft, taken_member, taken_ticket, taken_values,
-};
+pub use json_reader::{Checks, FoundTicket, PartDraft, TicketDraft};
 pub use read::{edit_of, part_of, ticket_of};
 pub use text::{text_of, value_of};
 pub use write::{

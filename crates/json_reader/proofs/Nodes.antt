@@ -7,8 +7,8 @@ use Rattle.std.specs.Map.{lookup}
 use Rattle.std.specs.Option.{option_map}
 use Rattle.std.specs.Ordering.{nat_cmp, match_ordering}
 use Rattle.std.specs.Prelude.{string_bytes}
-use Rattle.serde_json.specs.Data.{Data, Members, no_members, member, object}
-use Rattle.serde_json.specs.Find.{get_member}
+use Rattle.serde_json.specs.Data.{Data, Members, no_members, member, null, boolean, number, string, array, object}
+use Rattle.serde_json.specs.Find.{get, get_member}
 use Rattle.serde_json.specs.View.{items_view, members_view, view}
 use Rattle.serde_json.proofs.Views.{view-Array, view-Object, view-lookup, view_of_ref}
 use Rattle.serde_json.specs.declared.value.Value.{Value, Array, Object}
@@ -30,6 +30,16 @@ under_at Greater depth d rest rows e = e
 pub child_rows-get_member : (depth : ℕ) (ms : Members) → child_rows depth ms ≡ rows_under depth (get_member (codes "JDF") ms)
 child_rows-get_member depth no_members = refl
 child_rows-get_member depth (member k d ms) = under_at (slice_cmp nat_cmp (codes "JDF") k) depth d _ _ (child_rows-get_member depth ms)
+
+-- the rows of a node: its own, and those under `JDF`
+pub node_rows-get : (names : List (List ℕ)) (n : ℕ) (d : Data) → node_rows names n d ≡ (own_row names n d >>= λ row. option_map (λ rows. row ∷ rows) (rows_under (next_depth n) (get (codes "JDF") d)))
+unfolding own_row
+node_rows-get names n null = refl
+node_rows-get names n (boolean b) = refl
+node_rows-get names n (number m) = refl
+node_rows-get names n (string s) = refl
+node_rows-get names n (array ds) = refl
+node_rows-get names n (object ms) = ap (λ o. own_row names n (object ms) >>= λ row. option_map (λ rows. row ∷ rows) o) (child_rows-get_member (next_depth n) ms)
 
 -- what was found under `JDF`, seen by view
 pub found_children : (ms : BTreeMap (String Global) Value) (found : Option (Bor Value)) → option_map (λ v. v.now) found ≡ lookup (is_at (λ k. slice_cmp nat_cmp (codes "JDF") (string_bytes k))) ms.entries

@@ -1,6 +1,5 @@
-pub mod Checks
 pub mod Drafted
 pub mod DraftedPool
 pub mod DraftedTicket
 pub mod DraftedPart
-pub mod Taken
+pub mod Found

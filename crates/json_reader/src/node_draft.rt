@@ -1,3 +1,4 @@
+use crate::checks::Checks;
 use crate::resource_drafts::{build_resources, show_nothing};
 use json_forms::{AttrsDraft, AuditDraft, Borrowed, Draft, Drafts, LinkDraft, MarkedDraft};
 use std::alloc::Global;
@@ -36,6 +37,7 @@ impl<'a> NodeDraft<'a> {
     ghost use Rattle.json_form.specs.Form.{node_has_names, pools_have_names, row_has_names};
     ghost use Rattle.json_form.specs.Form.{row_has_texts};
     ghost use Rattle.json_reader.specs.Drafted.{drafted_raw, drafted_row};
+    ghost use Rattle.json_reader.specs.Found.{row_checks};
 
     /// Whether all ids and names in it are valid.
     pub fn has_names(&self) -> bool
@@ -78,6 +80,17 @@ impl<'a> NodeDraft<'a> {
         ensures { result ≡ are_bare (drafted_raw self.now).pool }
     {
         show_nothing(self.resources.as_slice())
+    }
+
+    /// Whether its ids and names, and its texts, are valid, and its resources show nothing of spawns.
+    pub fn checks(&self) -> Checks
+        ensures { result ≡ row_checks (drafted_raw self.now) }
+    {
+        Checks {
+            names: self.has_names(),
+            texts: self.has_texts(),
+            bare: self.is_bare(),
+        }
     }
 
     /// The node, without what its resources show of spawns. Refuses `Memory` alone.
