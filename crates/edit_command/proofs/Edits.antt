@@ -1,106 +1,126 @@
--- Edits of JSON values: what is found of them, and how they are taken.
-use Rattle.std.proofs.Common.{◌≡◌, ◌∙◌, ℕ, ◌+◌, ◌<◌, ◌≤◌, ◌&&◌, Bool, true, false, List, [], ◌∷◌, ◌++◌, length, get_or, drop, map, take, Option, Some, None, Result, Ok, Err, refl, sym, ap, ap₂, subst, append_assoc, append-nil}
-use Rattle.std.proofs.lemmas.Bool.{and_parts}
-use Rattle.std.proofs.lemmas.List.{drop_more, drop_all, map-id, take_all}
+-- Edits of a tree: what is found of them, one after another.
+use Rattle.std.proofs.Common.{◌≡◌, ◌∙◌, ℕ, ◌+◌, ◌<◌, ◌≤◌, ◌&&◌, Bool, true, false, List, [], ◌∷◌, ◌++◌, length, get_or, drop, Global, Option, Some, None, Result, Ok, Err, IfErr, OnOk, refl, sym, ap, subst, append_assoc, append-nil}
+use Rattle.std.proofs.lemmas.List.{drop_more, drop_all}
+use Rattle.std.proofs.lemmas.Bool.{and_from, and_parts}
 use Rattle.std.proofs.lemmas.List.Folds.{list_all-append}
 use Rattle.std.specs.List.{list_all}
-use Rattle.std.specs.Option.{option_map}
-use Rattle.std.specs.Prelude.{IsErrAnd}
-use Rattle.serde_json.specs.Data.{Data, item, null, boolean, number, string, array, object}
-use Rattle.serde_json.specs.View.{items_view, view}
-use Rattle.serde_json.specs.declared.value.Value.{Value}
+use Rattle.std.specs.Option.{option_map, option_and_then}
+use Rattle.std.specs.Prelude.{⊤, IsErrAnd}
+use Rattle.json.specs.Value.{items_view}
+use Rattle.json.specs.declared.value.Value.{Value}
+use Rattle.serde_json.specs.Data.{Data, Items}
+use Rattle.serde_json.specs.Find.{as_array}
 use Rattle.ticket_items.specs.declared.edit.Edit.{Edit}
 use Rattle.ticket_items.specs.declared.refusal.Refusal.{Refusal}
+use Rattle.ticket_items.specs.declared.refusal.Refusal.TheVariants.{Memory}
 use Rattle.json_form.specs.EditDraft.{edit_draft}
 use Rattle.json_form.specs.Form.{edit_has_names, edit_has_texts}
 use Rattle.json_form.specs.Read.{◌>>=◌, Fails}
-use Rattle.json_forms.proofs.ListLemmas.{each-all, map-more_both}
+use Rattle.json_forms.proofs.ListLemmas.{Fails-weaker}
 use Rattle.json_forms.specs.Listed.{each, list_form}
-use Rattle.json_reader.specs.Taken.{items_in}
-use Rattle.edit_command.specs.Checks.{edit_checks, more_checks}
-use Rattle.json_reader.specs.Checks.{Finds}
-use Rattle.edit_command.specs.Known.{are_known_edits, is_known_edit, known_edits}
-use Rattle.edit_command.specs.declared.edit_checks.EditChecks.{EditChecks}
+use Rattle.json_reader.specs.Found.{all_hold, both}
+use Rattle.json_reader.specs.declared.checks.Checks.{Checks}
+use Rattle.json_tree.specs.Tree.{items_data, tree_data}
+use Rattle.edit_command.specs.Found.{AddsEdits, IsFoundEdits, edit_checks}
+use Rattle.edit_command.specs.declared.found_edits.FoundEdits.{FoundEdits}
 
--- ---- what is found
+-- ---- one edit
+
+-- the edit that data is, by itself
+abbrev pub lone : Option Edit → Option (List Edit)
+lone o = option_map (λ e. e ∷ []) o
+
+-- a draft that can't be read
+pub edit_failed : (found : FoundEdits) (result : Result ⊤ Refusal) (e : Refusal) (d value : Data) → value ≡ d → IsErrAnd result (λ f. f ≡ e) → Fails e (edit_draft value) → AddsEdits found found result (lone (edit_draft d))
+edit_failed found (Ok u) e d value is same fails = absurd same
+edit_failed found (Err f) e d value is same fails =
+    subst (λ g. Fails g (lone (edit_draft d))) (sym same) (Fails-weaker e (edit_draft value) _ (λ none. ap (λ v. lone (edit_draft v)) (sym is) ∙ ap lone none) fails)
+
+-- one that is added
+pub edit_added : (old new : FoundEdits) (result : Result ⊤ Refusal) (edit : Edit) (d value : Data) → value ≡ d → edit_draft value ≡ Some edit
+    → OnOk result ((before : List Edit) → IsFoundEdits before old → IsFoundEdits (before ++ edit ∷ []) new) → IfErr result (λ e. e ≡ Memory) → AddsEdits old new result (lone (edit_draft d))
+edit_added old new (Ok u) edit d value is read added memory = (edit ∷ [], ap (λ v. lone (edit_draft v)) (sym is) ∙ ap lone read, added)
+edit_added old new (Err e) edit d value is read added memory = subst (λ f. Fails f (lone (edit_draft d))) (sym memory) tt
+
+-- what was found of an edit more, which is there as long as all is valid
+abbrev pub lone_checks : Edit → Checks
+lone_checks e = record { names = edit_has_names e; texts = edit_has_texts e; bare = true }
 
 and_true : (a : Bool) → (a && true) ≡ a
 and_true true = refl
 and_true false = refl
 
--- these edits were read of the values before a place, and this was found of them
-pub record IsFound (vs : List Value) (i : ℕ) (found : EditChecks) : Type 0 where
-  pub edits : List Edit
-  pub read : map (λ v. edit_draft (view v)) (take i vs) ≡ map (λ e. Some e) edits
-  pub found_is : found ≡ edit_checks edits
-
 all-push : (p : Edit → Bool) (edits : List Edit) (e : Edit) → (list_all p edits && p e) ≡ list_all p (edits ++ e ∷ [])
 all-push p edits e = sym (list_all-append p edits (e ∷ []) ∙ ap (λ b. list_all p edits && b) (and_true (p e)))
 
-pub one_found : (vs : List Value) (i : ℕ) (v : Value) (before after : EditChecks) → IsFound vs i before → i < length vs → v ≡ get_or vs i v → ((e : Edit) × (edit_draft (view v) ≡ Some e) × (after ≡ more_checks before e)) → IsFound vs (i + 1) after
-one_found vs i v before after so within is next =
-    record {
-      edits = so.edits ++ next.0 ∷ [];
-      read = map-more_both (λ w. edit_draft (view w)) (λ e. Some e) vs i v next.0 so.edits (so.edits ++ next.0 ∷ []) within is next.1 so.read refl;
-      found_is = next.2 ∙ ap (λ c. more_checks c next.0) so.found_is ∙ ap₂ (λ n t. record { names = n; texts = t }) (all-push edit_has_names so.edits next.0) (all-push edit_has_texts so.edits next.0);
-    }
+checks-push : (edits : List Edit) (e : Edit) → both (edit_checks edits) (lone_checks e) ≡ edit_checks (edits ++ e ∷ [])
+checks-push edits e = λ i. record { names = all-push edit_has_names edits e i; texts = all-push edit_has_texts edits e i; bare = true }
 
-pub all_found : (vs : List Value) (i : ℕ) (found : EditChecks) → IsFound vs i found → length vs ≤ i → (edits : List Edit) × (each edit_draft (items_view vs) ≡ Some edits) × (found ≡ edit_checks edits)
-all_found vs i found so past = (
-  so.edits,
-  each-all edit_draft (λ e. e) vs so.edits (ap (map (λ v. edit_draft (view v))) (sym (take_all i vs past)) ∙ so.read) ∙ ap Some (map-id so.edits),
-  so.found_is,
-)
+before_holds : (a b : Checks) → all_hold (both a b) ≡ true → all_hold a ≡ true
+before_holds a b hold =
+    let first = and_parts _ _ hold in
+    let second = and_parts _ _ first.0 in
+    and_from _ _ (and_from _ _ (and_parts a.names b.names second.0).0 (and_parts a.texts b.texts second.1).0) (and_parts a.bare b.bare first.1).0
 
--- a refusal that is handed on
-pub Finds-failed : {X C : Type 0} (found : X → C) (r : Result C Refusal) (e : Refusal) (o : Option X) → IsErrAnd r (λ f. f ≡ e) → Fails e o → Finds found r o
-Finds-failed found (Ok c) e o same fails = absurd same
-Finds-failed found (Err f) e o same fails = subst (λ g. Fails g o) (sym same) fails
+pub one_found : (before : List Edit) (e : Edit) (old new : FoundEdits) → IsFoundEdits before old → new.checks ≡ both old.checks (lone_checks e) → (all_hold new.checks ≡ true → new.edits.items ≡ old.edits.items ++ e ∷ []) → IsFoundEdits (before ++ e ∷ []) new
+one_found before e old new is checks edits = record {
+  checks = checks ∙ ap (λ c. both c (lone_checks e)) is.checks ∙ checks-push before e;
+  edits = λ hold. edits hold ∙ ap (λ es. es ++ e ∷ []) (is.edits (before_holds old.checks (lone_checks e) (ap all_hold (sym checks) ∙ hold)));
+}
 
--- ---- how they are taken
+-- ---- one after another
 
--- the first of several is known, and so are those behind it
-pub record IsKnownMore (whole : Option (List Edit)) (first : Option Edit) (rest : Option (List Edit)) : Type 0 where
-  pub first_known : is_known_edit first ≡ true
-  pub rest_known : are_known_edits rest ≡ true
-  pub edits : (e : Edit) → first ≡ Some e → known_edits whole ≡ e ∷ known_edits rest
+pub nothing_found : (found : FoundEdits) → AddsEdits found found (Ok tt) (Some [])
+nothing_found found = ([], refl, λ before is. subst (λ edits. IsFoundEdits edits found) (sym (append-nil before)) is)
 
-known_parts : (first : Option Edit) (rest : Option (List Edit)) → are_known_edits (first >>= λ e. option_map (λ es. e ∷ es) rest) ≡ true → IsKnownMore (first >>= λ e. option_map (λ es. e ∷ es) rest) first rest
-known_parts None rest known = cc
-known_parts (Some e) None known = cc
-known_parts (Some e) (Some es) known =
-    let both = and_parts _ _ known in
-    record { first_known = both.0; rest_known = both.1; edits = λ x is. ap (λ o. known_edits (o >>= λ y. option_map (λ ys. y ∷ ys) (Some es))) is }
+found_then : (old middle new : FoundEdits) (result : Result ⊤ Refusal) (first : Option Edit) (rest : Option (List Edit)) → AddsEdits old middle (Ok tt) (lone first) → AddsEdits middle new result rest
+    → AddsEdits old new result (first >>= λ e. option_map (λ es. e ∷ es) rest)
+found_then old middle new result None rest before after = absurd (let none : None ≡ Some before.0 = before.1 in cc)
+found_then old middle new (Ok u) (Some e) rest before after =
+    let same : e ∷ [] ≡ before.0 = cc in (
+      e ∷ after.0,
+      ap (option_map (λ es. e ∷ es)) after.1,
+      λ earlier is. subst (λ edits. IsFoundEdits edits new) (append_assoc earlier (e ∷ []) after.0)
+          (after.2 (earlier ++ e ∷ []) (subst (λ added. IsFoundEdits (earlier ++ added) middle) (sym same) (before.2 earlier is))),
+    )
+found_then old middle new (Err f) (Some e) rest before after = Fails-weaker f rest _ (λ none. ap (option_map (λ es. e ∷ es)) none) after
 
--- the edits of the values from a place on are known, and with them all edits are there
-pub record IsTaking (all : List Value) (i : ℕ) (new : List Edit) : Type 0 where
-  pub rest_known : are_known_edits (each edit_draft (items_view (drop i all))) ≡ true
-  pub edits : new ++ known_edits (each edit_draft (items_view (drop i all))) ≡ known_edits (each edit_draft (items_view all))
+none_first : (first : Option Edit) (rest : Option (List Edit)) → lone first ≡ None → (first >>= λ e. option_map (λ es. e ∷ es) rest) ≡ None
+none_first None rest none = refl
+none_first (Some e) rest none = cc
 
-pub next_known : (all : List Value) (i : ℕ) (new : List Edit) (v : Value) → IsTaking all i new → i < length all → v ≡ get_or all i v
-    → IsKnownMore (each edit_draft (items_view (drop i all))) (edit_draft (view v)) (each edit_draft (items_view (drop (i + 1) all)))
-next_known all i new v taking within is =
-    let cut : items_view (drop i all) ≡ item (view v) (items_view (drop (i + 1) all)) = ap items_view (drop_more all i v within) ∙ ap (λ x. item (view x) (items_view (drop (i + 1) all))) (sym is) in
-    subst (λ ds. IsKnownMore (each edit_draft ds) (edit_draft (view v)) (each edit_draft (items_view (drop (i + 1) all)))) (sym cut)
-    (known_parts (edit_draft (view v)) (each edit_draft (items_view (drop (i + 1) all))) (ap (λ ds. are_known_edits (each edit_draft ds)) (sym cut) ∙ taking.rest_known))
+-- ---- the edits of a list
 
-pub one_taken : (all : List Value) (i : ℕ) (before after : List Edit) (v : Value) (e : Edit) → IsTaking all i before → i < length all → v ≡ get_or all i v → edit_draft (view v) ≡ Some e → after ≡ before ++ e ∷ [] → IsTaking all (i + 1) after
-one_taken all i before after v e taking within is read pushed =
-    let next = next_known all i before v taking within is in
-    record {
-      rest_known = next.rest_known;
-      edits = ap (λ xs. xs ++ known_edits (each edit_draft (items_view (drop (i + 1) all)))) pushed ∙ append_assoc before (e ∷ []) _ ∙ ap (λ xs. before ++ xs) (sym (next.edits e read)) ∙ taking.edits;
-    }
+-- the edits from the i-th tree on
+abbrev pub edits_from : ℕ → List (Value Global) → Option (List Edit)
+edits_from i trees = each edit_draft (items_data (items_view (drop i trees)))
 
-pub all_taken : (all : List Value) (i : ℕ) (new : List Edit) → IsTaking all i new → length all ≤ i → new ≡ known_edits (each edit_draft (items_view all))
-all_taken all i new taking past =
-    sym (append-nil new) ∙ ap (λ vs. new ++ known_edits (each edit_draft (items_view vs))) (sym (drop_all i all past)) ∙ taking.edits
+edits_from-more : (trees : List (Value Global)) (i : ℕ) (t : Value Global) → i < length trees → t ≡ get_or trees i t → edits_from i trees ≡ (edit_draft (tree_data t) >>= λ e. option_map (λ es. e ∷ es) (edits_from (i + 1) trees))
+edits_from-more trees i t within is =
+    ap (λ ts. each edit_draft (items_data (items_view ts))) (drop_more trees i t within) ∙ ap (λ x. edit_draft (tree_data x) >>= λ e. option_map (λ es. e ∷ es) (edits_from (i + 1) trees)) (sym is)
 
--- the edits of a list are those of its items
-pub of_list : (d : Data) → are_known_edits (list_form edit_draft d) ≡ true → list_form edit_draft d ≡ each edit_draft (items_in d)
-of_list null known = cc
-of_list (boolean b) known = cc
-of_list (number n) known = cc
-of_list (string s) known = cc
-of_list (array ds) known = refl
-of_list (object ms) known = cc
+-- what is found of the trees from the i-th on is found of all
+pub record IsFinding (trees : List (Value Global)) (i : ℕ) (start now : FoundEdits) : Type 0 where
+  pub rest : (new : FoundEdits) (result : Result ⊤ Refusal) → AddsEdits now new result (edits_from i trees) → AddsEdits start new result (edits_from 0 trees)
+
+pub finding_more : (trees : List (Value Global)) (i : ℕ) (t : Value Global) (start old new : FoundEdits) → i < length trees → t ≡ get_or trees i t → IsFinding trees i start old → AddsEdits old new (Ok tt) (lone (edit_draft (tree_data t)))
+    → IsFinding trees (i + 1) start new
+finding_more trees i t start old new within is before step = record {
+  rest = λ last result adds. before.rest last result (subst (AddsEdits old last result) (sym (edits_from-more trees i t within is)) (found_then old new last result _ _ step adds));
+}
+
+pub finding_failed : (trees : List (Value Global)) (i : ℕ) (t : Value Global) (start old : FoundEdits) (e : Refusal) → i < length trees → t ≡ get_or trees i t → IsFinding trees i start old → Fails e (lone (edit_draft (tree_data t)))
+    → Fails e (edits_from 0 trees)
+finding_failed trees i t start old e within is before fails =
+    before.rest old (Err e) (subst (Fails e) (sym (edits_from-more trees i t within is)) (Fails-weaker e (lone (edit_draft (tree_data t))) _ (none_first _ _) fails))
+
+pub finding_all : (trees : List (Value Global)) (i : ℕ) (start now : FoundEdits) → length trees ≤ i → IsFinding trees i start now → AddsEdits start now (Ok tt) (edits_from 0 trees)
+finding_all trees i start now past before =
+    before.rest now (Ok tt) (subst (λ ts. AddsEdits now now (Ok tt) (each edit_draft (items_data (items_view ts)))) (sym (drop_all i trees past)) (nothing_found now))
+
+-- ---- the list
+
+-- the edits of what was found are those of its items
+pub edits_listed : (found : Option Data) (items : Items) → option_and_then as_array found ≡ Some items → option_and_then (list_form edit_draft) found ≡ each edit_draft items
+edits_listed None items is = cc
+edits_listed (Some d) items is = ap (λ o. o >>= each edit_draft) is

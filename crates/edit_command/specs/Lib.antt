@@ -1,5 +1,4 @@
 pub mod Document
-pub mod Checks
-pub mod Known
+pub mod Found
 pub mod OwnedDocument
 pub mod Run

@@ -1,16 +1,15 @@
 //! From the bytes of the input to the bytes of the output.
 
-ghost use Rattle.std.specs.Prelude.{◌≡◌, ◌⊎◌, ◌++◌, IfErr, IfOk, OnOk, Err, Ok};
-ghost use Rattle.serde_json.specs.View.{view};
-ghost use Rattle.edit_command.specs.Document.{Document, IsReadAs, IsRefusalOf, document_read};
+ghost use Rattle.std.specs.Prelude.{◌≡◌, ◌++◌, IfErr, IfOk, OnOk, Ok};
+ghost use Rattle.edit_command.specs.Document.{Document, IsReadAs, IsRefusalOf};
 ghost use Rattle.edit_command.specs.OwnedDocument.{owned_document};
 ghost use Rattle.edit_command.specs.Run.{IsEdited, IsOutput, ticket_text};
 
 use crate::owned_document::OwnedDocument;
 use crate::run::run_edits;
 use command_streams::Output;
-use json_profile::{push_ticket_text, value_of};
-use serde_json::Value;
+use json_profile::push_ticket_text;
+use json_tree::{Scratch, tree_of};
 use std::alloc::{AllocError, Global};
 use ticket_tree::{Refusal, Ticket};
 
@@ -48,28 +47,26 @@ fn edited_document(alloc: Global, document: OwnedDocument) -> Result<EditedTicke
     })
 }
 
-/// The edited ticket of a JSON value, or its first refusal.
-fn value_edits(alloc: Global, value: Value) -> Result<EditedTicket, Refusal>
-    ensures done { IfOk result (λ o. (document : Document)
-        × (document_read (view value) ≡ Ok document)
-        × IsEdited document o.lines.items o.ticket o.refused) }
-    ensures refused { IfErr result
-        (λ e. (e ≡ Refusal.Memory) ⊎ (document_read (view value) ≡ Err e)) }
+/// The document that an input is, or the first refusal of it.
+fn read_document(alloc: Global, input: &[u8]) -> Result<OwnedDocument, Refusal>
+    ensures done { IfOk result (λ o. IsReadAs input.now (Ok (owned_document o))) }
+    ensures refused { IfErr result (IsRefusalOf input.now) }
 {
-    let document = OwnedDocument::of(alloc, value)?;
-    edited_document(alloc, document)
+    let mut scratch = Scratch::new(alloc);
+    let tree = tree_of(alloc, input, &mut scratch)?;
+    OwnedDocument::of(alloc, &tree)
 }
 
 /// The edited ticket of an input, or the first refusal of it. The input is given back once its
-/// value is read, and the value while the ticket is taken out of it.
+/// document is built, before the edits are done.
 fn edited_ticket(alloc: Global, input: Vec<u8>) -> Result<EditedTicket, Refusal>
     ensures done { IfOk result (λ o. (document : Document) × IsReadAs input.items (Ok document)
         × IsEdited document o.lines.items o.ticket o.refused) }
     ensures refused { IfErr result (IsRefusalOf input.items) }
 {
-    let value = value_of(alloc, input.as_slice())?;
+    let document = read_document(alloc, input.as_slice())?;
     drop(input);
-    value_edits(alloc, value)
+    edited_document(alloc, document)
 }
 
 /// What `edit` writes for an input, or the first refusal of it: `NotJson`, `NotProfile`, `BadId`,

@@ -3,11 +3,9 @@
 #![tactic(auto)]
 
 mod command;
-mod document_checks;
-mod document_parts;
-mod edit_checks;
 mod edit_output;
-mod edit_taker;
+mod found_document;
+mod found_edits;
 pub mod laws;
 mod owned_document;
 mod run;
