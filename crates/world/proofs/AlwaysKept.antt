@@ -29,6 +29,7 @@ use Rattle.worker_core.specs.Messages as worker_messages
 use Rattle.worker_core.specs.Orders as worker_orders
 use Rattle.worker_core.specs.Worker as worker
 use Rattle.worker_core.specs.declared.order.Order as worker_order
+use Rattle.world.proofs.Back.{ordered_back, returned_back}
 use Rattle.world.proofs.Doors.{master_refuses_nothing, returned_in, returned_told}
 use Rattle.world.proofs.Kept.{Keeps, master_stored, settled_kept, worker_stored}
 use Rattle.world.proofs.Later.{in_order_later}
@@ -61,7 +62,7 @@ master_order_keeps o at w ok =
     unless_refused (master_orders.order_refusal o c.master) w _ ok (λ none.
     let later = master_steps.ordered_later o at c ok.master none in
     let kept = ordered_kept o at c.master ok.master none in
-    let stored = master_stored c next w.messages ok kept (ordered_names o at c.master) later in
+    let stored = master_stored c next w.messages ok kept (ordered_names o at c.master) later (ordered_back o at c ok.back) in
     record { stored = stored; sent = master_steps.ordered_sends o at c w.messages ok.master none kept stored.messages.each })
 
 -- a part that comes back to the master was put in then
@@ -81,7 +82,7 @@ master_takes_keeps m at w ok there own =
     let next = master_messages.after_taking m at c.master in
     let good : IsInOrder c m = All-contains (IsInOrder c) w.messages m ok.messages.each there in
     let later = master_steps.taken_later m at c ok.master good.for_master in
-    let stored = master_stored c next w.messages ok (message_is_kept m at c.master good.for_master ok.master) (taken_by_master_names m at c.master) later in
+    let stored = master_stored c next w.messages ok (message_is_kept m at c.master good.for_master ok.master) (taken_by_master_names m at c.master) later (returned_back m at c ok.master.numbered good ok.back) in
     let d = master_steps.with_master c next in
     let good_later : IsInOrder d m = in_order_later c d later m good in
     record { stored = stored; sent = answer_is_new d w.messages c.master.name m.sender m.receiver m.at at m.body (master_messages.taken_result m c.master) stored.messages.each own good_later (taken_back c m at m.body refl ok.recorded good good_later) }

@@ -38,7 +38,7 @@ same_bytes x y e = ap (bytes_eq x) (sym e) ∙ bytes_eq-same x
 
 -- ---- the entry of a spawn
 
-found_through : (o : Option worker.Known) (s : ℕ) (e : Entry) → option_and_then (λ (v : worker.Known). worker.entry_of v.entries s) o ≡ Some e → (v : worker.Known) × (o ≡ Some v) × (worker.entry_of v.entries s ≡ Some e)
+pub found_through : (o : Option worker.Known) (s : ℕ) (e : Entry) → option_and_then (λ (v : worker.Known). worker.entry_of v.entries s) o ≡ Some e → (v : worker.Known) × (o ≡ Some v) × (worker.entry_of v.entries s ≡ Some e)
 found_through None s e found = cc
 found_through (Some v) s e found = (v, refl, found)
 

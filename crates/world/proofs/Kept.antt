@@ -5,6 +5,7 @@ use Rattle.std.specs.List.{All}
 use Rattle.message_items.specs.declared.message.Message.{Message}
 use Rattle.master_core.specs.Master as master
 use Rattle.worker_core.specs.Worker as worker
+use Rattle.world.proofs.Back.{back_later}
 use Rattle.world.proofs.Later.{AreLater, in_order_later, recorded_later}
 use Rattle.world.proofs.MasterSteps.{with_master}
 use Rattle.world.proofs.Names.{HasItsNames, HasNames}
@@ -14,7 +15,7 @@ use Rattle.world.proofs.Stored.{All-with_worker, names_stay}
 use Rattle.world.proofs.WorkerSteps.{with_next}
 use Rattle.world.specs.Controllers.{Controllers}
 use Rattle.world.specs.Happening.{settled}
-use Rattle.world.specs.Messages.{AreInOrder, AreRecorded, IsInOrder, IsRecorded}
+use Rattle.world.specs.Messages.{AreInOrder, AreRecorded, HasComeBack, IsInOrder, IsRecorded}
 use Rattle.world.specs.Settling.{settled_messages, settled_state, with_sent}
 use Rattle.world.specs.State.{IsKept, State, state}
 use Rattle.world.specs.Stepping.{Moved, master_moved}
@@ -35,8 +36,8 @@ recorded_entries c d v later all = All-weaker (IsRecorded c v.name) (IsRecorded 
 
 -- ---- another master, or another worker, of the same names
 
-pub master_stored : (c : Controllers) (next : master.Known) (messages : List Message) → IsKept (beside c messages) → master.IsKept next → HasNames c.master next → AreLater c (with_master c next) → IsKept (beside (with_master c next) messages)
-master_stored c next messages ok kept names later =
+pub master_stored : (c : Controllers) (next : master.Known) (messages : List Message) → IsKept (beside c messages) → master.IsKept next → HasNames c.master next → AreLater c (with_master c next) → All (HasComeBack c) next.records → IsKept (beside (with_master c next) messages)
+master_stored c next messages ok kept names later back =
     record {
       master = kept;
       named = ok.named ∙ sym names.workers;
@@ -44,6 +45,7 @@ master_stored c next messages ok kept names later =
       workers = ok.workers;
       recorded = All-weaker (AreRecorded c) (AreRecorded (with_master c next)) (λ v. recorded_entries c (with_master c next) v later) c.workers ok.recorded;
       messages = messages_later c (with_master c next) messages later ok.messages;
+      back = back;
     }
 
 pub worker_stored : (c : Controllers) (v next : worker.Known) (messages : List Message) → IsKept (beside c messages) → v.master ≡ c.master.name → worker.IsKept next → HasItsNames v next → AreLater c (with_next c v.name next) → All (IsRecorded c v.name) next.entries → IsKept (beside (with_next c v.name next) messages)
@@ -55,6 +57,7 @@ worker_stored c v next messages ok knows kept names later recorded =
       workers = All-with_worker worker.IsKept v.name next c.workers kept ok.workers;
       recorded = All-with_worker (AreRecorded c) v.name next c.workers (subst (λ n. All (IsRecorded c n) next.entries) (sym names.own) recorded) ok.recorded;
       messages = messages_later c (with_next c v.name next) messages later ok.messages;
+      back = back_later c (with_next c v.name next) c.master.records later ok.back;
     }
 
 -- ---- a step that is settled
@@ -74,6 +77,7 @@ sent_kept c messages (Some m) ok new =
       workers = ok.workers;
       recorded = ok.recorded;
       messages = one_more_in_order c messages m ok.messages new;
+      back = ok.back;
     }
 
 pub settled_kept : (stop : Stop) (w : State) (moved : Moved Controllers Message) → IsKept w → Keeps w moved → IsKept (settled stop w (Ok moved))

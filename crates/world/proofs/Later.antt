@@ -54,7 +54,7 @@ recorded_later c d later name e h =
 -- ---- a message
 
 -- what has ended has ended later
-ended_later : (c d : Controllers) (r q : SpawnRec) (P Q : Entry → Type 0) → AreLater c d → q.worker ≡ r.worker → q.id ≡ r.id → ((e : Entry) → P e → Q e) → HasEnded c r P → HasEnded d q Q
+pub ended_later : (c d : Controllers) (r q : SpawnRec) (P Q : Entry → Type 0) → AreLater c d → q.worker ≡ r.worker → q.id ≡ r.id → ((e : Entry) → P e → Q e) → HasEnded c r P → HasEnded d q Q
 ended_later c d r q P Q later worker id go h =
     let there = and_found _ (entry_for c r) h in
     let e : Entry = there.0 in

@@ -9,9 +9,12 @@ pub mod Sending
 pub mod MasterSteps
 pub mod WorkerSteps
 pub mod Doors
+pub mod Back
 pub mod Kept
 pub mod AlwaysKept
 pub mod SentTaken
+pub mod InPart
+pub mod Changing
 pub mod WorkerPlaces
 pub mod Settled
 pub mod Runs

@@ -9,7 +9,7 @@ use Rattle.message_items.specs.declared.message.Message.{Message}
 use Rattle.master_core.specs.Master as master
 use Rattle.worker_core.specs.Worker as worker
 use Rattle.world.specs.Controllers.{Controllers}
-use Rattle.world.specs.Messages.{AreInOrder, AreRecorded}
+use Rattle.world.specs.Messages.{AreInOrder, AreRecorded, HasComeBack}
 use Rattle.world.specs.State.{IsKept, new_worker, state}
 
 -- each new worker has its name
@@ -41,8 +41,8 @@ recorded c m (x ∷ names) = All-cons (AreRecorded c) (new_worker m x) (map (new
 nothing_sent : (c : Controllers) → AreInOrder c []
 nothing_sent c = record { each = All-nil _; one = λ m n here there both. absurd (omega (arith, here.1)) }
 
-pub opening_kept : (m : master.Known) (workers : List worker.Known) (messages : List Message) → master.IsKept m → workers ≡ map (new_worker m.name) m.workers → messages ≡ [] → IsKept (state m workers messages)
-opening_kept m workers messages ok is none =
+pub opening_kept : (m : master.Known) (workers : List worker.Known) (messages : List Message) → master.IsKept m → workers ≡ map (new_worker m.name) m.workers → messages ≡ [] → m.records ≡ [] → IsKept (state m workers messages)
+opening_kept m workers messages ok is none nothing =
     let out : mem m.name m.workers ≡ false = not-true _ (and_parts _ _ ok.names).0 in
     let c : Controllers = record { master = m; workers = workers } in
     record {
@@ -52,4 +52,5 @@ opening_kept m workers messages ok is none =
       workers = subst (All worker.IsKept) (sym is) (kept m.name m.workers out);
       recorded = subst (All (AreRecorded c)) (sym is) (recorded c m.name m.workers);
       messages = subst (AreInOrder c) (sym none) (nothing_sent c);
+      back = subst (All (HasComeBack c)) (sym nothing) (All-nil _);
     }

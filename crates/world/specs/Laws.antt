@@ -1,7 +1,10 @@
 -- Laws of shops.
-use Rattle.std.specs.Prelude.{◌≡◌, ℕ, Some}
+use Rattle.std.specs.Prelude.{◌≡◌, ◌↔◌, ℕ, List, Some}
 use Rattle.message_items.specs.declared.message.Message.{Message}
 use Rattle.message_items.specs.declared.reply.Reply.{Reply}
+use Rattle.spawn.specs.declared.tables.holder.Holder.TheVariants.{Master}
+use Rattle.master_core.specs.Master as master
+use Rattle.world.specs.Changing.{Changer, HoldsThere, MayChange, by_entry, by_master}
 use Rattle.world.specs.Happening.{answer_to}
 use Rattle.world.specs.State.{IsKept, State, message_at}
 use Rattle.world.specs.declared.event.Event.{Event}
@@ -18,3 +21,18 @@ abbrev pub SentIsTaken : Type 0
 SentIsTaken =
     (w : State) (k at : ℕ) (m : Message) → IsKept w → message_at w.messages k ≡ Some m
     → (reply : Reply) × ((answer_to (delivery k at) w).word ≡ Did reply)
+
+-- ---- who may change what
+
+-- no two may change one node or resource
+abbrev pub NoTwoMayChangeOne : Type 0
+NoTwoMayChangeOne =
+    (w : State) (c d : Changer) (x : List ℕ) → IsKept w → MayChange w c x → MayChange w d x → c ≡ d
+
+-- the master may change exactly what it holds, and a worker through an entry exactly what its spawn
+-- holds, while the entry is open
+abbrev pub HoldersMayChange : Type 0
+HoldersMayChange =
+    (w : State) → IsKept w → (x : List ℕ)
+    → (MayChange w by_master x ↔ (master.holder w.controllers.master x ≡ Some Master))
+    × ((name : List ℕ) (s : ℕ) → MayChange w (by_entry name s) x ↔ HoldsThere w name s x)

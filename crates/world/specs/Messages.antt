@@ -53,6 +53,10 @@ receiver_of c r body = if worker_messages.is_for_workers body then r.worker else
 abbrev pub HasEnded : Controllers → SpawnRec → (Entry → Type 0) → Type 0
 HasEnded c r P = IsSomeAnd (entry_for c r) (λ e. (is_open e ≡ false) × P e)
 
+-- where the part of a spawn was put in, the work on its entry has ended
+abbrev pub HasComeBack : Controllers → SpawnRec → Type 0
+HasComeBack c r = is_out r ≡ false → HasEnded c r (λ e. ⊤)
+
 -- a message that sends a part out is, while its spawn is out, the one that the master makes of its
 -- ticket and the record; one that brings a part back is the one that the worker makes of its entry,
 -- on which the work has ended; and where such a message is answered, it wasn't refused, and the

@@ -7,7 +7,7 @@ use Rattle.master_core.specs.Master as master
 use Rattle.worker_core.specs.Worker as worker
 pub use Rattle.world.specs.Controllers.{Controllers, is_controller, is_named, with_worker}
 pub use Rattle.world.specs.Controllers.{worker_of}
-use Rattle.world.specs.Messages.{AreInOrder, AreRecorded}
+use Rattle.world.specs.Messages.{AreInOrder, AreRecorded, HasComeBack}
 
 -- the controllers, and the messages that were sent, in the order in which they went out
 pub record State : Type 0 where
@@ -42,8 +42,8 @@ opening name workers ticket =
 -- ---- what always holds
 
 -- the master's ticket and records are in order, its workers are those that it names, each knows it
--- as its master, and each one's entries are in order and are of spawns that have records; and the
--- messages are in order
+-- as its master, and each one's entries are in order and are of spawns that have records; the
+-- messages are in order; and what was put in the master's ticket is finished at its worker
 pub record IsKept (w : State) : Type 0 where
   pub master : master.IsKept w.controllers.master
   pub named : map (λ v. v.name) w.controllers.workers ≡ w.controllers.master.workers
@@ -51,3 +51,4 @@ pub record IsKept (w : State) : Type 0 where
   pub workers : All worker.IsKept w.controllers.workers
   pub recorded : All (AreRecorded w.controllers) w.controllers.workers
   pub messages : AreInOrder w.controllers w.messages
+  pub back : All (HasComeBack w.controllers) w.controllers.master.records

@@ -8,3 +8,15 @@ ghost use Rattle.world.specs.Laws as law;
 pub fn what_was_sent_is_taken()
     ensures { law.SentIsTaken }
 {}
+
+/// No two may change one node or resource: neither the master and a worker, nor two workers, nor
+/// one worker through two of its entries.
+pub fn no_two_may_change_one()
+    ensures { law.NoTwoMayChangeOne }
+{}
+
+/// The master may change exactly what it holds, and a worker through one of its entries exactly
+/// what the entry's spawn holds, while the entry is open.
+pub fn holders_may_change()
+    ensures { law.HoldersMayChange }
+{}

@@ -33,10 +33,11 @@ impl Model for World {
 
 impl World {
     ghost use Rattle.std.specs.Prelude.{◌≡◌, ◌⊎◌, ◌∷◌, true, false, OnOk, OnErr, IfOk, IfErr};
-    ghost use Rattle.std.specs.Prelude.{◌<◌, ℕ, length, take, IsErrOf};
+    ghost use Rattle.std.specs.Prelude.{◌<◌, ℕ, List, length, take, IsErrOf};
     ghost use Rattle.std.specs.List.{Contains};
     ghost use Rattle.std.specs.Option.{option_copied};
     ghost use Rattle.ticket_items.specs.Ids.{are_distinct};
+    ghost use Rattle.world.specs.Changing.{Changer, MayChange};
     ghost use Rattle.world.specs.Happening as happening;
     ghost use Rattle.world.specs.State as state;
 
@@ -232,12 +233,17 @@ impl World {
     /// One event. What is told to a controller, or comes to it, is a step: its state is stored and
     /// its message is sent, as far as the stop lets it. Where there is no such controller it is
     /// `Refused` as `UnknownWorker`, and where there is no such message it is `NoMessage`, at any
-    /// stop. Where memory runs out nothing is changed.
+    /// stop. Where memory runs out nothing is changed. Whatever comes of it, then no two may change
+    /// one node or resource.
     pub fn step(&mut self, alloc: Global, event: Event) -> Result<Answer, AllocError>
         ensures answer { IfOk result (λ a. a ≡ happening.answer_to event self.old) }
         ensures state { OnOk result (self.new ≡ happening.after event self.old) }
         ensures err { OnErr result (self.new ≡ self.old) }
+        ensures alone { (c d : Changer) (x : List ℕ)
+            → MayChange self.new c x → MayChange self.new d x → c ≡ d }
     {
+        // A world is kept in order.
+        let _sent = self.messages();
         let Event { what, at, stop } = event;
         match what {
             What::MasterOrder(order) => self.order_master(alloc, order, at, stop),
@@ -248,14 +254,19 @@ impl World {
     }
 
     /// Events in turn, and what comes of each. Where memory runs out the world stands after the
-    /// events before the one at which it did.
+    /// events before the one at which it did. Whatever comes of them, then no two may change one
+    /// node or resource.
     pub fn run(&mut self, alloc: Global, events: Vec<Event>) -> Result<Vec<Answer>, AllocError>
         ensures answers { IfOk result
             (λ answers. answers.items ≡ happening.answers_to events.items self.old) }
         ensures state { OnOk result (self.new ≡ happening.after_all events.items self.old) }
         ensures err { OnErr result ((k : ℕ) × (k < length events.items)
             × (self.new ≡ happening.after_all (take k events.items) self.old)) }
+        ensures alone { (c d : Changer) (x : List ℕ)
+            → MayChange self.new c x → MayChange self.new d x → c ≡ d }
     {
+        // A world is kept in order.
+        let _sent = self.messages();
         let mut answers = Vec::with_capacity(alloc, events.len())?;
         for event in events {
             let answer = self.step(alloc, event)?;

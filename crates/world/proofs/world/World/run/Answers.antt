@@ -1,6 +1,7 @@
 use Rattle.std.proofs.Common.{rules, refl, arith}
 use Rattle.std.proofs.lemmas.Iterator.Adapters.{YieldsList-from_vec}
 use Rattle.world.proofs.Answered.{on_err}
+use Rattle.world.proofs.Changing.{alone, alone_after_all}
 use Rattle.world.proofs.Runs.{has_room, next_of, one_more, stands_before}
 use Rattle.world.proofs.world.World.run.Goals as goal
 
@@ -26,3 +27,9 @@ returns-in_err-extend_from_slice-clause-err c =
     let next = next_of all c.loop-event.yielded c.loop-event.event-iterator c.loop-event.yielded_by c.next.result c.next.new.self c.in-Some.event c.in-Some.is c.next.ensures.steps in
     let no = c.in_err-extend_from_slice.ensures.succeeds (has_room c.args.events.items c.loop-event.yielded c.in-Some.event c.args.self.now c.loop-event.answers.items c.loop-event.answers.len c.loop-event.answers.cap c.loop-event.self c.loop-event.invariant next) in
     cc
+
+pub returns-in_err-answers-clause-alone : goal.returns-in_err-answers-clause-alone
+returns-in_err-answers-clause-alone c = alone c.args.self.now c.messages-sent.ensures.kept
+
+pub returns-clause-alone : goal.returns-clause-alone
+returns-clause-alone c = alone_after_all c.loop-event.yielded c.args.self.now c.loop-event.self c.messages-sent.ensures.kept c.loop-event.invariant.state_is

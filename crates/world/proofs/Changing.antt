@@ -1,0 +1,217 @@
+-- The laws of who may change what.
+use Rattle.std.proofs.Common.{◌≡◌, ◌&&◌, ◌∙◌, Bool, true, false, List, ℕ, Option, Some, None, Result, Ok, Err, OnOk, OnErr, refl, slice_get, sym, ap, subst}
+use Rattle.std.proofs.lemmas.Bool.{and_from, and_parts, eqb-true, true≢false}
+use Rattle.std.proofs.lemmas.Slice.Eq.{bytes_eq-Decides}
+use Rattle.std.specs.Option.{option_and_then, option_map, option_map_or}
+use Rattle.ticket_items.proofs.Places.{same_found}
+use Rattle.ticket_rows.proofs.AtHome.{find-passes}
+use Rattle.ticket_rows.specs.Place.{Place, place_at, places}
+use Rattle.spawn.proofs.Lawful.{claim_is_held, held_is_claimed, placed}
+use Rattle.spawn.specs.Claim.{is_claimed}
+use Rattle.spawn.specs.Records.{is_out}
+use Rattle.spawn.specs.Table.{holder_at, holding, holds}
+use Rattle.spawn.specs.declared.records.spawn_rec.SpawnRec.{SpawnRec}
+use Rattle.spawn.specs.declared.tables.holder.Holder.{Holder}
+use Rattle.spawn.specs.declared.tables.holder.Holder.TheVariants.{Master, Spawn}
+use Rattle.master_core.proofs.Recorded.{number_is}
+use Rattle.master_core.specs.Master as master
+use Rattle.worker_core.proofs.AtNumber.{found_holds}
+use Rattle.worker_core.specs.Worker as worker
+use Rattle.worker_core.specs.declared.entry.Entry.{Entry}
+use Rattle.world.proofs.AlwaysKept.{kept_after, kept_after_all}
+use Rattle.world.proofs.Back.{one_record}
+use Rattle.world.proofs.Doors.{found_through}
+use Rattle.world.proofs.InPart.{fits_has, part_has}
+use Rattle.world.proofs.Stored.{and_found, found_and}
+use Rattle.world.specs.Changing.{Changer, HoldsThere, MayChange, by_entry, by_master}
+use Rattle.world.specs.Controllers.{entry_at, is_named, worker_of}
+use Rattle.world.specs.Happening.{after_all, settled, step_of}
+use Rattle.world.specs.Laws.{HoldersMayChange, NoTwoMayChangeOne}
+use Rattle.world.specs.Messages.{AreRecorded, HasComeBack, IsRecorded, entry_for}
+use Rattle.world.specs.State.{IsKept, State}
+use Rattle.world.specs.declared.event.Event.{Event}
+use Rattle.world.specs.declared.stop.Stop.{Stop}
+use Rattle.world.specs.declared.what.What.{What}
+
+-- ---- an entry that is open, and its record
+
+-- an open entry of a spawn at the worker of a name: the record of the spawn names the worker, the spawn is out, and the part of the entry has what it claims
+record IsOpenThere (w : State) (name : List ℕ) (s : ℕ) (e : Entry) : Type 0 where
+  spawn : SpawnRec
+  recorded : master.record_of w.controllers.master.records s ≡ Some spawn
+  named : spawn.worker ≡ name
+  number : spawn.id ≡ s
+  place : ℕ
+  there : slice_get w.controllers.master.records place ≡ Some spawn
+  out : is_out spawn ≡ true
+  shows : (x : List ℕ) → worker.has e.part x ≡ option_map_or (is_claimed spawn.node spawn.rw) (place_at (places w.controllers.master.ticket.rows) x) false
+
+true_by : (b : Bool) → (b ≡ false → ⊥) → b ≡ true
+true_by true never = refl
+true_by false never = absurd (never refl)
+
+-- where the part was put in the entry isn't open
+not_back : (w : State) (name : List ℕ) (s : ℕ) (e : Entry) (r : SpawnRec) → IsKept w → entry_at w.controllers.workers name s ≡ Some e → worker.is_open e ≡ true → master.record_of w.controllers.master.records s ≡ Some r → r.worker ≡ name → is_out r ≡ false → ⊥
+not_back w name s e r ok found open' recorded named isn't =
+    let c = w.controllers in
+    let back : HasComeBack c r = found_holds (HasComeBack c) (master.is_of s) c.master.records r recorded ok.back in
+    let ended = and_found _ (entry_for c r) (back isn't) in
+    let id : r.id ≡ s = number_is c.master.records s r recorded in
+    let at : entry_for c r ≡ Some e = ap (λ n. entry_at c.workers n r.id) named ∙ ap (entry_at c.workers name) id ∙ found in
+    let same : e ≡ ended.0 = same_found e ended.0 (entry_for c r) at ended.1 in
+    true≢false (sym open' ∙ ap (λ (y : Entry). worker.is_open y) same ∙ ended.2.0)
+
+open_there : (w : State) (name : List ℕ) (s : ℕ) (e : Entry) → IsKept w → entry_at w.controllers.workers name s ≡ Some e → worker.is_open e ≡ true → IsOpenThere w name s e
+open_there w name s e ok found open' =
+    let c = w.controllers in
+    let records = c.master.records in
+    let at = found_through (worker_of c.workers name) s e found in
+    let v = at.0 in
+    let own : e.part.spawn_id ≡ s = eqb-true e.part.spawn_id s (find-passes (worker.is_of s) v.entries e at.2) in
+    let all : AreRecorded c v = found_holds (AreRecorded c) (is_named name) c.workers v at.1 ok.recorded in
+    let known = and_found _ (master.record_of records e.part.spawn_id) (found_holds (IsRecorded c v.name) (worker.is_of s) v.entries e at.2 all) in
+    let r = known.0 in
+    let recorded : master.record_of records s ≡ Some r = ap (master.record_of records) (sym own) ∙ known.1 in
+    let named : r.worker ≡ name = known.2.0 ∙ (bytes_eq-Decides v.name name).0 (find-passes (is_named name) c.workers v at.1) in
+    let out = true_by (is_out r) (not_back w name s e r ok found open' recorded named) in
+    let place = placed (master.is_of s) records r recorded in
+    let good = ok.master.apart.good place.place r place.there out in
+    record {
+      spawn = r;
+      recorded = recorded;
+      named = named;
+      number = number_is records s r recorded;
+      place = place.place;
+      there = place.there;
+      out = out;
+      shows = λ x. fits_has c.master.ticket r e.part x (known.2.1 out) ∙ part_has c.master.ticket r x ok.master.valid good;
+    }
+
+-- ---- what it has is what its spawn holds
+
+some_passes : {X : Type 0} (f : X → Bool) (o : Option X) → option_map_or f o false ≡ true → (x : X) × (o ≡ Some x) × (f x ≡ true)
+some_passes f None e = absurd (true≢false (sym e))
+some_passes f (Some x) e = (x, refl, e)
+
+held_so : (w : State) (name : List ℕ) (s : ℕ) (e : Entry) (x : List ℕ) → IsKept w → IsOpenThere w name s e → worker.has e.part x ≡ true → master.holder w.controllers.master x ≡ Some (Spawn s)
+held_so w name s e x ok at here =
+    let m = w.controllers.master in
+    let r = at.spawn in
+    let claims = some_passes (is_claimed r.node r.rw) (place_at (places m.ticket.rows) x) (sym (at.shows x) ∙ here) in
+    let held = claim_is_held m.ticket.rows m.records ok.master.apart at.place r x claims.0 at.there at.out claims.1 claims.2 in
+    ap (option_map (holder_at m.records)) claims.1 ∙ ap (λ o. Some (option_map_or (λ (q : SpawnRec). Spawn q.id) o Master)) held ∙ ap (λ n. Some (Spawn n)) at.number
+
+-- who holds an id holds what stands at its place
+held_place : (records : List SpawnRec) (s : ℕ) (o : Option Place) → option_map (holder_at records) o ≡ Some (Spawn s) → (p : Place) × (o ≡ Some p) × (holder_at records p ≡ Spawn s)
+held_place records s None e = cc
+held_place records s (Some p) e = (p, refl, cc)
+
+holding_so : (s : ℕ) (o : Option SpawnRec) → option_map_or (λ (q : SpawnRec). Spawn q.id) o Master ≡ Spawn s → (q : SpawnRec) × (o ≡ Some q) × (q.id ≡ s)
+holding_so s None e = cc
+holding_so s (Some q) e = (q, refl, cc)
+
+has_so : (w : State) (name : List ℕ) (s : ℕ) (e : Entry) (x : List ℕ) → IsKept w → IsOpenThere w name s e → master.holder w.controllers.master x ≡ Some (Spawn s) → worker.has e.part x ≡ true
+has_so w name s e x ok at held =
+    let m = w.controllers.master in
+    let r = at.spawn in
+    let stands = held_place m.records s (place_at (places m.ticket.rows) x) held in
+    let by = holding_so s (holding m.records stands.0) stands.2 in
+    let q = by.0 in
+    let place = placed (holds stands.0) m.records q by.1 in
+    let same : q ≡ r = one_record m.records place.place s q r ok.master.numbered place.there at.recorded (by.2 ∙ sym at.number) in
+    let claims : is_claimed r.node r.rw stands.0 ≡ true = ap (λ (y : SpawnRec). is_claimed y.node y.rw stands.0) (sym same) ∙ (held_is_claimed m.records q stands.0 by.1).1 in
+    at.shows x ∙ ap (λ o. option_map_or (is_claimed r.node r.rw) o false) stands.1 ∙ claims
+
+-- ---- who may change
+
+masters : (o : Option Holder) → option_map_or master.is_masters o false ≡ true → o ≡ Some Master
+masters None e = absurd (true≢false (sym e))
+masters (Some Master) e = refl
+masters (Some (Spawn s)) e = absurd (true≢false (sym e))
+
+-- an entry through which something may be changed
+record Through (w : State) (name : List ℕ) (s : ℕ) (x : List ℕ) : Type 0 where
+  entry : Entry
+  found : entry_at w.controllers.workers name s ≡ Some entry
+  is_open : worker.is_open entry ≡ true
+  has_it : worker.has entry.part x ≡ true
+
+through : (w : State) (name : List ℕ) (s : ℕ) (x : List ℕ) → MayChange w (by_entry name s) x → Through w name s x
+through w name s x may =
+    let o = worker_of w.controllers.workers name in
+    let at = and_found _ o may in
+    let v : worker.Known = at.0 in
+    let got = some_passes (λ (e : Entry). worker.is_open e && worker.has e.part x) (worker.entry_of v.entries s) at.2 in
+    let parts = and_parts (worker.is_open got.0) (worker.has got.0.part x) got.2 in
+    record { entry = got.0; found = ap (option_and_then (λ (u : worker.Known). worker.entry_of u.entries s)) at.1 ∙ got.1; is_open = parts.0; has_it = parts.1 }
+
+may_through : (w : State) (name : List ℕ) (s : ℕ) (x : List ℕ) → Through w name s x → MayChange w (by_entry name s) x
+may_through w name s x by =
+    let o = worker_of w.controllers.workers name in
+    let at = found_through o s by.entry by.found in
+    found_and _ o at.0 at.1 (ap (λ q. option_map_or (λ (e : Entry). worker.is_open e && worker.has e.part x) q false) at.2 ∙ and_from _ _ by.is_open by.has_it)
+
+-- it is held then
+held_through : (w : State) (name : List ℕ) (s : ℕ) (x : List ℕ) → IsKept w → Through w name s x → master.holder w.controllers.master x ≡ Some (Spawn s)
+held_through w name s x ok by = held_so w name s by.entry x ok (open_there w name s by.entry ok by.found by.is_open) by.has_it
+
+-- ---- the laws
+
+to_holds : (w : State) (name : List ℕ) (s : ℕ) (x : List ℕ) → IsKept w → MayChange w (by_entry name s) x → HoldsThere w name s x
+to_holds w name s x ok may =
+    let by = through w name s x may in
+    (found_and _ (entry_at w.controllers.workers name s) by.entry by.found by.is_open, held_through w name s x ok by)
+
+from_holds : (w : State) (name : List ℕ) (s : ℕ) (x : List ℕ) → IsKept w → HoldsThere w name s x → MayChange w (by_entry name s) x
+from_holds w name s x ok holds =
+    let at = and_found _ (entry_at w.controllers.workers name s) holds.0 in
+    let e : Entry = at.0 in
+    may_through w name s x (record { entry = e; found = at.1; is_open = at.2; has_it = has_so w name s e x ok (open_there w name s e ok at.1 at.2) holds.1 })
+
+pub holders_may_change : HoldersMayChange
+holders_may_change w ok x =
+    let o = master.holder w.controllers.master x in
+    ((masters o, λ held. ap (λ h. option_map_or master.is_masters h false) held), λ name s. (to_holds w name s x ok, from_holds w name s x ok))
+
+not_both : (o : Option Holder) (s : ℕ) → o ≡ Some Master → o ≡ Some (Spawn s) → ⊥
+not_both o s a b = cc
+
+one_spawn : (o : Option Holder) (s t : ℕ) → o ≡ Some (Spawn s) → o ≡ Some (Spawn t) → s ≡ t
+one_spawn o s t a b = cc
+
+one_entry : (w : State) (n m : List ℕ) (s t : ℕ) (x : List ℕ) → IsKept w → Through w n s x → Through w m t x → by_entry n s ≡ by_entry m t
+one_entry w n m s t x ok a b =
+    let records = w.controllers.master.records in
+    let one : s ≡ t = one_spawn (master.holder w.controllers.master x) s t (held_through w n s x ok a) (held_through w m t x ok b) in
+    let at = open_there w n s a.entry ok a.found a.is_open in
+    let other = open_there w m t b.entry ok b.found b.is_open in
+    let same : at.spawn ≡ other.spawn = same_found at.spawn other.spawn (master.record_of records s) at.recorded (ap (master.record_of records) one ∙ other.recorded) in
+    let named : n ≡ m = sym at.named ∙ ap (λ (r : SpawnRec). r.worker) same ∙ other.named in
+    ap (λ k. by_entry k s) named ∙ ap (by_entry m) one
+
+pub no_two_may_change_one : NoTwoMayChangeOne
+no_two_may_change_one w by_master by_master x ok a b = refl
+no_two_may_change_one w by_master (by_entry m t) x ok a b =
+    let o = master.holder w.controllers.master x in
+    absurd (not_both o t (masters o a) (held_through w m t x ok (through w m t x b)))
+no_two_may_change_one w (by_entry n s) by_master x ok a b =
+    let o = master.holder w.controllers.master x in
+    absurd (not_both o s (masters o b) (held_through w n s x ok (through w n s x a)))
+no_two_may_change_one w (by_entry n s) (by_entry m t) x ok a b = one_entry w n m s t x ok (through w n s x a) (through w m t x b)
+
+-- ---- after an event
+
+-- no two may change one node or resource of this
+abbrev pub Alone : State → Type 0
+Alone w = (c d : Changer) (x : List ℕ) → MayChange w c x → MayChange w d x → c ≡ d
+
+pub alone : (w : State) → IsKept w → Alone w
+alone w ok c d x a b = no_two_may_change_one w c d x ok a b
+
+-- where memory runs out nothing changes
+pub alone_after : {A E : Type 0} (r : Result A E) (what : What) (at : ℕ) (stop : Stop) (w now : State) → IsKept w → OnOk r (now ≡ settled stop w (step_of what at w)) → OnErr r (now ≡ w) → Alone now
+alone_after (Ok a) what at stop w now ok is same = alone now (subst IsKept (sym is) (kept_after (record { what = what; at = at; stop = stop }) w ok))
+alone_after (Err e) what at stop w now ok is same = alone now (subst IsKept (sym same) ok)
+
+pub alone_after_all : (events : List Event) (w now : State) → IsKept w → now ≡ after_all events w → Alone now
+alone_after_all events w now ok is = alone now (subst IsKept (sym is) (kept_after_all events w ok))

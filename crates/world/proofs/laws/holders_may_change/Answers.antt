@@ -1,0 +1,5 @@
+use Rattle.world.proofs.Changing.{holders_may_change}
+use Rattle.world.proofs.laws.holders_may_change.Goals as goal
+
+pub returns : goal.returns
+returns c = holders_may_change

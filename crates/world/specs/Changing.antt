@@ -1,0 +1,25 @@
+-- Who may change what in a shop as a whole: the master, and each worker through its entries.
+use Rattle.std.specs.Prelude.{◌≡◌, ℕ, true, List, IsSomeAnd, Some}
+use Rattle.spawn.specs.declared.tables.holder.Holder.TheVariants.{Spawn}
+use Rattle.master_core.specs.Master as master
+use Rattle.worker_core.specs.Worker as worker
+use Rattle.world.specs.Controllers.{entry_at, worker_of}
+use Rattle.world.specs.State.{State}
+
+-- who may change something: the master, or the worker of a name through its entry of a spawn
+pub data Changer : Type 0 where
+  by_master : Changer
+  by_entry : List ℕ → ℕ → Changer
+
+-- whether one may change the node or the resource of an id
+abbrev pub MayChange : State → Changer → List ℕ → Type 0
+MayChange w by_master x = master.may_change w.controllers.master x ≡ true
+MayChange w (by_entry name s) x =
+    IsSomeAnd (worker_of w.controllers.workers name) (λ v. worker.may_change v.entries s x ≡ true)
+
+-- the worker of a name has an entry of a spawn that is open, and the spawn holds the node or the
+-- resource of an id
+abbrev pub HoldsThere : State → List ℕ → ℕ → List ℕ → Type 0
+HoldsThere w name s x =
+    IsSomeAnd (entry_at w.controllers.workers name s) (λ e. worker.is_open e ≡ true)
+    × (master.holder w.controllers.master x ≡ Some (Spawn s))
