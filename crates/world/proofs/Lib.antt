@@ -17,5 +17,6 @@ pub mod InPart
 pub mod Changing
 pub mod WorkerPlaces
 pub mod Settled
+pub mod Once
 pub mod Runs
 mod Worked

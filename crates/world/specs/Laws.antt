@@ -1,12 +1,14 @@
 -- Laws of shops.
-use Rattle.std.specs.Prelude.{◌≡◌, ◌↔◌, ℕ, List, Some}
+use Rattle.std.specs.Prelude.{◌≡◌, ◌↔◌, ℕ, List, Some, slice_get}
 use Rattle.message_items.specs.declared.message.Message.{Message}
 use Rattle.message_items.specs.declared.reply.Reply.{Reply}
 use Rattle.spawn.specs.declared.tables.holder.Holder.TheVariants.{Master}
 use Rattle.master_core.specs.Master as master
 use Rattle.world.specs.Changing.{Changer, HoldsThere, MayChange, by_entry, by_master}
-use Rattle.world.specs.Happening.{answer_to}
+use Rattle.world.specs.Happening.{after_all, answer_to, answers_to}
+use Rattle.world.specs.Once.{AreMergedOnce, IsIn, TellsMerge}
 use Rattle.world.specs.State.{IsKept, State, message_at}
+use Rattle.world.specs.declared.answer.Answer.{Answer}
 use Rattle.world.specs.declared.event.Event.{Event}
 use Rattle.world.specs.declared.stop.Stop.TheVariants.{Run}
 use Rattle.world.specs.declared.what.What.TheVariants.{Deliver}
@@ -36,3 +38,15 @@ HoldersMayChange =
     (w : State) → IsKept w → (x : List ℕ)
     → (MayChange w by_master x ↔ (master.holder w.controllers.master x ≡ Some Master))
     × ((name : List ℕ) (s : ℕ) → MayChange w (by_entry name s) x ↔ HoldsThere w name s x)
+
+-- ---- merged once
+
+-- events in turn put in the part of a spawn at most once, and that of one that was in before never;
+-- and what is in stays in
+abbrev pub EachIsMergedOnce : Type 0
+EachIsMergedOnce =
+    (w : State) (events : List Event) → IsKept w
+    → AreMergedOnce (answers_to events w)
+    × ((s i : ℕ) (a : Answer) → IsIn w s → slice_get (answers_to events w) i ≡ Some a
+    → TellsMerge s a → ⊥)
+    × ((s : ℕ) → IsIn w s → IsIn (after_all events w) s)

@@ -5,4 +5,5 @@ pub mod State
 pub mod Changing
 pub mod Stepping
 pub mod Happening
+pub mod Once
 pub mod Laws

@@ -20,3 +20,9 @@ pub fn no_two_may_change_one()
 pub fn holders_may_change()
     ensures { law.HoldersMayChange }
 {}
+
+/// Whatever happens, the part of each spawn is put in at most once, and that of a spawn that is in
+/// never again.
+pub fn each_spawn_is_merged_once()
+    ensures { law.EachIsMergedOnce }
+{}

@@ -39,6 +39,7 @@ impl World {
     ghost use Rattle.ticket_items.specs.Ids.{are_distinct};
     ghost use Rattle.world.specs.Changing.{Changer, MayChange};
     ghost use Rattle.world.specs.Happening as happening;
+    ghost use Rattle.world.specs.Once.{AreMergedOnce};
     ghost use Rattle.world.specs.State as state;
 
     /// A master of this name with this ticket, of which nothing is out, and workers of these names.
@@ -255,13 +256,14 @@ impl World {
 
     /// Events in turn, and what comes of each. Where memory runs out the world stands after the
     /// events before the one at which it did. Whatever comes of them, then no two may change one
-    /// node or resource.
+    /// node or resource; and the part of each spawn is put in at most once.
     pub fn run(&mut self, alloc: Global, events: Vec<Event>) -> Result<Vec<Answer>, AllocError>
         ensures answers { IfOk result
             (λ answers. answers.items ≡ happening.answers_to events.items self.old) }
         ensures state { OnOk result (self.new ≡ happening.after_all events.items self.old) }
         ensures err { OnErr result ((k : ℕ) × (k < length events.items)
             × (self.new ≡ happening.after_all (take k events.items) self.old)) }
+        ensures once { IfOk result (λ answers. AreMergedOnce answers.items) }
         ensures alone { (c d : Changer) (x : List ℕ)
             → MayChange self.new c x → MayChange self.new d x → c ≡ d }
     {

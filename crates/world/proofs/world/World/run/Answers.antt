@@ -2,6 +2,7 @@ use Rattle.std.proofs.Common.{rules, refl, arith}
 use Rattle.std.proofs.lemmas.Iterator.Adapters.{YieldsList-from_vec}
 use Rattle.world.proofs.Answered.{on_err}
 use Rattle.world.proofs.Changing.{alone, alone_after_all}
+use Rattle.world.proofs.Once.{run_merges_once}
 use Rattle.world.proofs.Runs.{has_room, next_of, one_more, stands_before}
 use Rattle.world.proofs.world.World.run.Goals as goal
 
@@ -33,3 +34,6 @@ returns-in_err-answers-clause-alone c = alone c.args.self.now c.messages-sent.en
 
 pub returns-clause-alone : goal.returns-clause-alone
 returns-clause-alone c = alone_after_all c.loop-event.yielded c.args.self.now c.loop-event.self c.messages-sent.ensures.kept c.loop-event.invariant.state_is
+
+pub returns-clause-once : goal.returns-clause-once
+returns-clause-once c = run_merges_once c.loop-event.yielded c.args.self.now c.loop-event.answers.items c.messages-sent.ensures.kept c.loop-event.invariant.answers_are
