@@ -79,7 +79,8 @@ impl World {
     /// 1. The workers are those that the master names, each knows it as its master, and each
     /// controller is in order. So are the messages: of one spawn one part goes out and one comes
     /// back, however often, and each is the one that the master makes of its record while it is
-    /// out, or the worker of its entry once that is finished.
+    /// out, or the worker of its entry once that is finished. Where a part was put in, the work on
+    /// its entry has ended.
     pub fn messages(&self) -> &[Message]
         ensures messages { result.now ≡ self.now.messages }
         ensures kept { state.IsKept self.now }
