@@ -66,7 +66,7 @@ const EACH_KIND: Row = Row {
 };
 
 /// Documents, and how a run over each ends.
-static ROWS: [Row; 14] = [
+static ROWS: [Row; 18] = [
     NOTHING,
     NEW_NODE,
     EACH_KIND,
@@ -125,6 +125,24 @@ static ROWS: [Row; 14] = [
         of: (r#""JDF":[{"#, r#""JDF":["#),
         lines: "Refused 40 NotJson\n",
         ..REFUSED_DOCUMENT
+    },
+    Row {
+        of: (r#""ID":"n1""#, r#""Foo":1e400,"ID":"9x""#),
+        lines: "Refused 40 NotJson\n",
+        ..REFUSED_DOCUMENT
+    },
+    Row {
+        of: (r#""ID":"n1""#, r#""Foo":-0.5e-7,"ID":"n1""#),
+        lines: "Refused 41 NotProfile\n",
+        ..REFUSED_DOCUMENT
+    },
+    Row {
+        of: (r#""ID":"n1""#, r#""ID":"9x","ID":"n1""#),
+        ..NOTHING
+    },
+    Row {
+        of: (r#""ID":"n1""#, r#""\u0049D":"\u006e1""#),
+        ..NOTHING
     },
 ];
 
