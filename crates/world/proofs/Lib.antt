@@ -20,3 +20,5 @@ pub mod Settled
 pub mod Once
 pub mod Runs
 mod Worked
+mod WorkedShop
+pub mod ShopPaths

@@ -40,7 +40,7 @@ node id depth kind job_part pool links =
 abbrev printing_links : List Link
 printing_links = record { rref = codes "r1"; usage = Input } ∷ record { rref = codes "r2"; usage = Output } ∷ []
 
-abbrev job : Job
+abbrev pub job : Job
 job =
     record {
       job_id = codes "J1";
@@ -49,33 +49,33 @@ job =
           ∷ node (codes "n2") 2 (codes "Cutting") (codes "p2") [] (record { rref = codes "r2"; usage = Input } ∷ []) ∷ [];
     }
 
-abbrev shop : State
+abbrev pub shop : State
 shop = opening (codes "mis") (codes "press" ∷ codes "bind" ∷ []) job
 
 -- ---- events and answers
 
-abbrev event : What → ℕ → Stop → Event
+abbrev pub event : What → ℕ → Stop → Event
 event what at stop = record { what = what; at = at; stop = stop }
 
-abbrev print_at : ℕ → Stop → Event
+abbrev pub print_at : ℕ → Stop → Event
 print_at at stop = event (MasterOrder (master.Spawn (codes "n1") (codes "press") (codes "r2" ∷ []))) at stop
 
-abbrev deliver : ℕ → ℕ → Event
+abbrev pub deliver : ℕ → ℕ → Event
 deliver k at = event (Deliver k) at Run
 
-abbrev press : Order → ℕ → Event
+abbrev pub press : Order → ℕ → Event
 press o at = event (WorkerOrder (codes "press") o) at Run
 
-abbrev sends : Word → ℕ → Answer
+abbrev pub sends : Word → ℕ → Answer
 sends word k = record { word = word; number = Some k }
 
-abbrev says : Word → Answer
+abbrev pub says : Word → Answer
 says word = record { word = word; number = None }
 
 -- ---- repeats
 
 -- a part goes out and comes back, and each message comes again
-abbrev once_and_again : List Event
+abbrev pub once_and_again : List Event
 once_and_again =
     print_at 100 Run ∷ deliver 1 110 ∷ deliver 1 111 ∷ press (worker_order.Finish 1 Completed) 120 ∷ deliver 4 130 ∷ deliver 1 140 ∷ deliver 5 150 ∷ deliver 2 160
     ∷ press (worker_order.Edit 1 (SetStatus (codes "n1") (codes "Waiting"))) 170 ∷ []

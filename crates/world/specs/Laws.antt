@@ -1,13 +1,17 @@
 -- Laws of shops.
 use Rattle.std.specs.Prelude.{◌≡◌, ◌↔◌, ℕ, List, Some, slice_get}
+use Rattle.ticket_rows.specs.Ticket.{Job}
 use Rattle.message_items.specs.declared.message.Message.{Message}
 use Rattle.message_items.specs.declared.reply.Reply.{Reply}
 use Rattle.spawn.specs.declared.tables.holder.Holder.TheVariants.{Master}
 use Rattle.master_core.specs.Master as master
 use Rattle.world.specs.Changing.{Changer, HoldsThere, MayChange, by_entry, by_master}
-use Rattle.world.specs.Happening.{after_all, answer_to, answers_to}
+use Rattle.world.specs.Happening.{after, after_all, answer_to, answers_to}
 use Rattle.world.specs.Once.{AreMergedOnce, IsIn, TellsMerge}
-use Rattle.world.specs.State.{IsKept, State, message_at}
+use Rattle.world.specs.Replay as replay
+use Rattle.world.specs.SeenTicket.{ticket_seen}
+use Rattle.world.specs.Showing.{shop_shown, shows}
+use Rattle.world.specs.State.{IsKept, State, message_at, opening}
 use Rattle.world.specs.declared.answer.Answer.{Answer}
 use Rattle.world.specs.declared.event.Event.{Event}
 use Rattle.world.specs.declared.stop.Stop.TheVariants.{Run}
@@ -50,3 +54,30 @@ EachIsMergedOnce =
     × ((s i : ℕ) (a : Answer) → IsIn w s → slice_get (answers_to events w) i ≡ Some a
     → TellsMerge s a → ⊥)
     × ((s : ℕ) → IsIn w s → IsIn (after_all events w) s)
+
+-- ---- one ticket with one table of holders
+
+-- what an event is answered with, and what is shown then, is its replay in the shop that is shown
+abbrev pub EventIsReplayed : Type 0
+EventIsReplayed =
+    (w : State) (e : Event) → IsKept w
+    → (answer_to e w ≡ replay.answer_to e (shows w))
+    × (shows (after e w) ≡ replay.after e (shows w))
+
+-- the same of events in turn
+abbrev pub EventsAreReplayed : Type 0
+EventsAreReplayed =
+    (w : State) (events : List Event) → IsKept w
+    → (answers_to events w ≡ replay.answers_to events (shows w))
+    × (shows (after_all events w) ≡ replay.after_all events (shows w))
+
+-- what is shown in the beginning
+abbrev pub OpeningIsShown : Type 0
+OpeningIsShown =
+    (name : List ℕ) (workers : List (List ℕ)) (ticket : Job)
+    → shows (opening name workers ticket) ≡ replay.opening name workers ticket
+
+-- the ticket that is seen is the master's
+abbrev pub TicketIsSeen : Type 0
+TicketIsSeen =
+    (w : State) → IsKept w → ticket_seen (shop_shown w.controllers) ≡ w.controllers.master.ticket

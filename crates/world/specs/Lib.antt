@@ -5,5 +5,11 @@ pub mod State
 pub mod Changing
 pub mod Stepping
 pub mod Happening
+pub mod Shop
+pub mod SeenTicket
+pub mod ShopActs
+pub mod ShopSteps
+pub mod Replay
+pub mod Showing
 pub mod Once
 pub mod Laws

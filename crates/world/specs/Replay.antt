@@ -1,0 +1,88 @@
+-- The replay of events in a shop: what is answered, what the shop is then, and what was sent.
+use Rattle.std.specs.Prelude.{ℕ, ◌||◌, List, [], ◌∷◌, if◌then◌else◌, Result, Ok, Err}
+use Rattle.std.specs.Option.{option_map_or}
+use Rattle.std.specs.Str.{bytes_eq}
+use Rattle.ticket_items.specs.Ids.{mem}
+use Rattle.ticket_items.specs.declared.refusal.Refusal.TheVariants.{UnknownWorker}
+use Rattle.ticket_rows.specs.Ticket.{Job}
+use Rattle.worker_core.specs.declared.order.Order as worker_order
+use Rattle.world.specs.Settling.{answer_without_step, settled_answer, settled_messages}
+use Rattle.world.specs.Settling.{settled_state}
+use Rattle.world.specs.Shop.{Shop}
+use Rattle.world.specs.ShopActs as acts
+use Rattle.world.specs.ShopSteps.{Tag, master_does, message_comes, worker_does}
+use Rattle.world.specs.State.{message_at}
+use Rattle.world.specs.Stepping.{Moved}
+use Rattle.world.specs.declared.answer.Answer.{Answer}
+use Rattle.world.specs.declared.event.Event.{Event}
+use Rattle.world.specs.declared.stop.Stop.{Stop}
+use Rattle.world.specs.declared.what.What.{What}
+use Rattle.world.specs.declared.what.What.TheVariants.{MasterOrder, WorkerOrder, Deliver, Restart}
+use Rattle.world.specs.declared.word.Word.{Word}
+use Rattle.world.specs.declared.word.Word.TheVariants.{NoMessage, Refused, Restarted}
+
+-- a shop, and the tags of the messages that were sent, in the order in which they went out
+pub record Shown : Type 0 where
+  pub shop : Shop
+  pub tags : List Tag
+
+-- nothing was spawned, and nothing was sent
+abbrev pub opening : List ℕ → List (List ℕ) → Job → Shown
+opening name workers ticket = record { shop = acts.opening name workers ticket; tags = [] }
+
+-- ---- one event
+
+-- a step, or the word where none is made
+abbrev pub Step : Type 0
+Step = Result (Moved Shop Tag) Word
+
+-- the one of the worker of a name, if there is one
+abbrev pub worker_step : List ℕ → worker_order.Order → ℕ → Shop → Step
+worker_step name o at p =
+    if mem name p.workers then Ok (worker_does name o at p) else Err (Refused UnknownWorker)
+
+-- that on the message of a number, if there is one
+abbrev pub delivery_step : ℕ → ℕ → Shown → Step
+delivery_step k at p = option_map_or (message_comes at p.shop) (message_at p.tags k) (Err NoMessage)
+
+-- a restart is none
+abbrev pub restart_word : List ℕ → Shop → Word
+restart_word name p =
+    if bytes_eq name p.master || mem name p.workers then Restarted else Refused UnknownWorker
+
+-- that of what happens
+abbrev pub step_of : What → ℕ → Shown → Step
+step_of (MasterOrder o) at p = Ok (master_does o at p.shop)
+step_of (WorkerOrder name o) at p = worker_step name o at p.shop
+step_of (Deliver k) at p = delivery_step k at p
+step_of (Restart name) at p = Err (restart_word name p.shop)
+
+-- what is answered
+abbrev pub settled_word : Stop → Shown → Step → Answer
+settled_word stop p (Ok moved) = settled_answer stop p.tags moved.word moved.sent
+settled_word stop p (Err word) = answer_without_step word
+
+-- what is shown then
+abbrev pub settled : Stop → Shown → Step → Shown
+settled stop p (Ok moved) =
+    record {
+      shop = settled_state stop p.shop moved.next;
+      tags = settled_messages stop p.tags moved.sent;
+    }
+settled stop p (Err word) = p
+
+abbrev pub answer_to : Event → Shown → Answer
+answer_to e p = settled_word e.stop p (step_of e.what e.at p)
+
+abbrev pub after : Event → Shown → Shown
+after e p = settled e.stop p (step_of e.what e.at p)
+
+-- ---- a list of events
+
+abbrev pub answers_to : List Event → Shown → List Answer
+answers_to [] p = []
+answers_to (e ∷ events) p = answer_to e p ∷ answers_to events (after e p)
+
+abbrev pub after_all : List Event → Shown → Shown
+after_all [] p = p
+after_all (e ∷ events) p = after_all events (after e p)

@@ -1,0 +1,158 @@
+-- What the master and the workers do to a shop.
+use Rattle.std.specs.Prelude.{ℕ, ◌==◌, Bool, false, List, [], ◌∷◌, ◌++◌, map}
+use Rattle.std.specs.Prelude.{if◌then◌else◌, Option, Some, None}
+use Rattle.std.specs.Option.{option_map_or}
+use Rattle.std.specs.Str.{bytes_eq}
+use Rattle.ticket_items.specs.SpawnId.{spawn_text}
+use Rattle.ticket_items.specs.declared.audit.Audit.{Audit}
+use Rattle.ticket_items.specs.declared.audit.Audit.TheVariants as audit
+use Rattle.ticket_items.specs.declared.edit.Edit.{Edit}
+use Rattle.ticket_items.specs.declared.edit.Edit.TheVariants.{SetStatus}
+use Rattle.ticket_rows.specs.Edit.{added_id}
+use Rattle.ticket_rows.specs.Place.{Place, nodes_in, place_at, places, row_in, up}
+use Rattle.ticket_rows.specs.Ticket.{Job}
+use Rattle.ticket_tree.specs.PlainEdit.{plain_places, plain_rows, stands, touch}
+use Rattle.spawn.specs.Claim.{ids_of, is_claimed, linked_ro, linked_rw}
+use Rattle.spawn.specs.declared.tables.holder.Holder.{Holder}
+use Rattle.spawn.specs.declared.tables.holder.Holder.TheVariants.{Master, Spawn}
+use Rattle.worker_core.specs.Worker.{end_word}
+use Rattle.worker_core.specs.declared.end.End.{End}
+use Rattle.world.specs.Shop.{Away, Done, Holders, Merged, Open, Phase, Rows, Shop, SpawnState}
+use Rattle.world.specs.Shop.{has_number, next_number}
+
+-- ---- in the beginning
+
+-- the master holds all that stands
+abbrev pub all_masters : List Place → Holders
+all_masters tree x = if stands tree x then Some Master else None
+
+-- nothing was spawned
+abbrev pub opening : List ℕ → List (List ℕ) → Job → Shop
+opening name workers ticket =
+    record {
+      master = name;
+      workers = workers;
+      job = ticket.job_id;
+      tree = places ticket.rows;
+      seen = row_in ticket.rows;
+      now = row_in ticket.rows;
+      holder = all_masters (places ticket.rows);
+      spawns = [];
+    }
+
+-- ---- a master's edit
+
+-- the holders, where the master holds what is new
+abbrev pub with_new : Option (List ℕ) → Holders → Holders
+with_new None holder x = holder x
+with_new (Some new) holder x = if bytes_eq new x then Some Master else holder x
+
+-- it is done to what is seen and to what is now alike
+abbrev pub edited : Edit → ℕ → Shop → Shop
+edited e at p =
+    record p {
+      tree = plain_places e p.tree;
+      seen = plain_rows e at p.seen;
+      now = plain_rows e at p.now;
+      holder = with_new (added_id e) p.holder;
+    }
+
+-- ---- a spawn
+
+-- the rows, with an audit more at the parent of a node
+abbrev pub told_above : List Place → List ℕ → Audit → Rows → Rows
+told_above tree n audit rows =
+    option_map_or (λ u. touch u (λ r. record r { audits = r.audits ++ audit ∷ [] }) rows)
+    (up (nodes_in tree) n) rows
+
+-- the next spawn: its resources are a set, in ticket order
+abbrev pub next_spawn : List ℕ → List ℕ → List (List ℕ) → Shop → SpawnState
+next_spawn n worker rw p =
+    record {
+      number = next_number p;
+      node = n;
+      worker = worker;
+      rw = ids_of (linked_rw p.tree n rw);
+      phase = Away;
+    }
+
+-- the audit that tells of it: the copies to read, those to change, and the Status of the node
+abbrev pub spawned_audit : SpawnState → ℕ → Shop → Audit
+spawned_audit a at p =
+    audit.Spawned at a.node (spawn_text a.number) (ids_of (linked_ro p.tree a.node a.rw)) a.rw
+    (option_map_or (λ r. r.status) (p.seen a.node) [])
+
+-- the holders, where a spawn holds its claim
+abbrev pub with_claim : SpawnState → List Place → Holders → Holders
+with_claim a tree holder x =
+    if option_map_or (is_claimed a.node a.rw) (place_at tree x) false then Some (Spawn a.number)
+    else holder x
+
+-- it is on the way and holds its claim, and the parent's audit tells of it
+abbrev pub sent_out : SpawnState → ℕ → Shop → Shop
+sent_out a at p =
+    record p {
+      seen = told_above p.tree a.node (spawned_audit a at p) p.seen;
+      now = told_above p.tree a.node (spawned_audit a at p) p.now;
+      holder = with_claim a p.tree p.holder;
+      spawns = p.spawns ++ a ∷ [];
+    }
+
+abbrev pub spawned : List ℕ → List ℕ → List (List ℕ) → ℕ → Shop → Shop
+spawned n worker rw at p = sent_out (next_spawn n worker rw p) at p
+
+-- ---- a worker's work
+
+-- the spawns, with that of a number in a phase
+abbrev pub in_phase : Phase → ℕ → List SpawnState → List SpawnState
+in_phase phase s spawns =
+    map (λ (a : SpawnState). if has_number s a then record a { phase = phase } else a) spawns
+
+-- the worker takes a part
+abbrev pub taken : ℕ → Shop → Shop
+taken s p = record p { spawns = in_phase Open s p.spawns }
+
+-- it edits what is now, and the master doesn't see it
+abbrev pub worked : Edit → ℕ → Shop → Shop
+worked e at p = record p { now = plain_rows e at p.now }
+
+-- it ends the work on a part, as the Status of its node then says
+abbrev pub finished : End → ℕ → SpawnState → Shop → Shop
+finished how at a p =
+    record p {
+      now = plain_rows (SetStatus a.node (end_word how)) at p.now;
+      spawns = in_phase Done a.number p.spawns;
+    }
+
+-- ---- a merge
+
+-- whether this holder is a spawn
+abbrev pub is_spawn : ℕ → Holder → Bool
+is_spawn s Master = false
+is_spawn s (Spawn t) = t == s
+
+-- whether a spawn holds an id
+abbrev pub is_held_by : ℕ → Holders → List ℕ → Bool
+is_held_by s holder x = option_map_or (is_spawn s) (holder x) false
+
+-- the audit that tells of it
+abbrev pub merged_audit : SpawnState → ℕ → Audit
+merged_audit a at = audit.Merged at a.node (spawn_text a.number) a.rw
+
+-- the rows that are seen, with those that a spawn holds as they are now
+abbrev pub put_in : ℕ → Shop → Rows
+put_in s p x = if is_held_by s p.holder x then p.now x else p.seen x
+
+-- the holders, where the master holds what a spawn held
+abbrev pub given_back : ℕ → Holders → Holders
+given_back s holder x = if is_held_by s holder x then Some Master else holder x
+
+-- what a spawn holds is seen as it is now, the master holds it, and the parent's audit tells of it
+abbrev pub merged : ℕ → SpawnState → Shop → Shop
+merged at a p =
+    record p {
+      seen = told_above p.tree a.node (merged_audit a at) (put_in a.number p);
+      now = told_above p.tree a.node (merged_audit a at) p.now;
+      holder = given_back a.number p.holder;
+      spawns = in_phase Merged a.number p.spawns;
+    }

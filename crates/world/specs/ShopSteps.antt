@@ -1,0 +1,164 @@
+-- What is answered in a shop, and what is done: to each order and to each message that comes.
+use Rattle.std.specs.Prelude.{ℕ, ◌&&◌, ◌||◌, Bool, false, not, List, [], ◌∷◌, map, is_some}
+use Rattle.std.specs.Prelude.{if◌then◌else◌, Option, Some, None, Result, Ok, Err}
+use Rattle.std.specs.List.{find, list_all}
+use Rattle.std.specs.Option.{option_map_or}
+use Rattle.std.specs.Str.{bytes_eq}
+use Rattle.ticket_items.specs.Ids.{mem}
+use Rattle.ticket_items.specs.SpawnId.{is_spawn_number}
+use Rattle.ticket_items.specs.declared.edit.Edit.{Edit}
+use Rattle.ticket_items.specs.declared.refusal.Refusal.{Refusal}
+use Rattle.ticket_items.specs.declared.refusal.Refusal.TheVariants.{UnknownWorker, UnknownNode}
+use Rattle.ticket_items.specs.declared.refusal.Refusal.TheVariants.{IsRoot, UnknownResource}
+use Rattle.ticket_items.specs.declared.refusal.Refusal.TheVariants.{NotLinked, TooManySpawns}
+use Rattle.ticket_items.specs.declared.refusal.Refusal.TheVariants.{NotOut}
+use Rattle.ticket_items.specs.declared.refusal.Refusal.TheVariants.{UnknownEntry, NotOpen, NotDone}
+use Rattle.ticket_items.specs.declared.refusal.Refusal.TheVariants.{NotForWorkers, NotInPart}
+use Rattle.ticket_items.specs.declared.refusal.Refusal.TheVariants.{ReadOnly}
+use Rattle.ticket_rows.specs.Edit.{is_of_node, is_structural, target}
+use Rattle.ticket_rows.specs.EditRefusal.{later_refusal, unknown_refusal}
+use Rattle.ticket_rows.specs.Place.{nodes_in, resources_in, up}
+use Rattle.ticket_rows.specs.Ticket.{first_of, unless}
+use Rattle.ticket_tree.specs.PlainEdit.{plain_lookups, stands}
+use Rattle.message_items.specs.declared.reply.Reply.{Reply}
+use Rattle.message_items.specs.declared.reply.Reply.TheVariants as reply
+use Rattle.spawn.specs.Claim.{claim, ids_of, linked_outside, linked_ro}
+use Rattle.master_core.specs.Orders.{held_refusal}
+use Rattle.master_core.specs.declared.order.Order as master_order
+use Rattle.master_core.specs.declared.order.Order.TheVariants as to_master
+use Rattle.worker_core.specs.Orders.{spawn_of_order}
+use Rattle.worker_core.specs.declared.order.Order as worker_order
+use Rattle.worker_core.specs.declared.order.Order.TheVariants as to_worker
+use Rattle.world.specs.Shop.{Shop, SpawnState, has_number, is_away, is_done, is_open, is_out}
+use Rattle.world.specs.Shop.{next_number, spawn_of}
+use Rattle.world.specs.ShopActs.{edited, finished, is_held_by, merged, spawned, taken, worked}
+use Rattle.world.specs.Stepping.{Moved, refused}
+use Rattle.world.specs.declared.word.Word.{Word}
+use Rattle.world.specs.declared.word.Word.TheVariants.{Did, NoMessage}
+
+-- a message that was sent, without what it says: a part goes out, or comes back, or either is
+-- answered
+pub data Tag : Type 0 where
+  Submit : ℕ → Tag
+  Return : ℕ → Tag
+  ToSubmit : ℕ → Tag
+  ToReturn : ℕ → Tag
+
+-- a reply with nothing sent, and one with a message
+abbrev pub replies : Reply → Shop → Moved Shop Tag
+replies reply next = record { word = Did reply; next = next; sent = None }
+
+abbrev pub sends : Reply → Shop → Tag → Moved Shop Tag
+sends reply next tag = record { word = Did reply; next = next; sent = Some tag }
+
+-- the refusal, if there is one, or else the step
+abbrev pub unless_refused : Option Refusal → Shop → Moved Shop Tag → Moved Shop Tag
+unless_refused why p moved = option_map_or (λ e. refused e p) why moved
+
+-- ---- the master
+
+-- why the master can't change what has an id, if it can't: a spawn holds it
+abbrev pub not_held : Shop → List ℕ → Option Refusal
+not_held p x = option_map_or held_refusal (p.holder x) None
+
+-- why an edit of the master is refused, if it is
+abbrev pub edit_refusal : Edit → Shop → Option Refusal
+edit_refusal e p =
+    first_of
+    (unknown_refusal e (plain_lookups p.tree) ∷ not_held p (target e)
+    ∷ later_refusal e (plain_lookups p.tree) ∷ [])
+
+-- why a spawn is refused, if it is: the order's resources are asked for as they are listed
+abbrev pub spawn_refusal : List ℕ → List ℕ → List (List ℕ) → Shop → Option Refusal
+spawn_refusal n worker rw p =
+    first_of
+    (unless (mem worker p.workers) UnknownWorker
+    ∷ unless (stands (nodes_in p.tree) n) UnknownNode
+    ∷ unless (is_some (up (nodes_in p.tree) n)) IsRoot
+    ∷ unless (list_all (stands (resources_in p.tree)) rw) UnknownResource
+    ∷ unless (list_all (λ x. mem x (ids_of (linked_outside p.tree n))) rw) NotLinked
+    ∷ first_of (map (not_held p) (ids_of (claim p.tree n rw)))
+    ∷ unless (is_spawn_number (next_number p)) TooManySpawns ∷ [])
+
+-- why a part isn't sent once more, if it isn't: its spawn isn't out
+abbrev pub resend_refusal : ℕ → Shop → Option Refusal
+resend_refusal s p = unless (option_map_or (λ a. is_out a.phase) (spawn_of s p) false) NotOut
+
+-- the master on an order
+abbrev pub master_does : master_order.Order → ℕ → Shop → Moved Shop Tag
+master_does (to_master.Edit e) at p =
+    unless_refused (edit_refusal e p) p (replies reply.Edited (edited e at p))
+master_does (to_master.Spawn n worker rw) at p =
+    unless_refused (spawn_refusal n worker rw p) p
+    (sends (reply.Spawned (next_number p)) (spawned n worker rw at p) (Submit (next_number p)))
+master_does (to_master.Resend s) at p =
+    unless_refused (resend_refusal s p) p (sends (reply.Sent s) p (Submit s))
+
+-- ---- a worker
+
+-- whether a spawn has a number, went to the worker of a name, and was taken there
+abbrev pub is_taken_by : List ℕ → ℕ → SpawnState → Bool
+is_taken_by name s a = has_number s a && bytes_eq a.worker name && not (is_away a.phase)
+
+-- whether a spawn holds the target of an edit: a node where a node is meant, else a resource
+abbrev pub is_held : Edit → SpawnState → Shop → Bool
+is_held e a p =
+    stands (if is_of_node e then nodes_in p.tree else resources_in p.tree) (target e)
+    && is_held_by a.number p.holder (target e)
+
+-- whether the target of an edit is a resource of which the spawn has a copy to read
+abbrev pub is_to_read : Edit → SpawnState → Shop → Bool
+is_to_read e a p =
+    not (is_of_node e) && mem (target e) (ids_of (linked_ro p.tree a.node a.rw))
+
+-- why an edit of a worker is refused, if it is
+abbrev pub work_refusal : Edit → SpawnState → Shop → Option Refusal
+work_refusal e a p =
+    first_of
+    (unless (is_open a.phase) NotOpen ∷ unless (not (is_structural e)) NotForWorkers
+    ∷ unless (is_held e a p || is_to_read e a p) NotInPart
+    ∷ unless (not (is_to_read e a p)) ReadOnly ∷ later_refusal e (plain_lookups p.tree) ∷ [])
+
+-- the worker on an order about a spawn that it took
+abbrev pub spawn_worked : worker_order.Order → ℕ → Shop → SpawnState → Moved Shop Tag
+spawn_worked (to_worker.Edit s e) at p a =
+    unless_refused (work_refusal e a p) p (replies reply.Edited (worked e at p))
+spawn_worked (to_worker.Finish s how) at p a =
+    unless_refused (unless (is_open a.phase) NotOpen) p
+    (sends (reply.Finished s) (finished how at a p) (Return s))
+spawn_worked (to_worker.Resend s) at p a =
+    unless_refused (unless (not (is_open a.phase)) NotDone) p (sends (reply.Sent s) p (Return s))
+
+-- the worker of a name on an order
+abbrev pub worker_does : List ℕ → worker_order.Order → ℕ → Shop → Moved Shop Tag
+worker_does name o at p =
+    option_map_or (spawn_worked o at p) (find (is_taken_by name (spawn_of_order o)) p.spawns)
+    (refused UnknownEntry p)
+
+-- ---- a message
+
+-- a part comes to the worker: it is taken, or it was before
+abbrev pub submit_comes : Shop → SpawnState → Moved Shop Tag
+submit_comes p a =
+    if is_away a.phase
+    then sends (reply.Taken a.number) (taken a.number p) (ToSubmit a.number)
+    else sends (reply.Again a.number) p (ToSubmit a.number)
+
+-- a part comes back to the master: it is put in, or it was before. None comes back that isn't
+-- finished; as if it was put in before
+abbrev pub return_comes : ℕ → Shop → SpawnState → Moved Shop Tag
+return_comes at p a =
+    if is_done a.phase
+    then sends (reply.Merged a.number) (merged at a p) (ToReturn a.number)
+    else sends (reply.Already a.number) p (ToReturn a.number)
+
+-- what comes of a spawn, by its number. No message tells of one that there isn't; as if none came
+abbrev pub comes_of : ℕ → Shop → (SpawnState → Moved Shop Tag) → Result (Moved Shop Tag) Word
+comes_of s p f = option_map_or (λ a. Ok (f a)) (spawn_of s p) (Err NoMessage)
+
+-- a message comes to its receiver
+abbrev pub message_comes : ℕ → Shop → Tag → Result (Moved Shop Tag) Word
+message_comes at p (Submit s) = comes_of s p (submit_comes p)
+message_comes at p (Return s) = comes_of s p (return_comes at p)
+message_comes at p (ToSubmit s) = Ok (replies (reply.Noted s) p)
+message_comes at p (ToReturn s) = Ok (replies (reply.Acked s) p)
