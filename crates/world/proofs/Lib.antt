@@ -22,3 +22,4 @@ pub mod Runs
 mod Worked
 mod WorkedShop
 pub mod ShopPaths
+pub mod Agreeing

@@ -13,7 +13,7 @@ pub record AreAlike (p q : Shop) : Type 0 where
   pub holder : (x : List ℕ) → p.holder x ≡ q.holder x
   pub spawns : p.spawns ≡ q.spawns
 
-same_shop : (p q : Shop) → AreAlike p q → p ≡ q
+pub same_shop : (p q : Shop) → AreAlike p q → p ≡ q
 same_shop p q a =
     λ j. record {
       master = a.master j;
