@@ -23,3 +23,5 @@ mod Worked
 mod WorkedShop
 pub mod ShopPaths
 pub mod Agreeing
+pub mod Cases
+pub mod TakenSpawns
