@@ -25,3 +25,6 @@ pub mod ShopPaths
 pub mod Agreeing
 pub mod Cases
 pub mod TakenSpawns
+pub mod PartReads
+pub mod PartHolds
+pub mod EntryStored
