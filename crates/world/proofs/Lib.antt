@@ -28,3 +28,7 @@ pub mod TakenSpawns
 pub mod PartReads
 pub mod PartHolds
 pub mod EntryStored
+pub mod HeldBySpawn
+pub mod WorkerAgrees
+pub mod WorkerEdits
+pub mod WorkerFinishes
