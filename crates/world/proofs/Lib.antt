@@ -25,3 +25,5 @@ pub mod ShopPaths
 pub mod Agreeing
 pub mod Replaying
 pub mod TicketSeen
+pub mod SameWorkers
+pub mod AnswersCome
