@@ -26,4 +26,6 @@ pub mod Agreeing
 pub mod Replaying
 pub mod TicketSeen
 pub mod SameWorkers
+pub mod Receivers
 pub mod AnswersCome
+pub mod Resends
