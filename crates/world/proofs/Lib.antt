@@ -29,3 +29,4 @@ pub mod SameWorkers
 pub mod Receivers
 pub mod AnswersCome
 pub mod Resends
+pub mod Events
