@@ -23,3 +23,4 @@ mod Worked
 mod WorkedShop
 pub mod ShopPaths
 pub mod Agreeing
+pub mod MasterEdits
