@@ -24,3 +24,4 @@ mod WorkedShop
 pub mod ShopPaths
 pub mod Agreeing
 pub mod MasterEdits
+pub mod MasterSpawns

@@ -242,7 +242,7 @@ other_by true never = absurd (never refl)
 other_by false never = refl
 
 -- what the master holds isn't what a spawn holds
-not_masters : (m : Known) (y x : List ℕ) (s : ℕ) → holder m y ≡ Some Master → holder m x ≡ Some (Spawn s) → bytes_eq y x ≡ false
+pub not_masters : (m : Known) (y x : List ℕ) (s : ℕ) → holder m y ≡ Some Master → holder m x ≡ Some (Spawn s) → bytes_eq y x ≡ false
 not_masters m y x s mine its =
     other_by (bytes_eq y x) (λ same.
     let one : holder m y ≡ holder m x = ap (holder m) ((bytes_eq-Decides y x).0 same) in
