@@ -1,11 +1,10 @@
 -- An edit of the master in a shop: the controllers' step and the shop's agree.
-use Rattle.std.proofs.Common.{◌≡◌, ◌∙◌, ℕ, ◌&&◌, ◌||◌, not, Bool, true, false, cond, List, [], ◌∷◌, map, Option, Some, None, is_some, slice_get, refl, sym, ap}
+use Rattle.std.proofs.Common.{◌≡◌, ◌∙◌, ℕ, ◌&&◌, ◌||◌, not, Bool, true, false, cond, List, [], ◌∷◌, map, Option, Some, None, is_some, refl, sym, ap}
 use Rattle.std.proofs.lemmas.Bool.{true≢false}
 use Rattle.std.proofs.lemmas.Slice.Eq.{bytes_eq-Decides}
 use Rattle.std.specs.List.{find, list_any}
 use Rattle.std.specs.Option.{option_map, option_map_or}
 use Rattle.std.specs.Str.{bytes_eq}
-use Rattle.ticket_items.proofs.Apart.{bytes_eq-same}
 use Rattle.ticket_items.specs.Ids.{mem}
 use Rattle.ticket_items.specs.declared.edit.Edit.{Edit}
 use Rattle.ticket_items.specs.declared.edit.Edit.TheVariants.{SetStatus, SetAttr, SetResStatus, SetResAttr, Note, AddNode, AddResource, AddLink}
@@ -24,7 +23,6 @@ use Rattle.ticket_tree.proofs.OnPlaces.{stands_somewhere}
 use Rattle.ticket_tree.proofs.PlainEdits.{edit_of_places}
 use Rattle.ticket_tree.proofs.PlainRefusal.{lookups_alike}
 use Rattle.ticket_tree.proofs.PlainRows.{edit_of_rows}
-use Rattle.ticket_tree.proofs.StaysValid.{edit_is_valid}
 use Rattle.ticket_tree.specs.PlainEdit.{plain_changed, plain_lookups, plain_places, plain_rows, touch, with_line, with_link}
 use Rattle.message_items.specs.declared.message.Message.{Message}
 use Rattle.spawn.proofs.EditKeeps.{edit_keeps_claims}
@@ -47,7 +45,7 @@ use Rattle.world.proofs.Agreeing.{Agrees}
 use Rattle.world.proofs.MasterSteps.{with_master}
 use Rattle.world.proofs.ShopPaths.{same_shop}
 use Rattle.world.specs.Controllers.{Controllers}
-use Rattle.world.specs.Shop.{Holders, Rows, Shop}
+use Rattle.world.specs.Shop.{Rows, Shop}
 use Rattle.world.specs.ShopActs.{edited, with_new}
 use Rattle.world.specs.ShopSteps.{Tag, edit_refusal, master_does, unless_refused}
 use Rattle.world.specs.Showing.{entry_of_spawn, now_shown, row_at, shop_shown}
@@ -299,8 +297,8 @@ same_at e at c x (Some i) valid apart free added = same_by e at c i x (bytes_eq 
 
 -- ---- the whole
 
-edit_shown : (e : Edit) (at : ℕ) (c : Controllers) → IsValid c.master.ticket.rows → StandApart c.master.ticket.rows c.master.records → IsFree c.master e → shop_shown (later e at c) ≡ edited e at (shop_shown c)
-edit_shown e at c valid apart free =
+edit_is_shown : (e : Edit) (at : ℕ) (c : Controllers) → IsValid c.master.ticket.rows → StandApart c.master.ticket.rows c.master.records → IsFree c.master e → shop_shown (later e at c) ≡ edited e at (shop_shown c)
+edit_is_shown e at c valid apart free =
     let same : (x : List ℕ) → IsSame e at c x = λ x. same_at e at c x (added_id e) valid apart free refl in
     same_shop (shop_shown (later e at c)) (edited e at (shop_shown c))
     (record {
@@ -320,4 +318,4 @@ master_edits w e at kept =
     let c = w.controllers in
     let valid = kept.master.valid in
     order_agrees c _ _ (orders.edit_refusal e c.master) (edit_refusal e (shop_shown c)) (edit_refused e c valid)
-    (λ none. record { word = refl; next = edit_shown e at c valid kept.master.apart (edit_free e c.master none); sent = refl })
+    (λ none. record { word = refl; next = edit_is_shown e at c valid kept.master.apart (edit_free e c.master none); sent = refl })

@@ -1,10 +1,10 @@
 -- A spawn of the master in a shop: the controllers' step and the shop's agree.
-use Rattle.std.proofs.Common.{◌≡◌, ◌∙◌, ◌⊎◌, inl, inr, ℕ, suc, ◌<◌, ◌==◌, ◌&&◌, Bool, true, false, cond, List, [], ◌∷◌, ◌++◌, length, map, Option, Some, None, is_some, slice_get, refl, sym, ap, arith}
+use Rattle.std.proofs.Common.{◌≡◌, ◌∙◌, ◌⊎◌, inl, inr, ℕ, suc, ◌<◌, ◌&&◌, Bool, true, false, cond, List, [], ◌∷◌, ◌++◌, length, map, Option, Some, None, is_some, slice_get, refl, sym, ap, arith}
 use Rattle.std.proofs.lemmas.Bool.{true≢false}
 use Rattle.std.proofs.lemmas.List.{length-map, map-append}
 use Rattle.std.proofs.lemmas.List.Folds.{find-append}
 use Rattle.std.proofs.lemmas.Option.{slice_get_within}
-use Rattle.std.specs.List.{All, cons_option, filter, filter_map, find, list_all}
+use Rattle.std.specs.List.{All, cons_option, filter, filter_map, list_all}
 use Rattle.std.specs.Option.{option_and_then, option_map, option_map_or, option_or}
 use Rattle.std.specs.Str.{bytes_eq}
 use Rattle.ticket_items.specs.Ids.{mem}
@@ -28,7 +28,7 @@ use Rattle.spawn.proofs.Among.{distinct_kept}
 use Rattle.spawn.proofs.Checked.{all_as}
 use Rattle.spawn.proofs.Chosen.{AllOwn, all_own}
 use Rattle.spawn.proofs.GoodCopies.{reads_ids}
-use Rattle.spawn.proofs.Lawful.{claim_is_held, held_is_claimed, parent_is_masters, placed}
+use Rattle.spawn.proofs.Lawful.{claim_is_held, parent_is_masters, placed}
 use Rattle.spawn.proofs.NewRecord.{new_is_good}
 use Rattle.spawn.proofs.Outside.{some_of}
 use Rattle.spawn.proofs.PartKept.{allowed}
@@ -38,7 +38,7 @@ use Rattle.spawn.specs.Claim.{claim, ids_of, is_claimed, linked_outside, linked_
 use Rattle.spawn.specs.Records.{is_out}
 use Rattle.spawn.specs.Spawning as spawning
 use Rattle.spawn.specs.Spawning.{parent_of}
-use Rattle.spawn.specs.Table.{holder_at, holder_of, holding, holds}
+use Rattle.spawn.specs.Table.{holder_at, holding, holds}
 use Rattle.spawn.specs.declared.records.spawn_rec.SpawnRec.{SpawnRec}
 use Rattle.spawn.specs.declared.tables.holder.Holder.{Holder}
 use Rattle.spawn.specs.declared.tables.holder.Holder.TheVariants.{Master, Spawn}
@@ -62,8 +62,7 @@ use Rattle.world.specs.Controllers.{Controllers, entry_at}
 use Rattle.world.specs.Messages.{AreRecorded, entry_for}
 use Rattle.world.specs.Shop as shop
 use Rattle.world.specs.Shop.{Away, Rows, SpawnState}
-use Rattle.world.specs.ShopActs.{next_spawn, sent_out, spawned, spawned_audit, told_above, with_claim}
-use Rattle.world.specs.ShopSteps as steps
+use Rattle.world.specs.ShopActs.{next_spawn, spawned, spawned_audit, told_above, with_claim}
 use Rattle.world.specs.ShopSteps.{Submit, master_does, spawn_refusal}
 use Rattle.world.specs.Showing.{entry_of_spawn, now_shown, phase_shown, row_at, seen_shown, shop_shown, spawn_shown}
 use Rattle.world.specs.State.{IsKept, State}
@@ -382,8 +381,8 @@ spawns_after c n worker copies at s =
     ∙ ap (λ (o : Option Entry). spawns ++ record { number = r.id; node = n; worker = worker; rw = r.rw; phase = phase_shown true o } ∷ []) s.no_entry
     ∙ ap (λ k. spawns ++ record { number = k; node = n; worker = worker; rw = r.rw; phase = Away } ∷ []) (sym (number_shown c))
 
-spawn_shown_too : (c : Controllers) (n worker : List ℕ) (rw : List (List ℕ)) (at : ℕ) → IsSent c n worker rw at → shop_shown (later c n worker rw at) ≡ spawned n worker rw at (shop_shown c)
-spawn_shown_too c n worker copies at s =
+spawn_is_shown : (c : Controllers) (n worker : List ℕ) (rw : List (List ℕ)) (at : ℕ) → IsSent c n worker rw at → shop_shown (later c n worker rw at) ≡ spawned n worker rw at (shop_shown c)
+spawn_is_shown c n worker copies at s =
     let same : (x : List ℕ) → IsSame c n worker copies at x = λ x. same_by c n worker copies at x _ s refl in
     same_shop (shop_shown (later c n worker copies at)) (spawned n worker copies at (shop_shown c))
     (record {
@@ -404,6 +403,6 @@ master_spawns w n worker copies at kept =
     order_agrees c _ _ (orders.order_refusal (order.Spawn n worker copies) c.master) (spawn_refusal n worker copies (shop_shown c)) (spawn_refused n worker copies c kept.master.valid)
     (λ none. record {
       word = ap (λ k. Did (reply.Spawned k)) (sym (number_shown c));
-      next = spawn_shown_too c n worker copies at (sent_of c n worker copies at kept.master kept.recorded none);
+      next = spawn_is_shown c n worker copies at (sent_of c n worker copies at kept.master kept.recorded none);
       sent = ap (λ k. Some (Submit k)) (sym (number_shown c));
     })
