@@ -30,3 +30,5 @@ pub mod Receivers
 pub mod AnswersCome
 pub mod Resends
 pub mod Events
+pub mod MasterEdits
+pub mod MasterSpawns
