@@ -32,3 +32,5 @@ pub mod Resends
 pub mod Events
 pub mod MasterEdits
 pub mod MasterSpawns
+pub mod Cases
+pub mod TakenSpawns
