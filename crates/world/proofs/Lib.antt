@@ -29,6 +29,7 @@ pub mod SameWorkers
 pub mod Receivers
 pub mod AnswersCome
 pub mod Resends
+pub mod WorkerResends
 pub mod Events
 pub mod MasterEdits
 pub mod MasterSpawns
