@@ -22,10 +22,13 @@ use Rattle.worker_core.specs.declared.order.Order.TheVariants as to_worker
 use Rattle.world.proofs.Agreeing.{Agrees}
 use Rattle.world.proofs.AlwaysKept.{message_there}
 use Rattle.world.proofs.AnswersCome.{return_is_answered, submit_is_answered}
+use Rattle.world.proofs.MasterEdits.{master_edits}
+use Rattle.world.proofs.MasterSpawns.{master_spawns}
 use Rattle.world.proofs.Receivers.{IsReceived, master_receives, worker_receives}
 use Rattle.world.proofs.Replaying.{StepsAgree, StepsAreReplayed, event_is_replayed_by, events_are_replayed_by}
 use Rattle.world.proofs.Resends.{master_resends}
 use Rattle.world.proofs.SameWorkers.{worker_known}
+use Rattle.world.proofs.WorkerResends.{worker_resends}
 use Rattle.world.specs.Controllers.{worker_of}
 use Rattle.world.specs.Happening as world
 use Rattle.world.specs.Laws.{EventIsReplayed, EventsAreReplayed}
@@ -45,10 +48,8 @@ abbrev pub MasterAgrees : State → master_order.Order → ℕ → Type 0
 MasterAgrees w o at = Agrees (master_moved w.controllers (ordered_master o at w.controllers.master)) (shop.master_does o at (shop_shown w.controllers))
 
 -- an order of the worker of a name
-abbrev pub WorkerAgrees : worker_order.Order → Type 0
-WorkerAgrees o =
-    (w : State) (name : List ℕ) (v : worker.Known) (at : ℕ) → IsKept w → worker_of w.controllers.workers name ≡ Some v
-    → Agrees (worker_moved w.controllers v (ordered_worker o at v)) (shop.worker_does name o at (shop_shown w.controllers))
+abbrev pub WorkerAgrees : State → List ℕ → worker.Known → worker_order.Order → ℕ → Type 0
+WorkerAgrees w name v o at = Agrees (worker_moved w.controllers v (ordered_worker o at v)) (shop.worker_does name o at (shop_shown w.controllers))
 
 -- a part that comes to its worker
 abbrev pub PartIsTaken : Type 0
@@ -80,20 +81,18 @@ tag_at messages (suc k) = slice_get-map tag_of messages k
 
 -- ---- each event
 
-module _ (master_edits : (w : State) (e : Edit) (at : ℕ) → IsKept w → MasterAgrees w (to_master.Edit e) at)
-    (master_spawns : (w : State) (n name : List ℕ) (copies : List (List ℕ)) (at : ℕ) → IsKept w → MasterAgrees w (to_master.Spawn n name copies) at)
-    (worker_edits : (s : ℕ) (e : Edit) → WorkerAgrees (to_worker.Edit s e)) (worker_finishes : (s : ℕ) (how : End) → WorkerAgrees (to_worker.Finish s how)) (worker_resends : (s : ℕ) → WorkerAgrees (to_worker.Resend s))
+master_agrees : (o : master_order.Order) (w : State) (at : ℕ) → IsKept w → MasterAgrees w o at
+master_agrees (to_master.Edit e) w at ok = master_edits w e at ok
+master_agrees (to_master.Spawn n name copies) w at ok = master_spawns w n name copies at ok
+master_agrees (to_master.Resend s) w at ok = master_resends w s at ok
+
+module _ (worker_edits : (w : State) (name : List ℕ) (v : worker.Known) (s : ℕ) (e : Edit) (at : ℕ) → IsKept w → worker_of w.controllers.workers name ≡ Some v → WorkerAgrees w name v (to_worker.Edit s e) at)
+    (worker_finishes : (w : State) (name : List ℕ) (v : worker.Known) (s : ℕ) (how : End) (at : ℕ) → IsKept w → worker_of w.controllers.workers name ≡ Some v → WorkerAgrees w name v (to_worker.Finish s how) at)
     (part_is_taken : PartIsTaken) (part_is_put_in : PartIsPutIn) where
-
-  master_agrees : (o : master_order.Order) (w : State) (at : ℕ) → IsKept w → MasterAgrees w o at
-  master_agrees (to_master.Edit e) w at ok = master_edits w e at ok
-  master_agrees (to_master.Spawn n name copies) w at ok = master_spawns w n name copies at ok
-  master_agrees (to_master.Resend s) w at ok = master_resends w s at ok
-
-  worker_agrees : (o : worker_order.Order) → WorkerAgrees o
-  worker_agrees (to_worker.Edit s e) = worker_edits s e
-  worker_agrees (to_worker.Finish s how) = worker_finishes s how
-  worker_agrees (to_worker.Resend s) = worker_resends s
+  worker_agrees : (o : worker_order.Order) (w : State) (name : List ℕ) (v : worker.Known) (at : ℕ) → IsKept w → worker_of w.controllers.workers name ≡ Some v → WorkerAgrees w name v o at
+  worker_agrees (to_worker.Edit s e) w name v at ok found = worker_edits w name v s e at ok found
+  worker_agrees (to_worker.Finish s how) w name v at ok found = worker_finishes w name v s how at ok found
+  worker_agrees (to_worker.Resend s) w name v at ok found = worker_resends w name v s at ok found
 
   found_agrees : (o : worker_order.Order) (w : State) (name : List ℕ) (at : ℕ) (found : Option worker.Known) (known : Bool) → IsKept w → worker_of w.controllers.workers name ≡ found → is_some found ≡ known
       → StepsAgree (option_map_or (λ v. Ok (worker_moved w.controllers v (ordered_worker o at v))) found (Err (Refused UnknownWorker))) (cond known (Ok (shop.worker_does name o at (shop_shown w.controllers))) (Err (Refused UnknownWorker)))

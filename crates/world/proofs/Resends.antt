@@ -1,6 +1,5 @@
 -- A part that is sent once more: the controllers' step and the shop's agree.
-use Rattle.std.proofs.Common.{◌≡◌, ◌∙◌, ℕ, Bool, true, false, cond, List, [], ◌∷◌, map, Option, Some, None, refl, sym, ap, subst}
-use Rattle.std.specs.List.{find}
+use Rattle.std.proofs.Common.{◌≡◌, ◌∙◌, ℕ, Bool, true, false, cond, Option, Some, None, refl, sym, ap, subst}
 use Rattle.std.specs.Option.{option_map, option_map_or}
 use Rattle.ticket_items.specs.declared.refusal.Refusal.TheVariants.{NotOut}
 use Rattle.ticket_rows.specs.Ticket.{unless}
@@ -14,6 +13,7 @@ use Rattle.master_core.specs.declared.order.Order.TheVariants as order
 use Rattle.worker_core.specs.Worker as worker
 use Rattle.worker_core.specs.declared.entry.Entry.{Entry}
 use Rattle.world.proofs.Agreeing.{Agrees}
+use Rattle.world.proofs.Cases.{found_made}
 use Rattle.world.specs.Controllers.{Controllers}
 use Rattle.world.specs.Messages.{entry_for}
 use Rattle.world.specs.Shop.{Done, Open, has_number, is_out, spawn_of}
@@ -36,16 +36,8 @@ out_shown true None = refl
 out_shown true (Some e) = out_either (worker.is_open e)
 
 -- the spawn of a number is that of its record
-either_shown : (c : Controllers) (b : Bool) (r : SpawnRec) (o : Option SpawnRec) → cond b (Some (spawn_shown c r)) (option_map (spawn_shown c) o) ≡ option_map (spawn_shown c) (cond b (Some r) o)
-either_shown c true r o = refl
-either_shown c false r o = refl
-
-found_shown : (c : Controllers) (s : ℕ) (rs : List SpawnRec) → find (has_number s) (map (spawn_shown c) rs) ≡ option_map (spawn_shown c) (record_of rs s)
-found_shown c s [] = refl
-found_shown c s (r ∷ rs) = ap (cond (has_number s (spawn_shown c r)) (Some (spawn_shown c r))) (found_shown c s rs) ∙ either_shown c (has_number s (spawn_shown c r)) r (record_of rs s)
-
 pub spawn_found : (c : Controllers) (s : ℕ) → spawn_of s (shop_shown c) ≡ option_map (spawn_shown c) (record_of c.master.records s)
-spawn_found c s = found_shown c s c.master.records
+spawn_found c s = found_made (has_number s) (spawn_shown c) c.master.records
 
 record_resent : (w : State) (s at : ℕ) (o : Option SpawnRec) (out : Bool) → record_of w.controllers.master.records s ≡ o → option_map_or records.is_out o false ≡ out
     → Agrees

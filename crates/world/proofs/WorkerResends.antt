@@ -8,7 +8,7 @@ use Rattle.ticket_rows.specs.Ticket.{unless}
 use Rattle.message_items.specs.declared.message.Message.{Message}
 use Rattle.message_items.specs.declared.reply.Reply.TheVariants as reply
 use Rattle.spawn.specs.Records as records
-use Rattle.worker_core.specs.Orders.{entry_refusal, order_message, order_refusal, ordered, return_of}
+use Rattle.worker_core.specs.Orders.{entry_refusal, return_of}
 use Rattle.worker_core.specs.Worker as worker
 use Rattle.worker_core.specs.declared.entry.Entry.{Entry}
 use Rattle.worker_core.specs.declared.order.Order.TheVariants.{Resend}
@@ -16,13 +16,12 @@ use Rattle.world.proofs.Agreeing.{Agrees}
 use Rattle.world.proofs.SameWorkers.{stored_same}
 use Rattle.world.proofs.TakenSpawns.{HasRecord, entry_record, none_shown, phase_of_entry, taken_shown}
 use Rattle.world.specs.Controllers.{Controllers, is_named, worker_of}
-use Rattle.world.specs.Messages.{entry_for}
 use Rattle.world.specs.Shop.{Shop, is_open}
 use Rattle.world.specs.ShopSteps.{Return, Tag, sends, spawn_worked, unless_refused, worker_does}
 use Rattle.world.specs.Showing.{phase_shown, shop_shown, spawn_shown}
 use Rattle.world.specs.State.{IsKept, State}
 use Rattle.world.specs.Stepping.{Moved, ordered_worker, refused, worker_moved}
-use Rattle.world.specs.declared.word.Word.TheVariants.{Did, Refused}
+use Rattle.world.specs.declared.word.Word.TheVariants.{Did}
 
 -- the work on the spawn that is shown is open just if it is on its entry
 open_either : (out here : Bool) → (out ≡ false → here ≡ false) → (out && here) ≡ here
