@@ -1,6 +1,6 @@
 -- The spawns that a worker took: each is shown as taken, and each that is shown so has an entry there.
-use Rattle.std.proofs.Common.{◌≡◌, ◌&&◌, ◌∙◌, ℕ, Bool, true, false, cond, not, List, map, Option, Some, None, get_or, refl, sym, ap}
-use Rattle.std.proofs.lemmas.Bool.{and_parts, eqb-true, true≢false}
+use Rattle.std.proofs.Common.{◌≡◌, ◌==◌, ◌&&◌, ◌∙◌, ℕ, Bool, true, false, cond, not, List, map, Option, Some, None, get_or, slice_get, refl, sym, ap, arith}
+use Rattle.std.proofs.lemmas.Bool.{and_from, and_parts, eq-eqb, eqb-true, true≢false}
 use Rattle.std.proofs.lemmas.Option.{slice_get-get_or}
 use Rattle.std.proofs.lemmas.Slice.Eq.{bytes_eq-Decides}
 use Rattle.std.specs.List.{All, find}
@@ -23,7 +23,7 @@ use Rattle.world.proofs.Cases.{found_both, found_made, none_found, split}
 use Rattle.world.proofs.Stored.{and_found}
 use Rattle.world.specs.Controllers.{Controllers, entry_at, is_named, worker_of}
 use Rattle.world.specs.Messages.{AreRecorded, HasComeBack, IsRecorded, entry_for}
-use Rattle.world.specs.Shop.{Done, Open, is_away, is_done, is_open}
+use Rattle.world.specs.Shop.{Done, Open, has_number, is_away, is_done, is_open}
 use Rattle.world.specs.ShopSteps.{is_taken_by}
 use Rattle.world.specs.Showing.{phase_shown, spawn_shown}
 use Rattle.world.specs.State.{IsKept, State}
