@@ -35,3 +35,6 @@ pub mod MasterEdits
 pub mod MasterSpawns
 pub mod Cases
 pub mod TakenSpawns
+pub mod PartReads
+pub mod PartHolds
+pub mod EntryStored
