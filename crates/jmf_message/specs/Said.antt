@@ -5,7 +5,7 @@ use Rattle.std.specs.Option.{option_map}
 use Rattle.std.specs.Str.{bytes_eq}
 use Rattle.json_form.specs.PartDraft.{RawPart}
 use Rattle.json_form.specs.PartForm.{copied}
-use Rattle.json_forms.specs.Read.{◌>>=◌, provided}
+use Rattle.json_source.specs.Read.{◌>>=◌, provided}
 use Rattle.ticket_items.specs.SpawnId.{spawn_of, spawn_text}
 use Rattle.ticket_tree.specs.Part.{Copied}
 use Rattle.jmf_message.specs.DocumentForm.{RawMessage}
