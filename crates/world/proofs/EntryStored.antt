@@ -46,12 +46,12 @@ pub entry_elsewhere : (c : Controllers) (name : List ℕ) (s : ℕ) (next : work
 entry_elsewhere c name s next new h r other =
     split (bytes_eq name r.worker)
     (λ same.
-        let one : name ≡ r.worker = (bytes_eq-Decides name r.worker).0 same in
-        ap (λ n. entry_at (with_next c name next).workers n r.id) (sym one)
-        ∙ entry_there name h.old next c.workers r.id h.found h.own
-        ∙ h.others r.id other
-        ∙ sym (ap (option_and_then (λ (u : worker.Known). worker.entry_of u.entries r.id)) h.found)
-        ∙ ap (λ n. entry_at c.workers n r.id) one)
+    let one : name ≡ r.worker = (bytes_eq-Decides name r.worker).0 same in
+    ap (λ n. entry_at (with_next c name next).workers n r.id) (sym one)
+    ∙ entry_there name h.old next c.workers r.id h.found h.own
+    ∙ h.others r.id other
+    ∙ sym (ap (option_and_then (λ (u : worker.Known). worker.entry_of u.entries r.id)) h.found)
+    ∙ ap (λ n. entry_at c.workers n r.id) one)
     (λ away. ap (option_and_then (λ (u : worker.Known). worker.entry_of u.entries r.id)) (worker_other name r.worker next c.workers h.own away))
 
 -- that of the spawn is the new one
@@ -78,9 +78,9 @@ spawns_stored c name s next new phase h is = all_alike c.master.records (only_re
     one r only =
         split (r.id == s)
         (λ same.
-            let r_is = only (eqb-true r.id s same) in
-            let now : phase_shown (is_out r) (entry_for d r) ≡ phase = ap (λ (q : SpawnRec). phase_shown (is_out q) (entry_for d q)) r_is ∙ ap (phase_shown (is_out h.spawn)) (entry_stored c name s next new h) ∙ is in
-            ap (λ p. record (spawn_shown c r) { phase = p }) now ∙ sym (when_true (r.id == s) (record (spawn_shown c r) { phase = phase }) (spawn_shown c r) same))
+        let r_is = only (eqb-true r.id s same) in
+        let now : phase_shown (is_out r) (entry_for d r) ≡ phase = ap (λ (q : SpawnRec). phase_shown (is_out q) (entry_for d q)) r_is ∙ ap (phase_shown (is_out h.spawn)) (entry_stored c name s next new h) ∙ is in
+        ap (λ p. record (spawn_shown c r) { phase = p }) now ∙ sym (when_true (r.id == s) (record (spawn_shown c r) { phase = phase }) (spawn_shown c r) same))
         (λ other. ap (λ o. record (spawn_shown c r) { phase = phase_shown (is_out r) o }) (entry_elsewhere c name s next new h r other) ∙ sym (when_false (r.id == s) (record (spawn_shown c r) { phase = phase }) (spawn_shown c r) other))
 
     all_alike : (records : List SpawnRec) → All (λ q. q.id ≡ s → q ≡ h.spawn) records → map (spawn_shown d) records ≡ map again (map (spawn_shown c) records)
@@ -109,12 +109,12 @@ row_stored c name s next new h f x (Some (held_by.Spawn t)) own others =
     let d = with_next c name next in
     split (t == s)
     (λ same.
-        let is : t ≡ s = eqb-true t s same in
-        let found : entry_of_spawn d t ≡ Some new = ap (entry_of_spawn d) is ∙ ap (option_and_then (entry_for d)) h.recorded ∙ entry_stored c name s next new h in
-        ap (λ o. option_map_or (λ (e : Entry). part_row e.part x) o (seen_shown c x)) found ∙ own (ap (λ n. Some (held_by.Spawn n)) is))
+    let is : t ≡ s = eqb-true t s same in
+    let found : entry_of_spawn d t ≡ Some new = ap (entry_of_spawn d) is ∙ ap (option_and_then (entry_for d)) h.recorded ∙ entry_stored c name s next new h in
+    ap (λ o. option_map_or (λ (e : Entry). part_row e.part x) o (seen_shown c x)) found ∙ own (ap (λ n. Some (held_by.Spawn n)) is))
     (λ other.
-        ap (λ o. option_map_or (λ (e : Entry). part_row e.part x) o (seen_shown c x)) (spawn_elsewhere c name s next new h t other)
-        ∙ others (λ e. true≢false (sym (eq-eqb t s (same_number t s e)) ∙ other)))
+    ap (λ o. option_map_or (λ (e : Entry). part_row e.part x) o (seen_shown c x)) (spawn_elsewhere c name s next new h t other)
+    ∙ others (λ e. true≢false (sym (eq-eqb t s (same_number t s e)) ∙ other)))
   where
     same_number : (m n : ℕ) → Some (held_by.Spawn m) ≡ Some (held_by.Spawn n) → m ≡ n
     same_number m n e = cc

@@ -31,6 +31,7 @@ pub mod AnswersCome
 pub mod Resends
 pub mod WorkerResends
 pub mod Events
+pub mod Replayed
 pub mod MasterEdits
 pub mod MasterSpawns
 pub mod Cases

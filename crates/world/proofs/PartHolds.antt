@@ -155,13 +155,13 @@ part_resource t r p x valid good fits whole =
     let node_so = part_node t r p x valid good fits in
     same_test (has_resource p.rows x || mem x (resource_ids p.rw)) (has_resource t.rows x && claims t r x)
     (λ here.
-        let claimed : claims t r x ≡ true = sym has_so ∙ has_own p x here in
-        let no_node : has_node t.rows x ≡ false = sym (and_all (has_node t.rows x)) ∙ ap (λ b. has_node t.rows x && b) (sym claimed) ∙ sym node_so ∙ resource_apart p x (ids_in_part p.rows p.rw p.ro whole) here in
-        and_from _ _ (resource_stands t.rows x (claimed_stands t r x claimed) no_node) claimed)
+    let claimed : claims t r x ≡ true = sym has_so ∙ has_own p x here in
+    let no_node : has_node t.rows x ≡ false = sym (and_all (has_node t.rows x)) ∙ ap (λ b. has_node t.rows x && b) (sym claimed) ∙ sym node_so ∙ resource_apart p x (ids_in_part p.rows p.rw p.ro whole) here in
+    and_from _ _ (resource_stands t.rows x (claimed_stands t r x claimed) no_node) claimed)
     (λ both.
-        let parts = and_parts (has_resource t.rows x) (claims t r x) both in
-        let no_node : has_node t.rows x ≡ false = sym (mem-node_ids t.rows x) ∙ apart_resource t.rows x valid parts.0 in
-        own_has p x (has_so ∙ parts.1) (node_so ∙ ap (λ b. b && claims t r x) no_node))
+    let parts = and_parts (has_resource t.rows x) (claims t r x) both in
+    let no_node : has_node t.rows x ≡ false = sym (mem-node_ids t.rows x) ∙ apart_resource t.rows x valid parts.0 in
+    own_has p x (has_so ∙ parts.1) (node_so ∙ ap (λ b. b && claims t r x) no_node))
 
 -- ---- the target of an edit
 

@@ -94,8 +94,8 @@ reads_from r rows rw ro x valid so =
     split (mem x (resource_ids ro))
     (λ there. there)
     (λ not_there.
-        let front : mem x (own ++ resource_ids ro) ≡ false = mem-append x own (resource_ids ro) ∙ or_from _ _ before not_there in
-        absurd (true≢false (sym stands ∙ mem-append x (own ++ resource_ids ro) (ids rows) ∙ or_from _ _ front out.1)))
+    let front : mem x (own ++ resource_ids ro) ≡ false = mem-append x own (resource_ids ro) ∙ or_from _ _ before not_there in
+    absurd (true≢false (sym stands ∙ mem-append x (own ++ resource_ids ro) (ids rows) ∙ or_from _ _ front out.1)))
 
 reads_of : (rows : List NodeRow) (rw ro : List Resource) (x : List ℕ) → IsValid (with_copies rows rw ro) → are_linked rows ro ≡ true → mem x (resource_ids ro) ≡ Reads rows rw x
 reads_of [] rw ro x valid linked = absurd (true≢false (sym valid.tree))
