@@ -24,6 +24,7 @@ use Rattle.world.proofs.AlwaysKept.{message_there}
 use Rattle.world.proofs.AnswersCome.{return_is_answered, submit_is_answered}
 use Rattle.world.proofs.MasterEdits.{master_edits}
 use Rattle.world.proofs.MasterSpawns.{master_spawns}
+use Rattle.world.proofs.PartsTaken.{part_is_taken}
 use Rattle.world.proofs.Receivers.{IsReceived, master_receives, worker_receives}
 use Rattle.world.proofs.Replaying.{StepsAgree, StepsAreReplayed, event_is_replayed_by, events_are_replayed_by}
 use Rattle.world.proofs.Resends.{master_resends}
@@ -50,13 +51,6 @@ MasterAgrees w o at = Agrees (master_moved w.controllers (ordered_master o at w.
 -- an order of the worker of a name
 abbrev pub WorkerAgrees : State → List ℕ → worker.Known → worker_order.Order → ℕ → Type 0
 WorkerAgrees w name v o at = Agrees (worker_moved w.controllers v (ordered_worker o at v)) (shop.worker_does name o at (shop_shown w.controllers))
-
--- a part that comes to its worker
-abbrev pub PartIsTaken : Type 0
-PartIsTaken =
-    (w : State) (v : worker.Known) (sender : List ℕ) (sent : ℕ) (p : Copied) (at : ℕ) → IsKept w → worker_of w.controllers.workers v.name ≡ Some v
-    → Contains w.messages (record { sender = sender; receiver = v.name; at = sent; body = Submit p })
-    → StepsAgree (Ok (worker_moved w.controllers v (taken_by_worker (record { sender = sender; receiver = v.name; at = sent; body = Submit p }) at v))) (shop.message_comes at (shop_shown w.controllers) (shop.Submit p.spawn_id))
 
 -- a part that comes back to the master
 abbrev pub PartIsPutIn : Type 0
@@ -88,7 +82,7 @@ master_agrees (to_master.Resend s) w at ok = master_resends w s at ok
 
 module _ (worker_edits : (w : State) (name : List ℕ) (v : worker.Known) (s : ℕ) (e : Edit) (at : ℕ) → IsKept w → worker_of w.controllers.workers name ≡ Some v → WorkerAgrees w name v (to_worker.Edit s e) at)
     (worker_finishes : (w : State) (name : List ℕ) (v : worker.Known) (s : ℕ) (how : End) (at : ℕ) → IsKept w → worker_of w.controllers.workers name ≡ Some v → WorkerAgrees w name v (to_worker.Finish s how) at)
-    (part_is_taken : PartIsTaken) (part_is_put_in : PartIsPutIn) where
+    (part_is_put_in : PartIsPutIn) where
   worker_agrees : (o : worker_order.Order) (w : State) (name : List ℕ) (v : worker.Known) (at : ℕ) → IsKept w → worker_of w.controllers.workers name ≡ Some v → WorkerAgrees w name v o at
   worker_agrees (to_worker.Edit s e) w name v at ok found = worker_edits w name v s e at ok found
   worker_agrees (to_worker.Finish s how) w name v at ok found = worker_finishes w name v s how at ok found

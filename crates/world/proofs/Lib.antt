@@ -30,6 +30,7 @@ pub mod Receivers
 pub mod AnswersCome
 pub mod Resends
 pub mod WorkerResends
+pub mod PartsTaken
 pub mod Events
 pub mod Replayed
 pub mod MasterEdits
