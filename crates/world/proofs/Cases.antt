@@ -53,3 +53,8 @@ none_found P f (x ∷ xs) fails all = when_false (f x) (Some x) (find f xs) (fai
 pub made_alike : {X Y : Type 0} (P : X → Type 0) (f g : X → Y) (xs : List X) → ((x : X) → P x → f x ≡ g x) → All P xs → map f xs ≡ map g xs
 made_alike P f g [] same all = refl
 made_alike P f g (x ∷ xs) same all = ap (λ y. y ∷ map f xs) (same x (All-head P x xs all)) ∙ ap (λ ys. g x ∷ ys) (made_alike P f g xs same (All-tail P x xs all))
+
+-- and so is what is made of that again
+pub made_again : {X Y Z : Type 0} (P : X → Type 0) (f : X → Z) (h : Y → Z) (g : X → Y) (xs : List X) → ((x : X) → P x → f x ≡ h (g x)) → All P xs → map f xs ≡ map h (map g xs)
+made_again P f h g [] same all = refl
+made_again P f h g (x ∷ xs) same all = ap (λ z. z ∷ map f xs) (same x (All-head P x xs all)) ∙ ap (λ zs. h (g x) ∷ zs) (made_again P f h g xs same (All-tail P x xs all))

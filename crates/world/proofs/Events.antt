@@ -6,7 +6,6 @@ use Rattle.std.specs.List.{Contains}
 use Rattle.std.specs.Option.{option_map, option_map_or}
 use Rattle.std.specs.Str.{bytes_eq}
 use Rattle.ticket_items.specs.Ids.{mem}
-use Rattle.ticket_items.specs.declared.edit.Edit.{Edit}
 use Rattle.ticket_items.specs.declared.refusal.Refusal.TheVariants.{UnknownWorker}
 use Rattle.ticket_tree.specs.Part.{Copied}
 use Rattle.message_items.specs.declared.body.Body.{Body}
@@ -16,7 +15,6 @@ use Rattle.message_items.specs.declared.message.Message.{Message}
 use Rattle.master_core.specs.declared.order.Order as master_order
 use Rattle.master_core.specs.declared.order.Order.TheVariants as to_master
 use Rattle.worker_core.specs.Worker as worker
-use Rattle.worker_core.specs.declared.end.End.{End}
 use Rattle.worker_core.specs.declared.order.Order as worker_order
 use Rattle.worker_core.specs.declared.order.Order.TheVariants as to_worker
 use Rattle.world.proofs.Agreeing.{Agrees}
@@ -29,6 +27,9 @@ use Rattle.world.proofs.Receivers.{IsReceived, master_receives, worker_receives}
 use Rattle.world.proofs.Replaying.{StepsAgree, StepsAreReplayed, event_is_replayed_by, events_are_replayed_by}
 use Rattle.world.proofs.Resends.{master_resends}
 use Rattle.world.proofs.SameWorkers.{worker_known}
+use Rattle.world.proofs.TakenSpawns.{name_of}
+use Rattle.world.proofs.WorkerEdits.{worker_edits}
+use Rattle.world.proofs.WorkerFinishes.{worker_finishes}
 use Rattle.world.proofs.WorkerResends.{worker_resends}
 use Rattle.world.specs.Controllers.{worker_of}
 use Rattle.world.specs.Happening as world
@@ -80,14 +81,17 @@ master_agrees (to_master.Edit e) w at ok = master_edits w e at ok
 master_agrees (to_master.Spawn n name copies) w at ok = master_spawns w n name copies at ok
 master_agrees (to_master.Resend s) w at ok = master_resends w s at ok
 
-module _ (worker_edits : (w : State) (name : List ℕ) (v : worker.Known) (s : ℕ) (e : Edit) (at : ℕ) → IsKept w → worker_of w.controllers.workers name ≡ Some v → WorkerAgrees w name v (to_worker.Edit s e) at)
-    (worker_finishes : (w : State) (name : List ℕ) (v : worker.Known) (s : ℕ) (how : End) (at : ℕ) → IsKept w → worker_of w.controllers.workers name ≡ Some v → WorkerAgrees w name v (to_worker.Finish s how) at)
-    (part_is_put_in : PartIsPutIn) where
-  worker_agrees : (o : worker_order.Order) (w : State) (name : List ℕ) (v : worker.Known) (at : ℕ) → IsKept w → worker_of w.controllers.workers name ≡ Some v → WorkerAgrees w name v o at
-  worker_agrees (to_worker.Edit s e) w name v at ok found = worker_edits w name v s e at ok found
-  worker_agrees (to_worker.Finish s how) w name v at ok found = worker_finishes w name v s how at ok found
-  worker_agrees (to_worker.Resend s) w name v at ok found = worker_resends w name v s at ok found
+by_name : (w : State) (name : List ℕ) (v : worker.Known) (o : worker_order.Order) (at : ℕ) → worker_of w.controllers.workers name ≡ Some v → (worker_of w.controllers.workers v.name ≡ Some v → WorkerAgrees w v.name v o at) → WorkerAgrees w name v o at
+by_name w name v o at found agrees =
+    let is = name_of w.controllers name v found in
+    subst (λ n. WorkerAgrees w n v o at) is (agrees (ap (worker_of w.controllers.workers) is ∙ found))
 
+worker_agrees : (o : worker_order.Order) (w : State) (name : List ℕ) (v : worker.Known) (at : ℕ) → IsKept w → worker_of w.controllers.workers name ≡ Some v → WorkerAgrees w name v o at
+worker_agrees (to_worker.Edit s e) w name v at ok found = by_name w name v (to_worker.Edit s e) at found (worker_edits w v s e at ok)
+worker_agrees (to_worker.Finish s how) w name v at ok found = by_name w name v (to_worker.Finish s how) at found (worker_finishes w v s how at ok)
+worker_agrees (to_worker.Resend s) w name v at ok found = worker_resends w name v s at ok found
+
+module _ (part_is_put_in : PartIsPutIn) where
   found_agrees : (o : worker_order.Order) (w : State) (name : List ℕ) (at : ℕ) (found : Option worker.Known) (known : Bool) → IsKept w → worker_of w.controllers.workers name ≡ found → is_some found ≡ known
       → StepsAgree (option_map_or (λ v. Ok (worker_moved w.controllers v (ordered_worker o at v))) found (Err (Refused UnknownWorker))) (cond known (Ok (shop.worker_does name o at (shop_shown w.controllers))) (Err (Refused UnknownWorker)))
   found_agrees o w name at None true ok is there = cc

@@ -1,7 +1,6 @@
 -- What a worker may change of a part is what its spawn holds: nodes as nodes, and resources as resources.
 use Rattle.std.proofs.Common.{◌≡◌, ◌∙◌, ◌&&◌, ◌||◌, ℕ, Bool, true, false, cond, List, [], ◌∷◌, length, map, Option, Some, None, is_some, refl, sym, ap}
-use Rattle.std.proofs.lemmas.Bool.{and_from, and_parts, or_parts, true≢false}
-use Rattle.std.specs.List.{filter}
+use Rattle.std.proofs.lemmas.Bool.{and_from, and_parts, true≢false}
 use Rattle.std.specs.Option.{option_map, option_map_or}
 use Rattle.ticket_items.specs.Ids.{mem}
 use Rattle.ticket_items.specs.Resource.{resource_ids}
@@ -35,7 +34,7 @@ use Rattle.merge.proofs.PutPlaces.{same_places}
 use Rattle.merge.specs.Shape.{Fits}
 use Rattle.worker_core.specs.Orders.{is_here}
 use Rattle.worker_core.specs.Worker.{has}
-use Rattle.world.proofs.Cases.{same_test, split, split_some}
+use Rattle.world.proofs.Cases.{same_test, split}
 use Rattle.world.proofs.InPart.{fits_has, part_has}
 
 -- whether a spawn claims what has an id

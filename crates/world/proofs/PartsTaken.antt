@@ -148,14 +148,13 @@ newly_taken w v m p at r ok found recorded named made missing none answered =
     let next : worker.Known = record v { entries = v.entries ++ new ∷ [] } in
     let number = number_is c.master.records p.spawn_id r recorded in
     let out = out_still c r (found_holds (HasComeBack c) (master.is_of p.spawn_id) c.master.records r recorded ok.back) none in
-    let stored : HasStored c v.name p.spawn_id next new =
+    let stored : HasStored c v.name p.spawn_id next new r =
     record {
       old = v;
       found = found;
       own = refl;
       others = entry_before v.entries p at;
       stored = entry_behind v.entries p at missing;
-      spawn = r;
       recorded = recorded;
       named = named;
       numbered = ok.master.numbered;
@@ -172,9 +171,9 @@ newly_taken w v m p at r ok found recorded named made missing none answered =
             job = refl;
             tree = refl;
             seen = λ x. refl;
-            now = λ x. row_stored c v.name p.spawn_id next new stored (λ o. o) x (master.holder c.master x) (part_as_seen c p r x ok.master recorded out (made out) none) (λ not_own. refl);
+            now = λ x. row_stored c v.name p.spawn_id next new r stored (λ o. o) x (master.holder c.master x) (part_as_seen c p r x ok.master recorded out (made out) none) (λ not_own. refl);
             holder = λ x. refl;
-            spawns = spawns_stored c v.name p.spawn_id next new Open stored (ap (λ b. phase_shown b (Some new)) out)
+            spawns = spawns_stored c v.name p.spawn_id next new r Open stored (ap (λ b. phase_shown b (Some new)) out)
                 ∙ ap (λ n. in_phase Open n (map (spawn_shown c) c.master.records)) (sym number);
           });
       sent = answered ∙ ap (λ n. Some (shop.ToSubmit n)) (sym number);

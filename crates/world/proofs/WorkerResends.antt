@@ -1,9 +1,7 @@
 -- A part that its worker sends back once more: the controllers' step and the shop's agree.
 use Rattle.std.proofs.Common.{◌≡◌, ◌∙◌, ◌&&◌, ℕ, Bool, true, false, not, List, Option, Some, None, refl, sym, ap, subst}
-use Rattle.std.proofs.lemmas.Slice.Eq.{bytes_eq-Decides}
 use Rattle.std.specs.Option.{option_map, option_map_or}
 use Rattle.ticket_items.specs.declared.refusal.Refusal.TheVariants.{NotDone, UnknownEntry}
-use Rattle.ticket_rows.proofs.AtHome.{find-passes}
 use Rattle.ticket_rows.specs.Ticket.{unless}
 use Rattle.message_items.specs.declared.message.Message.{Message}
 use Rattle.message_items.specs.declared.reply.Reply.TheVariants as reply
@@ -14,8 +12,8 @@ use Rattle.worker_core.specs.declared.entry.Entry.{Entry}
 use Rattle.worker_core.specs.declared.order.Order.TheVariants.{Resend}
 use Rattle.world.proofs.Agreeing.{Agrees}
 use Rattle.world.proofs.SameWorkers.{stored_same}
-use Rattle.world.proofs.TakenSpawns.{HasRecord, entry_record, none_shown, phase_of_entry, taken_shown}
-use Rattle.world.specs.Controllers.{Controllers, is_named, worker_of}
+use Rattle.world.proofs.TakenSpawns.{name_of, HasRecord, entry_record, none_shown, phase_of_entry, taken_shown}
+use Rattle.world.specs.Controllers.{Controllers, worker_of}
 use Rattle.world.specs.Shop.{Shop, is_open}
 use Rattle.world.specs.ShopSteps.{Return, Tag, sends, spawn_worked, unless_refused, worker_does}
 use Rattle.world.specs.Showing.{phase_shown, shop_shown, spawn_shown}
@@ -58,9 +56,6 @@ by_entry w name v s at (Some e) ok found own there =
     as_same _ (unless_refused (unless (not (worker.is_open e)) NotDone) p (sends (reply.Sent s) p (Return s))) (worker_does name (Resend s) at p)
     (ap (λ a. option_map_or (spawn_worked (Resend s) at p) a (refused UnknownEntry p)) (taken_shown c name s e h) ∙ ap (λ b. unless_refused (unless (not b) NotDone) p (sends (reply.Sent s) p (Return s))) (open_shown c name s e h))
     (resent w v s e (worker.is_open e) ok own h.own)
-
-name_of : (c : Controllers) (name : List ℕ) (v : worker.Known) → worker_of c.workers name ≡ Some v → v.name ≡ name
-name_of c name v found = (bytes_eq-Decides v.name name).0 (find-passes (is_named name) c.workers v found)
 
 pub worker_resends : (w : State) (name : List ℕ) (v : worker.Known) (s at : ℕ) → IsKept w → worker_of w.controllers.workers name ≡ Some v
     → Agrees (worker_moved w.controllers v (ordered_worker (Resend s) at v)) (worker_does name (Resend s) at (shop_shown w.controllers))

@@ -1,0 +1,59 @@
+-- A worker's step and the shop's agree: where it is refused, and where it isn't.
+use Rattle.std.proofs.Common.{◌≡◌, ℕ, Option, Some, None, refl, sym, ap, subst}
+use Rattle.std.specs.Option.{option_map_or}
+use Rattle.ticket_items.specs.declared.refusal.Refusal.{Refusal}
+use Rattle.ticket_items.specs.declared.refusal.Refusal.TheVariants.{UnknownEntry}
+use Rattle.message_items.specs.declared.message.Message.{Message}
+use Rattle.worker_core.proofs.Refusals.{refused_on}
+use Rattle.worker_core.specs.Orders as orders
+use Rattle.worker_core.specs.Worker as worker
+use Rattle.worker_core.specs.declared.entry.Entry.{Entry}
+use Rattle.worker_core.specs.declared.order.Order.{Order}
+use Rattle.world.proofs.Agreeing.{Agrees}
+use Rattle.world.proofs.Cases.{split_some}
+use Rattle.world.proofs.EntryStored.{worker_as_it_was}
+use Rattle.world.proofs.TakenSpawns.{HasRecord, entry_record, none_shown, taken_shown}
+use Rattle.world.specs.Controllers.{Controllers, worker_of}
+use Rattle.world.specs.Shop.{Shop}
+use Rattle.world.specs.ShopSteps.{Tag, spawn_worked, worker_does}
+use Rattle.world.specs.Showing.{shop_shown, spawn_shown}
+use Rattle.world.specs.State.{IsKept, State}
+use Rattle.world.specs.Stepping.{Moved, ordered_worker, refused, worker_moved}
+use Rattle.world.specs.declared.word.Word.TheVariants.{Did}
+
+-- steps that are the same agree as these do
+pub agrees_as : (c : Controllers) (v : worker.Known) (one two : Moved worker.Known Message) (p q : Moved Shop Tag) → one ≡ two → p ≡ q → Agrees (worker_moved c v two) q → Agrees (worker_moved c v one) p
+agrees_as c v one two p q same plain agrees = subst (λ o. Agrees (worker_moved c v o) p) (sym same) (subst (Agrees (worker_moved c v two)) (sym plain) agrees)
+
+-- both refuse for the same, or agree
+pub refused_or_agrees : (c : Controllers) (v : worker.Known) (why : Option Refusal) (moved : Moved worker.Known Message) (plain : Moved Shop Tag) → worker_of c.workers v.name ≡ Some v → (why ≡ None → Agrees (worker_moved c v moved) plain)
+    → Agrees (worker_moved c v (option_map_or (λ e. refused e v) why moved)) (option_map_or (λ e. refused e (shop_shown c)) why plain)
+refused_or_agrees c v None moved plain found go = go refl
+refused_or_agrees c v (Some e) moved plain found go = record { word = refl; next = worker_as_it_was c v found; sent = refl }
+
+-- on an order about a spawn of which the worker has an entry
+abbrev pub AgreesThere : State → worker.Known → Order → ℕ → Type 0
+AgreesThere w v o at =
+    (e : Entry) (h : HasRecord w.controllers v.name (orders.spawn_of_order o) e) → worker.entry_of v.entries (orders.spawn_of_order o) ≡ Some e
+    → Agrees (worker_moved w.controllers v (option_map_or (λ r. refused r v) (orders.entry_refusal o e) (record { word = Did (orders.order_reply o); next = orders.ordered o at v; sent = orders.order_message o at v })))
+    (spawn_worked o at (shop_shown w.controllers) (spawn_shown w.controllers h.spawn))
+
+-- where it has none both refuse
+pub worker_agrees : (w : State) (v : worker.Known) (o : Order) (at : ℕ) → IsKept w → worker_of w.controllers.workers v.name ≡ Some v → AgreesThere w v o at → Agrees (worker_moved w.controllers v (ordered_worker o at v)) (worker_does v.name o at (shop_shown w.controllers))
+worker_agrees w v o at ok found there =
+    let c = w.controllers in
+    let p = shop_shown c in
+    let s = orders.spawn_of_order o in
+    let step = λ (why : Option Refusal). option_map_or (λ r. refused r v) why (record { word = Did (orders.order_reply o); next = orders.ordered o at v; sent = orders.order_message o at v }) in
+    split_some (worker.entry_of v.entries s)
+    (λ e has_entry.
+    let h = entry_record w v.name s v e ok found has_entry in
+    agrees_as c v (ordered_worker o at v) (step (orders.entry_refusal o e)) (worker_does v.name o at p) (spawn_worked o at p (spawn_shown c h.spawn))
+    (ap step (refused_on o v.entries e has_entry))
+    (ap (λ a. option_map_or (spawn_worked o at p) a (refused UnknownEntry p)) (taken_shown c v.name s e h))
+    (there e h has_entry))
+    (λ none.
+    agrees_as c v (ordered_worker o at v) (refused UnknownEntry v) (worker_does v.name o at p) (refused UnknownEntry p)
+    (ap (λ x. step (option_map_or (orders.entry_refusal o) x (Some UnknownEntry))) none)
+    (ap (λ a. option_map_or (spawn_worked o at p) a (refused UnknownEntry p)) (none_shown w v.name s v ok found none))
+    (record { word = refl; next = worker_as_it_was c v found; sent = refl }))

@@ -1,0 +1,215 @@
+-- A worker's edits: its step and the shop's agree.
+use Rattle.std.proofs.Common.{◌≡◌, ◌∙◌, ◌&&◌, ◌||◌, ℕ, Bool, true, false, cond, not, List, [], ◌∷◌, Option, Some, None, refl, sym, ap}
+use Rattle.std.proofs.lemmas.Bool.{and_parts, true≢false}
+use Rattle.std.proofs.lemmas.Slice.Eq.{bytes_eq-Decides}
+use Rattle.std.specs.Option.{option_and_then, option_map, option_map_or}
+use Rattle.std.specs.Str.{bytes_eq}
+use Rattle.ticket_items.specs.declared.edit.Edit.{Edit}
+use Rattle.ticket_items.specs.declared.edit.Edit.TheVariants.{SetStatus, SetAttr, SetResStatus, SetResAttr, Note, AddNode, AddResource, AddLink}
+use Rattle.ticket_items.specs.declared.refusal.Refusal.{Refusal}
+use Rattle.ticket_items.specs.declared.refusal.Refusal.TheVariants.{NotForWorkers, NotInPart, NotOpen, ReadOnly}
+use Rattle.ticket_rows.specs.Edit.{is_of_node, is_structural, target}
+use Rattle.ticket_rows.specs.EditRefusal.{Lookups, later_refusal}
+use Rattle.ticket_rows.specs.PartEdit.{part_lookups}
+use Rattle.ticket_rows.specs.Place.{Row, nodes_in, places, resources_in}
+use Rattle.ticket_rows.specs.Ticket.{first_of, unless}
+use Rattle.ticket_tree.proofs.PartEdits.{part_edit_of_rows}
+use Rattle.ticket_tree.specs.Part.{Copied, edited_part, refusal_of_part}
+use Rattle.ticket_tree.specs.PartView.{part_row}
+use Rattle.ticket_tree.specs.PlainEdit.{plain_changed, plain_lookups, plain_rows, stands, touch}
+use Rattle.message_items.specs.declared.message.Message.{Message}
+use Rattle.message_items.specs.declared.reply.Reply.TheVariants as reply
+use Rattle.spawn.specs.Records.{is_out}
+use Rattle.spawn.specs.declared.tables.holder.Holder.{Holder}
+use Rattle.spawn.specs.declared.tables.holder.Holder.TheVariants as held_by
+use Rattle.master_core.specs.Master as master
+use Rattle.worker_core.proofs.AtNumber.{find-at_number, find-other, found_holds}
+use Rattle.worker_core.proofs.Refusals.{edit_free}
+use Rattle.worker_core.specs.Orders as orders
+use Rattle.worker_core.specs.Worker as worker
+use Rattle.worker_core.specs.declared.entry.Entry.{Entry}
+use Rattle.worker_core.specs.declared.order.Order.TheVariants as order
+use Rattle.world.proofs.Agreeing.{Agrees}
+use Rattle.world.proofs.Cases.{split, when_false}
+use Rattle.world.proofs.EntryStored.{HasStored, row_stored, spawns_stay}
+use Rattle.world.proofs.HeldBySpawn.{good_record, held_claims, held_spawn}
+use Rattle.world.proofs.PartHolds.{claims, here_so}
+use Rattle.world.proofs.PartReads.{reads_held}
+use Rattle.world.proofs.ShopPaths.{same_shop}
+use Rattle.world.proofs.TakenSpawns.{HasRecord, phase_of_entry}
+use Rattle.world.proofs.WorkerAgrees.{AgreesThere, agrees_as, refused_or_agrees, worker_agrees}
+use Rattle.world.proofs.WorkerSteps.{with_next}
+use Rattle.world.specs.Controllers.{Controllers, is_named, worker_of}
+use Rattle.world.specs.Messages.{entry_for}
+use Rattle.world.specs.Shop as shop
+use Rattle.world.specs.ShopActs.{is_held_by, worked}
+use Rattle.world.specs.ShopSteps as steps
+use Rattle.world.specs.Showing.{now_shown, phase_shown, row_at, seen_shown, shop_shown, spawn_shown}
+use Rattle.world.specs.State.{IsKept, State}
+use Rattle.world.specs.Stepping.{Moved, ordered_worker, refused, worker_moved}
+use Rattle.world.specs.declared.word.Word.TheVariants.{Did}
+
+-- ---- an entry that is open
+
+-- the record of an open entry is out, and its part fits
+pub open_out : (c : Controllers) (name : List ℕ) (s : ℕ) (e : Entry) → (h : HasRecord c name s e) → worker.is_open e ≡ true → is_out h.spawn ≡ true
+open_out c name s e h is_open = split (is_out h.spawn) (λ out. out) (λ isn't. absurd (true≢false (sym is_open ∙ h.back isn't)))
+
+-- its phase is shown as it is
+pub open_shown : (c : Controllers) (name : List ℕ) (s : ℕ) (e : Entry) → (h : HasRecord c name s e) → shop.is_open (spawn_shown c h.spawn).phase ≡ worker.is_open e
+open_shown c name s e h =
+    ap (λ o. shop.is_open (phase_shown (is_out h.spawn) o)) h.entered ∙ (phase_of_entry (is_out h.spawn) e).open_so
+    ∙ split (is_out h.spawn)
+    (λ out. ap (λ b. b && worker.is_open e) out)
+    (λ isn't. ap (λ b. b && worker.is_open e) isn't ∙ sym (h.back isn't))
+
+-- the entry is kept, and that of its worker
+pub kept_entry : (w : State) (v : worker.Known) (s : ℕ) (e : Entry) → IsKept w → worker_of w.controllers.workers v.name ≡ Some v → worker.entry_of v.entries s ≡ Some e → worker.IsKeptEntry e
+kept_entry w v s e ok found has_entry =
+    let kept : worker.IsKept v = found_holds worker.IsKept (is_named v.name) w.controllers.workers v found ok.workers in
+    found_holds worker.IsKeptEntry (worker.is_of s) v.entries e has_entry kept.each
+
+-- what the spawn holds is shown as the part has it
+pub row_there : (c : Controllers) (name : List ℕ) (s : ℕ) (e : Entry) (x : List ℕ) (o : Option Holder) → HasRecord c name s e → o ≡ Some (held_by.Spawn s) → row_at c x o ≡ part_row e.part x
+row_there c name s e x o h held =
+    ap (row_at c x) held ∙ ap (λ q. option_map_or (λ (y : Entry). part_row y.part x) q (seen_shown c x)) (ap (option_and_then (entry_for c)) h.recorded ∙ h.entered)
+
+-- ---- refusals
+
+-- why an edit of a spawn is refused, by these tests
+abbrev refusal_by : Bool → Bool → Bool → Bool → Option Refusal → Option Refusal
+refusal_by is_open structural here read later =
+    first_of (unless is_open NotOpen ∷ unless (not structural) NotForWorkers ∷ unless (here || read) NotInPart ∷ unless (not read) ReadOnly ∷ later ∷ [])
+
+same_refusal : (o p structural h k rd rk : Bool) (l m : Option Refusal) → o ≡ p → (p ≡ true → (h ≡ k) × (rd ≡ rk)) → (structural ≡ false → l ≡ m) → refusal_by o structural h rd l ≡ refusal_by p structural k rk m
+same_refusal o false structural h k rd rk l m is parts later = ap (λ b. refusal_by b structural h rd l) is
+same_refusal o true true h k rd rk l m is parts later = ap (λ b. refusal_by b true h rd l) is
+same_refusal o true false h k rd rk l m is parts later =
+    ap (λ b. refusal_by b false h rd l) is ∙ ap (λ b. refusal_by true false b rd l) (parts refl).0 ∙ ap (λ b. refusal_by true false k b l) (parts refl).1 ∙ ap (refusal_by true false k rk) (later refl)
+
+-- what adds nothing to the tree is refused for its Status alone
+same_later : (e : Edit) (a b : Lookups) → is_structural e ≡ false → later_refusal e a ≡ later_refusal e b
+same_later (SetStatus n status) a b plain = refl
+same_later (SetAttr n name value) a b plain = refl
+same_later (SetResStatus x status) a b plain = refl
+same_later (SetResAttr x name value) a b plain = refl
+same_later (Note n text) a b plain = refl
+same_later (AddNode n id kind job_part status) a b plain = absurd (true≢false plain)
+same_later (AddResource n x) a b plain = absurd (true≢false plain)
+same_later (AddLink n link) a b plain = absurd (true≢false plain)
+
+-- while the entry is open its part has what the spawn holds, and may read what that may
+same_parts : (w : State) (v : worker.Known) (s : ℕ) (e : Edit) (x : Entry) → IsKept w → worker_of w.controllers.workers v.name ≡ Some v → worker.entry_of v.entries s ≡ Some x → (h : HasRecord w.controllers v.name s x) → worker.is_open x ≡ true
+    → (orders.is_here e x.part ≡ steps.is_held e (spawn_shown w.controllers h.spawn) (shop_shown w.controllers)) × (orders.is_to_read e x.part ≡ steps.is_to_read e (spawn_shown w.controllers h.spawn) (shop_shown w.controllers))
+same_parts w v s e x ok found has_entry h is_open =
+    let c = w.controllers in
+    let m = c.master in
+    let r = h.spawn in
+    let out = open_out c v.name s x h is_open in
+    let kept = kept_entry w v s x ok found has_entry in
+    let good = good_record m s r ok.master h.recorded out in
+    let held : is_held_by r.id (master.holder m) (target e) ≡ claims m.ticket r (target e) = ap (λ n. is_held_by n (master.holder m) (target e)) h.number ∙ held_claims m s r (target e) ok.master h.recorded out in
+    let tree = places m.ticket.rows in (
+      here_so e m.ticket r x.part ok.master.valid good (h.fits out) kept.valid ∙ ap (λ b. stands (cond (is_of_node e) (nodes_in tree) (resources_in tree)) (target e) && b) (sym held),
+      ap (λ b. not (is_of_node e) && b) (reads_held m.ticket r x.part (target e) ok.master.valid good (h.fits out) kept.valid kept.sound),
+    )
+
+pub same_edit_refusal : (w : State) (v : worker.Known) (s : ℕ) (e : Edit) (x : Entry) → IsKept w → worker_of w.controllers.workers v.name ≡ Some v → worker.entry_of v.entries s ≡ Some x → (h : HasRecord w.controllers v.name s x)
+    → orders.edit_refusal e x ≡ steps.work_refusal e (spawn_shown w.controllers h.spawn) (shop_shown w.controllers)
+same_edit_refusal w v s e x ok found has_entry h =
+    let c = w.controllers in
+    let a = spawn_shown c h.spawn in
+    let p = shop_shown c in
+    let shown = open_shown c v.name s x h in
+    same_refusal (worker.is_open x) (shop.is_open a.phase) (is_structural e) (orders.is_here e x.part) (steps.is_held e a p) (orders.is_to_read e x.part) (steps.is_to_read e a p)
+    (later_refusal e (part_lookups x.part.rows x.part.rw)) (later_refusal e (plain_lookups p.tree))
+    (sym shown) (λ is. same_parts w v s e x ok found has_entry h (sym shown ∙ is)) (same_later e _ _)
+
+-- ---- what is stored
+
+-- the worker's entry of the spawn is changed, and no other
+pub changed_stored : (w : State) (v : worker.Known) (s : ℕ) (x : Entry) (f : Entry → Entry) → ((y : Entry) → (f y).part.spawn_id ≡ y.part.spawn_id) → IsKept w → worker_of w.controllers.workers v.name ≡ Some v → worker.entry_of v.entries s ≡ Some x → (h : HasRecord w.controllers v.name s x)
+    → HasStored w.controllers v.name s (record v { entries = worker.with_entry s f v.entries }) (f x) h.spawn
+changed_stored w v s x f keeps ok found has_entry h =
+    record {
+      old = v;
+      found = found;
+      own = refl;
+      others = λ t other. find-other t s (λ (y : Entry). y.part.spawn_id) f v.entries other keeps;
+      stored = find-at_number (λ (y : Entry). y.part.spawn_id) s f v.entries keeps ∙ ap (option_map f) has_entry;
+      recorded = h.recorded;
+      named = h.named;
+      numbered = ok.master.numbered;
+    }
+
+plain_touch : (e : Edit) (at : ℕ) (rows : List ℕ → Option Row) (x : List ℕ) → is_structural e ≡ false → touch (target e) (plain_changed e at) rows x ≡ plain_rows e at rows x
+plain_touch (SetStatus n status) at rows x plain = refl
+plain_touch (SetAttr n name value) at rows x plain = refl
+plain_touch (SetResStatus y status) at rows x plain = refl
+plain_touch (SetResAttr y name value) at rows x plain = refl
+plain_touch (Note n text) at rows x plain = refl
+plain_touch (AddNode n id kind job_part status) at rows x plain = absurd (true≢false plain)
+plain_touch (AddResource n y) at rows x plain = absurd (true≢false plain)
+plain_touch (AddLink n link) at rows x plain = absurd (true≢false plain)
+
+-- the rows now, after an edit of what the spawn holds that isn't structural
+pub edited_now : (c : Controllers) (name : List ℕ) (s : ℕ) (e : Edit) (at : ℕ) (next : worker.Known) (old new : Entry) → (h : HasRecord c name s old) → HasStored c name s next new h.spawn → new.part ≡ edited_part e at old.part → worker.IsKeptEntry old → is_structural e ≡ false → refusal_of_part e old.part ≡ None → is_held_by s (master.holder c.master) (target e) ≡ true
+    → (x : List ℕ) → now_shown (with_next c name next) x ≡ plain_rows e at (now_shown c) x
+edited_now c name s e at next old new h stored is kept plain free held x =
+    let now = λ (r : Option Row). cond (bytes_eq (target e) x) (option_map (plain_changed e at) r) r in
+    let o = master.holder c.master x in
+    row_stored c name s next new h.spawn stored now x o
+    (λ own. ap (λ (p : Copied). part_row p x) is ∙ part_edit_of_rows e at old.part kept.valid plain free x ∙ ap now (sym (row_there c name s old x o h own)))
+    (λ other.
+    split (bytes_eq (target e) x)
+    (λ same. absurd (other (held_here (bytes_eq-Decides (target e) x).0 same)))
+    (λ away. sym (when_false (bytes_eq (target e) x) (option_map (plain_changed e at) (row_at c x o)) (row_at c x o) away)))
+    ∙ plain_touch e at (now_shown c) x plain
+  where
+    held_here : (bytes_eq (target e) x ≡ true → target e ≡ x) → bytes_eq (target e) x ≡ true → master.holder c.master x ≡ Some (held_by.Spawn s)
+    held_here decides same = ap (master.holder c.master) (sym (decides same)) ∙ held_spawn s (master.holder c.master (target e)) held
+
+-- ---- the step
+
+same_phase : (out : Bool) (old new : Entry) → worker.is_open new ≡ worker.is_open old → phase_shown out (Some new) ≡ phase_shown out (Some old)
+same_phase true old new is = ap (λ b. cond b shop.Open shop.Done) is
+same_phase false old new is = refl
+
+edit_agrees : (w : State) (v : worker.Known) (s : ℕ) (e : Edit) (at : ℕ) → IsKept w → worker_of w.controllers.workers v.name ≡ Some v → AgreesThere w v (order.Edit s e) at
+edit_agrees w v s e at ok found x h has_entry =
+    let c = w.controllers in
+    let p = shop_shown c in
+    let a = spawn_shown c h.spawn in
+    let moved : Moved worker.Known Message = record { word = Did reply.Edited; next = orders.ordered (order.Edit s e) at v; sent = None } in
+    let plain = steps.replies reply.Edited (worked e at p) in
+    agrees_as c v
+    (option_map_or (λ r. refused r v) (orders.edit_refusal e x) moved)
+    (option_map_or (λ r. refused r v) (steps.work_refusal e a p) moved)
+    (option_map_or (λ r. refused r p) (steps.work_refusal e a p) plain)
+    (option_map_or (λ r. refused r p) (steps.work_refusal e a p) plain)
+    (ap (λ why. option_map_or (λ r. refused r v) why moved) (same_edit_refusal w v s e x ok found has_entry h))
+    refl
+    (refused_or_agrees c v (steps.work_refusal e a p) moved plain found (λ none.
+    let free = edit_free e x (same_edit_refusal w v s e x ok found has_entry h ∙ none) in
+    let here = and_parts _ _ (sym (same_parts w v s e x ok found has_entry h free.is_open).0 ∙ free.here) in
+    let held : is_held_by s (master.holder c.master) (target e) ≡ true = ap (λ n. is_held_by n (master.holder c.master) (target e)) (sym h.number) ∙ here.1 in
+    let stored = changed_stored w v s x (orders.edited_entry e at) (λ y. refl) ok found has_entry h in
+    record {
+      word = refl;
+      next =
+          same_shop _ _
+          (record {
+            master = refl;
+            workers = refl;
+            job = refl;
+            tree = refl;
+            seen = λ y. refl;
+            now = λ y. edited_now c v.name s e at (orders.ordered (order.Edit s e) at v) x (orders.edited_entry e at x) h stored refl (kept_entry w v s x ok found has_entry) free.plain free.part held y;
+            holder = λ y. refl;
+            spawns = spawns_stay c v.name s (orders.ordered (order.Edit s e) at v) (orders.edited_entry e at x) h.spawn stored (same_phase (is_out h.spawn) x (orders.edited_entry e at x) refl ∙ ap (phase_shown (is_out h.spawn)) (sym h.entered));
+          });
+      sent = refl;
+    }))
+
+pub worker_edits : (w : State) (v : worker.Known) (s : ℕ) (e : Edit) (at : ℕ) → IsKept w → worker_of w.controllers.workers v.name ≡ Some v → Agrees (worker_moved w.controllers v (ordered_worker (order.Edit s e) at v)) (steps.worker_does v.name (order.Edit s e) at (shop_shown w.controllers))
+worker_edits w v s e at ok found = worker_agrees w v (order.Edit s e) at ok found (edit_agrees w v s e at ok found)

@@ -1,0 +1,119 @@
+-- A worker finishes the work on a part: its step and the shop's agree.
+use Rattle.std.proofs.Common.{◌≡◌, ◌∙◌, ◌||◌, ℕ, true, List, [], ◌∷◌, length, map, Some, slice_get, refl, sym, ap}
+use Rattle.std.specs.Option.{option_map, option_map_or}
+use Rattle.ticket_items.specs.Ids.{mem}
+use Rattle.ticket_items.specs.Resource.{resource_ids}
+use Rattle.ticket_items.specs.declared.edit.Edit.TheVariants.{SetStatus}
+use Rattle.ticket_items.specs.declared.node_row.NodeRow.{NodeRow}
+use Rattle.ticket_items.specs.declared.refusal.Refusal.TheVariants.{NotOpen}
+use Rattle.ticket_rows.proofs.Reasons.{node_among}
+use Rattle.ticket_rows.specs.Ticket.{IsValid, Job, unless}
+use Rattle.ticket_tree.proofs.ById.{among_ids}
+use Rattle.ticket_tree.specs.Part.{Copied}
+use Rattle.ticket_tree.specs.PlainEdit.{plain_rows}
+use Rattle.message_items.specs.declared.message.Message.{Message}
+use Rattle.message_items.specs.declared.reply.Reply.TheVariants as reply
+use Rattle.spawn.proofs.GoodCopies.{good_node}
+use Rattle.spawn.proofs.RowsBelow.{rows_below-around}
+use Rattle.spawn.proofs.Split.{around}
+use Rattle.spawn.specs.Parts.{above, lifted, part_for}
+use Rattle.spawn.specs.Records.{IsGood, is_out}
+use Rattle.spawn.specs.declared.records.spawn_rec.SpawnRec.{SpawnRec}
+use Rattle.merge.specs.Shape.{Fits, Shape, shape}
+use Rattle.master_core.specs.Master as master
+use Rattle.worker_core.proofs.EditedPart.{ending_free, first_known}
+use Rattle.worker_core.proofs.Refusals.{open_free}
+use Rattle.worker_core.specs.Orders as orders
+use Rattle.worker_core.specs.Worker as worker
+use Rattle.worker_core.specs.declared.end.End.{End}
+use Rattle.worker_core.specs.declared.entry.Entry.{Entry}
+use Rattle.worker_core.specs.declared.order.Order.TheVariants as order
+use Rattle.world.proofs.Agreeing.{Agrees}
+use Rattle.world.proofs.EntryStored.{spawns_stored}
+use Rattle.world.proofs.HeldBySpawn.{good_record, held_claims}
+use Rattle.world.proofs.InPart.{fits_has, part_has}
+use Rattle.world.proofs.ShopPaths.{same_shop}
+use Rattle.world.proofs.WorkerAgrees.{AgreesThere, agrees_as, refused_or_agrees, worker_agrees}
+use Rattle.world.proofs.WorkerEdits.{changed_stored, edited_now, kept_entry, open_out, open_shown}
+use Rattle.world.specs.Controllers.{worker_of}
+use Rattle.world.specs.Shop as shop
+use Rattle.world.specs.ShopActs.{finished, in_phase, is_held_by}
+use Rattle.world.specs.ShopSteps as steps
+use Rattle.world.specs.Showing.{now_shown, phase_shown, shop_shown, spawn_shown, tag_of}
+use Rattle.world.specs.State.{IsKept, State}
+use Rattle.world.specs.Stepping.{Moved, ordered_worker, refused, worker_moved}
+use Rattle.world.specs.declared.word.Word.TheVariants.{Did}
+
+-- ---- the node of a part
+
+first_id : (rows : List NodeRow) → option_map_or (λ (s : Shape). s.id) (slice_get (map shape rows) 0) [] ≡ option_map_or (λ (r : NodeRow). r.id) (slice_get rows 0) []
+first_id [] = refl
+first_id (r ∷ rows) = refl
+
+-- that of a part that fits is the one that was spawned
+root_spawned : (t : Job) (r : SpawnRec) (p : Copied) → IsValid t.rows → IsGood t.rows r → Fits t r p → worker.root_id p ≡ r.node
+root_spawned t r p valid good fits =
+    let q = part_for t r in
+    let at = around t.rows r.node valid (good_node t.rows r good) in
+    sym (first_id p.rows) ∙ ap (λ ss. option_map_or (λ (s : Shape). s.id) (slice_get ss 0) []) fits.rows ∙ first_id q.rows
+    ∙ ap (λ rs. option_map_or (λ (y : NodeRow). y.id) (slice_get (map (lifted (length (above t.rows r.node))) rs) 0) []) (rows_below-around t.rows r.node valid at)
+    ∙ at.named
+
+-- and the spawn holds it
+root_held : (m : master.Known) (s : ℕ) (r : SpawnRec) (e : Entry) → master.IsKept m → master.record_of m.records s ≡ Some r → is_out r ≡ true → Fits m.ticket r e.part → worker.IsKeptEntry e → is_held_by s (master.holder m) (worker.root_id e.part) ≡ true
+root_held m s r e ok found out fits kept =
+    let p = e.part in
+    let x = worker.root_id p in
+    let here : worker.has p x ≡ true = ap (λ b. b || mem x (resource_ids p.rw)) (among_ids x p.rows (node_among p.rows x (first_known p.rows p.rw p.ro kept.valid))) in
+    held_claims m s r x ok found out ∙ sym (part_has m.ticket r x ok.valid (good_record m s r ok found out)) ∙ sym (fits_has m.ticket r p x fits) ∙ here
+
+-- ---- the step
+
+finish_agrees : (w : State) (v : worker.Known) (s : ℕ) (how : End) (at : ℕ) → IsKept w → worker_of w.controllers.workers v.name ≡ Some v → AgreesThere w v (order.Finish s how) at
+finish_agrees w v s how at ok found x h has_entry =
+    let c = w.controllers in
+    let p = shop_shown c in
+    let r = h.spawn in
+    let a = spawn_shown c r in
+    let next = orders.ordered (order.Finish s how) at v in
+    let new = orders.finished_entry how at x in
+    let moved : Moved worker.Known Message = record { word = Did (reply.Finished s); next = next; sent = orders.order_message (order.Finish s how) at v } in
+    let plain = steps.sends (reply.Finished s) (finished how at a p) (steps.Return s) in
+    let shown = open_shown c v.name s x h in
+    agrees_as c v
+    (option_map_or (λ e. refused e v) (unless (worker.is_open x) NotOpen) moved)
+    (option_map_or (λ e. refused e v) (unless (shop.is_open a.phase) NotOpen) moved)
+    (option_map_or (λ e. refused e p) (unless (shop.is_open a.phase) NotOpen) plain)
+    (option_map_or (λ e. refused e p) (unless (shop.is_open a.phase) NotOpen) plain)
+    (ap (λ b. option_map_or (λ e. refused e v) (unless b NotOpen) moved) (sym shown))
+    refl
+    (refused_or_agrees c v (unless (shop.is_open a.phase) NotOpen) moved plain found (λ none.
+    let is_open = open_free x (ap (λ b. unless b NotOpen) (sym shown) ∙ none) in
+    let out = open_out c v.name s x h is_open in
+    let kept = kept_entry w v s x ok found has_entry in
+    let good = good_record c.master s r ok.master h.recorded out in
+    let root = root_spawned c.master.ticket r x.part ok.master.valid good (h.fits out) in
+    let held = root_held c.master s r x ok.master h.recorded out (h.fits out) kept in
+    let stored = changed_stored w v s x (orders.finished_entry how at) (λ y. refl) ok found has_entry h in
+    record {
+      word = refl;
+      next =
+          same_shop _ _
+          (record {
+            master = refl;
+            workers = refl;
+            job = refl;
+            tree = refl;
+            seen = λ y. refl;
+            now = λ y. edited_now c v.name s (orders.ending x.part how) at next x new h stored refl kept refl (ending_free x.part how kept.valid) held y
+                ∙ ap (λ n. plain_rows (SetStatus n (worker.end_word how)) at (now_shown c) y) root;
+            holder = λ y. refl;
+            spawns = spawns_stored c v.name s next new r shop.Done stored (ap (λ b. phase_shown b (Some new)) out)
+                ∙ ap (λ n. in_phase shop.Done n (map (spawn_shown c) c.master.records)) (sym h.number);
+          });
+      sent = ap (λ o. option_map tag_of (option_map (λ (e : Entry). orders.return_of v.name v.master (orders.finished_entry how at e)) o)) has_entry
+          ∙ ap (λ n. Some (steps.Return n)) h.own;
+    }))
+
+pub worker_finishes : (w : State) (v : worker.Known) (s : ℕ) (how : End) (at : ℕ) → IsKept w → worker_of w.controllers.workers v.name ≡ Some v → Agrees (worker_moved w.controllers v (ordered_worker (order.Finish s how) at v)) (steps.worker_does v.name (order.Finish s how) at (shop_shown w.controllers))
+worker_finishes w v s how at ok found = worker_agrees w v (order.Finish s how) at ok found (finish_agrees w v s how at ok found)
