@@ -1,15 +1,15 @@
 -- Edits of a tree: what is found of them, one after another.
-use Rattle.std.proofs.Common.{◌≡◌, ◌∙◌, ℕ, ◌+◌, ◌<◌, ◌≤◌, ◌&&◌, Bool, true, false, List, [], ◌∷◌, ◌++◌, length, get_or, drop, Global, Option, Some, None, Result, Ok, Err, IfErr, OnOk, refl, sym, ap, subst, append_assoc, append-nil}
+use Rattle.std.proofs.Common.{◌≡◌, ◌∙◌, ℕ, ◌+◌, ◌<◌, ◌≤◌, ◌&&◌, Bool, true, false, List, [], ◌∷◌, ◌++◌, length, get_or, drop, map, Global, Option, Some, None, Result, Ok, Err, IfErr, OnOk, refl, sym, ap, subst, append_assoc, append-nil}
 use Rattle.std.proofs.lemmas.List.{drop_more, drop_all}
 use Rattle.std.proofs.lemmas.Bool.{and_from, and_parts}
 use Rattle.std.proofs.lemmas.List.Folds.{list_all-append}
 use Rattle.std.specs.List.{list_all}
 use Rattle.std.specs.Option.{option_map, option_and_then}
 use Rattle.std.specs.Prelude.{⊤, IsErrAnd}
-use Rattle.json.specs.Value.{items_view}
 use Rattle.json.specs.declared.value.Value.{Value}
 use Rattle.serde_json.specs.Data.{Data, Items}
 use Rattle.serde_json.specs.Find.{as_array}
+use Rattle.serde_json.specs.View.{items_of}
 use Rattle.ticket_items.specs.declared.edit.Edit.{Edit}
 use Rattle.ticket_items.specs.declared.refusal.Refusal.{Refusal}
 use Rattle.ticket_items.specs.declared.refusal.Refusal.TheVariants.{Memory}
@@ -20,7 +20,7 @@ use Rattle.json_forms.proofs.ListLemmas.{Fails-weaker}
 use Rattle.json_forms.specs.Listed.{each, list_form}
 use Rattle.json_reader.specs.Found.{all_hold, both}
 use Rattle.json_reader.specs.declared.checks.Checks.{Checks}
-use Rattle.json_tree.specs.Tree.{items_data, tree_data}
+use Rattle.json_source.specs.Tree.{tree_data}
 use Rattle.edit_command.specs.Found.{AddsEdits, IsFoundEdits, edit_checks}
 use Rattle.edit_command.specs.declared.found_edits.FoundEdits.{FoundEdits}
 
@@ -31,16 +31,15 @@ abbrev pub lone : Option Edit → Option (List Edit)
 lone o = option_map (λ e. e ∷ []) o
 
 -- a draft that can't be read
-pub edit_failed : (found : FoundEdits) (result : Result ⊤ Refusal) (e : Refusal) (d value : Data) → value ≡ d → IsErrAnd result (λ f. f ≡ e) → Fails e (edit_draft value) → AddsEdits found found result (lone (edit_draft d))
-edit_failed found (Ok u) e d value is same fails = absurd same
-edit_failed found (Err f) e d value is same fails =
-    subst (λ g. Fails g (lone (edit_draft d))) (sym same) (Fails-weaker e (edit_draft value) _ (λ none. ap (λ v. lone (edit_draft v)) (sym is) ∙ ap lone none) fails)
+pub edit_failed : (found : FoundEdits) (result : Result ⊤ Refusal) (e : Refusal) (read : Option Edit) → IsErrAnd result (λ f. f ≡ e) → Fails e read → AddsEdits found found result (lone read)
+edit_failed found (Ok u) e read same fails = absurd same
+edit_failed found (Err f) e read same fails = subst (λ g. Fails g (lone read)) (sym same) (Fails-weaker e read _ (λ none. ap lone none) fails)
 
 -- one that is added
-pub edit_added : (old new : FoundEdits) (result : Result ⊤ Refusal) (edit : Edit) (d value : Data) → value ≡ d → edit_draft value ≡ Some edit
-    → OnOk result ((before : List Edit) → IsFoundEdits before old → IsFoundEdits (before ++ edit ∷ []) new) → IfErr result (λ e. e ≡ Memory) → AddsEdits old new result (lone (edit_draft d))
-edit_added old new (Ok u) edit d value is read added memory = (edit ∷ [], ap (λ v. lone (edit_draft v)) (sym is) ∙ ap lone read, added)
-edit_added old new (Err e) edit d value is read added memory = subst (λ f. Fails f (lone (edit_draft d))) (sym memory) tt
+pub edit_added : (old new : FoundEdits) (result : Result ⊤ Refusal) (edit : Edit) (read : Option Edit) → read ≡ Some edit
+    → OnOk result ((before : List Edit) → IsFoundEdits before old → IsFoundEdits (before ++ edit ∷ []) new) → IfErr result (λ e. e ≡ Memory) → AddsEdits old new result (lone read)
+edit_added old new (Ok u) edit read is added memory = (edit ∷ [], ap lone is, added)
+edit_added old new (Err e) edit read is added memory = subst (λ f. Fails f (lone read)) (sym memory) tt
 
 -- what was found of an edit more, which is there as long as all is valid
 abbrev pub lone_checks : Edit → Checks
@@ -93,11 +92,11 @@ none_first (Some e) rest none = cc
 
 -- the edits from the i-th tree on
 abbrev pub edits_from : ℕ → List (Value Global) → Option (List Edit)
-edits_from i trees = each edit_draft (items_data (items_view (drop i trees)))
+edits_from i trees = each edit_draft (items_of (map tree_data (drop i trees)))
 
 edits_from-more : (trees : List (Value Global)) (i : ℕ) (t : Value Global) → i < length trees → t ≡ get_or trees i t → edits_from i trees ≡ (edit_draft (tree_data t) >>= λ e. option_map (λ es. e ∷ es) (edits_from (i + 1) trees))
 edits_from-more trees i t within is =
-    ap (λ ts. each edit_draft (items_data (items_view ts))) (drop_more trees i t within) ∙ ap (λ x. edit_draft (tree_data x) >>= λ e. option_map (λ es. e ∷ es) (edits_from (i + 1) trees)) (sym is)
+    ap (λ ts. each edit_draft (items_of (map tree_data ts))) (drop_more trees i t within) ∙ ap (λ x. edit_draft (tree_data x) >>= λ e. option_map (λ es. e ∷ es) (edits_from (i + 1) trees)) (sym is)
 
 -- what is found of the trees from the i-th on is found of all
 pub record IsFinding (trees : List (Value Global)) (i : ℕ) (start now : FoundEdits) : Type 0 where
@@ -116,7 +115,7 @@ finding_failed trees i t start old e within is before fails =
 
 pub finding_all : (trees : List (Value Global)) (i : ℕ) (start now : FoundEdits) → length trees ≤ i → IsFinding trees i start now → AddsEdits start now (Ok tt) (edits_from 0 trees)
 finding_all trees i start now past before =
-    before.rest now (Ok tt) (subst (λ ts. AddsEdits now now (Ok tt) (each edit_draft (items_data (items_view ts)))) (sym (drop_all i trees past)) (nothing_found now))
+    before.rest now (Ok tt) (subst (λ ts. AddsEdits now now (Ok tt) (each edit_draft (items_of (map tree_data ts)))) (sym (drop_all i trees past)) (nothing_found now))
 
 -- ---- the list
 

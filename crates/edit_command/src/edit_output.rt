@@ -9,7 +9,7 @@ use crate::owned_document::OwnedDocument;
 use crate::run::run_edits;
 use command_streams::Output;
 use json_profile::push_ticket_text;
-use json_tree::{Scratch, tree_of};
+use json_source::{Scratch, tree_of};
 use std::alloc::{AllocError, Global};
 use ticket_tree::{Refusal, Ticket};
 

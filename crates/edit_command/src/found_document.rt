@@ -1,13 +1,15 @@
 ghost use Rattle.std.specs.Prelude.{◌≡◌, codes, Some, IfErr, IfOk};
 ghost use Rattle.json_form.specs.Draft.{RawTicket};
-ghost use Rattle.json_form.specs.Read.{Fails, Gives, number_under};
+ghost use Rattle.json_form.specs.Read as read;
+ghost use Rattle.json_form.specs.Read.{Fails, Gives};
 ghost use Rattle.json_reader.specs.Found.{IsFoundTicket};
-ghost use Rattle.json_tree.specs.Tree.{tree_data};
+ghost use Rattle.json_source.specs.Tree.{tree_data};
 ghost use Rattle.edit_command.specs.Document.{ticket_under};
 
 use crate::found_edits::FoundEdits;
+use json_forms::number_under;
 use json_profile::{Checks, FoundTicket};
-use json_tree::{Tree, has_only_members, member_under, tree_value};
+use json_source::{Source, Tree};
 use std::alloc::Global;
 use ticket_tree::{Edit, Refusal};
 
@@ -23,18 +25,11 @@ pub struct FoundDocument {
     pub ticket: FoundTicket,
 }
 
-/// When the edits of a document are done. Refuses `NotProfile`, and `Memory`.
-fn time_in(alloc: Global, tree: &Tree<'_>) -> Result<u64, Refusal>
-    ensures { Gives (λ n. n) result (number_under (codes "At") (tree_data tree.now)) }
+/// When the edits of a document are done. Refuses `NotProfile`.
+fn time_in(tree: &Tree<'_>) -> Result<u64, Refusal>
+    ensures { Gives (λ n. n) result (read.number_under (codes "At") (tree_data tree.now)) }
 {
-    let Some(member) = member_under(tree, "At") else {
-        return Err(Refusal::NotProfile);
-    };
-    let value = tree_value(alloc, member)?;
-    match value.as_u64() {
-        Some(at) => Ok(at),
-        None => Err(Refusal::NotProfile),
-    }
+    number_under(tree, "At").ok_or(Refusal::NotProfile)
 }
 
 /// What is found of the ticket of a document. Refuses `NotProfile`, and `Memory`.
@@ -43,7 +38,7 @@ fn ticket_in(alloc: Global, tree: &Tree<'_>) -> Result<FoundTicket, Refusal>
         × (ticket_under (tree_data tree.now) ≡ Some draft) × IsFoundTicket draft found) }
     ensures err { IfErr result (λ e. Fails e (ticket_under (tree_data tree.now))) }
 {
-    match member_under(tree, "Ticket") {
+    match tree.member("Ticket") {
         Some(ticket) => FoundTicket::of(alloc, ticket),
         None => Err(Refusal::NotProfile),
     }
@@ -52,7 +47,7 @@ fn ticket_in(alloc: Global, tree: &Tree<'_>) -> Result<FoundTicket, Refusal>
 impl FoundDocument {
     ghost use Rattle.std.specs.Prelude.{◌≡◌, Some, IfErr, IfOk};
     ghost use Rattle.json_form.specs.Read.{Fails};
-    ghost use Rattle.json_tree.specs.Tree.{tree_data};
+    ghost use Rattle.json_source.specs.Tree.{tree_data};
     ghost use Rattle.edit_command.specs.Document.{RawDocument, document_draft};
     ghost use Rattle.edit_command.specs.Found.{IsFoundDocument, found_document};
 
@@ -63,10 +58,10 @@ impl FoundDocument {
             × (document_draft (tree_data tree.now) ≡ Some doc) × IsFoundDocument doc found) }
         ensures err { IfErr result (λ e. Fails e (document_draft (tree_data tree.now))) }
     {
-        if !has_only_members(tree, &["At", "Edits", "Ticket"]) {
+        if !tree.has_only(&["At", "Edits", "Ticket"]) {
             return Err(Refusal::NotProfile);
         }
-        let at = time_in(alloc, tree)?;
+        let at = time_in(tree)?;
         let edits = FoundEdits::of(alloc, tree)?;
         let ticket = ticket_in(alloc, tree)?;
         Ok(FoundDocument::joined(at, edits, ticket))

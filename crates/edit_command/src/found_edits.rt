@@ -1,19 +1,19 @@
-//! Looking through the edits of a document, and building them as long as all is valid. The value
-//! and the draft of each edit are given back before the next edit is read.
+//! Looking through the edits of a document, and building them as long as all is valid. The draft
+//! of each edit is given back before the next edit is read.
 
-ghost use Rattle.std.specs.Prelude.{◌≡◌, ◌∷◌, [], codes, true};
+ghost use Rattle.std.specs.Prelude.{◌≡◌, ◌∷◌, [], codes, map, true};
 ghost use Rattle.std.specs.Option.{option_map};
-ghost use Rattle.json.specs.Value.{items_view};
 ghost use Rattle.json_form.specs.EditDraft.{edit_draft};
 ghost use Rattle.json_form.specs.Form.{edit_has_names, edit_has_texts};
 ghost use Rattle.json_forms.specs.DraftedEdits.{drafted_edit};
 ghost use Rattle.json_forms.specs.Listed.{each, items_under};
-ghost use Rattle.json_tree.specs.Tree.{items_data, tree_data};
+ghost use Rattle.serde_json.specs.View.{items_of};
+ghost use Rattle.json_source.specs.Tree.{tree_data};
 ghost use Rattle.edit_command.specs.Found.{AddsEdits};
 
 use json_forms::Draft;
 use json_profile::{Checks, EditDraft};
-use json_tree::{Tree, items_in, member_under, tree_value};
+use json_source::{Source, Tree};
 use std::alloc::Global;
 use ticket_tree::{Edit, Refusal};
 
@@ -44,15 +44,14 @@ fn push_edit(alloc: Global, found: &mut FoundEdits, tree: &Tree<'_>) -> Result<(
     ensures { AddsEdits found.old found.new result
         (option_map (λ e. e ∷ []) (edit_draft (tree_data tree.now))) }
 {
-    let value = tree_value(alloc, tree)?;
-    let draft = EditDraft::of(alloc, &value)?;
+    let draft = EditDraft::of(alloc, tree)?;
     found.push(alloc, &draft)
 }
 
 /// Adds the edits that trees are.
 fn push_edits(alloc: Global, found: &mut FoundEdits, trees: &[Tree<'_>]) -> Result<(), Refusal>
     ensures { AddsEdits found.old found.new result
-        (each edit_draft (items_data (items_view trees.now))) }
+        (each edit_draft (items_of (map tree_data trees.now))) }
 {
     for tree in trees {
         if let Err(refusal) = push_edit(alloc, found, tree) {
@@ -64,13 +63,10 @@ fn push_edits(alloc: Global, found: &mut FoundEdits, trees: &[Tree<'_>]) -> Resu
 
 /// The items of the list under `Edits`.
 fn edit_trees<'t, 'a>(tree: &'t Tree<'a>) -> Option<&'t [Tree<'a>]>
-    ensures { option_map (λ items. items_data (items_view items.now)) result
+    ensures { option_map (λ items. items_of (map tree_data items.now)) result
         ≡ items_under (codes "Edits") (tree_data tree.now) }
 {
-    match member_under(tree, "Edits") {
-        Some(list) => items_in(list),
-        None => None,
-    }
+    tree.member("Edits")?.items()
 }
 
 impl FoundEdits {
@@ -78,7 +74,7 @@ impl FoundEdits {
     ghost use Rattle.ticket_items.specs.declared.edit.Edit.{Edit};
     ghost use Rattle.json_form.specs.Read.{Fails};
     ghost use Rattle.json_forms.specs.DraftedEdits.{drafted_edit};
-    ghost use Rattle.json_tree.specs.Tree.{tree_data};
+    ghost use Rattle.json_source.specs.Tree.{tree_data};
     ghost use Rattle.edit_command.specs.Document.{edits_under};
     ghost use Rattle.edit_command.specs.Found.{IsFoundEdits};
 

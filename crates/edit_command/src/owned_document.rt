@@ -1,5 +1,5 @@
 use crate::found_document::FoundDocument;
-use json_tree::Tree;
+use json_source::Tree;
 use std::alloc::Global;
 use ticket_tree::{Edit, Refusal, Ticket};
 
@@ -14,7 +14,7 @@ pub struct OwnedDocument {
 
 impl OwnedDocument {
     ghost use Rattle.std.specs.Prelude.{◌≡◌, ◌⊎◌, IfErr, IfOk, Err, Ok};
-    ghost use Rattle.json_tree.specs.Tree.{tree_data};
+    ghost use Rattle.json_source.specs.Tree.{tree_data};
     ghost use Rattle.edit_command.specs.Document.{document_read};
     ghost use Rattle.edit_command.specs.OwnedDocument.{owned_document};
 

@@ -5,7 +5,7 @@ use Rattle.std.specs.Option.{option_map, option_map_or}
 use Rattle.std.specs.Str.{bytes_eq}
 use Rattle.serde_json.specs.Data.{Data}
 use Rattle.json_forms.specs.Judged.{sound}
-use Rattle.json_forms.specs.Read.{◌>>=◌, provided}
+use Rattle.json_source.specs.Read.{◌>>=◌, provided}
 use Rattle.json_form.specs.PartDraft.{RawPart, part_draft}
 use Rattle.json_form.specs.PartForm as part
 use Rattle.json_writer.specs.PartWritten.{part_data}

@@ -3,7 +3,7 @@ use Rattle.std.proofs.Common.{◌≡◌, ◌⊎◌, inl, inr, ⊎_elim, ℕ, ◌
 use Rattle.std.specs.Option.{option_map_or}
 use Rattle.std.specs.Str.{bytes_eq}
 use Rattle.json_forms.specs.Judged.{Answers, sound}
-use Rattle.json_forms.specs.Read.{◌>>=◌, provided}
+use Rattle.json_source.specs.Read.{◌>>=◌, provided}
 use Rattle.json_form.specs.PartDraft.{RawPart}
 use Rattle.json_form.specs.PartForm.{has_names, has_texts, built_fault, part_fault, copied}
 use Rattle.ticket_items.specs.SpawnId.{spawn_of, spawn_text}

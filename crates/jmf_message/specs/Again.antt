@@ -2,7 +2,7 @@
 use Rattle.std.specs.Prelude.{◌≡◌, Option, Some, None, refl}
 use Rattle.std.specs.Option.{option_map}
 use Rattle.std.proofs.Common.{ap}
-use Rattle.json_forms.specs.Read.{◌>>=◌}
+use Rattle.json_source.specs.Read.{◌>>=◌}
 use Rattle.jmf_message.specs.CommandForm.{submission_form, submission_data, return_form}
 use Rattle.jmf_message.specs.CommandForm.{return_data, command_form, command_data}
 use Rattle.jmf_message.specs.JmfForm.{jmf_form, jmf_data}

@@ -4,7 +4,7 @@ use Rattle.std.specs.Prelude.{ℕ, List, [], ◌∷◌, codes, Option, Some, Non
 use Rattle.std.specs.Option.{option_map}
 use Rattle.serde_json.specs.Data.{Data, Members, no_members, member, put, string, object}
 use Rattle.serde_json.specs.Find.{get}
-use Rattle.json_forms.specs.Read.{◌>>=◌, provided, has_only, text_under}
+use Rattle.json_source.specs.Read.{◌>>=◌, provided, has_only, text_under}
 use Rattle.jmf_message.specs.declared.command_message.CommandMessage.{CommandMessage}
 use Rattle.jmf_message.specs.declared.params.Params.{Params}
 use Rattle.jmf_message.specs.declared.params.Params.TheVariants.{Submission, Return}

@@ -4,7 +4,7 @@ use Rattle.std.specs.Option.{option_map, option_and_then}
 use Rattle.serde_json.specs.Data.{Data}
 use Rattle.serde_json.specs.Find.{get}
 use Rattle.json_form.specs.PartDraft.{RawPart, part_draft}
-use Rattle.json_forms.specs.Read.{◌>>=◌, provided, has_only}
+use Rattle.json_source.specs.Read.{◌>>=◌, provided, has_only}
 use Rattle.jmf_message.specs.JmfForm.{jmf_form}
 use Rattle.jmf_message.specs.declared.family.Family.{Family}
 use Rattle.jmf_message.specs.declared.family.Family.TheVariants.{Command, Response}

@@ -5,7 +5,7 @@ use Rattle.std.specs.Option.{option_map}
 use Rattle.serde_json.specs.Data.{Data, Members, no_members, member, put, unsigned, number, string}
 use Rattle.serde_json.specs.Data.{object}
 use Rattle.serde_json.specs.Find.{get}
-use Rattle.json_forms.specs.Read.{◌>>=◌, provided, has_only, number_under, text_under}
+use Rattle.json_source.specs.Read.{◌>>=◌, provided, has_only, number_under, text_under}
 use Rattle.jmf_message.specs.CommandForm.{command_form, command_data}
 use Rattle.jmf_message.specs.ResponseForm.{response_form, response_data}
 use Rattle.jmf_message.specs.declared.family.Family.{Family}

@@ -5,12 +5,12 @@ use Rattle.std.specs.Option.{option_map}
 use Rattle.std.specs.Str.{bytes_eq}
 use Rattle.json_form.specs.PartDraft.{RawPart}
 use Rattle.json_form.specs.PartForm.{copied}
-use Rattle.json_forms.specs.Read.{◌>>=◌, provided}
+use Rattle.json_source.specs.Read.{◌>>=◌, provided}
 use Rattle.ticket_items.specs.SpawnId.{spawn_of, spawn_text}
 use Rattle.ticket_tree.specs.Part.{Copied}
 use Rattle.jmf_message.specs.DocumentForm.{RawMessage}
 use Rattle.message_items.specs.Words.{command_named, status_named}
-use Rattle.message_items.specs.Words.{is_reason, mark_of, status_word, type_of}
+use Rattle.message_items.specs.Words.{is_reason, mark_of}
 use Rattle.jmf_message.specs.Written.{command_for, response_for}
 use Rattle.message_items.specs.declared.body.Body.{Body}
 use Rattle.message_items.specs.declared.body.Body.TheVariants as bodies
@@ -23,8 +23,6 @@ use Rattle.jmf_message.specs.declared.params.Params.{Params}
 use Rattle.jmf_message.specs.declared.params.Params.TheVariants.{Submission, Return}
 use Rattle.jmf_message.specs.declared.queue_entry.QueueEntry.{QueueEntry}
 use Rattle.message_items.specs.declared.queue_status.QueueStatus.{QueueStatus}
-use Rattle.message_items.specs.declared.queue_status.QueueStatus.TheVariants.{Running, Completed}
-use Rattle.message_items.specs.declared.queue_status.QueueStatus.TheVariants.{Aborted}
 use Rattle.jmf_message.specs.declared.response_message.ResponseMessage.{ResponseMessage}
 
 -- ---- the same

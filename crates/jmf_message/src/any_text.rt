@@ -4,6 +4,7 @@ ghost use Rattle.serde_json.specs.Find.{as_str};
 ghost use Rattle.json_forms.specs.Again.{text_again};
 
 use json_forms::{Draft, Form, Written, text_value};
+use json_source::Source;
 use serde_json::Value;
 use std::alloc::{AllocError, Global};
 use std::marker::Model;
@@ -70,8 +71,8 @@ impl<'a> Draft<'a> for AnyText {
 
     ghost drafted = { λ text. text };
 
-    fn of(alloc: Global, value: &'a Value) -> Result<AnyText, Refusal> {
-        match value.as_str() {
+    fn of<S: Source>(alloc: Global, value: &'a S) -> Result<AnyText, Refusal> {
+        match value.text() {
             Some(text) => Ok(AnyText::of_str(alloc, text)?),
             None => Err(Refusal::NotProfile),
         }

@@ -4,7 +4,8 @@ ghost use Rattle.jmf_message.specs.CommandForm as forms;
 
 use crate::any_text::AnyText;
 use crate::params::Params;
-use json_forms::{Draft, Form, Written, has_only, put, under};
+use json_forms::{Draft, Form, Written, put, under};
+use json_source::Source;
 use serde_json::{Map, Value};
 use std::alloc::{AllocError, Global};
 use ticket_tree::Refusal;
@@ -54,8 +55,8 @@ impl<'a> Draft<'a> for CommandMessage {
     ghost drafted = { λ command. command };
 
     #[tactic(auto, unfolding(crate::specs::CommandForm::command_form))]
-    fn of(alloc: Global, value: &'a Value) -> Result<CommandMessage, Refusal> {
-        if !has_only(value, COMMAND_MEMBERS) {
+    fn of<S: Source>(alloc: Global, value: &'a S) -> Result<CommandMessage, Refusal> {
+        if !value.has_only(COMMAND_MEMBERS) {
             return Err(Refusal::NotProfile);
         }
         let id = under(alloc, value, "ID")?;

@@ -1,7 +1,8 @@
 use crate::family::Family;
 use crate::jmf::Jmf;
-use json_forms::{Draft, has_only, under};
+use json_forms::{Draft, under};
 use json_profile::PartDraft;
+use json_source::Source;
 use serde_json::Value;
 use std::alloc::Global;
 use ticket_tree::Refusal;
@@ -18,7 +19,7 @@ impl<'a> DocumentDraft<'a> {
     ghost use Rattle.std.specs.Option.{option_map};
     ghost use Rattle.serde_json.specs.Find.{get};
     ghost use Rattle.serde_json.specs.View.{view};
-    ghost use Rattle.json_forms.specs.Read.{Gives};
+    ghost use Rattle.json_source.specs.Read.{Gives};
     ghost use Rattle.json_reader.specs.DraftedPart.{drafted_part};
     ghost use Rattle.jmf_message.specs.DocumentForm as forms;
     ghost use Rattle.jmf_message.specs.Drafted.{drafted_document};
@@ -46,7 +47,7 @@ impl<'a> DocumentDraft<'a> {
     pub fn of(alloc: Global, value: &'a Value) -> Result<DocumentDraft<'a>, Refusal>
         ensures { Gives drafted_document result (forms.document_form (view value.now)) }
     {
-        if !has_only(value, &["JDF", "JMF"]) {
+        if !value.has_only(&["JDF", "JMF"]) {
             return Err(Refusal::NotProfile);
         }
         let jmf: Jmf = under(alloc, value, "JMF")?;

@@ -1,6 +1,7 @@
 use crate::command_message::CommandMessage;
 use crate::response_message::ResponseMessage;
 use json_forms::{Draft, put};
+use json_source::Source;
 use serde_json::{Map, Value};
 use std::alloc::{AllocError, Global};
 use ticket_tree::Refusal;
@@ -14,16 +15,16 @@ pub enum Family {
 
 impl Family {
     ghost use Rattle.std.specs.Prelude.{◌≡◌, IfOk, IfErr, OnOk};
-    ghost use Rattle.serde_json.specs.View.{members_view, view};
-    ghost use Rattle.json_forms.specs.Read.{Gives};
+    ghost use Rattle.serde_json.specs.View.{members_view};
+    ghost use Rattle.json_source.specs.Read.{Gives};
     ghost use Rattle.jmf_message.specs.JmfForm as forms;
 
     /// The message among the members of a JMF object, of exactly one of the two families.
-    pub fn among(alloc: Global, jmf: &Value) -> Result<Family, Refusal>
-        ensures { Gives (λ family. family) result (forms.family_form (view jmf.now)) }
+    pub fn among<S: Source>(alloc: Global, jmf: &S) -> Result<Family, Refusal>
+        ensures { Gives (λ family. family) result (forms.family_form (S.content jmf.now)) }
     {
-        let command = jmf.get("Command");
-        let response = jmf.get("Response");
+        let command = jmf.member("Command");
+        let response = jmf.member("Response");
         match (command, response) {
             (Some(message), None) => Ok(Family::Command(CommandMessage::of(alloc, message)?)),
             (None, Some(message)) => Ok(Family::Response(ResponseMessage::of(alloc, message)?)),

@@ -4,7 +4,8 @@ ghost use Rattle.jmf_message.specs.JmfForm as forms;
 
 use crate::any_text::AnyText;
 use crate::family::Family;
-use json_forms::{Draft, Form, Written, has_only, put, under};
+use json_forms::{Draft, Form, Written, put, under};
+use json_source::Source;
 use serde_json::{Map, Value};
 use std::alloc::{AllocError, Global};
 use ticket_tree::Refusal;
@@ -44,8 +45,8 @@ impl<'a> Draft<'a> for Jmf {
     ghost drafted = { λ jmf. jmf };
 
     #[tactic(auto, unfolding(crate::specs::JmfForm::jmf_form))]
-    fn of(alloc: Global, value: &'a Value) -> Result<Jmf, Refusal> {
-        if !has_only(value, JMF_MEMBERS) {
+    fn of<S: Source>(alloc: Global, value: &'a S) -> Result<Jmf, Refusal> {
+        if !value.has_only(JMF_MEMBERS) {
             return Err(Refusal::NotProfile);
         }
         let receiver = under(alloc, value, "ReceiverID")?;

@@ -1,6 +1,7 @@
 use crate::return_params::ReturnParams;
 use crate::submission_params::SubmissionParams;
 use json_forms::{Draft, put};
+use json_source::Source;
 use message_items::Command;
 use serde_json::{Map, Value};
 use std::alloc::{AllocError, Global};
@@ -15,17 +16,17 @@ pub enum Params {
 
 impl Params {
     ghost use Rattle.std.specs.Prelude.{◌≡◌, IfOk, IfErr, OnOk};
-    ghost use Rattle.serde_json.specs.View.{members_view, view};
-    ghost use Rattle.json_forms.specs.Read.{Gives};
+    ghost use Rattle.serde_json.specs.View.{members_view};
+    ghost use Rattle.json_source.specs.Read.{Gives};
     ghost use Rattle.jmf_message.specs.CommandForm as forms;
     ghost use Rattle.jmf_message.specs.Said as said;
 
     /// The params among a command's members, of exactly one of the two kinds.
-    pub fn among(alloc: Global, command: &Value) -> Result<Params, Refusal>
-        ensures { Gives (λ params. params) result (forms.params_form (view command.now)) }
+    pub fn among<S: Source>(alloc: Global, command: &S) -> Result<Params, Refusal>
+        ensures { Gives (λ params. params) result (forms.params_form (S.content command.now)) }
     {
-        let submission = command.get("QueueSubmissionParams");
-        let returning = command.get("ReturnQueueEntryParams");
+        let submission = command.member("QueueSubmissionParams");
+        let returning = command.member("ReturnQueueEntryParams");
         match (submission, returning) {
             (Some(params), None) => Ok(Params::Submission(SubmissionParams::of(alloc, params)?)),
             (None, Some(params)) => Ok(Params::Return(ReturnParams::of(alloc, params)?)),

@@ -3,7 +3,8 @@ ghost use Rattle.jmf_message.specs.Again.{entry_again};
 ghost use Rattle.jmf_message.specs.ResponseForm as forms;
 
 use crate::any_text::AnyText;
-use json_forms::{Draft, Form, Written, has_only, put, under};
+use json_forms::{Draft, Form, Written, put, under};
+use json_source::Source;
 use serde_json::{Map, Value};
 use std::alloc::{AllocError, Global};
 use ticket_tree::Refusal;
@@ -42,8 +43,8 @@ impl<'a> Draft<'a> for QueueEntry {
     ghost drafted = { λ entry. entry };
 
     #[tactic(auto, unfolding(crate::specs::ResponseForm::entry_form))]
-    fn of(alloc: Global, value: &'a Value) -> Result<QueueEntry, Refusal> {
-        if !has_only(value, &["QueueEntryID", "Status"]) {
+    fn of<S: Source>(alloc: Global, value: &'a S) -> Result<QueueEntry, Refusal> {
+        if !value.has_only(&["QueueEntryID", "Status"]) {
             return Err(Refusal::NotProfile);
         }
         let id = under(alloc, value, "QueueEntryID")?;

@@ -2,15 +2,16 @@
 
 ghost use Rattle.std.specs.Prelude.{◌≡◌, true, codes, IfOk, IfErr, OnOk};
 ghost use Rattle.serde_json.specs.Find.{get};
-ghost use Rattle.serde_json.specs.View.{members_view, view};
-ghost use Rattle.json_forms.specs.Read.{Gives};
+ghost use Rattle.serde_json.specs.View.{members_view};
+ghost use Rattle.json_source.specs.Read.{Gives};
 ghost use Rattle.jmf_message.specs.Again.{response_again};
 ghost use Rattle.jmf_message.specs.ResponseForm as forms;
 ghost use Rattle.jmf_message.specs.Said.{same_entry, same_response};
 
 use crate::any_text::AnyText;
 use crate::queue_entry::QueueEntry;
-use json_forms::{Draft, Form, Written, has_only, put, under};
+use json_forms::{Draft, Form, Written, put, under};
+use json_source::Source;
 use serde_json::{Map, Value};
 use std::alloc::{AllocError, Global};
 use ticket_tree::Refusal;
@@ -33,11 +34,11 @@ pub struct ResponseMessage {
 }
 
 /// The queue entry among a response's members, if there is one.
-fn entry_among(alloc: Global, response: &Value) -> Result<Option<QueueEntry>, Refusal>
+fn entry_among<S: Source>(alloc: Global, response: &S) -> Result<Option<QueueEntry>, Refusal>
     ensures { Gives (λ entry. entry) result
-        (forms.entry_found (get (codes "QueueEntry") (view response.now))) }
+        (forms.entry_found (get (codes "QueueEntry") (S.content response.now))) }
 {
-    match response.get("QueueEntry") {
+    match response.member("QueueEntry") {
         Some(entry) => Ok(Some(QueueEntry::of(alloc, entry)?)),
         None => Ok(None),
     }
@@ -109,8 +110,8 @@ impl<'a> Draft<'a> for ResponseMessage {
     ghost drafted = { λ response. response };
 
     #[tactic(auto, unfolding(crate::specs::ResponseForm::response_form))]
-    fn of(alloc: Global, value: &'a Value) -> Result<ResponseMessage, Refusal> {
-        if !has_only(value, RESPONSE_MEMBERS) {
+    fn of<S: Source>(alloc: Global, value: &'a S) -> Result<ResponseMessage, Refusal> {
+        if !value.has_only(RESPONSE_MEMBERS) {
             return Err(Refusal::NotProfile);
         }
         let id = under(alloc, value, "ID")?;

@@ -3,7 +3,8 @@ ghost use Rattle.jmf_message.specs.Again.{submission_again};
 ghost use Rattle.jmf_message.specs.CommandForm as forms;
 
 use crate::any_text::AnyText;
-use json_forms::{Draft, Form, Written, has_only, put, under};
+use json_forms::{Draft, Form, Written, put, under};
+use json_source::Source;
 use serde_json::{Map, Value};
 use std::alloc::{AllocError, Global};
 use ticket_tree::Refusal;
@@ -48,8 +49,8 @@ impl<'a> Draft<'a> for SubmissionParams {
     ghost drafted = { λ params. params };
 
     #[tactic(auto, unfolding(crate::specs::CommandForm::submission_form))]
-    fn of(alloc: Global, value: &'a Value) -> Result<SubmissionParams, Refusal> {
-        if !has_only(value, &["QueueEntryID", "ReturnJMF", "ReturnURL", "URL"]) {
+    fn of<S: Source>(alloc: Global, value: &'a S) -> Result<SubmissionParams, Refusal> {
+        if !value.has_only(&["QueueEntryID", "ReturnJMF", "ReturnURL", "URL"]) {
             return Err(Refusal::NotProfile);
         }
         let entry = under(alloc, value, "QueueEntryID")?;

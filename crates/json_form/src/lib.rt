@@ -3,6 +3,6 @@
 #![tactic(auto)]
 
 pub use json_forms::{
-    has_only, number_under, put_list, put_text, put_value, spawn_status_named, spawn_status_word,
-    text_under, text_value, usage_named, usage_word,
+    number_under, put_list, put_text, put_value, spawn_status_named, spawn_status_word, text_under,
+    text_value, usage_named, usage_word,
 };

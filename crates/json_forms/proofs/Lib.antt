@@ -2,7 +2,6 @@ pub mod Attributes
 pub mod AuditNames
 pub mod EditNames
 pub mod ListLemmas
-pub mod MemberLemmas
 pub mod Objects
 pub mod Pairs
 pub mod ResourceNames

@@ -29,7 +29,7 @@ use Rattle.json_forms.specs.Edits.{add_resource_draft, add_link_draft, setting_d
 use Rattle.json_forms.specs.Edits.{edit_draft, edit_data}
 use Rattle.json_forms.specs.Links.{usage_form, usage_data, link_draft, link_data}
 use Rattle.json_forms.specs.Listed.{data_items, each, list_form, pool_draft, texts_data}
-use Rattle.json_forms.specs.Read.{◌>>=◌, number_of, attrs_draft, text_pairs}
+use Rattle.json_source.specs.Read.{◌>>=◌, number_of, attrs_draft, text_pairs}
 use Rattle.json_forms.specs.Resources.{own_resource, resource_draft, resource_data, raw_data}
 use Rattle.json_forms.specs.Shown.{shown_draft, spawn_status_form, spawn_status_data}
 use Rattle.json_forms.specs.declared.resources.marked_form.Marked.{Marked}

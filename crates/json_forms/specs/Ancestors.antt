@@ -3,7 +3,7 @@ use Rattle.std.specs.Prelude.{ℕ, ◌&&◌, Bool, List, [], ◌∷◌, codes, O
 use Rattle.serde_json.specs.Data.{Data, no_members, member, string, object}
 use Rattle.ticket_items.specs.Names.{is_name}
 use Rattle.ticket_items.specs.declared.ancestor.Ancestor.{Ancestor}
-use Rattle.json_forms.specs.Read.{◌>>=◌, provided, has_only, text_under}
+use Rattle.json_source.specs.Read.{◌>>=◌, provided, has_only, text_under}
 
 -- what may stand in one
 abbrev pub ancestor_members : List (List ℕ)

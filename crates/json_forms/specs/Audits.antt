@@ -10,7 +10,7 @@ use Rattle.ticket_items.specs.Names.{is_name, is_text}
 use Rattle.ticket_items.specs.declared.audit.Audit.{Audit}
 use Rattle.ticket_items.specs.declared.audit.Audit.TheVariants.{Notification, Spawned, Merged}
 use Rattle.json_forms.specs.Listed.{texts_data, texts_under}
-use Rattle.json_forms.specs.Read.{◌>>=◌, provided, has_only, text_under, number_under}
+use Rattle.json_source.specs.Read.{◌>>=◌, provided, has_only, text_under, number_under}
 
 -- ---- read
 

@@ -10,7 +10,7 @@ use Rattle.ticket_items.specs.declared.edit.Edit.TheVariants.{SetResAttr, Note, 
 use Rattle.ticket_items.specs.declared.edit.Edit.TheVariants.{AddResource, AddLink}
 use Rattle.json_forms.specs.Attributes.{attrs_data}
 use Rattle.json_forms.specs.Links.{usage_named, usage_data, link_has_names}
-use Rattle.json_forms.specs.Read.{◌>>=◌, provided, has_only, text_under}
+use Rattle.json_source.specs.Read.{◌>>=◌, provided, has_only, text_under}
 use Rattle.json_forms.specs.Resources.{own_resource, resource_has_names, resource_has_texts}
 
 -- ---- read

@@ -1,4 +1,3 @@
-pub mod Read
 pub mod Listed
 pub mod Judged
 pub mod Ancestors

@@ -4,7 +4,7 @@ use Rattle.std.specs.Option.{option_map, option_and_then}
 use Rattle.serde_json.specs.Data.{Data, Items, no_items, item, string, array}
 use Rattle.serde_json.specs.Find.{get, as_str, as_array}
 use Rattle.serde_json.specs.View.{items_of}
-use Rattle.json_forms.specs.Read.{◌>>=◌}
+use Rattle.json_source.specs.Read.{◌>>=◌}
 
 -- ---- read
 

@@ -6,7 +6,7 @@ use Rattle.ticket_items.specs.Names.{is_name}
 use Rattle.ticket_items.specs.declared.resource.Resource.{Resource}
 use Rattle.json_forms.specs.Attributes.{attrs_have_names, attrs_have_texts, attrs_data}
 use Rattle.json_forms.specs.Listed.{texts_data}
-use Rattle.json_forms.specs.Read.{◌>>=◌, provided, has_only, text_under, attrs_of}
+use Rattle.json_source.specs.Read.{◌>>=◌, provided, has_only, text_under, attrs_of}
 use Rattle.json_forms.specs.Shown.{shown_draft, spawn_status_data}
 use Rattle.json_forms.specs.declared.resources.marked_form.Marked.{Marked}
 use Rattle.json_forms.specs.declared.resources.shown_form.Shown.{Shown}

@@ -10,7 +10,7 @@ use Rattle.ticket_items.specs.declared.spawn_status.SpawnStatus.{SpawnStatus}
 use Rattle.ticket_items.specs.declared.spawn_status.SpawnStatus.TheVariants.{NotSpawned, SpawnedRO}
 use Rattle.ticket_items.specs.declared.spawn_status.SpawnStatus.TheVariants.{SpawnedRW}
 use Rattle.json_forms.specs.Listed.{pool_draft}
-use Rattle.json_forms.specs.Read.{◌>>=◌}
+use Rattle.json_source.specs.Read.{◌>>=◌}
 use Rattle.json_forms.specs.declared.resources.shown_form.Shown.{Shown}
 
 -- ---- the SpawnStatus

@@ -1,9 +1,8 @@
 ghost use Rattle.std.specs.Prelude.{◌≡◌, true, IfOk, IfErr};
-ghost use Rattle.serde_json.specs.View.{view};
-ghost use Rattle.json_forms.specs.Read.{Gives};
+ghost use Rattle.json_source.specs.Read.{Gives};
 
 use crate::form::Form;
-use serde_json::Value;
+use json_source::Source;
 use std::alloc::Global;
 use ticket_items::Refusal;
 
@@ -16,8 +15,8 @@ pub trait Draft<'a>: Drop {
     ghost drafted: { Self → Self.Whole };
 
     /// The draft that a value is. Refuses `NotProfile`, and `Memory`.
-    fn of(alloc: Global, value: &'a Value) -> Result<Self, Refusal>
-        ensures { Gives drafted result (Self.Whole.form (view value.now)) };
+    fn of<S: Source>(alloc: Global, value: &'a S) -> Result<Self, Refusal>
+        ensures { Gives drafted result (Self.Whole.form (S.content value.now)) };
 
     /// Whether its ids and names are valid.
     fn has_names(&self) -> bool

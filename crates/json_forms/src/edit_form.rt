@@ -3,12 +3,12 @@
 ghost use Rattle.std.specs.Prelude.{◌≡◌, ◌&&◌, true, codes, IfOk, OnOk};
 ghost use Rattle.serde_json.specs.Data as json;
 ghost use Rattle.serde_json.specs.Data.{no_members, object, string};
-ghost use Rattle.serde_json.specs.View.{members_view, view};
+ghost use Rattle.serde_json.specs.View.{members_view};
 ghost use Rattle.ticket_items.specs.Names.{is_name, is_text};
 ghost use Rattle.json_forms.specs.Again.{edit_again};
 ghost use Rattle.json_forms.specs.DraftedEdits.{drafted_edit};
 ghost use Rattle.json_forms.specs.Edits as edits;
-ghost use Rattle.json_forms.specs.Read.{Gives};
+ghost use Rattle.json_source.specs.Read.{Gives};
 
 use crate::draft::Draft;
 use crate::edit_build::{
@@ -16,13 +16,14 @@ use crate::edit_build::{
     build_set_resource_attr, build_set_resource_status, build_set_status,
 };
 use crate::form::Form;
-use crate::members::member::{has_only, text_under};
+use crate::members::member::text_under;
 use crate::members::object::{put, put_text};
 use crate::members::one_member::under;
 use crate::nodes::link_form::LinkDraft;
 use crate::resources::resource_form::{ResourceDraft, resource_map};
 use crate::texts::borrowed::Borrowed;
 use crate::written::Written;
+use json_source::Source;
 use serde_json::{Map, Value};
 use std::alloc::{AllocError, Global};
 use ticket_items::{Edit, Id, Link, Name, Refusal, Resource, Text};
@@ -71,8 +72,8 @@ pub enum EditDraft<'a> {
 
 /// The draft of an edit of a kind that adds something, or of another kind.
 #[tactic(auto, unfolding(crate::specs::Edits::adding_draft))]
-fn adding<'a>(alloc: Global, kind: &str, value: &'a Value) -> Result<EditDraft<'a>, Refusal>
-    ensures { Gives drafted_edit result (edits.adding_draft kind.now (view value.now)) }
+fn adding<'a, S: Source>(alloc: Global, kind: &str, value: &'a S) -> Result<EditDraft<'a>, Refusal>
+    ensures { Gives drafted_edit result (edits.adding_draft kind.now (S.content value.now)) }
 {
     if kind == "Note" {
         note(alloc, value)
@@ -89,8 +90,8 @@ fn adding<'a>(alloc: Global, kind: &str, value: &'a Value) -> Result<EditDraft<'
 
 /// The draft of an edit of a kind that sets something.
 #[tactic(auto, unfolding(crate::specs::Edits::setting_draft))]
-fn setting<'a>(alloc: Global, kind: &str, value: &'a Value) -> Result<EditDraft<'a>, Refusal>
-    ensures { Gives drafted_edit result (edits.setting_draft kind.now (view value.now)) }
+fn setting<'a, S: Source>(alloc: Global, kind: &str, value: &'a S) -> Result<EditDraft<'a>, Refusal>
+    ensures { Gives drafted_edit result (edits.setting_draft kind.now (S.content value.now)) }
 {
     if kind == "SetStatus" {
         set_status(alloc, value)
@@ -107,10 +108,10 @@ fn setting<'a>(alloc: Global, kind: &str, value: &'a Value) -> Result<EditDraft<
 
 /// A `SetStatus`.
 #[tactic(auto, unfolding(crate::specs::Edits::set_status_draft))]
-fn set_status<'a>(alloc: Global, value: &'a Value) -> Result<EditDraft<'a>, Refusal>
-    ensures { Gives drafted_edit result (edits.set_status_draft (view value.now)) }
+fn set_status<'a, S: Source>(alloc: Global, value: &'a S) -> Result<EditDraft<'a>, Refusal>
+    ensures { Gives drafted_edit result (edits.set_status_draft (S.content value.now)) }
 {
-    if !has_only(value, &["Edit", "Node", "Status"]) {
+    if !value.has_only(&["Edit", "Node", "Status"]) {
         return Err(Refusal::NotProfile);
     }
     let node = under(alloc, value, "Node")?;
@@ -120,10 +121,10 @@ fn set_status<'a>(alloc: Global, value: &'a Value) -> Result<EditDraft<'a>, Refu
 
 /// A `SetAttr`.
 #[tactic(auto, unfolding(crate::specs::Edits::set_attr_draft))]
-fn set_attr<'a>(alloc: Global, value: &'a Value) -> Result<EditDraft<'a>, Refusal>
-    ensures { Gives drafted_edit result (edits.set_attr_draft (view value.now)) }
+fn set_attr<'a, S: Source>(alloc: Global, value: &'a S) -> Result<EditDraft<'a>, Refusal>
+    ensures { Gives drafted_edit result (edits.set_attr_draft (S.content value.now)) }
 {
-    if !has_only(value, &["Edit", "Name", "Node", "Value"]) {
+    if !value.has_only(&["Edit", "Name", "Node", "Value"]) {
         return Err(Refusal::NotProfile);
     }
     let name = under(alloc, value, "Name")?;
@@ -138,10 +139,10 @@ fn set_attr<'a>(alloc: Global, value: &'a Value) -> Result<EditDraft<'a>, Refusa
 
 /// A `SetResStatus`.
 #[tactic(auto, unfolding(crate::specs::Edits::set_resource_status_draft))]
-fn set_resource_status<'a>(alloc: Global, value: &'a Value) -> Result<EditDraft<'a>, Refusal>
-    ensures { Gives drafted_edit result (edits.set_resource_status_draft (view value.now)) }
+fn set_resource_status<'a, S: Source>(alloc: Global, value: &'a S) -> Result<EditDraft<'a>, Refusal>
+    ensures { Gives drafted_edit result (edits.set_resource_status_draft (S.content value.now)) }
 {
-    if !has_only(value, &["Edit", "Resource", "Status"]) {
+    if !value.has_only(&["Edit", "Resource", "Status"]) {
         return Err(Refusal::NotProfile);
     }
     let resource = under(alloc, value, "Resource")?;
@@ -151,10 +152,10 @@ fn set_resource_status<'a>(alloc: Global, value: &'a Value) -> Result<EditDraft<
 
 /// A `SetResAttr`.
 #[tactic(auto, unfolding(crate::specs::Edits::set_resource_attr_draft))]
-fn set_resource_attr<'a>(alloc: Global, value: &'a Value) -> Result<EditDraft<'a>, Refusal>
-    ensures { Gives drafted_edit result (edits.set_resource_attr_draft (view value.now)) }
+fn set_resource_attr<'a, S: Source>(alloc: Global, value: &'a S) -> Result<EditDraft<'a>, Refusal>
+    ensures { Gives drafted_edit result (edits.set_resource_attr_draft (S.content value.now)) }
 {
-    if !has_only(value, &["Edit", "Name", "Resource", "Value"]) {
+    if !value.has_only(&["Edit", "Name", "Resource", "Value"]) {
         return Err(Refusal::NotProfile);
     }
     let name = under(alloc, value, "Name")?;
@@ -169,10 +170,10 @@ fn set_resource_attr<'a>(alloc: Global, value: &'a Value) -> Result<EditDraft<'a
 
 /// A `Note`.
 #[tactic(auto, unfolding(crate::specs::Edits::note_draft))]
-fn note<'a>(alloc: Global, value: &'a Value) -> Result<EditDraft<'a>, Refusal>
-    ensures { Gives drafted_edit result (edits.note_draft (view value.now)) }
+fn note<'a, S: Source>(alloc: Global, value: &'a S) -> Result<EditDraft<'a>, Refusal>
+    ensures { Gives drafted_edit result (edits.note_draft (S.content value.now)) }
 {
-    if !has_only(value, &["Edit", "Node", "Text"]) {
+    if !value.has_only(&["Edit", "Node", "Text"]) {
         return Err(Refusal::NotProfile);
     }
     let node = under(alloc, value, "Node")?;
@@ -182,13 +183,10 @@ fn note<'a>(alloc: Global, value: &'a Value) -> Result<EditDraft<'a>, Refusal>
 
 /// An `AddNode`.
 #[tactic(auto, unfolding(crate::specs::Edits::add_node_draft))]
-fn add_node<'a>(alloc: Global, value: &'a Value) -> Result<EditDraft<'a>, Refusal>
-    ensures { Gives drafted_edit result (edits.add_node_draft (view value.now)) }
+fn add_node<'a, S: Source>(alloc: Global, value: &'a S) -> Result<EditDraft<'a>, Refusal>
+    ensures { Gives drafted_edit result (edits.add_node_draft (S.content value.now)) }
 {
-    if !has_only(
-        value,
-        &["Edit", "ID", "JobPartID", "Node", "Status", "Type"],
-    ) {
+    if !value.has_only(&["Edit", "ID", "JobPartID", "Node", "Status", "Type"]) {
         return Err(Refusal::NotProfile);
     }
     let id = under(alloc, value, "ID")?;
@@ -207,13 +205,10 @@ fn add_node<'a>(alloc: Global, value: &'a Value) -> Result<EditDraft<'a>, Refusa
 
 /// An `AddResource`. The new resource shows nothing of spawns.
 #[tactic(auto, unfolding(crate::specs::Edits::add_resource_draft))]
-fn add_resource<'a>(alloc: Global, value: &'a Value) -> Result<EditDraft<'a>, Refusal>
-    ensures { Gives drafted_edit result (edits.add_resource_draft (view value.now)) }
+fn add_resource<'a, S: Source>(alloc: Global, value: &'a S) -> Result<EditDraft<'a>, Refusal>
+    ensures { Gives drafted_edit result (edits.add_resource_draft (S.content value.now)) }
 {
-    if !has_only(
-        value,
-        &["Attr", "Class", "Edit", "ID", "Name", "Node", "Status"],
-    ) {
+    if !value.has_only(&["Attr", "Class", "Edit", "ID", "Name", "Node", "Status"]) {
         return Err(Refusal::NotProfile);
     }
     let node = under(alloc, value, "Node")?;
@@ -223,10 +218,10 @@ fn add_resource<'a>(alloc: Global, value: &'a Value) -> Result<EditDraft<'a>, Re
 
 /// An `AddLink`.
 #[tactic(auto, unfolding(crate::specs::Edits::add_link_draft))]
-fn add_link<'a>(alloc: Global, value: &'a Value) -> Result<EditDraft<'a>, Refusal>
-    ensures { Gives drafted_edit result (edits.add_link_draft (view value.now)) }
+fn add_link<'a, S: Source>(alloc: Global, value: &'a S) -> Result<EditDraft<'a>, Refusal>
+    ensures { Gives drafted_edit result (edits.add_link_draft (S.content value.now)) }
 {
-    if !has_only(value, &["Edit", "Node", "Usage", "rRef"]) {
+    if !value.has_only(&["Edit", "Node", "Usage", "rRef"]) {
         return Err(Refusal::NotProfile);
     }
     let node = under(alloc, value, "Node")?;
@@ -252,7 +247,7 @@ impl<'a> Draft<'a> for EditDraft<'a> {
     ghost drafted = { drafted_edit };
 
     #[tactic(auto, unfolding(crate::specs::Edits::edit_draft))]
-    fn of(alloc: Global, value: &'a Value) -> Result<EditDraft<'a>, Refusal> {
+    fn of<S: Source>(alloc: Global, value: &'a S) -> Result<EditDraft<'a>, Refusal> {
         let kind = text_under(value, "Edit").ok_or(Refusal::NotProfile)?;
         adding(alloc, kind, value)
     }

@@ -20,7 +20,7 @@ pub use edit_form::EditDraft;
 pub use form::Form;
 pub use lists::drafts::Drafts;
 pub use lists::items_form::values_of;
-pub use members::member::{has_only, number_under, text_under};
+pub use members::member::{number_under, text_under};
 pub use members::object::{put, put_list, put_text, put_value, text_value};
 pub use members::one_member::{under, under_or};
 pub use nodes::ancestor_form::AncestorDraft;

@@ -6,6 +6,7 @@ ghost use Rattle.json_forms.specs.Judged.{Answers, first_fault, judged, sound};
 
 use crate::draft::Draft;
 use crate::written::Written;
+use json_source::Source;
 use serde_json::Value;
 use std::alloc::{AllocError, Global};
 use ticket_items::Refusal;
@@ -28,9 +29,12 @@ pub fn whole_from<'a, D: Draft<'a>>(alloc: Global, draft: &D) -> Result<D::Whole
 
 /// The whole that a value is. Refuses the first of `NotProfile`, `BadId` and `BadText` that stands
 /// in it, and `Memory`.
-pub fn whole_of<'a, D: Draft<'a>>(alloc: Global, value: &'a Value) -> Result<D::Whole, Refusal>
+pub fn whole_of<'a, D: Draft<'a>, S: Source>(
+    alloc: Global,
+    value: &'a S,
+) -> Result<D::Whole, Refusal>
     ensures { Answers result
-        (judged (first_fault D.Whole.has_names D.Whole.has_texts) (D.Whole.form (view value.now))) }
+        (judged (first_fault D.Whole.has_names D.Whole.has_texts) (D.Whole.form (S.content value.now))) }
 {
     let draft = D::of(alloc, value)?;
     whole_from(alloc, &draft)

@@ -5,8 +5,9 @@ mod read;
 mod text;
 mod write;
 
-pub use json_forms::{EditDraft, has_only, number_under, text_under};
+pub use json_forms::{EditDraft, number_under, text_under};
 pub use json_reader::{Checks, FoundTicket, PartDraft, TicketDraft};
+pub use json_source::Source;
 pub use read::{edit_of, part_of, ticket_of};
 pub use text::{text_of, value_of};
 pub use write::{

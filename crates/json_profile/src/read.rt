@@ -40,5 +40,5 @@ pub fn part_of(alloc: Global, value: &Value) -> Result<Part, Refusal>
 pub fn edit_of(alloc: Global, value: &Value) -> Result<Edit, Refusal>
     ensures { Answers result (edit_read (view value.now)) }
 {
-    whole_of::<EditDraft<'_>>(alloc, value)
+    whole_of::<EditDraft<'_>, _>(alloc, value)
 }

@@ -1,13 +1,11 @@
 -- What is below nests less.
-use Rattle.std.proofs.Common.{◌≡◌, ℕ, ◌<◌, ◌≤◌, List, [], ◌∷◌, length, get_or, Global, Option, Some, Ordering, Less, Equal, Greater, zero, suc, ap, subst, arith}
+use Rattle.std.proofs.Common.{◌≡◌, ℕ, ◌<◌, ◌≤◌, List, [], ◌∷◌, length, get_or, map, Option, Some, Ordering, Less, Equal, Greater, zero, suc, ap, subst, arith}
 use Rattle.std.proofs.lemmas.Option.{same_Some}
 use Rattle.std.specs.Cmp.Lexicographic.{slice_cmp}
 use Rattle.std.specs.Ordering.{nat_cmp, match_ordering}
-use Rattle.json.specs.Value.{items_view}
-use Rattle.json.specs.declared.value.Value.{Value}
 use Rattle.serde_json.specs.Data.{Data, Items, Members, no_members, member, null, boolean, number, string, array, object, depth, items_depth, members_depth}
 use Rattle.serde_json.specs.Find.{as_array, get, get_member}
-use Rattle.json_tree.specs.Tree.{items_data, tree_data}
+use Rattle.serde_json.specs.View.{items_of}
 
 -- ---- what stands under a name
 
@@ -38,13 +36,14 @@ depth-as_array (string s) ds is = cc
 depth-as_array (array items) ds is = let same : items_depth items ≡ items_depth ds = ap items_depth (let e : items ≡ ds = cc in e) in omega arith
 depth-as_array (object ms) ds is = cc
 
-depth-tree : (trees : List (Value Global)) (i : ℕ) (t : Value Global) → i < length trees → t ≡ get_or trees i t → depth (tree_data t) ≤ items_depth (items_data (items_view trees))
-depth-tree [] i t within is = absurd (omega arith)
-depth-tree (x ∷ trees) zero t within is = let same : depth (tree_data t) ≡ depth (tree_data x) = ap (λ y. depth (tree_data y)) is in omega arith
-depth-tree (x ∷ trees) (suc i) t within is = let later = depth-tree trees i t (omega arith) is in omega arith
+module _ {V : Type 0} (content : V → Data) where
+  depth-item : (values : List V) (i : ℕ) (v : V) → i < length values → v ≡ get_or values i v → depth (content v) ≤ items_depth (items_of (map content values))
+  depth-item [] i v within is = absurd (omega arith)
+  depth-item (x ∷ values) zero v within is = let same : depth (content v) ≡ depth (content x) = ap (λ y. depth (content y)) is in omega arith
+  depth-item (x ∷ values) (suc i) v within is = let later = depth-item values i v (omega arith) is in omega arith
 
-pub depth-child : (d : Data) (trees : List (Value Global)) (i : ℕ) (t : Value Global) → as_array d ≡ Some (items_data (items_view trees)) → i < length trees → t ≡ get_or trees i t → depth (tree_data t) < depth d
-depth-child d trees i t items within is =
-    let inside = depth-tree trees i t within is in
-    let all = depth-as_array d (items_data (items_view trees)) items in
-    omega arith
+  pub depth-child : (d : Data) (values : List V) (i : ℕ) (v : V) → as_array d ≡ Some (items_of (map content values)) → i < length values → v ≡ get_or values i v → depth (content v) < depth d
+  depth-child d values i v items within is =
+      let inside = depth-item values i v within is in
+      let all = depth-as_array d (items_of (map content values)) items in
+      omega arith

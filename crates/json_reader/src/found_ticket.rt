@@ -1,12 +1,13 @@
 ghost use Rattle.std.specs.Prelude.{◌≡◌, codes, IfErr, IfOk};
-ghost use Rattle.json_form.specs.Read.{Gives, text_under};
+ghost use Rattle.json_form.specs.Read as read;
+ghost use Rattle.json_form.specs.Read.{Gives};
 ghost use Rattle.json_reader.specs.Found.{name_in};
-ghost use Rattle.json_tree.specs.Tree.{tree_data};
 
 use crate::checks::Checks;
 use crate::found_nodes::FoundNodes;
 use crate::tree_nodes::found_nodes;
-use json_tree::{Tree, member_under};
+use json_forms::text_under;
+use json_source::Source;
 use std::alloc::Global;
 use ticket_tree::{Name, NodeRow, Refusal, Ticket, is_name};
 
@@ -19,16 +20,10 @@ pub struct FoundTicket {
 }
 
 /// The id of a ticket's job. Refuses `NotProfile` where there is no text.
-fn job_text<'t>(tree: &'t Tree<'_>) -> Result<&'t str, Refusal>
-    ensures { Gives (λ s. s.now) result (text_under (codes "JobID") (tree_data tree.now)) }
+fn job_text<'a, S: Source>(value: &'a S) -> Result<&'a str, Refusal>
+    ensures { Gives (λ s. s.now) result (read.text_under (codes "JobID") (S.content value.now)) }
 {
-    let Some(job) = member_under(tree, "JobID") else {
-        return Err(Refusal::NotProfile);
-    };
-    match job.as_str() {
-        Some(text) => Ok(text),
-        None => Err(Refusal::NotProfile),
-    }
+    text_under(value, "JobID").ok_or(Refusal::NotProfile)
 }
 
 /// The name that a text is, none where it isn't valid. Refuses `Memory` alone.
@@ -48,17 +43,16 @@ impl FoundTicket {
     ghost use Rattle.json_form.specs.Draft.{RawTicket, ticket_draft};
     ghost use Rattle.json_form.specs.Read.{Fails};
     ghost use Rattle.json_reader.specs.Found.{Builds, IsFoundTicket, all_hold, found_ticket};
-    ghost use Rattle.json_tree.specs.Tree.{tree_data};
 
-    /// What is found of the ticket that a tree is. Refuses `NotProfile`, and `Memory`.
-    pub fn of(alloc: Global, tree: &Tree<'_>) -> Result<FoundTicket, Refusal>
+    /// What is found of the ticket that a value is. Refuses `NotProfile`, and `Memory`.
+    pub fn of<S: Source>(alloc: Global, value: &S) -> Result<FoundTicket, Refusal>
         ensures ok { IfOk result (λ found. (draft : RawTicket)
-            × (ticket_draft (tree_data tree.now) ≡ Some draft) × IsFoundTicket draft found) }
-        ensures err { IfErr result (λ e. Fails e (ticket_draft (tree_data tree.now))) }
+            × (ticket_draft (S.content value.now) ≡ Some draft) × IsFoundTicket draft found) }
+        ensures err { IfErr result (λ e. Fails e (ticket_draft (S.content value.now))) }
     {
-        let text = job_text(tree)?;
+        let text = job_text(value)?;
         let job = name_in(alloc, text)?;
-        let nodes = found_nodes(alloc, tree)?;
+        let nodes = found_nodes(alloc, value)?;
         Ok(FoundTicket::joined(job, nodes))
     }
 

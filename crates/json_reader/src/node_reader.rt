@@ -8,7 +8,8 @@ ghost use Rattle.json_form.specs.Read.{Adds, Gives};
 ghost use Rattle.json_reader.specs.Drafted.{drafted_raw, drafted_rows};
 
 use crate::node_draft::NodeDraft;
-use json_forms::{AttrsDraft, Drafts, has_only, under, under_or};
+use json_forms::{AttrsDraft, Drafts, under, under_or};
+use json_source::Source;
 use serde_json::Value;
 use std::alloc::Global;
 use ticket_tree::Refusal;
@@ -61,16 +62,16 @@ const DEEPEST_READ: u32 = 33;
 
 /// A node without its children, of an object with no other members than `names`.
 #[tactic(auto, unfolding(json_form::specs::Draft::own_row))]
-pub fn own_row<'a>(
+pub fn own_row<'a, S: Source>(
     alloc: Global,
     names: &[&str],
     depth: u32,
-    value: &'a Value,
+    value: &'a S,
 ) -> Result<NodeDraft<'a>, Refusal>
     ensures { Gives drafted_raw result
-        (form.own_row (map (λ n. n.now) names.now) depth (view value.now)) }
+        (form.own_row (map (λ n. n.now) names.now) depth (S.content value.now)) }
 {
-    if !has_only(value, names) {
+    if !value.has_only(names) {
         return Err(Refusal::NotProfile);
     }
     let id = under(alloc, value, "ID")?;

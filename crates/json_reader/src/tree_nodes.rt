@@ -1,53 +1,49 @@
-//! Looking through the nodes of a tree, and building their rows as long as all is valid. The value
-//! and the draft of each node are given back before the next node is read.
+//! Looking through the nodes of a ticket, and building their rows as long as all is valid. The draft
+//! of each node is given back before the next node is read.
 
-ghost use Rattle.std.specs.Prelude.{◌≡◌, ◌∷◌, [], List, true, codes, map, IfErr, IfOk, Some};
+ghost use Rattle.std.specs.Prelude.{◌≡◌, ◌∷◌, [], List, codes, map, IfErr, IfOk, Some};
 ghost use Rattle.std.specs.Option.{option_map};
-ghost use Rattle.ticket_items.specs.Ids.{mem};
-ghost use Rattle.json_tree.specs.Tree.{tree_data};
+ghost use Rattle.serde_json.specs.Find.{get};
 ghost use Rattle.json_form.specs.Draft as form;
 ghost use Rattle.json_form.specs.Read.{Fails};
 ghost use Rattle.json_reader.specs.Found.{AddsFound, IsFound};
 
 use crate::found_nodes::FoundNodes;
 use crate::node_reader::{NODE_MEMBERS, ROOT_MEMBERS, next_depth, own_row};
-use json_tree::{Tree, items_in, member_under, own_value};
+use json_source::Source;
 use std::alloc::Global;
 use ticket_tree::Refusal;
 
 /// Adds a node without its children, of an object with no other members than `names`.
-fn push_own(
+fn push_own<S: Source>(
     alloc: Global,
     found: &mut FoundNodes,
     names: &[&str],
     depth: u32,
-    tree: &Tree<'_>,
+    value: &S,
 ) -> Result<(), Refusal>
-    requires { mem (codes "JDF") (map (λ n. n.now) names.now) ≡ true }
     ensures { AddsFound found.old found.new result (option_map (λ r. r ∷ [])
-        (form.own_row (map (λ n. n.now) names.now) depth (tree_data tree.now))) }
+        (form.own_row (map (λ n. n.now) names.now) depth (S.content value.now))) }
 {
-    let value = own_value(alloc, tree, "JDF")?;
-    let draft = own_row(alloc, names, depth, &value)?;
+    let draft = own_row(alloc, names, depth, value)?;
     found.push(alloc, &draft)
 }
 
 /// Adds a node and those below it, in preorder. The node's object has no other members than
 /// `names`.
 #[cycle(found)]
-fn find_node(
+fn find_node<S: Source>(
     alloc: Global,
     found: &mut FoundNodes,
     names: &[&str],
     depth: u32,
-    tree: &Tree<'_>,
+    value: &S,
 ) -> Result<(), Refusal>
-    requires { mem (codes "JDF") (map (λ n. n.now) names.now) ≡ true }
     ensures { AddsFound found.old found.new result
-        (form.node_rows (map (λ n. n.now) names.now) depth (tree_data tree.now)) }
+        (form.node_rows (map (λ n. n.now) names.now) depth (S.content value.now)) }
 {
-    push_own(alloc, found, names, depth, tree)?;
-    match member_under(tree, "JDF") {
+    push_own(alloc, found, names, depth, value)?;
+    match value.member("JDF") {
         None => Ok(()),
         Some(children) => find_children(alloc, found, next_depth(depth), children),
     }
@@ -55,15 +51,15 @@ fn find_node(
 
 /// Adds the nodes of a list, each with those below it.
 #[cycle(found)]
-fn find_children(
+fn find_children<S: Source>(
     alloc: Global,
     found: &mut FoundNodes,
     depth: u32,
-    tree: &Tree<'_>,
+    value: &S,
 ) -> Result<(), Refusal>
-    ensures { AddsFound found.old found.new result (form.list_rows depth (tree_data tree.now)) }
+    ensures { AddsFound found.old found.new result (form.list_rows depth (S.content value.now)) }
 {
-    let Some(children) = items_in(tree) else {
+    let Some(children) = value.items() else {
         return Err(Refusal::NotProfile);
     };
     for child in children {
@@ -75,15 +71,15 @@ fn find_children(
 }
 
 /// What is found of the nodes of a ticket. Refuses `NotProfile`, and `Memory`.
-pub fn found_nodes(alloc: Global, tree: &Tree<'_>) -> Result<FoundNodes, Refusal>
+pub fn found_nodes<S: Source>(alloc: Global, value: &S) -> Result<FoundNodes, Refusal>
     ensures ok { IfOk result (λ found. (raws : List form.RawRow)
-        × (form.node_rows form.root_members 1 (tree_data tree.now) ≡ Some raws)
+        × (form.node_rows form.root_members 1 (S.content value.now) ≡ Some raws)
         × IsFound raws found) }
     ensures err { IfErr result (λ e. Fails e
-        (form.node_rows form.root_members 1 (tree_data tree.now))) }
+        (form.node_rows form.root_members 1 (S.content value.now))) }
 {
     let mut found = FoundNodes::new(alloc);
-    match find_node(alloc, &mut found, ROOT_MEMBERS, 1, tree) {
+    match find_node(alloc, &mut found, ROOT_MEMBERS, 1, value) {
         Ok(()) => Ok(found),
         Err(refusal) => Err(refusal),
     }

@@ -13,7 +13,7 @@ use Rattle.ticket_items.specs.declared.refusal.Refusal.{Refusal}
 use Rattle.json_forms.specs.Edits.{edit_draft, edit_has_names, edit_has_texts}
 use Rattle.json_forms.specs.Judged.{first_fault, judged}
 use Rattle.json_forms.specs.Listed.{list_form}
-use Rattle.json_forms.specs.Read.{◌>>=◌, provided, has_only, text_under}
+use Rattle.json_source.specs.Read.{◌>>=◌, provided, has_only, text_under}
 use Rattle.master_core.specs.declared.order.Order.{Order}
 use Rattle.master_core.specs.declared.order.Order.TheVariants.{Edit, Spawn, Resend}
 use Rattle.order_form.specs.SpawnNamed.{spawn_under}

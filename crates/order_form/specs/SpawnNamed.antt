@@ -3,7 +3,7 @@ use Rattle.std.specs.Prelude.{ℕ, List, codes, Option, unwrap_or}
 use Rattle.std.specs.Option.{option_map}
 use Rattle.serde_json.specs.Data.{Data}
 use Rattle.ticket_items.specs.SpawnId.{spawn_of}
-use Rattle.json_forms.specs.Read.{text_under}
+use Rattle.json_source.specs.Read.{text_under}
 
 -- the number of the spawn that a text names, and 0, which is no spawn's, where it names none
 abbrev pub spawn_named : List ℕ → ℕ

@@ -10,7 +10,7 @@ use Rattle.ticket_items.specs.SpawnId.{is_spawn_number}
 use Rattle.ticket_items.specs.declared.refusal.Refusal.{Refusal}
 use Rattle.json_forms.specs.Edits.{edit_draft, edit_has_names, edit_has_texts}
 use Rattle.json_forms.specs.Judged.{first_fault, judged}
-use Rattle.json_forms.specs.Read.{◌>>=◌, provided, has_only, text_under}
+use Rattle.json_source.specs.Read.{◌>>=◌, provided, has_only, text_under}
 use Rattle.worker_core.specs.declared.end.End.{End}
 use Rattle.worker_core.specs.declared.end.End.TheVariants.{Completed, Aborted}
 use Rattle.worker_core.specs.declared.order.Order.{Order}

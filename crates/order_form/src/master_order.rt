@@ -3,12 +3,13 @@
 ghost use Rattle.std.specs.Prelude.{◌≡◌, true, IfOk, IfErr};
 ghost use Rattle.serde_json.specs.View.{view};
 ghost use Rattle.json_forms.specs.Judged.{Answers, first_fault, sound};
-ghost use Rattle.json_forms.specs.Read.{Gives};
+ghost use Rattle.json_source.specs.Read.{Gives};
 ghost use Rattle.order_form.specs.DraftedMasterOrder.{drafted_master_order};
 ghost use Rattle.order_form.specs.MasterForm as forms;
 
 use crate::spawn_named::names_spawn;
-use json_forms::{AnyText, Borrowed, Draft, Drafts, EditDraft, has_only, text_under, under};
+use json_forms::{AnyText, Borrowed, Draft, Drafts, EditDraft, text_under, under};
+use json_source::Source;
 use master_core::Order;
 use serde_json::Value;
 use std::alloc::Global;
@@ -36,7 +37,7 @@ pub enum MasterOrderDraft<'a> {
 fn edit<'a>(alloc: Global, value: &'a Value) -> Result<MasterOrderDraft<'a>, Refusal>
     ensures { Gives drafted_master_order result (forms.edit_form (view value.now)) }
 {
-    if !has_only(value, &["Edit", "Order"]) {
+    if !value.has_only(&["Edit", "Order"]) {
         return Err(Refusal::NotProfile);
     }
     let edit = under(alloc, value, "Edit")?;
@@ -48,7 +49,7 @@ fn edit<'a>(alloc: Global, value: &'a Value) -> Result<MasterOrderDraft<'a>, Ref
 fn spawn<'a>(alloc: Global, value: &'a Value) -> Result<MasterOrderDraft<'a>, Refusal>
     ensures { Gives drafted_master_order result (forms.spawn_form (view value.now)) }
 {
-    if !has_only(value, &["Node", "Order", "RW", "Worker"]) {
+    if !value.has_only(&["Node", "Order", "RW", "Worker"]) {
         return Err(Refusal::NotProfile);
     }
     let node = under(alloc, value, "Node")?;
@@ -62,7 +63,7 @@ fn spawn<'a>(alloc: Global, value: &'a Value) -> Result<MasterOrderDraft<'a>, Re
 fn resend<'a>(alloc: Global, value: &'a Value) -> Result<MasterOrderDraft<'a>, Refusal>
     ensures { Gives drafted_master_order result (forms.resend_form (view value.now)) }
 {
-    if !has_only(value, &["Order", "SpawnID"]) {
+    if !value.has_only(&["Order", "SpawnID"]) {
         return Err(Refusal::NotProfile);
     }
     let spawn = under(alloc, value, "SpawnID")?;

@@ -3,12 +3,13 @@
 ghost use Rattle.std.specs.Prelude.{◌≡◌, true, IfOk, IfErr};
 ghost use Rattle.serde_json.specs.View.{view};
 ghost use Rattle.json_forms.specs.Judged.{Answers, first_fault, sound};
-ghost use Rattle.json_forms.specs.Read.{Gives};
+ghost use Rattle.json_source.specs.Read.{Gives};
 ghost use Rattle.order_form.specs.DraftedWorkerOrder.{drafted_worker_order};
 ghost use Rattle.order_form.specs.WorkerForm as forms;
 
 use crate::spawn_named::names_spawn;
-use json_forms::{AnyText, Borrowed, Draft, EditDraft, has_only, text_under, under};
+use json_forms::{AnyText, Borrowed, Draft, EditDraft, text_under, under};
+use json_source::Source;
 use serde_json::Value;
 use std::alloc::Global;
 use ticket_tree::{Refusal, SpawnId};
@@ -53,7 +54,7 @@ fn end_named(word: &str) -> Option<End>
 fn edit<'a>(alloc: Global, value: &'a Value) -> Result<WorkerOrderDraft<'a>, Refusal>
     ensures { Gives drafted_worker_order result (forms.edit_form (view value.now)) }
 {
-    if !has_only(value, &["Edit", "Order", "SpawnID"]) {
+    if !value.has_only(&["Edit", "Order", "SpawnID"]) {
         return Err(Refusal::NotProfile);
     }
     let edit = under(alloc, value, "Edit")?;
@@ -66,7 +67,7 @@ fn edit<'a>(alloc: Global, value: &'a Value) -> Result<WorkerOrderDraft<'a>, Ref
 fn finish<'a>(alloc: Global, value: &'a Value) -> Result<WorkerOrderDraft<'a>, Refusal>
     ensures { Gives drafted_worker_order result (forms.finish_form (view value.now)) }
 {
-    if !has_only(value, &["Order", "SpawnID", "Status"]) {
+    if !value.has_only(&["Order", "SpawnID", "Status"]) {
         return Err(Refusal::NotProfile);
     }
     let spawn = under(alloc, value, "SpawnID")?;
@@ -80,7 +81,7 @@ fn finish<'a>(alloc: Global, value: &'a Value) -> Result<WorkerOrderDraft<'a>, R
 fn resend<'a>(alloc: Global, value: &'a Value) -> Result<WorkerOrderDraft<'a>, Refusal>
     ensures { Gives drafted_worker_order result (forms.resend_form (view value.now)) }
 {
-    if !has_only(value, &["Order", "SpawnID"]) {
+    if !value.has_only(&["Order", "SpawnID"]) {
         return Err(Refusal::NotProfile);
     }
     let spawn = under(alloc, value, "SpawnID")?;

@@ -1,11 +1,9 @@
 -- A shop once a worker has another entry of a spawn: nothing else that it shows is another.
-use Rattle.std.proofs.Common.{◌≡◌, ◌==◌, ◌∙◌, ℕ, Bool, true, false, cond, List, map, Option, Some, None, refl, sym, ap}
+use Rattle.std.proofs.Common.{◌≡◌, ◌==◌, ◌∙◌, ℕ, false, cond, List, map, Option, Some, None, refl, sym, ap}
 use Rattle.std.proofs.lemmas.Bool.{eq-eqb, eqb-true, true≢false}
 use Rattle.std.proofs.lemmas.Slice.Eq.{bytes_eq-Decides}
-use Rattle.std.specs.List.{All}
-use Rattle.std.specs.Option.{option_and_then, option_map, option_map_or}
+use Rattle.std.specs.Option.{option_and_then, option_map_or}
 use Rattle.std.specs.Str.{bytes_eq}
-use Rattle.ticket_items.proofs.Places.{same_found}
 use Rattle.ticket_rows.specs.Place.{Row}
 use Rattle.ticket_tree.specs.PartView.{part_row}
 use Rattle.spawn.specs.Records.{is_out}
@@ -24,9 +22,9 @@ use Rattle.world.proofs.TakenSpawns.{only_record}
 use Rattle.world.proofs.WorkerSteps.{with_next}
 use Rattle.world.specs.Controllers.{Controllers, entry_at, with_worker, worker_of}
 use Rattle.world.specs.Messages.{entry_for}
-use Rattle.world.specs.Shop.{Phase, Rows, SpawnState, has_number}
+use Rattle.world.specs.Shop.{Phase, SpawnState, has_number}
 use Rattle.world.specs.ShopActs.{in_phase}
-use Rattle.world.specs.Showing.{entry_of_spawn, now_shown, phase_shown, row_at, seen_shown, shop_shown, spawn_shown}
+use Rattle.world.specs.Showing.{entry_of_spawn, phase_shown, row_at, seen_shown, shop_shown, spawn_shown}
 
 -- the entry of one spawn is another at the worker of a name: its spawn has a record, which names the worker, and all other entries are as they were
 pub record HasStored (c : Controllers) (name : List ℕ) (s : ℕ) (next : worker.Known) (new : Entry) (mine : SpawnRec) : Type 0 where
@@ -46,12 +44,12 @@ pub entry_elsewhere : (c : Controllers) (name : List ℕ) (s : ℕ) (next : work
 entry_elsewhere c name s next new mine h r other =
     split (bytes_eq name r.worker)
     (λ same.
-        let one : name ≡ r.worker = (bytes_eq-Decides name r.worker).0 same in
-        ap (λ n. entry_at (with_next c name next).workers n r.id) (sym one)
-        ∙ entry_there name h.old next c.workers r.id h.found h.own
-        ∙ h.others r.id other
-        ∙ sym (ap (option_and_then (λ (u : worker.Known). worker.entry_of u.entries r.id)) h.found)
-        ∙ ap (λ n. entry_at c.workers n r.id) one)
+    let one : name ≡ r.worker = (bytes_eq-Decides name r.worker).0 same in
+    ap (λ n. entry_at (with_next c name next).workers n r.id) (sym one)
+    ∙ entry_there name h.old next c.workers r.id h.found h.own
+    ∙ h.others r.id other
+    ∙ sym (ap (option_and_then (λ (u : worker.Known). worker.entry_of u.entries r.id)) h.found)
+    ∙ ap (λ n. entry_at c.workers n r.id) one)
     (λ away. ap (option_and_then (λ (u : worker.Known). worker.entry_of u.entries r.id)) (worker_other name r.worker next c.workers h.own away))
 
 -- that of the spawn is the new one
@@ -81,8 +79,8 @@ pub spawns_stored : (c : Controllers) (name : List ℕ) (s : ℕ) (next : worker
 spawns_stored c name s next new mine phase h is =
     made_again (λ (q : SpawnRec). q.id ≡ s → q ≡ mine) (spawn_shown (with_next c name next)) (λ (a : SpawnState). cond (has_number s a) (record a { phase = phase }) a) (spawn_shown c) c.master.records
     (λ r only. split (r.id == s)
-        (λ same. shown_there c name s next new mine phase h is r (only (eqb-true r.id s same)) ∙ sym (when_true (r.id == s) (record (spawn_shown c r) { phase = phase }) (spawn_shown c r) same))
-        (λ other. shown_elsewhere c name s next new mine h r other ∙ sym (when_false (r.id == s) (record (spawn_shown c r) { phase = phase }) (spawn_shown c r) other)))
+    (λ same. shown_there c name s next new mine phase h is r (only (eqb-true r.id s same)) ∙ sym (when_true (r.id == s) (record (spawn_shown c r) { phase = phase }) (spawn_shown c r) same))
+    (λ other. shown_elsewhere c name s next new mine h r other ∙ sym (when_false (r.id == s) (record (spawn_shown c r) { phase = phase }) (spawn_shown c r) other)))
     (only_record c.master.records s mine h.numbered h.recorded)
 
 -- and just as they were where its phase is
@@ -91,11 +89,11 @@ pub spawns_stay : (c : Controllers) (name : List ℕ) (s : ℕ) (next : worker.K
 spawns_stay c name s next new mine h is =
     made_alike (λ (q : SpawnRec). q.id ≡ s → q ≡ mine) (spawn_shown (with_next c name next)) (spawn_shown c) c.master.records
     (λ r only. split (r.id == s)
-        (λ same.
-            let r_is = only (eqb-true r.id s same) in
-            shown_there c name s next new mine (phase_shown (is_out mine) (entry_for c mine)) h is r r_is
-            ∙ ap (λ (q : SpawnRec). record (spawn_shown c r) { phase = phase_shown (is_out q) (entry_for c q) }) (sym r_is))
-        (λ other. shown_elsewhere c name s next new mine h r other))
+    (λ same.
+    let r_is = only (eqb-true r.id s same) in
+    shown_there c name s next new mine (phase_shown (is_out mine) (entry_for c mine)) h is r r_is
+    ∙ ap (λ (q : SpawnRec). record (spawn_shown c r) { phase = phase_shown (is_out q) (entry_for c q) }) (sym r_is))
+    (λ other. shown_elsewhere c name s next new mine h r other))
     (only_record c.master.records s mine h.numbered h.recorded)
 
 -- ---- rows
@@ -118,12 +116,12 @@ row_stored c name s next new mine h f x (Some (held_by.Spawn t)) own others =
     let d = with_next c name next in
     split (t == s)
     (λ same.
-        let is : t ≡ s = eqb-true t s same in
-        let found : entry_of_spawn d t ≡ Some new = ap (entry_of_spawn d) is ∙ ap (option_and_then (entry_for d)) h.recorded ∙ entry_stored c name s next new mine h in
-        ap (λ o. option_map_or (λ (e : Entry). part_row e.part x) o (seen_shown c x)) found ∙ own (ap (λ n. Some (held_by.Spawn n)) is))
+    let is : t ≡ s = eqb-true t s same in
+    let found : entry_of_spawn d t ≡ Some new = ap (entry_of_spawn d) is ∙ ap (option_and_then (entry_for d)) h.recorded ∙ entry_stored c name s next new mine h in
+    ap (λ o. option_map_or (λ (e : Entry). part_row e.part x) o (seen_shown c x)) found ∙ own (ap (λ n. Some (held_by.Spawn n)) is))
     (λ other.
-        ap (λ o. option_map_or (λ (e : Entry). part_row e.part x) o (seen_shown c x)) (spawn_elsewhere c name s next new mine h t other)
-        ∙ others (λ e. true≢false (sym (eq-eqb t s (same_number t s e)) ∙ other)))
+    ap (λ o. option_map_or (λ (e : Entry). part_row e.part x) o (seen_shown c x)) (spawn_elsewhere c name s next new mine h t other)
+    ∙ others (λ e. true≢false (sym (eq-eqb t s (same_number t s e)) ∙ other)))
   where
     same_number : (m n : ℕ) → Some (held_by.Spawn m) ≡ Some (held_by.Spawn n) → m ≡ n
     same_number m n e = cc
@@ -165,9 +163,9 @@ worker_as_it_was c v found =
     shop_stays c (with_worker v.name v c.workers) (λ r.
     split (bytes_eq v.name r.worker)
     (λ same.
-        let one : v.name ≡ r.worker = (bytes_eq-Decides v.name r.worker).0 same in
-        ap (λ n. entry_at (with_worker v.name v c.workers) n r.id) (sym one)
-        ∙ entry_there v.name v v c.workers r.id found refl
-        ∙ sym (ap (option_and_then (λ (u : worker.Known). worker.entry_of u.entries r.id)) found)
-        ∙ ap (λ n. entry_at c.workers n r.id) one)
+    let one : v.name ≡ r.worker = (bytes_eq-Decides v.name r.worker).0 same in
+    ap (λ n. entry_at (with_worker v.name v c.workers) n r.id) (sym one)
+    ∙ entry_there v.name v v c.workers r.id found refl
+    ∙ sym (ap (option_and_then (λ (u : worker.Known). worker.entry_of u.entries r.id)) found)
+    ∙ ap (λ n. entry_at c.workers n r.id) one)
     (λ away. ap (option_and_then (λ (u : worker.Known). worker.entry_of u.entries r.id)) (worker_other v.name r.worker v c.workers refl away)))

@@ -1,5 +1,5 @@
 -- What a spawn that is out holds is what it claims.
-use Rattle.std.proofs.Common.{◌≡◌, ◌==◌, ◌∙◌, ℕ, Bool, true, false, List, Option, Some, None, refl, sym, ap}
+use Rattle.std.proofs.Common.{◌≡◌, ◌∙◌, ℕ, true, false, List, Option, Some, None, refl, sym, ap}
 use Rattle.std.proofs.lemmas.Bool.{eq-eqb, eqb-true, true≢false}
 use Rattle.std.specs.Option.{option_map, option_map_or}
 use Rattle.ticket_rows.specs.Place.{Place, place_at, places}
@@ -34,14 +34,14 @@ held_at m s r x p ok found out there =
     let place = placed (is_of s) m.records r found in
     same_test (is_spawn s (holder_at m.records p)) (is_claimed r.node r.rw p)
     (λ held.
-        let by = spawns_number s (holding m.records p) held in
-        let q = by.0 in
-        let at = placed (holds p) m.records q by.1 in
-        let same : q ≡ r = one_record m.records at.place s q r ok.numbered at.there found (by.2 ∙ sym (number_is m.records s r found)) in
-        ap (λ (y : SpawnRec). is_claimed y.node y.rw p) (sym same) ∙ (held_is_claimed m.records q p by.1).1)
+    let by = spawns_number s (holding m.records p) held in
+    let q = by.0 in
+    let at = placed (holds p) m.records q by.1 in
+    let same : q ≡ r = one_record m.records at.place s q r ok.numbered at.there found (by.2 ∙ sym (number_is m.records s r found)) in
+    ap (λ (y : SpawnRec). is_claimed y.node y.rw p) (sym same) ∙ (held_is_claimed m.records q p by.1).1)
     (λ claimed.
-        let held : holding m.records p ≡ Some r = claim_is_held m.ticket.rows m.records ok.apart place.place r x p place.there out there claimed in
-        ap (λ o. is_spawn s (option_map_or (λ (q : SpawnRec). Spawn q.id) o Master)) held ∙ eq-eqb r.id s (number_is m.records s r found))
+    let held : holding m.records p ≡ Some r = claim_is_held m.ticket.rows m.records ok.apart place.place r x p place.there out there claimed in
+    ap (λ o. is_spawn s (option_map_or (λ (q : SpawnRec). Spawn q.id) o Master)) held ∙ eq-eqb r.id s (number_is m.records s r found))
 
 pub held_claims : (m : Known) (s : ℕ) (r : SpawnRec) (x : List ℕ) → IsKept m → record_of m.records s ≡ Some r → is_out r ≡ true → is_held_by s (holder m) x ≡ claims m.ticket r x
 held_claims m s r x ok found out = by (place_at (places m.ticket.rows) x) refl

@@ -23,6 +23,11 @@ mod Worked
 mod WorkedShop
 pub mod ShopPaths
 pub mod Agreeing
+pub mod Replaying
+pub mod TicketSeen
+pub mod SameWorkers
+pub mod Receivers
+pub mod AnswersCome
 pub mod Cases
 pub mod TakenSpawns
 pub mod PartReads
@@ -32,3 +37,10 @@ pub mod HeldBySpawn
 pub mod WorkerAgrees
 pub mod WorkerEdits
 pub mod WorkerFinishes
+pub mod MasterEdits
+pub mod MasterSpawns
+pub mod Resends
+pub mod WorkerResends
+pub mod PartsTaken
+pub mod Events
+pub mod Replayed

@@ -1,7 +1,6 @@
 -- What a worker may change of a part is what its spawn holds: nodes as nodes, and resources as resources.
 use Rattle.std.proofs.Common.{◌≡◌, ◌∙◌, ◌&&◌, ◌||◌, ℕ, Bool, true, false, cond, List, [], ◌∷◌, length, map, Option, Some, None, is_some, refl, sym, ap}
-use Rattle.std.proofs.lemmas.Bool.{and_from, and_parts, or_parts, true≢false}
-use Rattle.std.specs.List.{filter}
+use Rattle.std.proofs.lemmas.Bool.{and_from, and_parts, true≢false}
 use Rattle.std.specs.Option.{option_map, option_map_or}
 use Rattle.ticket_items.specs.Ids.{mem}
 use Rattle.ticket_items.specs.Resource.{resource_ids}
@@ -35,7 +34,7 @@ use Rattle.merge.proofs.PutPlaces.{same_places}
 use Rattle.merge.specs.Shape.{Fits}
 use Rattle.worker_core.specs.Orders.{is_here}
 use Rattle.worker_core.specs.Worker.{has}
-use Rattle.world.proofs.Cases.{same_test, split, split_some}
+use Rattle.world.proofs.Cases.{same_test, split}
 use Rattle.world.proofs.InPart.{fits_has, part_has}
 
 -- whether a spawn claims what has an id
@@ -155,13 +154,13 @@ part_resource t r p x valid good fits whole =
     let node_so = part_node t r p x valid good fits in
     same_test (has_resource p.rows x || mem x (resource_ids p.rw)) (has_resource t.rows x && claims t r x)
     (λ here.
-        let claimed : claims t r x ≡ true = sym has_so ∙ has_own p x here in
-        let no_node : has_node t.rows x ≡ false = sym (and_all (has_node t.rows x)) ∙ ap (λ b. has_node t.rows x && b) (sym claimed) ∙ sym node_so ∙ resource_apart p x (ids_in_part p.rows p.rw p.ro whole) here in
-        and_from _ _ (resource_stands t.rows x (claimed_stands t r x claimed) no_node) claimed)
+    let claimed : claims t r x ≡ true = sym has_so ∙ has_own p x here in
+    let no_node : has_node t.rows x ≡ false = sym (and_all (has_node t.rows x)) ∙ ap (λ b. has_node t.rows x && b) (sym claimed) ∙ sym node_so ∙ resource_apart p x (ids_in_part p.rows p.rw p.ro whole) here in
+    and_from _ _ (resource_stands t.rows x (claimed_stands t r x claimed) no_node) claimed)
     (λ both.
-        let parts = and_parts (has_resource t.rows x) (claims t r x) both in
-        let no_node : has_node t.rows x ≡ false = sym (mem-node_ids t.rows x) ∙ apart_resource t.rows x valid parts.0 in
-        own_has p x (has_so ∙ parts.1) (node_so ∙ ap (λ b. b && claims t r x) no_node))
+    let parts = and_parts (has_resource t.rows x) (claims t r x) both in
+    let no_node : has_node t.rows x ≡ false = sym (mem-node_ids t.rows x) ∙ apart_resource t.rows x valid parts.0 in
+    own_has p x (has_so ∙ parts.1) (node_so ∙ ap (λ b. b && claims t r x) no_node))
 
 -- ---- the target of an edit
 

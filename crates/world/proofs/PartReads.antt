@@ -1,5 +1,5 @@
 -- The copies to read of a part: they are what it links and has not itself, and so those that its spawn may read.
-use Rattle.std.proofs.Common.{◌≡◌, ◌∙◌, ◌&&◌, ◌||◌, ℕ, Bool, true, false, not, List, [], ◌∷◌, ◌++◌, length, map, Option, Some, None, refl, sym, ap}
+use Rattle.std.proofs.Common.{◌≡◌, ◌∙◌, ◌&&◌, ◌||◌, ℕ, Bool, true, false, not, List, [], ◌∷◌, ◌++◌, map, Option, Some, None, refl, sym, ap}
 use Rattle.std.proofs.lemmas.Bool.{and_from, and_parts, not-true, not_from_false, or_from, or_parts, true≢false}
 use Rattle.std.specs.List.{list_all, list_any}
 use Rattle.std.specs.Option.{option_map_or}
@@ -20,7 +20,7 @@ use Rattle.ticket_rows.specs.Ticket.{IsValid, Job, ids, ids_of}
 use Rattle.ticket_tree.specs.Part.{Copied, are_linked, is_linked, is_sound}
 use Rattle.spawn.proofs.Among.{mem_back}
 use Rattle.spawn.proofs.GoodCopies.{first_of_fixed, reads_ids}
-use Rattle.spawn.proofs.HomesBelow.{home_stands, or_right}
+use Rattle.spawn.proofs.HomesBelow.{home_stands}
 use Rattle.spawn.proofs.SoundPart.{part_is_sound}
 use Rattle.spawn.specs.Claim as claim
 use Rattle.spawn.specs.Parts.{part_for}
@@ -94,8 +94,8 @@ reads_from r rows rw ro x valid so =
     split (mem x (resource_ids ro))
     (λ there. there)
     (λ not_there.
-        let front : mem x (own ++ resource_ids ro) ≡ false = mem-append x own (resource_ids ro) ∙ or_from _ _ before not_there in
-        absurd (true≢false (sym stands ∙ mem-append x (own ++ resource_ids ro) (ids rows) ∙ or_from _ _ front out.1)))
+    let front : mem x (own ++ resource_ids ro) ≡ false = mem-append x own (resource_ids ro) ∙ or_from _ _ before not_there in
+    absurd (true≢false (sym stands ∙ mem-append x (own ++ resource_ids ro) (ids rows) ∙ or_from _ _ front out.1)))
 
 reads_of : (rows : List NodeRow) (rw ro : List Resource) (x : List ℕ) → IsValid (with_copies rows rw ro) → are_linked rows ro ≡ true → mem x (resource_ids ro) ≡ Reads rows rw x
 reads_of [] rw ro x valid linked = absurd (true≢false (sym valid.tree))

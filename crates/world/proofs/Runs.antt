@@ -1,6 +1,6 @@
 -- A run so far: the answers to the events that were, and the state after them.
-use Rattle.std.proofs.Common.{◌≡◌, ◌+◌, ◌<◌, ◌≤◌, ℕ, List, [], ◌∷◌, ◌++◌, length, take, refl, sym, ap, ◌∙◌, arith, Option, Some}
-use Rattle.std.proofs.lemmas.Iterator.Consumers.{YieldsList-so_far, YieldsList-turn}
+use Rattle.std.proofs.Common.{◌≡◌, ◌+◌, ◌<◌, ◌≤◌, ℕ, List, [], ◌∷◌, ◌++◌, length, take, refl, sym, ap, ◌∙◌, arith, Option, Some, None}
+use Rattle.std.proofs.lemmas.Iterator.Consumers.{YieldsList-end, YieldsList-so_far, YieldsList-turn}
 use Rattle.std.proofs.lemmas.List.{map-id, length-append}
 use Rattle.std.proofs.lemmas.Iterator.{YieldsList}
 use Rattle.std.specs.Iterator.{Yields}
@@ -37,6 +37,10 @@ pub next_of : {S : Type 0} {steps : S → Option Event → S → Type 0} {s : S}
     → r ≡ Some e → steps t r u → IsNext all done e
 next_of y done t given r u e is step =
     record { so_far = sym (map-id done) ∙ YieldsList-so_far y done t given; within = (YieldsList-turn y done t given r u e is step).0 }
+
+-- no event is next
+pub all_of : {S : Type 0} {steps : S → Option Event → S → Type 0} {s : S} {all : List Event} (y : YieldsList steps (λ z. z) s all) (done : List Event) (t : S) (given : Yields steps s done t) (r : Option Event) (u : S) → r ≡ None → steps t r u → done ≡ all
+all_of y done t given r u is step = sym (map-id done) ∙ (YieldsList-end y done t given r u is step).0
 
 -- a shorter list of the events, after which the world stands
 abbrev pub StandsBefore : List Event → State → State → Type 0

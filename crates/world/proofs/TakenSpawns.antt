@@ -1,6 +1,6 @@
 -- The spawns that a worker took: each is shown as taken, and each that is shown so has an entry there.
-use Rattle.std.proofs.Common.{◌≡◌, ◌==◌, ◌&&◌, ◌∙◌, ℕ, Bool, true, false, cond, not, List, map, Option, Some, None, get_or, slice_get, refl, sym, ap, arith}
-use Rattle.std.proofs.lemmas.Bool.{and_from, and_parts, eq-eqb, eqb-true, true≢false}
+use Rattle.std.proofs.Common.{◌≡◌, ◌&&◌, ◌∙◌, ℕ, Bool, true, false, cond, not, List, map, Option, Some, None, get_or, refl, sym, ap}
+use Rattle.std.proofs.lemmas.Bool.{and_parts, eqb-true, true≢false}
 use Rattle.std.proofs.lemmas.Option.{slice_get-get_or}
 use Rattle.std.proofs.lemmas.Slice.Eq.{bytes_eq-Decides}
 use Rattle.std.specs.List.{All, find}
@@ -23,7 +23,7 @@ use Rattle.world.proofs.Cases.{found_both, found_made, none_found, split}
 use Rattle.world.proofs.Stored.{and_found}
 use Rattle.world.specs.Controllers.{Controllers, entry_at, is_named, worker_of}
 use Rattle.world.specs.Messages.{AreRecorded, HasComeBack, IsRecorded, entry_for}
-use Rattle.world.specs.Shop.{Done, Open, has_number, is_away, is_done, is_open}
+use Rattle.world.specs.Shop.{Done, Open, is_away, is_done, is_open}
 use Rattle.world.specs.ShopSteps.{is_taken_by}
 use Rattle.world.specs.Showing.{phase_shown, spawn_shown}
 use Rattle.world.specs.State.{IsKept, State}
@@ -66,7 +66,7 @@ pub record HasRecord (c : Controllers) (name : List ℕ) (s : ℕ) (e : Entry) :
 entry_there : (c : Controllers) (name : List ℕ) (s : ℕ) (v : worker.Known) → worker_of c.workers name ≡ Some v → entry_at c.workers name s ≡ worker.entry_of v.entries s
 entry_there c name s v found = ap (option_and_then (λ (u : worker.Known). worker.entry_of u.entries s)) found
 
-name_of : (c : Controllers) (name : List ℕ) (v : worker.Known) → worker_of c.workers name ≡ Some v → v.name ≡ name
+pub name_of : (c : Controllers) (name : List ℕ) (v : worker.Known) → worker_of c.workers name ≡ Some v → v.name ≡ name
 name_of c name v found = (bytes_eq-Decides v.name name).0 (find-passes (is_named name) c.workers v found)
 
 pub entry_record : (w : State) (name : List ℕ) (s : ℕ) (v : worker.Known) (e : Entry) → IsKept w → worker_of w.controllers.workers name ≡ Some v → worker.entry_of v.entries s ≡ Some e → HasRecord w.controllers name s e

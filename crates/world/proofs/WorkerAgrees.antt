@@ -1,6 +1,5 @@
 -- A worker's step and the shop's agree: where it is refused, and where it isn't.
-use Rattle.std.proofs.Common.{◌≡◌, ◌∙◌, ℕ, List, Option, Some, None, refl, sym, ap, subst}
-use Rattle.std.specs.List.{find}
+use Rattle.std.proofs.Common.{◌≡◌, ℕ, Option, Some, None, refl, sym, ap, subst}
 use Rattle.std.specs.Option.{option_map_or}
 use Rattle.ticket_items.specs.declared.refusal.Refusal.{Refusal}
 use Rattle.ticket_items.specs.declared.refusal.Refusal.TheVariants.{UnknownEntry}
@@ -14,7 +13,6 @@ use Rattle.world.proofs.Agreeing.{Agrees}
 use Rattle.world.proofs.Cases.{split_some}
 use Rattle.world.proofs.EntryStored.{worker_as_it_was}
 use Rattle.world.proofs.TakenSpawns.{HasRecord, entry_record, none_shown, taken_shown}
-use Rattle.world.proofs.WorkerSteps.{with_next}
 use Rattle.world.specs.Controllers.{Controllers, worker_of}
 use Rattle.world.specs.Shop.{Shop}
 use Rattle.world.specs.ShopSteps.{Tag, spawn_worked, worker_does}
@@ -49,13 +47,13 @@ worker_agrees w v o at ok found there =
     let step = λ (why : Option Refusal). option_map_or (λ r. refused r v) why (record { word = Did (orders.order_reply o); next = orders.ordered o at v; sent = orders.order_message o at v }) in
     split_some (worker.entry_of v.entries s)
     (λ e has_entry.
-        let h = entry_record w v.name s v e ok found has_entry in
-        agrees_as c v (ordered_worker o at v) (step (orders.entry_refusal o e)) (worker_does v.name o at p) (spawn_worked o at p (spawn_shown c h.spawn))
-        (ap step (refused_on o v.entries e has_entry))
-        (ap (λ a. option_map_or (spawn_worked o at p) a (refused UnknownEntry p)) (taken_shown c v.name s e h))
-        (there e h has_entry))
+    let h = entry_record w v.name s v e ok found has_entry in
+    agrees_as c v (ordered_worker o at v) (step (orders.entry_refusal o e)) (worker_does v.name o at p) (spawn_worked o at p (spawn_shown c h.spawn))
+    (ap step (refused_on o v.entries e has_entry))
+    (ap (λ a. option_map_or (spawn_worked o at p) a (refused UnknownEntry p)) (taken_shown c v.name s e h))
+    (there e h has_entry))
     (λ none.
-        agrees_as c v (ordered_worker o at v) (refused UnknownEntry v) (worker_does v.name o at p) (refused UnknownEntry p)
-        (ap (λ x. step (option_map_or (orders.entry_refusal o) x (Some UnknownEntry))) none)
-        (ap (λ a. option_map_or (spawn_worked o at p) a (refused UnknownEntry p)) (none_shown w v.name s v ok found none))
-        (record { word = refl; next = worker_as_it_was c v found; sent = refl }))
+    agrees_as c v (ordered_worker o at v) (refused UnknownEntry v) (worker_does v.name o at p) (refused UnknownEntry p)
+    (ap (λ x. step (option_map_or (orders.entry_refusal o) x (Some UnknownEntry))) none)
+    (ap (λ a. option_map_or (spawn_worked o at p) a (refused UnknownEntry p)) (none_shown w v.name s v ok found none))
+    (record { word = refl; next = worker_as_it_was c v found; sent = refl }))

@@ -1,12 +1,9 @@
 -- A worker's edits: its step and the shop's agree.
-use Rattle.std.proofs.Common.{◌≡◌, ◌==◌, ◌∙◌, ◌&&◌, ◌||◌, ℕ, Bool, true, false, cond, not, List, [], ◌∷◌, Option, Some, None, refl, sym, ap}
+use Rattle.std.proofs.Common.{◌≡◌, ◌∙◌, ◌&&◌, ◌||◌, ℕ, Bool, true, false, cond, not, List, [], ◌∷◌, Option, Some, None, refl, sym, ap}
 use Rattle.std.proofs.lemmas.Bool.{and_parts, true≢false}
 use Rattle.std.proofs.lemmas.Slice.Eq.{bytes_eq-Decides}
-use Rattle.std.specs.List.{All}
 use Rattle.std.specs.Option.{option_and_then, option_map, option_map_or}
 use Rattle.std.specs.Str.{bytes_eq}
-use Rattle.ticket_items.specs.Ids.{mem}
-use Rattle.ticket_items.specs.Resource.{resource_ids}
 use Rattle.ticket_items.specs.declared.edit.Edit.{Edit}
 use Rattle.ticket_items.specs.declared.edit.Edit.TheVariants.{SetStatus, SetAttr, SetResStatus, SetResAttr, Note, AddNode, AddResource, AddLink}
 use Rattle.ticket_items.specs.declared.refusal.Refusal.{Refusal}
@@ -14,7 +11,7 @@ use Rattle.ticket_items.specs.declared.refusal.Refusal.TheVariants.{NotForWorker
 use Rattle.ticket_rows.specs.Edit.{is_of_node, is_structural, target}
 use Rattle.ticket_rows.specs.EditRefusal.{Lookups, later_refusal}
 use Rattle.ticket_rows.specs.PartEdit.{part_lookups}
-use Rattle.ticket_rows.specs.Place.{Row, nodes_in, place_at, places, resources_in}
+use Rattle.ticket_rows.specs.Place.{Row, nodes_in, places, resources_in}
 use Rattle.ticket_rows.specs.Ticket.{first_of, unless}
 use Rattle.ticket_tree.proofs.PartEdits.{part_edit_of_rows}
 use Rattle.ticket_tree.specs.Part.{Copied, edited_part, refusal_of_part}
@@ -22,14 +19,12 @@ use Rattle.ticket_tree.specs.PartView.{part_row}
 use Rattle.ticket_tree.specs.PlainEdit.{plain_changed, plain_lookups, plain_rows, stands, touch}
 use Rattle.message_items.specs.declared.message.Message.{Message}
 use Rattle.message_items.specs.declared.reply.Reply.TheVariants as reply
-use Rattle.spawn.specs.Claim.{ids_of, linked_ro}
 use Rattle.spawn.specs.Records.{is_out}
-use Rattle.spawn.specs.declared.records.spawn_rec.SpawnRec.{SpawnRec}
 use Rattle.spawn.specs.declared.tables.holder.Holder.{Holder}
 use Rattle.spawn.specs.declared.tables.holder.Holder.TheVariants as held_by
 use Rattle.master_core.specs.Master as master
 use Rattle.worker_core.proofs.AtNumber.{find-at_number, find-other, found_holds}
-use Rattle.worker_core.proofs.Refusals.{IsFree, edit_free}
+use Rattle.worker_core.proofs.Refusals.{edit_free}
 use Rattle.worker_core.specs.Orders as orders
 use Rattle.worker_core.specs.Worker as worker
 use Rattle.worker_core.specs.declared.entry.Entry.{Entry}
@@ -49,7 +44,7 @@ use Rattle.world.specs.Messages.{entry_for}
 use Rattle.world.specs.Shop as shop
 use Rattle.world.specs.ShopActs.{is_held_by, worked}
 use Rattle.world.specs.ShopSteps as steps
-use Rattle.world.specs.Showing.{entry_of_spawn, now_shown, phase_shown, row_at, seen_shown, shop_shown, spawn_shown}
+use Rattle.world.specs.Showing.{now_shown, phase_shown, row_at, seen_shown, shop_shown, spawn_shown}
 use Rattle.world.specs.State.{IsKept, State}
 use Rattle.world.specs.Stepping.{Moved, ordered_worker, refused, worker_moved}
 use Rattle.world.specs.declared.word.Word.TheVariants.{Did}
@@ -114,8 +109,7 @@ same_parts w v s e x ok found has_entry h is_open =
     let kept = kept_entry w v s x ok found has_entry in
     let good = good_record m s r ok.master h.recorded out in
     let held : is_held_by r.id (master.holder m) (target e) ≡ claims m.ticket r (target e) = ap (λ n. is_held_by n (master.holder m) (target e)) h.number ∙ held_claims m s r (target e) ok.master h.recorded out in
-    let tree = places m.ticket.rows in
-    (
+    let tree = places m.ticket.rows in (
       here_so e m.ticket r x.part ok.master.valid good (h.fits out) kept.valid ∙ ap (λ b. stands (cond (is_of_node e) (nodes_in tree) (resources_in tree)) (target e) && b) (sym held),
       ap (λ b. not (is_of_node e) && b) (reads_held m.ticket r x.part (target e) ok.master.valid good (h.fits out) kept.valid kept.sound),
     )
@@ -167,9 +161,9 @@ edited_now c name s e at next old new h stored is kept plain free held x =
     row_stored c name s next new h.spawn stored now x o
     (λ own. ap (λ (p : Copied). part_row p x) is ∙ part_edit_of_rows e at old.part kept.valid plain free x ∙ ap now (sym (row_there c name s old x o h own)))
     (λ other.
-        split (bytes_eq (target e) x)
-        (λ same. absurd (other (held_here (bytes_eq-Decides (target e) x).0 same)))
-        (λ away. sym (when_false (bytes_eq (target e) x) (option_map (plain_changed e at) (row_at c x o)) (row_at c x o) away)))
+    split (bytes_eq (target e) x)
+    (λ same. absurd (other (held_here (bytes_eq-Decides (target e) x).0 same)))
+    (λ away. sym (when_false (bytes_eq (target e) x) (option_map (plain_changed e at) (row_at c x o)) (row_at c x o) away)))
     ∙ plain_touch e at (now_shown c) x plain
   where
     held_here : (bytes_eq (target e) x ≡ true → target e ≡ x) → bytes_eq (target e) x ≡ true → master.holder c.master x ≡ Some (held_by.Spawn s)

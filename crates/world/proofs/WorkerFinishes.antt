@@ -1,5 +1,5 @@
 -- A worker finishes the work on a part: its step and the shop's agree.
-use Rattle.std.proofs.Common.{◌≡◌, ◌∙◌, ◌||◌, ℕ, Bool, true, false, List, [], ◌∷◌, length, map, Option, Some, None, slice_get, refl, sym, ap}
+use Rattle.std.proofs.Common.{◌≡◌, ◌∙◌, ◌||◌, ℕ, true, List, [], ◌∷◌, length, map, Some, slice_get, refl, sym, ap}
 use Rattle.std.specs.Option.{option_map, option_map_or}
 use Rattle.ticket_items.specs.Ids.{mem}
 use Rattle.ticket_items.specs.Resource.{resource_ids}
@@ -32,9 +32,7 @@ use Rattle.world.proofs.Agreeing.{Agrees}
 use Rattle.world.proofs.EntryStored.{spawns_stored}
 use Rattle.world.proofs.HeldBySpawn.{good_record, held_claims}
 use Rattle.world.proofs.InPart.{fits_has, part_has}
-use Rattle.world.proofs.PartHolds.{claims}
 use Rattle.world.proofs.ShopPaths.{same_shop}
-use Rattle.world.proofs.TakenSpawns.{HasRecord}
 use Rattle.world.proofs.WorkerAgrees.{AgreesThere, agrees_as, refused_or_agrees, worker_agrees}
 use Rattle.world.proofs.WorkerEdits.{changed_stored, edited_now, kept_entry, open_out, open_shown}
 use Rattle.world.specs.Controllers.{worker_of}

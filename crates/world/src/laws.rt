@@ -26,3 +26,8 @@ pub fn holders_may_change()
 pub fn each_spawn_is_merged_once()
     ensures { law.EachIsMergedOnce }
 {}
+
+/// The ticket that is seen in what the controllers show is the master's.
+pub fn ticket_is_seen()
+    ensures { law.TicketIsSeen }
+{}

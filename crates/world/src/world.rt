@@ -40,13 +40,16 @@ impl World {
     ghost use Rattle.world.specs.Changing.{Changer, MayChange};
     ghost use Rattle.world.specs.Happening as happening;
     ghost use Rattle.world.specs.Once.{AreMergedOnce};
+    ghost use Rattle.world.specs.Replay as replay;
+    ghost use Rattle.world.specs.Showing.{shows};
     ghost use Rattle.world.specs.State as state;
 
     /// A master of this name with this ticket, of which nothing is out, and workers of these names.
-    /// Nothing was sent. Refuses `SameName` where two of the names are equal (our own), and else
-    /// `Memory`.
+    /// Nothing was sent. It shows one ticket with one table of holders, in which the master holds
+    /// all. Refuses `SameName` where two of the names are equal (our own), and else `Memory`.
     pub fn new(alloc: Global, name: Id, workers: Ids, ticket: Ticket) -> Result<World, Refusal>
         ensures ok { IfOk result (λ w. w ≡ state.opening name workers ticket) }
+        ensures shown { IfOk result (λ w. shows w ≡ replay.opening name workers ticket) }
         ensures refused { IsErrOf result Refusal.SameName → are_distinct (name ∷ workers) ≡ false }
         ensures memory { are_distinct (name ∷ workers) ≡ true
             → IfErr result (λ e. e ≡ Refusal.Memory) }

@@ -7,7 +7,7 @@ use Rattle.std.specs.Str.{bytes_eq}
 use Rattle.serde_json.specs.Data.{Data}
 use Rattle.serde_json.specs.Find.{as_str, get}
 use Rattle.ticket_items.specs.Names.{is_name}
-use Rattle.json_forms.specs.Read.{◌>>=◌, provided, has_only, number_under, text_under}
+use Rattle.json_source.specs.Read.{◌>>=◌, provided, has_only, number_under, text_under}
 use Rattle.order_form.specs.MasterForm as master_form
 use Rattle.order_form.specs.WorkerForm as worker_form
 use Rattle.world.specs.declared.event.Event.{Event}

@@ -17,7 +17,7 @@ use Rattle.json_form.specs.Draft.{RawTicket, ticket_draft}
 use Rattle.json_form.specs.Form as ticket_form
 use Rattle.json_forms.specs.Judged.{sound}
 use Rattle.json_forms.specs.Listed.{list_form}
-use Rattle.json_forms.specs.Read.{◌>>=◌, provided, has_only, text_under}
+use Rattle.json_source.specs.Read.{◌>>=◌, provided, has_only, text_under}
 use Rattle.world.specs.declared.event.Event.{Event}
 use Rattle.world_script.specs.EventForm.{event_form, event_has_names, event_has_texts}
 use Rattle.world_script.specs.declared.script.Script.{Script}

@@ -18,7 +18,7 @@ pub struct EventDraft<'a> {
 impl<'a> EventDraft<'a> {
     ghost use Rattle.std.specs.Prelude.{◌≡◌, true, IfOk, IfErr};
     ghost use Rattle.serde_json.specs.View.{view};
-    ghost use Rattle.json_forms.specs.Read.{Gives};
+    ghost use Rattle.json_source.specs.Read.{Gives};
     ghost use Rattle.world_script.specs.DraftedEvent.{drafted_event};
     ghost use Rattle.world_script.specs.EventForm as form;
 

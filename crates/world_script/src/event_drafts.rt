@@ -4,7 +4,7 @@ ghost use Rattle.std.specs.Prelude.{◌≡◌, true, IfOk, IfErr};
 ghost use Rattle.std.specs.List.{list_all};
 ghost use Rattle.serde_json.specs.View.{items_view};
 ghost use Rattle.json_forms.specs.Listed.{each};
-ghost use Rattle.json_forms.specs.Read.{Gives};
+ghost use Rattle.json_source.specs.Read.{Gives};
 ghost use Rattle.world_script.specs.DraftedEvent.{drafted_event, drafted_events};
 ghost use Rattle.world_script.specs.EventForm.{event_form, event_has_names, event_has_texts};
 

@@ -1,8 +1,9 @@
 use crate::event_draft::EventDraft;
 use crate::event_drafts::{build_events, event_drafts, have_names, have_texts};
 use crate::script::Script;
-use json_forms::{Borrowed, Draft, Drafts, has_only, under};
+use json_forms::{Borrowed, Draft, Drafts, under};
 use json_profile::TicketDraft;
+use json_source::Source;
 use master_core::are_apart;
 use serde_json::Value;
 use std::alloc::Global;
@@ -40,7 +41,7 @@ impl<'a> ScriptDraft<'a> {
     pub fn of(alloc: Global, value: &'a Value) -> Result<ScriptDraft<'a>, Refusal>
         ensures { Gives drafted_script result (form.script_draft (view value.now)) }
     {
-        if !has_only(value, &["Events", "Master", "Ticket", "Workers"]) {
+        if !value.has_only(&["Events", "Master", "Ticket", "Workers"]) {
             return Err(Refusal::NotProfile);
         }
         let master: Borrowed<'a, Id> = under(alloc, value, "Master")?;

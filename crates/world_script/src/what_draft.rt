@@ -2,11 +2,12 @@
 
 ghost use Rattle.std.specs.Prelude.{◌≡◌, true, IfOk, IfErr};
 ghost use Rattle.serde_json.specs.View.{view};
-ghost use Rattle.json_forms.specs.Read.{Gives};
+ghost use Rattle.json_source.specs.Read.{Gives};
 ghost use Rattle.world_script.specs.DraftedEvent.{drafted_what};
 ghost use Rattle.world_script.specs.EventForm as form;
 
-use json_forms::{Borrowed, Draft, has_only, number_under, text_under};
+use json_forms::{Borrowed, Draft, number_under, text_under};
+use json_source::Source;
 use order_form::{MasterOrderDraft, WorkerOrderDraft};
 use serde_json::Value;
 use std::alloc::Global;
@@ -47,7 +48,7 @@ fn order_to<'a>(
 fn order<'a>(alloc: Global, master: &str, value: &'a Value) -> Result<WhatDraft<'a>, Refusal>
     ensures { Gives drafted_what result (form.order_form master.now (view value.now)) }
 {
-    if !has_only(value, &["At", "Event", "Order", "Stop", "To"]) {
+    if !value.has_only(&["At", "Event", "Order", "Stop", "To"]) {
         return Err(Refusal::NotProfile);
     }
     let name = text_under(value, "To").ok_or(Refusal::NotProfile)?;
@@ -62,7 +63,7 @@ fn order<'a>(alloc: Global, master: &str, value: &'a Value) -> Result<WhatDraft<
 fn deliver<'a>(value: &'a Value) -> Result<WhatDraft<'a>, Refusal>
     ensures { Gives drafted_what result (form.deliver_form (view value.now)) }
 {
-    if !has_only(value, &["At", "Deliver", "Event", "Stop"]) {
+    if !value.has_only(&["At", "Deliver", "Event", "Stop"]) {
         return Err(Refusal::NotProfile);
     }
     let number = number_under(value, "Deliver").ok_or(Refusal::NotProfile)?;
@@ -74,7 +75,7 @@ fn deliver<'a>(value: &'a Value) -> Result<WhatDraft<'a>, Refusal>
 fn restart<'a>(value: &'a Value) -> Result<WhatDraft<'a>, Refusal>
     ensures { Gives drafted_what result (form.restart_form (view value.now)) }
 {
-    if !has_only(value, &["At", "Event", "Stop", "To"]) {
+    if !value.has_only(&["At", "Event", "Stop", "To"]) {
         return Err(Refusal::NotProfile);
     }
     let name = text_under(value, "To").ok_or(Refusal::NotProfile)?;

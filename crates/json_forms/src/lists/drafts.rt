@@ -3,13 +3,13 @@
 ghost use Rattle.std.specs.Prelude.{◌≡◌, true, map, take, drop, IfOk, IfErr, OnOk};
 ghost use Rattle.std.specs.List.{list_all};
 ghost use Rattle.serde_json.specs.Find.{get};
-ghost use Rattle.serde_json.specs.View.{items_view, view};
+ghost use Rattle.serde_json.specs.View.{items_of};
 ghost use Rattle.json_forms.specs.Listed.{each, pool_draft};
-ghost use Rattle.json_forms.specs.Read.{Gives};
+ghost use Rattle.json_source.specs.Read.{Gives};
 
 use crate::draft::Draft;
 use crate::lists::listed::pool_items;
-use serde_json::Value;
+use json_source::Source;
 use std::alloc::{AllocError, Global};
 use std::marker::Model;
 use ticket_items::{Items, Refusal};
@@ -48,8 +48,8 @@ impl<D> Drafts<D> {
 impl<'a, D: Draft<'a>> Drafts<D> {
     /// The drafts that the items are. Refuses what the first refused item is refused for, and
     /// `Memory`.
-    pub fn of_items(alloc: Global, items: &'a [Value]) -> Result<Drafts<D>, Refusal>
-        ensures { Gives (map D.drafted) result (each D.Whole.form (items_view items.now)) }
+    pub fn of_items<S: Source>(alloc: Global, items: &'a [S]) -> Result<Drafts<D>, Refusal>
+        ensures { Gives (map D.drafted) result (each D.Whole.form (items_of (map S.content items.now))) }
     {
         let mut drafts = Vec::with_capacity(alloc, items.len())?;
         for item in items {
@@ -61,9 +61,9 @@ impl<'a, D: Draft<'a>> Drafts<D> {
 
     /// The drafts of the list under a name, none where nothing stands there. Refuses `NotProfile`
     /// where something else does, and `Memory`.
-    pub fn under(alloc: Global, value: &'a Value, name: &str) -> Result<Drafts<D>, Refusal>
+    pub fn under<S: Source>(alloc: Global, value: &'a S, name: &str) -> Result<Drafts<D>, Refusal>
         ensures { Gives (map D.drafted) result
-            (pool_draft D.Whole.form (get name.now (view value.now))) }
+            (pool_draft D.Whole.form (get name.now (S.content value.now))) }
     {
         Drafts::of_items(alloc, pool_items(value, name)?)
     }
@@ -123,9 +123,9 @@ impl<'a, D: Draft<'a>> Draft<'a> for Drafts<D> {
 
     ghost drafted = { map D.drafted };
 
-    fn of(alloc: Global, value: &'a Value) -> Result<Drafts<D>, Refusal> {
-        match value.as_array() {
-            Some(items) => Drafts::of_items(alloc, items.as_slice()),
+    fn of<S: Source>(alloc: Global, value: &'a S) -> Result<Drafts<D>, Refusal> {
+        match value.items() {
+            Some(items) => Drafts::of_items(alloc, items),
             None => Err(Refusal::NotProfile),
         }
     }

@@ -4,11 +4,11 @@ ghost use Rattle.json_forms.specs.Ancestors as ancestors;
 
 use crate::draft::Draft;
 use crate::form::Form;
-use crate::members::member::has_only;
 use crate::members::object::put;
 use crate::members::one_member::under;
 use crate::texts::borrowed::Borrowed;
 use crate::written::Written;
+use json_source::Source;
 use serde_json::{Map, Value};
 use std::alloc::{AllocError, Global};
 use ticket_items::{Ancestor, Id, Name, Refusal};
@@ -35,8 +35,8 @@ impl<'a> Draft<'a> for AncestorDraft<'a> {
     ghost drafted = { λ d. record { node_id = d.node_id; job_part = d.job_part } };
 
     #[tactic(auto, unfolding(crate::specs::Ancestors::ancestor_draft))]
-    fn of(alloc: Global, value: &'a Value) -> Result<AncestorDraft<'a>, Refusal> {
-        if !has_only(value, &["JobPartID", "NodeID"]) {
+    fn of<S: Source>(alloc: Global, value: &'a S) -> Result<AncestorDraft<'a>, Refusal> {
+        if !value.has_only(&["JobPartID", "NodeID"]) {
             return Err(Refusal::NotProfile);
         }
         let job_part = under(alloc, value, "JobPartID")?;

@@ -8,11 +8,12 @@ ghost use Rattle.json_forms.specs.Audits as audits;
 use crate::draft::Draft;
 use crate::form::Form;
 use crate::lists::drafts::Drafts;
-use crate::members::member::{has_only, text_under};
+use crate::members::member::text_under;
 use crate::members::object::{put, put_text};
 use crate::members::one_member::under;
 use crate::texts::borrowed::Borrowed;
 use crate::written::Written;
+use json_source::Source;
 use serde_json::{Map, Value};
 use std::alloc::{AllocError, Global};
 use ticket_items::{Audit, Id, Ids, Name, Refusal, Text};
@@ -57,13 +58,13 @@ pub enum AuditDraft<'a> {
 
 impl<'a> AuditDraft<'a> {
     ghost use Rattle.json_forms.specs.DraftedAudits.{drafted_audit};
-    ghost use Rattle.json_forms.specs.Read.{Gives};
+    ghost use Rattle.json_source.specs.Read.{Gives};
 
     #[tactic(auto, unfolding(crate::specs::Audits::notification_draft))]
-    fn notification(alloc: Global, value: &'a Value) -> Result<AuditDraft<'a>, Refusal>
-        ensures { Gives drafted_audit result (audits.notification_draft (view value.now)) }
+    fn notification<S: Source>(alloc: Global, value: &'a S) -> Result<AuditDraft<'a>, Refusal>
+        ensures { Gives drafted_audit result (audits.notification_draft (S.content value.now)) }
     {
-        if !has_only(value, &["Name", "Text", "TimeStamp"]) {
+        if !value.has_only(&["Name", "Text", "TimeStamp"]) {
             return Err(Refusal::NotProfile);
         }
         let text = under(alloc, value, "Text")?;
@@ -72,10 +73,10 @@ impl<'a> AuditDraft<'a> {
     }
 
     #[tactic(auto, unfolding(crate::specs::Audits::spawned_draft))]
-    fn spawned(alloc: Global, value: &'a Value) -> Result<AuditDraft<'a>, Refusal>
-        ensures { Gives drafted_audit result (audits.spawned_draft (view value.now)) }
+    fn spawned<S: Source>(alloc: Global, value: &'a S) -> Result<AuditDraft<'a>, Refusal>
+        ensures { Gives drafted_audit result (audits.spawned_draft (S.content value.now)) }
     {
-        if !has_only(value, SPAWNED_MEMBERS) {
+        if !value.has_only(SPAWNED_MEMBERS) {
             return Err(Refusal::NotProfile);
         }
         let spawn_id = under(alloc, value, "NewSpawnID")?;
@@ -95,10 +96,10 @@ impl<'a> AuditDraft<'a> {
     }
 
     #[tactic(auto, unfolding(crate::specs::Audits::merged_draft))]
-    fn merged(alloc: Global, value: &'a Value) -> Result<AuditDraft<'a>, Refusal>
-        ensures { Gives drafted_audit result (audits.merged_draft (view value.now)) }
+    fn merged<S: Source>(alloc: Global, value: &'a S) -> Result<AuditDraft<'a>, Refusal>
+        ensures { Gives drafted_audit result (audits.merged_draft (S.content value.now)) }
     {
-        if !has_only(value, MERGED_MEMBERS) {
+        if !value.has_only(MERGED_MEMBERS) {
             return Err(Refusal::NotProfile);
         }
         let merge_id = under(alloc, value, "MergeID")?;
@@ -130,7 +131,7 @@ impl<'a> Draft<'a> for AuditDraft<'a> {
     ghost drafted = { drafted_audit };
 
     #[tactic(auto, unfolding(crate::specs::Audits::audit_draft))]
-    fn of(alloc: Global, value: &'a Value) -> Result<AuditDraft<'a>, Refusal> {
+    fn of<S: Source>(alloc: Global, value: &'a S) -> Result<AuditDraft<'a>, Refusal> {
         let kind = text_under(value, "Name").ok_or(Refusal::NotProfile)?;
         if kind == "Notification" {
             AuditDraft::notification(alloc, value)

@@ -4,11 +4,11 @@ ghost use Rattle.json_forms.specs.Links as links;
 
 use crate::draft::Draft;
 use crate::form::Form;
-use crate::members::member::has_only;
 use crate::members::object::put;
 use crate::members::one_member::under;
 use crate::texts::borrowed::Borrowed;
 use crate::written::Written;
+use json_source::Source;
 use serde_json::{Map, Value};
 use std::alloc::{AllocError, Global};
 use ticket_items::{Id, Link, Refusal, Usage};
@@ -35,8 +35,8 @@ impl<'a> Draft<'a> for LinkDraft<'a> {
     ghost drafted = { λ d. record { rref = d.rref; usage = d.usage } };
 
     #[tactic(auto, unfolding(crate::specs::Links::link_draft))]
-    fn of(alloc: Global, value: &'a Value) -> Result<LinkDraft<'a>, Refusal> {
-        if !has_only(value, &["Usage", "rRef"]) {
+    fn of<S: Source>(alloc: Global, value: &'a S) -> Result<LinkDraft<'a>, Refusal> {
+        if !value.has_only(&["Usage", "rRef"]) {
             return Err(Refusal::NotProfile);
         }
         let usage = under(alloc, value, "Usage")?;

@@ -7,35 +7,34 @@ ghost use Rattle.ticket_items.specs.Attrs.{IsInOrder, with_attr};
 ghost use Rattle.ticket_items.specs.Names as names;
 ghost use Rattle.json_forms.specs.Again.{attrs_again};
 ghost use Rattle.json_forms.specs.Attributes as attributes;
-ghost use Rattle.json_forms.specs.Read.{Gives, attrs_draft, text_pairs};
+ghost use Rattle.json_source.specs.Read.{attrs_draft, lent_pairs};
 
 use crate::draft::Draft;
 use crate::form::Form;
 use crate::members::object::put_text;
-use crate::texts::borrowed::Borrowed;
+use crate::words::word::Word;
 use crate::written::Written;
+use json_source::Source;
 use serde_json::{Map, Value};
 use std::alloc::{AllocError, Global};
 use std::marker::Model;
 use ticket_items::{Attrs, Name, Refusal, Text, is_name, is_text};
 
-/// A name and a text, which are borrowed.
-type LentPair<'a> = (Borrowed<'a, Name>, Borrowed<'a, Text>);
-
 /// Attributes by their kinds alone, in the byte order of their names: any texts with any texts.
 #[derive(Drop)]
 pub struct AttrsDraft<'a> {
-    pairs: Vec<LentPair<'a>>,
+    pairs: Vec<(&'a str, &'a str)>,
 }
 
 impl<'a> Model for AttrsDraft<'a> {
+    ghost use Rattle.json_source.specs.Read.{lent_pairs};
     ghost use Rattle.ticket_items.specs.Attrs.{IsInOrder, Pairs};
 
     ghost Value = { Pairs };
 
-    ghost view = { λ a. a.pairs.items };
+    ghost view = { λ a. lent_pairs a.pairs.items };
 
-    ghost invariant = { λ a. IsInOrder a.pairs.items };
+    ghost invariant = { λ a. IsInOrder (lent_pairs a.pairs.items) };
 }
 
 impl<'a> AttrsDraft<'a> {
@@ -47,61 +46,42 @@ impl<'a> AttrsDraft<'a> {
             pairs: Vec::new(alloc),
         }
     }
-
-    /// The texts of an object.
-    fn of_members(alloc: Global, members: &'a Map<String, Value>) -> Result<AttrsDraft<'a>, Refusal>
-        ensures { Gives (λ a. a) result (text_pairs (members_view members.now.entries)) }
-    {
-        let mut pairs = Vec::with_capacity(alloc, members.len())?;
-        for (name, value) in members {
-            let Some(text) = value.as_str() else {
-                return Err(Refusal::NotProfile);
-            };
-            pairs.push((Borrowed::new(name.as_str()), Borrowed::new(text)))?;
-        }
-        Ok(AttrsDraft { pairs })
-    }
 }
 
 /// Whether each first part is a name.
-fn are_names(pairs: &[LentPair<'_>]) -> bool
-    ensures { result ≡ list_all (λ p. names.is_name p.0) pairs.now }
+fn are_names(pairs: &[(&str, &str)]) -> bool
+    ensures { result ≡ list_all (λ p. names.is_name p.0.now) pairs.now }
 {
-    pairs.iter().all(|(name, _)| is_name(name.as_str()))
+    pairs.iter().all(|(name, _)| is_name(name))
 }
 
 /// Whether each second part is a text of our profile.
-fn are_texts(pairs: &[LentPair<'_>]) -> bool
-    ensures { result ≡ list_all (λ p. names.is_text p.1) pairs.now }
+fn are_texts(pairs: &[(&str, &str)]) -> bool
+    ensures { result ≡ list_all (λ p. names.is_text p.1.now) pairs.now }
 {
-    pairs.iter().all(|(_, text)| is_text(text.as_str()))
+    pairs.iter().all(|(_, text)| is_text(text))
 }
 
 /// Sets the text of a name. Refuses `Memory` alone.
-fn set_attr(
-    alloc: Global,
-    attrs: &mut Attrs,
-    name: &Borrowed<'_, Name>,
-    text: &Borrowed<'_, Text>,
-) -> Result<(), Refusal>
+fn set_attr(alloc: Global, attrs: &mut Attrs, name: &str, text: &str) -> Result<(), Refusal>
     requires name { names.is_name name.now ≡ true }
     requires text { names.is_text text.now ≡ true }
     ensures ok { OnOk result (attrs.new ≡ with_attr name.now text.now attrs.old) }
     ensures memory { IfErr result (λ e. e ≡ Refusal.Memory) }
 {
-    let name = name.build(alloc)?;
-    let text = text.build(alloc)?;
+    let name = Name::known(alloc, name)?;
+    let text = Text::known(alloc, text)?;
     attrs.set(name, text)?;
     Ok(())
 }
 
 /// The attributes that the pairs are, which stand in the byte order of their names. Refuses
 /// `Memory` alone.
-fn build_attrs(alloc: Global, pairs: &[LentPair<'_>]) -> Result<Attrs, Refusal>
-    requires ordered { IsInOrder pairs.now }
-    requires names { list_all (λ p. names.is_name p.0) pairs.now ≡ true }
-    requires texts { list_all (λ p. names.is_text p.1) pairs.now ≡ true }
-    ensures ok { IfOk result (λ attrs. attrs ≡ pairs.now) }
+fn build_attrs(alloc: Global, pairs: &[(&str, &str)]) -> Result<Attrs, Refusal>
+    requires ordered { IsInOrder (lent_pairs pairs.now) }
+    requires names { list_all (λ p. names.is_name p.0.now) pairs.now ≡ true }
+    requires texts { list_all (λ p. names.is_text p.1.now) pairs.now ≡ true }
+    ensures ok { IfOk result (λ attrs. attrs ≡ lent_pairs pairs.now) }
     ensures memory { IfErr result (λ e. e ≡ Refusal.Memory) }
 {
     let mut attrs = Attrs::new(alloc);
@@ -124,21 +104,22 @@ impl<'a> Draft<'a> for AttrsDraft<'a> {
 
     ghost drafted = { λ attrs. attrs };
 
-    fn of(alloc: Global, value: &'a Value) -> Result<AttrsDraft<'a>, Refusal> {
-        match value.as_object() {
-            Some(members) => AttrsDraft::of_members(alloc, members),
-            None => Err(Refusal::NotProfile),
-        }
+    fn of<S: Source>(alloc: Global, value: &'a S) -> Result<AttrsDraft<'a>, Refusal> {
+        let pairs = value.texts(alloc)?;
+        Ok(AttrsDraft { pairs })
     }
 
+    #[tactic(auto, using(crate::proofs::Tests::all_mapped))]
     fn has_names(&self) -> bool {
         are_names(self.pairs.as_slice())
     }
 
+    #[tactic(auto, using(crate::proofs::Tests::all_mapped))]
     fn has_texts(&self) -> bool {
         are_texts(self.pairs.as_slice())
     }
 
+    #[tactic(auto, using(crate::proofs::Tests::all_mapped))]
     fn build(&self, alloc: Global) -> Result<Attrs, Refusal> {
         build_attrs(alloc, self.pairs.as_slice())
     }

@@ -8,11 +8,11 @@ ghost use Rattle.json_forms.specs.Resources as resources;
 
 use crate::draft::Draft;
 use crate::form::Form;
-use crate::members::member::has_only;
 use crate::members::object::put;
 use crate::resources::resource_form::{ResourceDraft, resource_map};
 use crate::resources::shown_form::{Shown, ShownDraft};
 use crate::written::Written;
+use json_source::Source;
 use serde_json::Value;
 use std::alloc::{AllocError, Global};
 use ticket_items::{Refusal, Resource};
@@ -57,8 +57,8 @@ impl<'a> Draft<'a> for MarkedDraft<'a> {
     ghost drafted = { drafted_marked };
 
     #[tactic(auto, unfolding(crate::specs::Resources::resource_draft))]
-    fn of(alloc: Global, value: &'a Value) -> Result<MarkedDraft<'a>, Refusal> {
-        if !has_only(value, RESOURCE_MEMBERS) {
+    fn of<S: Source>(alloc: Global, value: &'a S) -> Result<MarkedDraft<'a>, Refusal> {
+        if !value.has_only(RESOURCE_MEMBERS) {
             return Err(Refusal::NotProfile);
         }
         let resource = ResourceDraft::of(alloc, value)?;

@@ -12,6 +12,7 @@ use crate::members::object::put;
 use crate::members::one_member::{under, under_or};
 use crate::resources::attrs_form::AttrsDraft;
 use crate::texts::borrowed::Borrowed;
+use json_source::Source;
 use serde_json::{Map, Value};
 use std::alloc::{AllocError, Global};
 use ticket_items::{Id, Name, Refusal, Resource};
@@ -41,7 +42,7 @@ impl<'a> Draft<'a> for ResourceDraft<'a> {
     ghost drafted = { drafted_resource };
 
     #[tactic(auto, unfolding(crate::specs::Resources::own_resource))]
-    fn of(alloc: Global, value: &'a Value) -> Result<ResourceDraft<'a>, Refusal> {
+    fn of<S: Source>(alloc: Global, value: &'a S) -> Result<ResourceDraft<'a>, Refusal> {
         let class = under(alloc, value, "Class")?;
         let id = under(alloc, value, "ID")?;
         let name = under(alloc, value, "Name")?;

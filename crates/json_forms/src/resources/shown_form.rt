@@ -10,7 +10,7 @@ use crate::lists::drafts::Drafts;
 use crate::members::one_member::under_or;
 use crate::texts::any_text::AnyText;
 use crate::texts::borrowed::Borrowed;
-use serde_json::Value;
+use json_source::Source;
 use std::alloc::{AllocError, Global};
 use ticket_items::{Items, Refusal, SpawnStatus};
 
@@ -152,7 +152,7 @@ impl<'a> Draft<'a> for ShownDraft<'a> {
     ghost drafted = { drafted_shown };
 
     #[tactic(auto, unfolding(crate::specs::Shown::shown_draft), using(crate::proofs::Tests::themselves))]
-    fn of(alloc: Global, value: &'a Value) -> Result<ShownDraft<'a>, Refusal> {
+    fn of<S: Source>(alloc: Global, value: &'a S) -> Result<ShownDraft<'a>, Refusal> {
         let locked = under_or(alloc, value, "Locked", false)?;
         let spawn_ids = Drafts::under(alloc, value, "SpawnIDs")?;
         let spawn_status = under_or(alloc, value, "SpawnStatus", SpawnStatus::NotSpawned)?;

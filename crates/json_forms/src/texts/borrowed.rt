@@ -1,5 +1,6 @@
 use crate::draft::Draft;
 use crate::words::word::Word;
+use json_source::Source;
 use serde_json::Value;
 use std::alloc::Global;
 use std::marker::{Model, PhantomData};
@@ -46,8 +47,8 @@ impl<'a, W: Word> Draft<'a> for Borrowed<'a, W> {
 
     ghost drafted = { W.word };
 
-    fn of(_alloc: Global, value: &'a Value) -> Result<Borrowed<'a, W>, Refusal> {
-        match value.as_str() {
+    fn of<S: Source>(_alloc: Global, value: &'a S) -> Result<Borrowed<'a, W>, Refusal> {
+        match value.text() {
             Some(text) => Ok(Borrowed::new(text)),
             None => Err(Refusal::NotProfile),
         }

@@ -1,11 +1,12 @@
 ghost use Rattle.std.specs.Prelude.{true};
 ghost use Rattle.serde_json.specs.Data.{number, unsigned};
 ghost use Rattle.json_forms.specs.Again.{number_again};
-ghost use Rattle.json_forms.specs.Read.{number_of};
+ghost use Rattle.json_source.specs.Read.{number_of};
 
 use crate::draft::Draft;
 use crate::form::Form;
 use crate::written::Written;
+use json_source::Source;
 use serde_json::Value;
 use std::alloc::{AllocError, Global};
 use ticket_items::Refusal;
@@ -23,8 +24,8 @@ impl<'a> Draft<'a> for u64 {
 
     ghost drafted = { λ n. n };
 
-    fn of(_alloc: Global, value: &'a Value) -> Result<u64, Refusal> {
-        match value.as_u64() {
+    fn of<S: Source>(_alloc: Global, value: &'a S) -> Result<u64, Refusal> {
+        match value.whole_number() {
             Some(number) => Ok(number),
             None => Err(Refusal::NotProfile),
         }

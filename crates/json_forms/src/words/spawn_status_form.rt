@@ -8,6 +8,7 @@ use crate::draft::Draft;
 use crate::form::Form;
 use crate::members::object::text_value;
 use crate::written::Written;
+use json_source::Source;
 use serde_json::Value;
 use std::alloc::{AllocError, Global};
 use ticket_items::{Refusal, SpawnStatus};
@@ -51,8 +52,8 @@ impl<'a> Draft<'a> for SpawnStatus {
 
     ghost drafted = { λ status. status };
 
-    fn of(_alloc: Global, value: &'a Value) -> Result<SpawnStatus, Refusal> {
-        let word = value.as_str().ok_or(Refusal::NotProfile)?;
+    fn of<S: Source>(_alloc: Global, value: &'a S) -> Result<SpawnStatus, Refusal> {
+        let word = value.text().ok_or(Refusal::NotProfile)?;
         spawn_status_named(word).ok_or(Refusal::NotProfile)
     }
 

@@ -6,6 +6,7 @@ ghost use Rattle.json_forms.specs.Again.{switch_again};
 use crate::draft::Draft;
 use crate::form::Form;
 use crate::written::Written;
+use json_source::Source;
 use serde_json::Value;
 use std::alloc::{AllocError, Global};
 use ticket_items::Refusal;
@@ -23,8 +24,8 @@ impl<'a> Draft<'a> for bool {
 
     ghost drafted = { λ b. b };
 
-    fn of(_alloc: Global, value: &'a Value) -> Result<bool, Refusal> {
-        match value.as_bool() {
+    fn of<S: Source>(_alloc: Global, value: &'a S) -> Result<bool, Refusal> {
+        match value.truth() {
             Some(switch) => Ok(switch),
             None => Err(Refusal::NotProfile),
         }

@@ -1,13 +1,9 @@
-use Rattle.serde_json.specs.View.{view}
 use Rattle.json_forms.specs.DraftedEdits.{drafted_edit}
-use Rattle.json_tree.specs.Tree.{tree_data}
 use Rattle.edit_command.proofs.Edits.{edit_added, edit_failed}
 use Rattle.edit_command.proofs.found_edits.push_edit.Goals as goal
 
 pub returns-in_err-draft : goal.returns-in_err-draft
-returns-in_err-draft c =
-    edit_failed c.args.found.now c.from_residual-in_err-draft.result c.in_err-draft.field-0.0 (tree_data c.args.tree.now) (view c.in_ok-value.value) c.in_ok-value.ensures c.from_residual-in_err-draft.ensures.1 c.in_err-draft.ensures
+returns-in_err-draft c = edit_failed c.args.found.now c.from_residual.result c.in_err-draft.field-0.0 _ c.from_residual.ensures.1 c.in_err-draft.ensures
 
 pub returns : goal.returns
-returns c =
-    edit_added c.args.found.now c.push.new.self c.push.result (drafted_edit c.in_ok-draft.draft) (tree_data c.args.tree.now) (view c.in_ok-value.value) c.in_ok-value.ensures c.in_ok-draft.ensures c.push.ensures.ok c.push.ensures.memory
+returns c = edit_added c.args.found.now c.push.new.self c.push.result (drafted_edit c.in_ok-draft.draft) _ c.in_ok-draft.ensures c.push.ensures.ok c.push.ensures.memory

@@ -9,7 +9,7 @@ use Rattle.world_script.proofs.event_drafts.event_drafts.Goals as goal
 pub returns-in_err-draft : goal.returns-in_err-draft
 returns-in_err-draft c =
     let form = event_form c.args.master.now in
-    let fails = Fails-each c.in_err-draft.field-0.0 form c.args.items.now c.loop-item.item-index
+    let fails = Fails-each view c.in_err-draft.field-0.0 form c.args.items.now c.loop-item.item-index
     c.item-item.result c.loop-item-test.true c.item-item.is c.in_err-draft.ensures in
     Gives-failed (λ v. drafted_events v.items) c.from_residual-in_err-draft.result
     c.in_err-draft.field-0.0 _ c.from_residual-in_err-draft.ensures.1 fails
@@ -25,5 +25,5 @@ pub returns : goal.returns
 returns c =
     let form = event_form c.args.master.now in
     let all = sym (take_all c.loop-item.item-index c.args.items.now c.loop-item-test.false) in
-    each-all form drafted_event c.args.items.now c.loop-item.drafts.items
+    each-all view form drafted_event c.args.items.now c.loop-item.drafts.items
     (ap (map (λ v. form (view v))) all ∙ c.loop-item.invariant)

@@ -1,5 +1,5 @@
 use Rattle.std.proofs.Common.{Err, Ok, inr}
-use Rattle.json_tree.specs.Tree.{tree_data}
+use Rattle.json_source.specs.Tree.{tree_data}
 use Rattle.edit_command.proofs.Documents.{document_reads, found_refused, handed_on, ticket_holds}
 use Rattle.edit_command.proofs.owned_document.OwnedDocument.of.Goals as goal
 

@@ -1,0 +1,5 @@
+pub mod Entries
+pub mod Finding
+pub mod MemberLemmas
+pub mod Pairs
+pub mod Ranges

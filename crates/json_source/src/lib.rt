@@ -1,0 +1,13 @@
+//! What JSON data is read from: values, and trees that borrow their text. A tree takes less than half
+//! the memory of a value.
+#![tactic(auto)]
+
+mod number;
+mod source;
+mod text;
+mod tree_source;
+mod value_source;
+
+pub use json::{Scratch, Value as Tree};
+pub use source::Source;
+pub use text::tree_of;

@@ -1,3 +1,0 @@
-pub mod Finding
-mod Ranges
-mod Values

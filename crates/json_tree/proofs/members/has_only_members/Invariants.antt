@@ -1,9 +1,0 @@
-use Rattle.std.proofs.Common.{◌≡◌, map, drop}
-use Rattle.json.specs.Value.{members_view}
-use Rattle.json_tree.proofs.Finding.{names_among}
-use Rattle.json_tree.proofs.members.has_only_members.Given as goal
-
--- what is left decides
-abbrev pub invariant-loop-name : goal.invariant-loop-name
-invariant-loop-name l =
-    names_among (map (λ n. n.now) l.names) (members_view (drop l.name-index l.name-items)) ≡ names_among (map (λ n. n.now) l.names) (members_view l.name-items)

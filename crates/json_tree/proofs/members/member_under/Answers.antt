@@ -1,8 +1,0 @@
-use Rattle.std.proofs.Common.{◌∙◌, ap, option_map}
-use Rattle.json.specs.Value.{value_view}
-use Rattle.json_tree.specs.Tree.{data_of}
-use Rattle.json_tree.proofs.Finding.{all_tree, get_data}
-use Rattle.json_tree.proofs.members.member_under.Goals as goal
-
-pub returns : goal.returns
-returns c = all_tree c.get.result ∙ ap (option_map data_of) c.get.ensures ∙ get_data c.args.name.now (value_view c.args.tree.now)

@@ -1,0 +1,207 @@
+-- A part that comes to its worker: the controllers' step and the shop's agree.
+use Rattle.std.proofs.Common.{◌≡◌, ◌==◌, ◌∙◌, ℕ, true, false, cond, List, [], ◌∷◌, ◌++◌, map, Option, Some, None, Ok, Err, is_some, refl, sym, ap, subst}
+use Rattle.std.proofs.lemmas.Bool.{eq-eqb, eqb-false, ne_eqb}
+use Rattle.std.proofs.lemmas.List.Elements.{All-contains}
+use Rattle.std.proofs.lemmas.List.Folds.{find-append}
+use Rattle.std.specs.List.{Contains}
+use Rattle.std.specs.Option.{option_and_then, option_map, option_map_or, option_or}
+use Rattle.ticket_items.specs.declared.refusal.Refusal.{Refusal}
+use Rattle.ticket_rows.specs.Place.{Place, place_at, places}
+use Rattle.ticket_tree.specs.Part.{Copied}
+use Rattle.ticket_tree.specs.PartView.{part_row}
+use Rattle.message_items.specs.Reply.{refused_or}
+use Rattle.message_items.specs.declared.body.Body.TheVariants.{Submit}
+use Rattle.message_items.specs.declared.message.Message.{Message}
+use Rattle.message_items.specs.declared.reply.Reply.TheVariants as reply
+use Rattle.spawn.proofs.Lawful.{held_is_claimed, placed}
+use Rattle.spawn.proofs.PartShows.{part_shows_claim}
+use Rattle.spawn.specs.Claim.{is_claimed}
+use Rattle.spawn.specs.Parts.{part_for}
+use Rattle.spawn.specs.Records.{is_out}
+use Rattle.spawn.specs.Table.{holder_at, holding, holds}
+use Rattle.spawn.specs.declared.records.spawn_rec.SpawnRec.{SpawnRec}
+use Rattle.spawn.specs.declared.tables.holder.Holder.TheVariants.{Master, Spawn}
+use Rattle.master_core.proofs.Recorded.{number_is}
+use Rattle.master_core.specs.Master as master
+use Rattle.worker_core.proofs.AtNumber.{found_holds}
+use Rattle.worker_core.specs.Messages.{taken_answer}
+use Rattle.worker_core.specs.Worker as worker
+use Rattle.worker_core.specs.declared.entry.Entry.{Entry}
+use Rattle.world.proofs.Agreeing.{Agrees}
+use Rattle.world.proofs.Back.{one_record}
+use Rattle.world.proofs.Cases.{split, split_some}
+use Rattle.world.proofs.Doors.{worker_refuses_nothing}
+use Rattle.world.proofs.EntryStored.{HasStored, row_stored, spawns_stored}
+use Rattle.world.proofs.Replaying.{StepsAgree}
+use Rattle.world.proofs.Resends.{spawn_found}
+use Rattle.world.proofs.SameWorkers.{stored_same}
+use Rattle.world.proofs.ShopPaths.{same_shop}
+use Rattle.world.proofs.Stored.{and_found}
+use Rattle.world.proofs.TakenSpawns.{phase_away, phase_of_entry}
+use Rattle.world.specs.Controllers.{Controllers, entry_at, is_named, worker_of}
+use Rattle.world.specs.Messages.{HasComeBack, IsInOrder, entry_for}
+use Rattle.world.specs.Shop.{Open, is_away}
+use Rattle.world.specs.ShopActs.{in_phase, taken}
+use Rattle.world.specs.ShopSteps as shop
+use Rattle.world.specs.Showing.{entry_of_spawn, phase_shown, row_at, seen_shown, shop_shown, spawn_shown, tag_of}
+use Rattle.world.specs.State.{IsKept, State}
+use Rattle.world.specs.Stepping.{Moved, taken_by_worker, word_of, worker_moved}
+use Rattle.world.specs.declared.word.Word.TheVariants.{Did, NoMessage}
+
+-- the message that brings a part to a worker
+abbrev part_sent : List ℕ → worker.Known → ℕ → Copied → Message
+part_sent sender v sent p = record { sender = sender; receiver = v.name; at = sent; body = Submit p }
+
+-- the worker's step, by why the part is refused and by the entry that it has
+abbrev step_by : worker.Known → Message → Copied → ℕ → Option Refusal → Option Entry → Moved worker.Known Message
+step_by v m p at why o =
+    record {
+      word = word_of (refused_or why (cond (is_some o) (reply.Again p.spawn_id) (reply.Taken p.spawn_id)));
+      next = cond (is_some why) v (record v { entries = cond (is_some o) v.entries (v.entries ++ worker.new_entry p at ∷ []) });
+      sent = taken_answer m at v;
+    }
+
+-- ---- what the spawn holds
+
+spawn_here : (s : ℕ) (o : Option SpawnRec) → Some (option_map_or (λ (q : SpawnRec). Spawn q.id) o Master) ≡ Some (Spawn s) → (q : SpawnRec) × (o ≡ Some q) × (q.id ≡ s)
+spawn_here s None e = cc
+spawn_here s (Some q) e = (q, refl, same_number q.id s e)
+  where
+    same_number : (m n : ℕ) → Some (Spawn m) ≡ Some (Spawn n) → m ≡ n
+    same_number m n e = cc
+
+-- what a spawn holds stands in the ticket, and its record claims it
+held_claimed : (m : master.Known) (s : ℕ) (r : SpawnRec) (x : List ℕ) → master.IsKept m → master.record_of m.records s ≡ Some r → master.holder m x ≡ Some (Spawn s) → (p : Place) × (place_at (places m.ticket.rows) x ≡ Some p) × (is_claimed r.node r.rw p ≡ true)
+held_claimed m s r x ok found held = by (place_at (places m.ticket.rows) x) refl held
+  where
+    by : (o : Option Place) → place_at (places m.ticket.rows) x ≡ o → option_map (holder_at m.records) o ≡ Some (Spawn s) → (p : Place) × (place_at (places m.ticket.rows) x ≡ Some p) × (is_claimed r.node r.rw p ≡ true)
+    by None there e = cc
+    by (Some p) there e =
+        let is = spawn_here s (holding m.records p) e in
+        let at = placed (holds p) m.records is.0 is.1 in
+        let same : is.0 ≡ r = one_record m.records at.place s is.0 r ok.numbered at.there found (is.2 ∙ sym (number_is m.records s r found)) in
+        (p, there, ap (λ (q : SpawnRec). is_claimed q.node q.rw p) (sym same) ∙ (held_is_claimed m.records is.0 p is.1).1)
+
+-- ---- a part of which there is an entry
+
+taken_again : (w : State) (v : worker.Known) (m : Message) (p : Copied) (at : ℕ) (r : SpawnRec) (e : Entry) → IsKept w → worker_of w.controllers.workers v.name ≡ Some v → r.id ≡ p.spawn_id → entry_for w.controllers r ≡ Some e
+    → option_map tag_of (taken_answer m at v) ≡ Some (shop.ToSubmit p.spawn_id)
+    → Agrees (worker_moved w.controllers v (step_by v m p at None (Some e))) (shop.submit_comes (shop_shown w.controllers) (spawn_shown w.controllers r))
+taken_again w v m p at r e ok found number entered answered =
+    let c = w.controllers in
+    let s = shop_shown c in
+    subst (λ b. Agrees (worker_moved c v (step_by v m p at None (Some e))) (cond b (shop.sends (reply.Taken r.id) (taken r.id s) (shop.ToSubmit r.id)) (shop.sends (reply.Again r.id) s (shop.ToSubmit r.id))))
+    (sym (ap (λ o. is_away (phase_shown (is_out r) o)) entered ∙ (phase_of_entry (is_out r) e).away))
+    (record {
+      word = ap (λ n. Did (reply.Again n)) (sym number);
+      next = ap shop_shown (stored_same w v.name v ok found);
+      sent = answered ∙ ap (λ n. Some (shop.ToSubmit n)) (sym number);
+    })
+
+-- ---- a part of which there is none
+
+entry_behind : (entries : List Entry) (p : Copied) (at : ℕ) → worker.entry_of entries p.spawn_id ≡ None → worker.entry_of (entries ++ worker.new_entry p at ∷ []) p.spawn_id ≡ Some (worker.new_entry p at)
+entry_behind entries p at missing =
+    let new = worker.new_entry p at in
+    find-append (worker.is_of p.spawn_id) entries (new ∷ []) ∙ ap (λ o. option_or o (worker.entry_of (new ∷ []) p.spawn_id)) missing
+    ∙ ap (λ b. cond b (Some new) None) (eq-eqb p.spawn_id p.spawn_id refl)
+
+entry_before : (entries : List Entry) (p : Copied) (at t : ℕ) → (t == p.spawn_id) ≡ false → worker.entry_of (entries ++ worker.new_entry p at ∷ []) t ≡ worker.entry_of entries t
+entry_before entries p at t other =
+    let new = worker.new_entry p at in
+    let away : (p.spawn_id == t) ≡ false = ne_eqb p.spawn_id t (λ same. eqb-false t p.spawn_id other (sym same)) in
+    find-append (worker.is_of t) entries (new ∷ []) ∙ ap (λ b. option_or (worker.entry_of entries t) (cond b (Some new) None)) away ∙ or_nothing (worker.entry_of entries t)
+  where
+    or_nothing : {X : Type 0} (o : Option X) → option_or o None ≡ o
+    or_nothing None = refl
+    or_nothing (Some x) = refl
+
+-- its spawn is out, since what was put in has an entry
+out_still : (c : Controllers) (r : SpawnRec) → HasComeBack c r → entry_for c r ≡ None → is_out r ≡ true
+out_still c r back missing =
+    split (is_out r)
+    (λ out. out)
+    (λ isn't. let ended = and_found _ (entry_for c r) (back isn't) in none_there ended.0 (entry_for c r) ended.1 missing)
+  where
+    none_there : {X P : Type 0} (x : X) (o : Option X) → o ≡ Some x → o ≡ None → P
+    none_there x o a b = cc
+
+-- the rows that the spawn holds are in its part as the master sees them
+part_as_seen : (c : Controllers) (p : Copied) (r : SpawnRec) (x : List ℕ) → master.IsKept c.master → master.record_of c.master.records p.spawn_id ≡ Some r → is_out r ≡ true → p ≡ part_for c.master.ticket r → entry_for c r ≡ None → master.holder c.master x ≡ Some (Spawn p.spawn_id)
+    → part_row p x ≡ row_at c x (master.holder c.master x)
+part_as_seen c p r x ok found out made missing held =
+    let t = c.master.ticket in
+    let place = placed (master.is_of p.spawn_id) c.master.records r found in
+    let claimed = held_claimed c.master p.spawn_id r x ok found held in
+    let none : entry_of_spawn c p.spawn_id ≡ None = ap (option_and_then (entry_for c)) found ∙ missing in
+    ap (λ (q : Copied). part_row q x) made
+    ∙ (part_shows_claim t r ok.valid (ok.apart.good place.place r place.there out) x claimed.0 claimed.1 claimed.2).0
+    ∙ sym (ap (row_at c x) held ∙ ap (λ o. option_map_or (λ (e : Entry). part_row e.part x) o (seen_shown c x)) none)
+
+newly_taken : (w : State) (v : worker.Known) (m : Message) (p : Copied) (at : ℕ) (r : SpawnRec) → IsKept w → worker_of w.controllers.workers v.name ≡ Some v → master.record_of w.controllers.master.records p.spawn_id ≡ Some r → r.worker ≡ v.name
+    → (is_out r ≡ true → p ≡ part_for w.controllers.master.ticket r) → worker.entry_of v.entries p.spawn_id ≡ None → entry_for w.controllers r ≡ None → option_map tag_of (taken_answer m at v) ≡ Some (shop.ToSubmit p.spawn_id)
+    → Agrees (worker_moved w.controllers v (step_by v m p at None None)) (shop.submit_comes (shop_shown w.controllers) (spawn_shown w.controllers r))
+newly_taken w v m p at r ok found recorded named made missing none answered =
+    let c = w.controllers in
+    let s = shop_shown c in
+    let new = worker.new_entry p at in
+    let next : worker.Known = record v { entries = v.entries ++ new ∷ [] } in
+    let number = number_is c.master.records p.spawn_id r recorded in
+    let out = out_still c r (found_holds (HasComeBack c) (master.is_of p.spawn_id) c.master.records r recorded ok.back) none in
+    let stored : HasStored c v.name p.spawn_id next new r =
+    record {
+      old = v;
+      found = found;
+      own = refl;
+      others = entry_before v.entries p at;
+      stored = entry_behind v.entries p at missing;
+      recorded = recorded;
+      named = named;
+      numbered = ok.master.numbered;
+    } in
+    subst (λ b. Agrees (worker_moved c v (step_by v m p at None None)) (cond b (shop.sends (reply.Taken r.id) (taken r.id s) (shop.ToSubmit r.id)) (shop.sends (reply.Again r.id) s (shop.ToSubmit r.id))))
+    (sym (phase_away (is_out r) (entry_for c r) none out))
+    (record {
+      word = ap (λ n. Did (reply.Taken n)) (sym number);
+      next =
+          same_shop _ _
+          (record {
+            master = refl;
+            workers = refl;
+            job = refl;
+            tree = refl;
+            seen = λ x. refl;
+            now = λ x. row_stored c v.name p.spawn_id next new r stored (λ o. o) x (master.holder c.master x) (part_as_seen c p r x ok.master recorded out (made out) none) (λ not_own. refl);
+            holder = λ x. refl;
+            spawns = spawns_stored c v.name p.spawn_id next new r Open stored (ap (λ b. phase_shown b (Some new)) out)
+                ∙ ap (λ n. in_phase Open n (map (spawn_shown c) c.master.records)) (sym number);
+          });
+      sent = answered ∙ ap (λ n. Some (shop.ToSubmit n)) (sym number);
+    })
+
+-- ---- the step
+
+same_part : (p q : Copied) → Submit p ≡ Submit q → p ≡ q
+same_part p q e = cc
+
+pub part_is_taken : (w : State) (v : worker.Known) (sender : List ℕ) (sent : ℕ) (p : Copied) (at : ℕ) → IsKept w → worker_of w.controllers.workers v.name ≡ Some v
+    → Contains w.messages (record { sender = sender; receiver = v.name; at = sent; body = Submit p })
+    → StepsAgree (Ok (worker_moved w.controllers v (taken_by_worker (record { sender = sender; receiver = v.name; at = sent; body = Submit p }) at v))) (shop.message_comes at (shop_shown w.controllers) (shop.Submit p.spawn_id))
+part_is_taken w v sender sent p at ok found there =
+    let c = w.controllers in
+    let plain = shop_shown c in
+    let m = part_sent sender v sent p in
+    let h = All-contains (IsInOrder c) w.messages m ok.messages.each there in
+    let r = h.spawn in
+    let own = worker.entry_of v.entries p.spawn_id in
+    let number = number_is c.master.records p.spawn_id r h.recorded in
+    let knows = found_holds (λ (u : worker.Known). u.master ≡ c.master.name) (is_named v.name) c.workers v found ok.known in
+    let entered : entry_for c r ≡ own =
+    ap (λ n. entry_at c.workers n r.id) (sym h.to) ∙ ap (entry_at c.workers v.name) number ∙ ap (option_and_then (λ (u : worker.Known). worker.entry_of u.entries p.spawn_id)) found in
+    let made = λ (out : is_out r ≡ true). same_part p (part_for c.master.ticket r) (ap (λ (n : Message). n.body) (h.says out)) in
+    subst (StepsAgree (Ok (worker_moved c v (taken_by_worker m at v))))
+    (sym (ap (λ o. option_map_or (λ a. Ok (shop.submit_comes plain a)) o (Err NoMessage)) (spawn_found c p.spawn_id ∙ ap (option_map (spawn_shown c)) h.recorded)))
+    (subst (λ why. Agrees (worker_moved c v (step_by v m p at why own)) (shop.submit_comes plain (spawn_shown c r))) (sym (worker_refuses_nothing c v m found refl knows refl h))
+    (split_some own
+    (λ e has. subst (λ o. Agrees (worker_moved c v (step_by v m p at None o)) (shop.submit_comes plain (spawn_shown c r))) (sym has) (taken_again w v m p at r e ok found number (entered ∙ has) refl))
+    (λ missing. subst (λ o. Agrees (worker_moved c v (step_by v m p at None o)) (shop.submit_comes plain (spawn_shown c r))) (sym missing) (newly_taken w v m p at r ok found h.recorded (sym h.to) made missing (entered ∙ missing) refl))))

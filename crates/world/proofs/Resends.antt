@@ -1,0 +1,61 @@
+-- A part that is sent once more: the controllers' step and the shop's agree.
+use Rattle.std.proofs.Common.{◌≡◌, ◌∙◌, ℕ, Bool, true, false, cond, Option, Some, None, refl, sym, ap, subst}
+use Rattle.std.specs.Option.{option_map, option_map_or}
+use Rattle.ticket_items.specs.declared.refusal.Refusal.TheVariants.{NotOut}
+use Rattle.ticket_rows.specs.Ticket.{unless}
+use Rattle.message_items.specs.declared.reply.Reply.TheVariants as reply
+use Rattle.spawn.specs.Records as records
+use Rattle.spawn.specs.declared.records.spawn_rec.SpawnRec.{SpawnRec}
+use Rattle.master_core.proofs.Recorded.{number_is}
+use Rattle.master_core.specs.Master.{is_spawn_out, record_of}
+use Rattle.master_core.specs.Orders.{submit_of}
+use Rattle.master_core.specs.declared.order.Order.TheVariants as order
+use Rattle.worker_core.specs.Worker as worker
+use Rattle.worker_core.specs.declared.entry.Entry.{Entry}
+use Rattle.world.proofs.Agreeing.{Agrees}
+use Rattle.world.proofs.Cases.{found_made}
+use Rattle.world.specs.Controllers.{Controllers}
+use Rattle.world.specs.Messages.{entry_for}
+use Rattle.world.specs.Shop.{Done, Open, has_number, is_out, spawn_of}
+use Rattle.world.specs.ShopSteps.{Submit, master_does, sends, unless_refused}
+use Rattle.world.specs.Showing.{phase_shown, shop_shown, spawn_shown}
+use Rattle.world.specs.State.{IsKept, State}
+use Rattle.world.specs.Stepping.{master_moved, ordered_master, refused}
+use Rattle.world.specs.declared.word.Word.TheVariants.{Did}
+
+-- ---- by the master
+
+-- a spawn is shown as out just if its record is
+out_either : (b : Bool) → is_out (cond b Open Done) ≡ true
+out_either true = refl
+out_either false = refl
+
+out_shown : (out : Bool) (entry : Option Entry) → is_out (phase_shown out entry) ≡ out
+out_shown false entry = refl
+out_shown true None = refl
+out_shown true (Some e) = out_either (worker.is_open e)
+
+-- the spawn of a number is that of its record
+pub spawn_found : (c : Controllers) (s : ℕ) → spawn_of s (shop_shown c) ≡ option_map (spawn_shown c) (record_of c.master.records s)
+spawn_found c s = found_made (has_number s) (spawn_shown c) c.master.records
+
+record_resent : (w : State) (s at : ℕ) (o : Option SpawnRec) (out : Bool) → record_of w.controllers.master.records s ≡ o → option_map_or records.is_out o false ≡ out
+    → Agrees
+    (master_moved w.controllers (option_map_or (λ e. refused e w.controllers.master) (unless out NotOut) (record { word = Did (reply.Sent s); next = w.controllers.master; sent = option_map (submit_of w.controllers.master.name w.controllers.master.ticket) o })))
+    (unless_refused (unless out NotOut) (shop_shown w.controllers) (sends (reply.Sent s) (shop_shown w.controllers) (Submit s)))
+record_resent w s at None true found is = cc
+record_resent w s at None false found is = record { word = refl; next = refl; sent = refl }
+record_resent w s at (Some r) true found is = record { word = refl; next = refl; sent = ap (λ n. Some (Submit n)) (number_is w.controllers.master.records s r found) }
+record_resent w s at (Some r) false found is = record { word = refl; next = refl; sent = refl }
+
+out_so : (c : Controllers) (o : Option SpawnRec) → option_map_or (λ a. is_out a.phase) (option_map (spawn_shown c) o) false ≡ option_map_or records.is_out o false
+out_so c None = refl
+out_so c (Some r) = out_shown (records.is_out r) (entry_for c r)
+
+pub master_resends : (w : State) (s at : ℕ) → IsKept w → Agrees (master_moved w.controllers (ordered_master (order.Resend s) at w.controllers.master)) (master_does (order.Resend s) at (shop_shown w.controllers))
+master_resends w s at ok =
+    let c = w.controllers in
+    let p = shop_shown c in
+    let same : option_map_or (λ a. is_out a.phase) (spawn_of s p) false ≡ is_spawn_out c.master.records s = ap (λ o. option_map_or (λ a. is_out a.phase) o false) (spawn_found c s) ∙ out_so c (record_of c.master.records s) in
+    subst (λ b. Agrees (master_moved c (ordered_master (order.Resend s) at c.master)) (unless_refused (unless b NotOut) p (sends (reply.Sent s) p (Submit s)))) (sym same)
+    (record_resent w s at (record_of c.master.records s) (is_spawn_out c.master.records s) refl refl)
