@@ -42,5 +42,6 @@ pub mod MasterSpawns
 pub mod Resends
 pub mod WorkerResends
 pub mod PartsTaken
+pub mod PartsPutIn
 pub mod Events
 pub mod Replayed

@@ -196,7 +196,7 @@ abbrev told_of : Controllers → List ℕ → List ℕ → List (List ℕ) → �
 told_of c n worker rw at = spawned_audit (next c n worker rw) at (shop_shown c)
 
 -- a row with it
-abbrev with_told : Audit → Row → Row
+abbrev pub with_told : Audit → Row → Row
 with_told a r = record r { audits = r.audits ++ a ∷ [] }
 
 -- ---- the audit
@@ -220,14 +220,14 @@ audit_shown c n worker copies at s =
 -- ---- rows, point by point
 
 -- it is told at the parent
-told_there : (tree : List Place) (n u : List ℕ) (a : Audit) (rows : Rows) (x : List ℕ) → up (nodes_in tree) n ≡ Some u → told_above tree n a rows x ≡ touch u (with_told a) rows x
+pub told_there : (tree : List Place) (n u : List ℕ) (a : Audit) (rows : Rows) (x : List ℕ) → up (nodes_in tree) n ≡ Some u → told_above tree n a rows x ≡ touch u (with_told a) rows x
 told_there tree n u a rows x above = ap (λ o. option_map_or (λ v. touch v (with_told a) rows) o rows x) above
 
 -- what is told of the same rows is the same, and what isn't the parent's stays
-told_as : (tree : List Place) (n u : List ℕ) (a : Audit) (rows others : Rows) (x : List ℕ) → up (nodes_in tree) n ≡ Some u → rows x ≡ others x → told_above tree n a rows x ≡ told_above tree n a others x
+pub told_as : (tree : List Place) (n u : List ℕ) (a : Audit) (rows others : Rows) (x : List ℕ) → up (nodes_in tree) n ≡ Some u → rows x ≡ others x → told_above tree n a rows x ≡ told_above tree n a others x
 told_as tree n u a rows others x above same = told_there tree n u a rows x above ∙ touch_as u (with_told a) rows others x same ∙ sym (told_there tree n u a others x above)
 
-told_stays : (tree : List Place) (n u : List ℕ) (a : Audit) (rows : Rows) (x : List ℕ) → up (nodes_in tree) n ≡ Some u → bytes_eq u x ≡ false → told_above tree n a rows x ≡ rows x
+pub told_stays : (tree : List Place) (n u : List ℕ) (a : Audit) (rows : Rows) (x : List ℕ) → up (nodes_in tree) n ≡ Some u → bytes_eq u x ≡ false → told_above tree n a rows x ≡ rows x
 told_stays tree n u a rows x above other = told_there tree n u a rows x above ∙ untouched u (with_told a) rows x other
 
 seen_after : (c : Controllers) (n worker : List ℕ) (rw : List (List ℕ)) (at : ℕ) (x : List ℕ) → IsSent c n worker rw at

@@ -1,0 +1,208 @@
+-- A part that comes back to the master: its step and the shop's agree.
+use Rattle.std.proofs.Common.{◌≡◌, ◌==◌, ◌∙◌, ◌&&◌, ℕ, Bool, true, false, cond, not, List, [], ◌∷◌, ◌++◌, map, Option, Some, None, is_some, Ok, Err, refl, sym, ap, subst}
+use Rattle.std.proofs.lemmas.Bool.{true≢false}
+use Rattle.std.proofs.lemmas.List.Elements.{All-contains}
+use Rattle.std.proofs.lemmas.Slice.Eq.{bytes_eq-Decides}
+use Rattle.std.specs.List.{Contains}
+use Rattle.std.specs.Option.{option_and_then, option_map, option_map_or}
+use Rattle.std.specs.Str.{bytes_eq}
+use Rattle.ticket_items.specs.SpawnId.{spawn_text}
+use Rattle.ticket_items.specs.declared.audit.Audit.{Audit}
+use Rattle.ticket_items.specs.declared.refusal.Refusal.{Refusal}
+use Rattle.ticket_rows.specs.Place.{Place, Row, node_places, place_at, places, row_in, up}
+use Rattle.ticket_rows.specs.Ticket.{IsValid}
+use Rattle.ticket_tree.specs.Part.{Copied}
+use Rattle.ticket_tree.specs.PartView.{part_row}
+use Rattle.ticket_tree.specs.PlainEdit.{touch}
+use Rattle.message_items.specs.Reply.{refused_or}
+use Rattle.message_items.specs.declared.body.Body.TheVariants.{Return}
+use Rattle.message_items.specs.declared.message.Message.{Message}
+use Rattle.message_items.specs.declared.reply.Reply.TheVariants as reply
+use Rattle.spawn.proofs.Lawful.{parent_is_masters, placed}
+use Rattle.spawn.proofs.Outside.{some_of}
+use Rattle.spawn.specs.Claim.{is_claimed}
+use Rattle.spawn.specs.Records.{IsGood, is_out}
+use Rattle.spawn.specs.Spawning.{parent_of}
+use Rattle.spawn.specs.Table.{holder_of}
+use Rattle.spawn.specs.declared.records.spawn_rec.SpawnRec.{SpawnRec}
+use Rattle.spawn.specs.declared.tables.holder.Holder.{Holder}
+use Rattle.spawn.specs.declared.tables.holder.Holder.TheVariants as held_by
+use Rattle.merge.proofs.MergedHolders.{merge_keeps_others, merged_claim_is_masters}
+use Rattle.merge.proofs.PutPlaces.{put_of_places}
+use Rattle.merge.proofs.PutRows.{put_of_rows}
+use Rattle.merge.specs.PlainPut.{merged_rows}
+use Rattle.merge.specs.Put as putting
+use Rattle.merge.specs.Shape.{Fits}
+use Rattle.master_core.proofs.Recorded.{found_merged, merged_at_place, merged_if, number_is}
+use Rattle.master_core.specs.Master as master
+use Rattle.master_core.specs.Messages as master_messages
+use Rattle.worker_core.specs.Worker as worker
+use Rattle.worker_core.specs.declared.entry.Entry.{Entry}
+use Rattle.world.proofs.Agreeing.{Agrees}
+use Rattle.world.proofs.Cases.{split, when_false, when_true}
+use Rattle.world.proofs.Doors.{master_refuses_nothing, return_fits}
+use Rattle.world.proofs.HeldBySpawn.{good_record, held_claims, held_spawn}
+use Rattle.world.proofs.MasterEdits.{touch_as}
+use Rattle.world.proofs.MasterSpawns.{told_as, told_stays, told_there, with_told}
+use Rattle.world.proofs.MasterSteps.{with_master}
+use Rattle.world.proofs.PartHolds.{claims}
+use Rattle.world.proofs.Replaying.{StepsAgree}
+use Rattle.world.proofs.Resends.{spawn_found}
+use Rattle.world.proofs.ShopPaths.{same_shop}
+use Rattle.world.proofs.Stored.{and_found}
+use Rattle.world.proofs.TakenSpawns.{phase_of_entry}
+use Rattle.world.specs.Controllers.{Controllers}
+use Rattle.world.specs.Messages.{IsInOrder, entry_for}
+use Rattle.world.specs.Shop as plain
+use Rattle.world.specs.Shop.{Shop, SpawnState, has_number}
+use Rattle.world.specs.ShopActs as acts
+use Rattle.world.specs.ShopSteps as shop
+use Rattle.world.specs.Showing.{entry_of_spawn, now_shown, row_at, seen_shown, shop_shown, spawn_shown, tag_of}
+use Rattle.world.specs.State.{IsKept, State}
+use Rattle.world.specs.Stepping.{Moved, master_moved, taken_by_master, word_of}
+use Rattle.world.specs.declared.word.Word.TheVariants.{Did, NoMessage}
+
+-- ---- what is put in
+
+-- the part of a spawn that is out comes back as its entry has it, and fits
+record ComesBack (c : Controllers) (r : SpawnRec) (p : Copied) : Type 0 where
+  kept : master.IsKept c.master
+  recorded : master.record_of c.master.records r.id ≡ Some r
+  out : is_out r ≡ true
+  fits : Fits c.master.ticket r p
+  entry : Entry
+  entered : entry_for c r ≡ Some entry
+  part : entry.part ≡ p
+  above : List ℕ
+  is_above : up (node_places c.master.ticket.rows) r.node ≡ Some above
+
+good_of : (c : Controllers) (r : SpawnRec) (p : Copied) → ComesBack c r p → IsGood c.master.ticket.rows r
+good_of c r p h = good_record c.master r.id r h.kept h.recorded h.out
+
+parent_is : (c : Controllers) (r : SpawnRec) (p : Copied) → (h : ComesBack c r p) → parent_of c.master.ticket.rows r.node ≡ h.above
+parent_is c r p h = ap (λ o. option_map_or (λ u. u) o []) h.is_above
+
+-- the controllers once it is put in
+abbrev back_in : Controllers → SpawnRec → Copied → ℕ → Controllers
+back_in c r p at = with_master c (master_messages.merged p at c.master r)
+
+-- the audit that tells of it
+abbrev told_of : Controllers → SpawnRec → ℕ → Audit
+told_of c r at = acts.merged_audit (spawn_shown c r) at
+
+-- whether the spawn holds what has an id
+abbrev holds_it : Controllers → SpawnRec → List ℕ → Bool
+holds_it c r x = acts.is_held_by r.id (master.holder c.master) x
+
+holds_claim : (c : Controllers) (r : SpawnRec) (p : Copied) (x : List ℕ) → ComesBack c r p → holds_it c r x ≡ claims c.master.ticket r x
+holds_claim c r p x h = held_claims c.master r.id r x h.kept h.recorded h.out
+
+-- ---- entries and spawns
+
+-- each entry is found as before
+entry_stays : (c : Controllers) (r : SpawnRec) (p : Copied) (at t : ℕ) → entry_of_spawn (back_in c r p at) t ≡ entry_of_spawn c t
+entry_stays c r p at t =
+    ap (option_and_then (entry_for (back_in c r p at))) (found_merged r.id c.master.records t) ∙ by (master.record_of c.master.records t)
+  where
+    either : (b : Bool) (q : SpawnRec) → entry_for (back_in c r p at) (cond b (master.merged_record q) q) ≡ entry_for c q
+    either true q = refl
+    either false q = refl
+
+    by : (o : Option SpawnRec) → option_and_then (entry_for (back_in c r p at)) (option_map (merged_if r.id) o) ≡ option_and_then (entry_for c) o
+    by None = refl
+    by (Some q) = either (master.is_of r.id q) q
+
+spawn_put : (c : Controllers) (r : SpawnRec) (p : Copied) (at : ℕ) (b : Bool) (q : SpawnRec)
+    → spawn_shown (back_in c r p at) (cond b (master.merged_record q) q) ≡ cond b (record (spawn_shown c q) { phase = plain.Merged }) (spawn_shown c q)
+spawn_put c r p at true q = refl
+spawn_put c r p at false q = refl
+
+-- each spawn is shown as before, but that one as merged
+spawns_put : (c : Controllers) (r : SpawnRec) (p : Copied) (at : ℕ) (records : List SpawnRec)
+    → map (spawn_shown (back_in c r p at)) (master.with_merged r.id records) ≡ acts.in_phase plain.Merged r.id (map (spawn_shown c) records)
+spawns_put c r p at [] = refl
+spawns_put c r p at (q ∷ records) =
+    ap (λ a. a ∷ map (spawn_shown (back_in c r p at)) (master.with_merged r.id records)) (spawn_put c r p at (master.is_of r.id q) q)
+    ∙ ap (λ spawns. cond (q.id == r.id) (record (spawn_shown c q) { phase = plain.Merged }) (spawn_shown c q) ∷ spawns) (spawns_put c r p at records)
+
+-- ---- rows that are seen
+
+-- what the spawn holds is now as the part has it
+now_held : (c : Controllers) (r : SpawnRec) (p : Copied) (x : List ℕ) → ComesBack c r p → holds_it c r x ≡ true → now_shown c x ≡ part_row p x
+now_held c r p x h held =
+    ap (row_at c x) (held_spawn r.id (master.holder c.master x) held)
+    ∙ ap (λ o. option_map_or (λ (e : Entry). part_row e.part x) o (seen_shown c x)) (ap (option_and_then (entry_for c)) h.recorded ∙ h.entered)
+    ∙ ap (λ (q : Copied). part_row q x) h.part
+
+rows_put : (c : Controllers) (r : SpawnRec) (p : Copied) (x : List ℕ) → ComesBack c r p → merged_rows c.master.ticket r p x ≡ acts.put_in r.id (shop_shown c) x
+rows_put c r p x h =
+    let claimed = claims c.master.ticket r x in
+    let seen = seen_shown c x in
+    let is = holds_claim c r p x h in
+    split (holds_it c r x)
+    (λ held. when_true claimed (part_row p x) seen (sym is ∙ held) ∙ sym (now_held c r p x h held) ∙ sym (when_true (holds_it c r x) (now_shown c x) seen held))
+    (λ free. when_false claimed (part_row p x) seen (sym is ∙ free) ∙ sym (when_false (holds_it c r x) (now_shown c x) seen free))
+
+seen_put : (c : Controllers) (r : SpawnRec) (p : Copied) (at : ℕ) (x : List ℕ) → ComesBack c r p → seen_shown (back_in c r p at) x ≡ acts.told_above (places c.master.ticket.rows) r.node (told_of c r at) (acts.put_in r.id (shop_shown c)) x
+seen_put c r p at x h =
+    let t = c.master.ticket in
+    put_of_rows t r p at h.kept.valid (good_of c r p h) h.fits x
+    ∙ ap (λ u. touch u (with_told (told_of c r at)) (merged_rows t r p) x) (parent_is c r p h)
+    ∙ touch_as h.above (with_told (told_of c r at)) (merged_rows t r p) (acts.put_in r.id (shop_shown c)) x (rows_put c r p x h)
+    ∙ sym (told_there (places t.rows) r.node h.above (told_of c r at) (acts.put_in r.id (shop_shown c)) x h.is_above)
+
+-- ---- holders
+
+claimed_place : (r : SpawnRec) (o : Option Place) → option_map_or (is_claimed r.node r.rw) o false ≡ true → (q : Place) × (o ≡ Some q) × (is_claimed r.node r.rw q ≡ true)
+claimed_place r None e = absurd (true≢false (sym e))
+claimed_place r (Some q) e = (q, refl, e)
+
+-- the master holds what the spawn held, and all else has the holder that it had
+holder_put : (c : Controllers) (r : SpawnRec) (p : Copied) (at : ℕ) (x : List ℕ) → ComesBack c r p → master.holder (back_in c r p at).master x ≡ acts.given_back r.id (master.holder c.master) x
+holder_put c r p at x h =
+    let m = c.master in
+    let t = m.ticket in
+    let place = placed (master.is_of r.id) m.records r h.recorded in
+    let is = holds_claim c r p x h in
+    ap (λ recs. holder_of (putting.put t r p at).rows recs x) (merged_at_place m.records place.place r h.kept.numbered place.there)
+    ∙ split (holds_it c r x)
+    (λ held.
+        let q = claimed_place r (place_at (places t.rows) x) (sym is ∙ held) in
+        merged_claim_is_masters t m.records place.place r p at h.kept.valid h.kept.apart place.there h.out h.fits x q.0 q.1 q.2
+        ∙ sym (when_true (holds_it c r x) (Some held_by.Master) (master.holder m x) held))
+    (λ free.
+        merge_keeps_others t m.records place.place r p at h.kept.valid h.kept.apart place.there h.out h.fits x (sym is ∙ free)
+        ∙ sym (when_false (holds_it c r x) (Some held_by.Master) (master.holder m x) free))
+
+-- ---- rows now
+
+-- what a spawn holds isn't the parent of the node
+parent_free : (c : Controllers) (r : SpawnRec) (p : Copied) (x : List ℕ) (t : ℕ) → (h : ComesBack c r p) → master.holder c.master x ≡ Some (held_by.Spawn t) → bytes_eq h.above x ≡ false
+parent_free c r p x t h held =
+    let m = c.master in
+    let place = placed (master.is_of r.id) m.records r h.recorded in
+    let masters : master.holder m h.above ≡ Some held_by.Master = ap (master.holder m) (sym (parent_is c r p h)) ∙ parent_is_masters m.ticket.rows m.records h.kept.valid h.kept.apart place.place r place.there h.out in
+    split (bytes_eq h.above x)
+    (λ same. not_both (master.holder m x) (ap (master.holder m) (sym ((bytes_eq-Decides h.above x).0 same)) ∙ masters) held)
+    (λ other. other)
+  where
+    not_both : {P : Type 0} (o : Option Holder) → o ≡ Some held_by.Master → o ≡ Some (held_by.Spawn t) → P
+    not_both o a b = cc
+
+-- what the spawn doesn't hold is now as it was, but for the audit
+now_elsewhere : (c : Controllers) (r : SpawnRec) (p : Copied) (at : ℕ) (x : List ℕ) (o : Option Holder) → ComesBack c r p → holds_it c r x ≡ false → master.holder c.master x ≡ o
+    → row_at (back_in c r p at) x o ≡ acts.told_above (places c.master.ticket.rows) r.node (told_of c r at) (now_shown c) x
+now_elsewhere c r p at x None h free is =
+    let put = when_false (holds_it c r x) (now_shown c x) (seen_shown c x) free in
+    seen_put c r p at x h ∙ told_as (places c.master.ticket.rows) r.node h.above (told_of c r at) (acts.put_in r.id (shop_shown c)) (now_shown c) x h.is_above (put ∙ sym (ap (row_at c x) is))
+now_elsewhere c r p at x (Some held_by.Master) h free is =
+    let put = when_false (holds_it c r x) (now_shown c x) (seen_shown c x) free in
+    seen_put c r p at x h ∙ told_as (places c.master.ticket.rows) r.node h.above (told_of c r at) (acts.put_in r.id (shop_shown c)) (now_shown c) x h.is_above (put ∙ sym (ap (row_at c x) is))
+now_elsewhere c r p at x (Some (held_by.Spawn t)) h free is =
+    let tree = places c.master.ticket.rows in
+    let told = told_of c r at in
+    let put = when_false (holds_it c r x) (now_shown c x) (seen_shown c x) free in
+    let other = parent_free c r p x t h is in
+    ap (λ o. option_map_or (λ (e : Entry). part_row e.part x) o (seen_shown (back_in c r p at) x)) (entry_stays c r p at t)
+    ∙ ap (λ row. option_map_or (λ (e : Entry). part_row e.part x) (entry_of_spawn c t) row) (seen_put c r p at x h ∙ told_stays tree r.node h.above told (acts.put_in r.id (shop_shown c)) x h.is_above other ∙ put)
+    ∙ sym (told_stays tree r.node h.above told (now_shown c) x h.is_above other ∙ ap (row_at c x) is)
