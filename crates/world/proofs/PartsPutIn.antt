@@ -57,7 +57,7 @@ use Rattle.world.specs.Shop as plain
 use Rattle.world.specs.Shop.{Shop, SpawnState, has_number}
 use Rattle.world.specs.ShopActs as acts
 use Rattle.world.specs.ShopSteps as shop
-use Rattle.world.specs.Showing.{entry_of_spawn, now_shown, row_at, seen_shown, shop_shown, spawn_shown, tag_of}
+use Rattle.world.specs.Showing.{entry_of_spawn, now_shown, phase_shown, row_at, seen_shown, shop_shown, spawn_shown, tag_of}
 use Rattle.world.specs.State.{IsKept, State}
 use Rattle.world.specs.Stepping.{Moved, master_moved, taken_by_master, word_of}
 use Rattle.world.specs.declared.word.Word.TheVariants.{Did, NoMessage}
@@ -206,3 +206,113 @@ now_elsewhere c r p at x (Some (held_by.Spawn t)) h free is =
     ap (λ o. option_map_or (λ (e : Entry). part_row e.part x) o (seen_shown (back_in c r p at) x)) (entry_stays c r p at t)
     ∙ ap (λ row. option_map_or (λ (e : Entry). part_row e.part x) (entry_of_spawn c t) row) (seen_put c r p at x h ∙ told_stays tree r.node h.above told (acts.put_in r.id (shop_shown c)) x h.is_above other ∙ put)
     ∙ sym (told_stays tree r.node h.above told (now_shown c) x h.is_above other ∙ ap (row_at c x) is)
+
+now_put : (c : Controllers) (r : SpawnRec) (p : Copied) (at : ℕ) (x : List ℕ) → ComesBack c r p → now_shown (back_in c r p at) x ≡ acts.told_above (places c.master.ticket.rows) r.node (told_of c r at) (now_shown c) x
+now_put c r p at x h =
+    let d = back_in c r p at in
+    let o = master.holder c.master x in
+    ap (row_at d x) (holder_put c r p at x h)
+    ∙ split (holds_it c r x)
+    (λ held.
+        ap (row_at d x) (when_true (holds_it c r x) (Some held_by.Master) o held) ∙ seen_put c r p at x h
+        ∙ told_as (places c.master.ticket.rows) r.node h.above (told_of c r at) (acts.put_in r.id (shop_shown c)) (now_shown c) x h.is_above (when_true (holds_it c r x) (now_shown c x) (seen_shown c x) held))
+    (λ free. ap (row_at d x) (when_false (holds_it c r x) (Some held_by.Master) o free) ∙ now_elsewhere c r p at x o h free refl)
+
+-- ---- the step
+
+-- the part that is brought back
+abbrev part_returned : List ℕ → List ℕ → ℕ → Copied → Message
+part_returned sender receiver sent p = record { sender = sender; receiver = receiver; at = sent; body = Return p }
+
+-- the master's step, by why the part is refused and by the record of its spawn
+abbrev step_by : master.Known → Message → Copied → ℕ → Option Refusal → Option SpawnRec → Moved master.Known Message
+step_by m message p at why o =
+    record {
+      word = word_of (refused_or why (cond (option_map_or is_out o false) (reply.Merged p.spawn_id) (reply.Already p.spawn_id)));
+      next = cond (is_some why) m (option_map_or (λ r. cond (is_out r) (master_messages.merged p at m r) m) o m);
+      sent = master_messages.taken_answer message at m;
+    }
+
+-- the step on one that isn't refused, by whether its spawn is out
+abbrev step_on : master.Known → Message → Copied → ℕ → SpawnRec → Bool → Moved master.Known Message
+step_on m message p at r out =
+    record {
+      word = Did (cond out (reply.Merged p.spawn_id) (reply.Already p.spawn_id));
+      next = cond out (master_messages.merged p at m r) m;
+      sent = master_messages.taken_answer message at m;
+    }
+
+same_part : (p q : Copied) → Return p ≡ Return q → p ≡ q
+same_part p q e = cc
+
+back_by : (out : Bool) (c : Controllers) (message : Message) (p : Copied) (at : ℕ) (r : SpawnRec) → r.id ≡ p.spawn_id → (out ≡ true → ComesBack c r p) → option_map tag_of (master_messages.taken_answer message at c.master) ≡ Some (shop.ToReturn p.spawn_id)
+    → Agrees (master_moved c (step_on c.master message p at r out)) (cond out (shop.sends (reply.Merged r.id) (acts.merged at (spawn_shown c r) (shop_shown c)) (shop.ToReturn r.id)) (shop.sends (reply.Already r.id) (shop_shown c) (shop.ToReturn r.id)))
+back_by true c message p at r number back answered =
+    let h = back refl in
+    record {
+      word = ap (λ n. Did (reply.Merged n)) (sym number);
+      next =
+          same_shop _ _
+          (record {
+            master = refl;
+            workers = refl;
+            job = refl;
+            tree = put_of_places c.master.ticket r p at h.kept.valid (good_of c r p h) h.fits;
+            seen = λ x. seen_put c r p at x h;
+            now = λ x. now_put c r p at x h;
+            holder = λ x. holder_put c r p at x h;
+            spawns = spawns_put c r p at c.master.records;
+          });
+      sent = answered ∙ ap (λ n. Some (shop.ToReturn n)) (sym number);
+    }
+back_by false c message p at r number back answered =
+    record { word = ap (λ n. Did (reply.Already n)) (sym number); next = refl; sent = answered ∙ ap (λ n. Some (shop.ToReturn n)) (sym number) }
+
+and_all : (b : Bool) → (b && true) ≡ b
+and_all true = refl
+and_all false = refl
+
+-- what comes back is as its entry has it, on which the work has ended
+comes_back : (w : State) (sender receiver : List ℕ) (sent : ℕ) (p : Copied) → IsKept w → (h : IsInOrder w.controllers (part_returned sender receiver sent p)) → is_out h.spawn ≡ true → ComesBack w.controllers h.spawn p
+comes_back w sender receiver sent p ok h out =
+    let c = w.controllers in
+    let r = h.spawn in
+    let number = number_is c.master.records p.spawn_id r h.recorded in
+    let recorded : master.record_of c.master.records r.id ≡ Some r = ap (master.record_of c.master.records) number ∙ h.recorded in
+    let ended = and_found _ (entry_for c r) h.says in
+    let above = some_of (up (node_places c.master.ticket.rows) r.node) (good_record c.master r.id r ok.master recorded out).has_parent in
+    record {
+      kept = ok.master;
+      recorded = recorded;
+      out = out;
+      fits = return_fits c p sender receiver sent ok.recorded h out;
+      entry = ended.0;
+      entered = ended.1;
+      part = sym (same_part p ended.0.part (ap (λ (m : Message). m.body) ended.2.1));
+      above = above.0;
+      is_above = above.1;
+    }
+
+-- its spawn is shown as finished while it is out
+done_shown : (c : Controllers) (r : SpawnRec) (e : Entry) → entry_for c r ≡ Some e → worker.is_open e ≡ false → plain.is_done (spawn_shown c r).phase ≡ is_out r
+done_shown c r e found ended =
+    ap (λ o. plain.is_done (phase_shown (is_out r) o)) found ∙ (phase_of_entry (is_out r) e).done_so ∙ ap (λ b. is_out r && not b) ended ∙ and_all (is_out r)
+
+pub part_is_put_in : (w : State) (sender receiver : List ℕ) (sent : ℕ) (p : Copied) (at : ℕ) → IsKept w → Contains w.messages (record { sender = sender; receiver = receiver; at = sent; body = Return p })
+    → StepsAgree (Ok (master_moved w.controllers (taken_by_master (record { sender = sender; receiver = receiver; at = sent; body = Return p }) at w.controllers.master))) (shop.message_comes at (shop_shown w.controllers) (shop.Return p.spawn_id))
+part_is_put_in w sender receiver sent p at ok there =
+    let c = w.controllers in
+    let s = shop_shown c in
+    let m = part_returned sender receiver sent p in
+    let h = All-contains (IsInOrder c) w.messages m ok.messages.each there in
+    let r = h.spawn in
+    let number = number_is c.master.records p.spawn_id r h.recorded in
+    let ended = and_found _ (entry_for c r) h.says in
+    let merges = shop.sends (reply.Merged r.id) (acts.merged at (spawn_shown c r) s) (shop.ToReturn r.id) in
+    let again = shop.sends (reply.Already r.id) s (shop.ToReturn r.id) in
+    subst (StepsAgree (Ok (master_moved c (taken_by_master m at c.master))))
+    (sym (ap (λ o. option_map_or (λ a. Ok (shop.return_comes at s a)) o (Err NoMessage)) (spawn_found c p.spawn_id ∙ ap (option_map (spawn_shown c)) h.recorded)))
+    (subst (λ why. Agrees (master_moved c (step_by c.master m p at why (master.record_of c.master.records p.spawn_id))) (shop.return_comes at s (spawn_shown c r))) (sym (master_refuses_nothing c m ok.recorded refl h))
+    (subst (λ o. Agrees (master_moved c (step_by c.master m p at None o)) (shop.return_comes at s (spawn_shown c r))) (sym h.recorded)
+    (subst (λ b. Agrees (master_moved c (step_on c.master m p at r (is_out r))) (cond b merges again)) (sym (done_shown c r ended.0 ended.1 ended.2.0))
+    (back_by (is_out r) c m p at r number (comes_back w sender receiver sent p ok h) refl))))
