@@ -22,6 +22,7 @@ use Rattle.world.proofs.AlwaysKept.{message_there}
 use Rattle.world.proofs.AnswersCome.{return_is_answered, submit_is_answered}
 use Rattle.world.proofs.MasterEdits.{master_edits}
 use Rattle.world.proofs.MasterSpawns.{master_spawns}
+use Rattle.world.proofs.PartsPutIn.{part_is_put_in}
 use Rattle.world.proofs.PartsTaken.{part_is_taken}
 use Rattle.world.proofs.Receivers.{IsReceived, master_receives, worker_receives}
 use Rattle.world.proofs.Replaying.{StepsAgree, StepsAreReplayed, event_is_replayed_by, events_are_replayed_by}
@@ -52,12 +53,6 @@ MasterAgrees w o at = Agrees (master_moved w.controllers (ordered_master o at w.
 -- an order of the worker of a name
 abbrev pub WorkerAgrees : State → List ℕ → worker.Known → worker_order.Order → ℕ → Type 0
 WorkerAgrees w name v o at = Agrees (worker_moved w.controllers v (ordered_worker o at v)) (shop.worker_does name o at (shop_shown w.controllers))
-
--- a part that comes back to the master
-abbrev pub PartIsPutIn : Type 0
-PartIsPutIn =
-    (w : State) (sender receiver : List ℕ) (sent : ℕ) (p : Copied) (at : ℕ) → IsKept w → Contains w.messages (record { sender = sender; receiver = receiver; at = sent; body = Return p })
-    → StepsAgree (Ok (master_moved w.controllers (taken_by_master (record { sender = sender; receiver = receiver; at = sent; body = Return p }) at w.controllers.master))) (shop.message_comes at (shop_shown w.controllers) (shop.Return p.spawn_id))
 
 -- ---- who receives a message
 
@@ -91,49 +86,48 @@ worker_agrees (to_worker.Edit s e) w name v at ok found = by_name w name v (to_w
 worker_agrees (to_worker.Finish s how) w name v at ok found = by_name w name v (to_worker.Finish s how) at found (worker_finishes w v s how at ok)
 worker_agrees (to_worker.Resend s) w name v at ok found = worker_resends w name v s at ok found
 
-module _ (part_is_put_in : PartIsPutIn) where
-  found_agrees : (o : worker_order.Order) (w : State) (name : List ℕ) (at : ℕ) (found : Option worker.Known) (known : Bool) → IsKept w → worker_of w.controllers.workers name ≡ found → is_some found ≡ known
-      → StepsAgree (option_map_or (λ v. Ok (worker_moved w.controllers v (ordered_worker o at v))) found (Err (Refused UnknownWorker))) (cond known (Ok (shop.worker_does name o at (shop_shown w.controllers))) (Err (Refused UnknownWorker)))
-  found_agrees o w name at None true ok is there = cc
-  found_agrees o w name at None false ok is there = refl
-  found_agrees o w name at (Some v) true ok is there = worker_agrees o w name v at ok is
-  found_agrees o w name at (Some v) false ok is there = cc
+found_agrees : (o : worker_order.Order) (w : State) (name : List ℕ) (at : ℕ) (found : Option worker.Known) (known : Bool) → IsKept w → worker_of w.controllers.workers name ≡ found → is_some found ≡ known
+    → StepsAgree (option_map_or (λ v. Ok (worker_moved w.controllers v (ordered_worker o at v))) found (Err (Refused UnknownWorker))) (cond known (Ok (shop.worker_does name o at (shop_shown w.controllers))) (Err (Refused UnknownWorker)))
+found_agrees o w name at None true ok is there = cc
+found_agrees o w name at None false ok is there = refl
+found_agrees o w name at (Some v) true ok is there = worker_agrees o w name v at ok is
+found_agrees o w name at (Some v) false ok is there = cc
 
-  message_agrees : (w : State) (sender receiver : List ℕ) (sent : ℕ) (body : Body) (at : ℕ) → IsKept w → Contains w.messages (record { sender = sender; receiver = receiver; at = sent; body = body }) → IsInOrder w.controllers (record { sender = sender; receiver = receiver; at = sent; body = body })
-      → StepsAgree (world.receiver_takes at w (record { sender = sender; receiver = receiver; at = sent; body = body })) (shop.message_comes at (shop_shown w.controllers) (tag_in body))
-  message_agrees w sender receiver sent (Submit p) at ok there h =
-      let m : Message = record { sender = sender; receiver = receiver; at = sent; body = Submit p } in
-      let is = worker_receives w m ok h refl in
-      by_worker w m at _ is
-      (subst (λ n. StepsAgree (Ok (worker_moved w.controllers is.by (taken_by_worker (record m { receiver = n }) at is.by))) (shop.message_comes at (shop_shown w.controllers) (shop.Submit p.spawn_id))) is.named
-      (part_is_taken w is.by sender sent p at ok (ap (worker_of w.controllers.workers) is.named ∙ is.found) (subst (λ n. Contains w.messages (record m { receiver = n })) (sym is.named) there)))
-  message_agrees w sender receiver sent (Return p) at ok there h =
-      let m : Message = record { sender = sender; receiver = receiver; at = sent; body = Return p } in
-      by_master w m at _ (master_receives w m h refl) (part_is_put_in w sender receiver sent p at ok there)
-  message_agrees w sender receiver sent (Answer command.Submit s told) at ok there h =
-      let m : Message = record { sender = sender; receiver = receiver; at = sent; body = Answer command.Submit s told } in
-      by_master w m at _ (master_receives w m h refl) (submit_is_answered w sender receiver sent s told at ok h)
-  message_agrees w sender receiver sent (Answer command.Return s told) at ok there h =
-      let m : Message = record { sender = sender; receiver = receiver; at = sent; body = Answer command.Return s told } in
-      let is = worker_receives w m ok h refl in
-      by_worker w m at _ is (return_is_answered w is.by sender receiver sent s told at ok is.found is.named is.knows h)
+message_agrees : (w : State) (sender receiver : List ℕ) (sent : ℕ) (body : Body) (at : ℕ) → IsKept w → Contains w.messages (record { sender = sender; receiver = receiver; at = sent; body = body }) → IsInOrder w.controllers (record { sender = sender; receiver = receiver; at = sent; body = body })
+    → StepsAgree (world.receiver_takes at w (record { sender = sender; receiver = receiver; at = sent; body = body })) (shop.message_comes at (shop_shown w.controllers) (tag_in body))
+message_agrees w sender receiver sent (Submit p) at ok there h =
+    let m : Message = record { sender = sender; receiver = receiver; at = sent; body = Submit p } in
+    let is = worker_receives w m ok h refl in
+    by_worker w m at _ is
+    (subst (λ n. StepsAgree (Ok (worker_moved w.controllers is.by (taken_by_worker (record m { receiver = n }) at is.by))) (shop.message_comes at (shop_shown w.controllers) (shop.Submit p.spawn_id))) is.named
+    (part_is_taken w is.by sender sent p at ok (ap (worker_of w.controllers.workers) is.named ∙ is.found) (subst (λ n. Contains w.messages (record m { receiver = n })) (sym is.named) there)))
+message_agrees w sender receiver sent (Return p) at ok there h =
+    let m : Message = record { sender = sender; receiver = receiver; at = sent; body = Return p } in
+    by_master w m at _ (master_receives w m h refl) (part_is_put_in w sender receiver sent p at ok there)
+message_agrees w sender receiver sent (Answer command.Submit s told) at ok there h =
+    let m : Message = record { sender = sender; receiver = receiver; at = sent; body = Answer command.Submit s told } in
+    by_master w m at _ (master_receives w m h refl) (submit_is_answered w sender receiver sent s told at ok h)
+message_agrees w sender receiver sent (Answer command.Return s told) at ok there h =
+    let m : Message = record { sender = sender; receiver = receiver; at = sent; body = Answer command.Return s told } in
+    let is = worker_receives w m ok h refl in
+    by_worker w m at _ is (return_is_answered w is.by sender receiver sent s told at ok is.found is.named is.knows h)
 
-  delivery_agrees : (w : State) (k at : ℕ) (found : Option Message) → IsKept w → message_at w.messages k ≡ found
-      → StepsAgree (option_map_or (world.receiver_takes at w) found (Err NoMessage)) (option_map_or (shop.message_comes at (shop_shown w.controllers)) (option_map tag_of found) (Err NoMessage))
-  delivery_agrees w k at None ok is = refl
-  delivery_agrees w k at (Some m) ok is =
-      let there = message_there w.messages k m is in
-      message_agrees w m.sender m.receiver m.at m.body at ok there (All-contains (IsInOrder w.controllers) w.messages m ok.messages.each there)
+delivery_agrees : (w : State) (k at : ℕ) (found : Option Message) → IsKept w → message_at w.messages k ≡ found
+    → StepsAgree (option_map_or (world.receiver_takes at w) found (Err NoMessage)) (option_map_or (shop.message_comes at (shop_shown w.controllers)) (option_map tag_of found) (Err NoMessage))
+delivery_agrees w k at None ok is = refl
+delivery_agrees w k at (Some m) ok is =
+    let there = message_there w.messages k m is in
+    message_agrees w m.sender m.receiver m.at m.body at ok there (All-contains (IsInOrder w.controllers) w.messages m ok.messages.each there)
 
-  steps_are_replayed : StepsAreReplayed
-  steps_are_replayed w (MasterOrder o) at ok = master_agrees o w at ok
-  steps_are_replayed w (WorkerOrder name o) at ok = found_agrees o w name at (worker_of w.controllers.workers name) (mem name w.controllers.master.workers) ok refl (worker_known w name ok)
-  steps_are_replayed w (Deliver k) at ok =
-      subst (λ o. StepsAgree (world.delivery_step k at w) (option_map_or (shop.message_comes at (shop_shown w.controllers)) o (Err NoMessage))) (sym (tag_at w.messages k)) (delivery_agrees w k at (message_at w.messages k) ok refl)
-  steps_are_replayed w (Restart name) at ok = ap (λ b. cond (bytes_eq name w.controllers.master.name || b) Restarted (Refused UnknownWorker)) (worker_known w name ok)
+steps_are_replayed : StepsAreReplayed
+steps_are_replayed w (MasterOrder o) at ok = master_agrees o w at ok
+steps_are_replayed w (WorkerOrder name o) at ok = found_agrees o w name at (worker_of w.controllers.workers name) (mem name w.controllers.master.workers) ok refl (worker_known w name ok)
+steps_are_replayed w (Deliver k) at ok =
+    subst (λ o. StepsAgree (world.delivery_step k at w) (option_map_or (shop.message_comes at (shop_shown w.controllers)) o (Err NoMessage))) (sym (tag_at w.messages k)) (delivery_agrees w k at (message_at w.messages k) ok refl)
+steps_are_replayed w (Restart name) at ok = ap (λ b. cond (bytes_eq name w.controllers.master.name || b) Restarted (Refused UnknownWorker)) (worker_known w name ok)
 
-  pub event_is_replayed : EventIsReplayed
-  event_is_replayed = event_is_replayed_by steps_are_replayed
+pub event_is_replayed : EventIsReplayed
+event_is_replayed = event_is_replayed_by steps_are_replayed
 
-  pub events_are_replayed : EventsAreReplayed
-  events_are_replayed = events_are_replayed_by event_is_replayed
+pub events_are_replayed : EventsAreReplayed
+events_are_replayed = events_are_replayed_by event_is_replayed
