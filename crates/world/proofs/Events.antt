@@ -7,7 +7,6 @@ use Rattle.std.specs.Option.{option_map, option_map_or}
 use Rattle.std.specs.Str.{bytes_eq}
 use Rattle.ticket_items.specs.Ids.{mem}
 use Rattle.ticket_items.specs.declared.refusal.Refusal.TheVariants.{UnknownWorker}
-use Rattle.ticket_tree.specs.Part.{Copied}
 use Rattle.message_items.specs.declared.body.Body.{Body}
 use Rattle.message_items.specs.declared.body.Body.TheVariants.{Answer, Return, Submit}
 use Rattle.message_items.specs.declared.command.Command.TheVariants as command
@@ -40,7 +39,7 @@ use Rattle.world.specs.Replay as replay
 use Rattle.world.specs.ShopSteps as shop
 use Rattle.world.specs.Showing.{shop_shown, tag_in, tag_of}
 use Rattle.world.specs.State.{IsKept, State, message_at}
-use Rattle.world.specs.Stepping.{master_moved, ordered_master, ordered_worker, taken_by_master, taken_by_worker, worker_moved}
+use Rattle.world.specs.Stepping.{master_moved, ordered_master, ordered_worker, taken_by_worker, worker_moved}
 use Rattle.world.specs.declared.what.What.TheVariants.{MasterOrder, WorkerOrder, Deliver, Restart}
 use Rattle.world.specs.declared.word.Word.TheVariants.{NoMessage, Refused, Restarted}
 

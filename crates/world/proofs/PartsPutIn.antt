@@ -1,16 +1,14 @@
 -- A part that comes back to the master: its step and the shop's agree.
-use Rattle.std.proofs.Common.{◌≡◌, ◌==◌, ◌∙◌, ◌&&◌, ℕ, Bool, true, false, cond, not, List, [], ◌∷◌, ◌++◌, map, Option, Some, None, is_some, Ok, Err, refl, sym, ap, subst}
+use Rattle.std.proofs.Common.{◌≡◌, ◌==◌, ◌∙◌, ◌&&◌, ℕ, Bool, true, false, cond, not, List, [], ◌∷◌, map, Option, Some, None, is_some, Ok, Err, refl, sym, ap, subst}
 use Rattle.std.proofs.lemmas.Bool.{true≢false}
 use Rattle.std.proofs.lemmas.List.Elements.{All-contains}
 use Rattle.std.proofs.lemmas.Slice.Eq.{bytes_eq-Decides}
 use Rattle.std.specs.List.{Contains}
 use Rattle.std.specs.Option.{option_and_then, option_map, option_map_or}
 use Rattle.std.specs.Str.{bytes_eq}
-use Rattle.ticket_items.specs.SpawnId.{spawn_text}
 use Rattle.ticket_items.specs.declared.audit.Audit.{Audit}
 use Rattle.ticket_items.specs.declared.refusal.Refusal.{Refusal}
-use Rattle.ticket_rows.specs.Place.{Place, Row, node_places, place_at, places, row_in, up}
-use Rattle.ticket_rows.specs.Ticket.{IsValid}
+use Rattle.ticket_rows.specs.Place.{Place, node_places, place_at, places, up}
 use Rattle.ticket_tree.specs.Part.{Copied}
 use Rattle.ticket_tree.specs.PartView.{part_row}
 use Rattle.ticket_tree.specs.PlainEdit.{touch}
@@ -167,12 +165,12 @@ holder_put c r p at x h =
     ap (λ recs. holder_of (putting.put t r p at).rows recs x) (merged_at_place m.records place.place r h.kept.numbered place.there)
     ∙ split (holds_it c r x)
     (λ held.
-        let q = claimed_place r (place_at (places t.rows) x) (sym is ∙ held) in
-        merged_claim_is_masters t m.records place.place r p at h.kept.valid h.kept.apart place.there h.out h.fits x q.0 q.1 q.2
-        ∙ sym (when_true (holds_it c r x) (Some held_by.Master) (master.holder m x) held))
+    let q = claimed_place r (place_at (places t.rows) x) (sym is ∙ held) in
+    merged_claim_is_masters t m.records place.place r p at h.kept.valid h.kept.apart place.there h.out h.fits x q.0 q.1 q.2
+    ∙ sym (when_true (holds_it c r x) (Some held_by.Master) (master.holder m x) held))
     (λ free.
-        merge_keeps_others t m.records place.place r p at h.kept.valid h.kept.apart place.there h.out h.fits x (sym is ∙ free)
-        ∙ sym (when_false (holds_it c r x) (Some held_by.Master) (master.holder m x) free))
+    merge_keeps_others t m.records place.place r p at h.kept.valid h.kept.apart place.there h.out h.fits x (sym is ∙ free)
+    ∙ sym (when_false (holds_it c r x) (Some held_by.Master) (master.holder m x) free))
 
 -- ---- rows now
 
@@ -214,8 +212,8 @@ now_put c r p at x h =
     ap (row_at d x) (holder_put c r p at x h)
     ∙ split (holds_it c r x)
     (λ held.
-        ap (row_at d x) (when_true (holds_it c r x) (Some held_by.Master) o held) ∙ seen_put c r p at x h
-        ∙ told_as (places c.master.ticket.rows) r.node h.above (told_of c r at) (acts.put_in r.id (shop_shown c)) (now_shown c) x h.is_above (when_true (holds_it c r x) (now_shown c x) (seen_shown c x) held))
+    ap (row_at d x) (when_true (holds_it c r x) (Some held_by.Master) o held) ∙ seen_put c r p at x h
+    ∙ told_as (places c.master.ticket.rows) r.node h.above (told_of c r at) (acts.put_in r.id (shop_shown c)) (now_shown c) x h.is_above (when_true (holds_it c r x) (now_shown c x) (seen_shown c x) held))
     (λ free. ap (row_at d x) (when_false (holds_it c r x) (Some held_by.Master) o free) ∙ now_elsewhere c r p at x o h free refl)
 
 -- ---- the step
