@@ -31,3 +31,9 @@ pub fn each_spawn_is_merged_once()
 pub fn ticket_is_seen()
     ensures { law.TicketIsSeen }
 {}
+
+/// Whatever happens, the answers and what the controllers show are those of one ticket with one
+/// table of holders.
+pub fn events_are_replayed()
+    ensures { law.EventsAreReplayed }
+{}

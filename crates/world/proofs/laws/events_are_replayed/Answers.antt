@@ -1,0 +1,5 @@
+use Rattle.world.proofs.Events.{events_are_replayed}
+use Rattle.world.proofs.laws.events_are_replayed.Goals as goal
+
+pub returns : goal.returns
+returns c = events_are_replayed
