@@ -25,6 +25,7 @@ pub mod ShopPaths
 pub mod Agreeing
 pub mod Replaying
 pub mod TicketSeen
+pub mod MarksShown
 pub mod SameWorkers
 pub mod Receivers
 pub mod AnswersCome

@@ -6,10 +6,15 @@ use Rattle.ticket_items.specs.SpawnId.{spawn_text}
 use Rattle.ticket_items.specs.declared.audit.Audit.{Audit}
 use Rattle.ticket_items.specs.declared.audit.Audit.TheVariants as audit
 use Rattle.ticket_items.specs.declared.edit.Edit.TheVariants.{SetResStatus}
+use Rattle.ticket_items.specs.declared.marks.Marks.{Marks}
 use Rattle.ticket_items.specs.declared.refusal.Refusal.TheVariants.{NotHeld, NotOpen}
+use Rattle.ticket_items.specs.declared.res_mark.ResMark.{ResMark}
+use Rattle.ticket_items.specs.declared.spawn_status.SpawnStatus.{SpawnStatus}
+use Rattle.ticket_items.specs.declared.spawn_status.SpawnStatus.TheVariants.{SpawnedRO, SpawnedRW}
 use Rattle.ticket_rows.specs.Homes.{resource_of}
 use Rattle.ticket_rows.specs.Ticket.{row_of}
 use Rattle.message_items.specs.declared.reply.Reply.TheVariants as reply
+use Rattle.spawn.specs.Marking.{marks}
 use Rattle.spawn.specs.declared.tables.holder.Holder.TheVariants.{Master, Spawn}
 use Rattle.master_core.specs.declared.order.Order.TheVariants as master
 use Rattle.worker_core.specs.declared.end.End.TheVariants.{Completed}
@@ -19,8 +24,10 @@ use Rattle.world.specs.Happening as world
 use Rattle.world.specs.Replay.{Shown, after_all, answers_to, opening}
 use Rattle.world.specs.SeenTicket.{ticket_seen}
 use Rattle.world.specs.Shop.{Merged, Open, Phase, Shop}
+use Rattle.world.specs.ShopMarks.{shop_marks}
 use Rattle.world.specs.Showing.{shows}
 use Rattle.world.specs.ShopSteps.{Return, Submit, ToReturn, ToSubmit}
+use Rattle.world.specs.State.{State}
 use Rattle.world.specs.declared.event.Event.{Event}
 use Rattle.world.specs.declared.stop.Stop.TheVariants.{Run, BeforeSave}
 use Rattle.world.specs.declared.what.What.TheVariants.{MasterOrder, WorkerOrder, Deliver}
@@ -78,6 +85,47 @@ midway = refl
 
 at_the_end : status_of (codes "r2") (after_all both_are_back (after_all bind_is_back first)).shop ≡ Some (codes "Available")
 at_the_end = refl
+
+-- what is shown of two spawns of one resource, of which the first may change it and the second reads it
+abbrev both_are_out : List Event
+both_are_out = print_at 100 Run ∷ event (MasterOrder (master.Spawn (codes "n2") (codes "bind") [])) 101 Run ∷ []
+
+abbrev shows_mark : List ℕ → SpawnStatus → List ℕ → ResMark
+shows_mark x status spawns = record { id = x; status = status; spawn_ids = spawns }
+
+abbrev marks_at_first : Marks
+marks_at_first =
+    record {
+      nodes = codes "n1" ∷ codes "n2" ∷ [];
+      resources = shows_mark (codes "r1") SpawnedRO (1 ∷ []) ∷ shows_mark (codes "r2") SpawnedRW (1 ∷ 2 ∷ []) ∷ [];
+    }
+
+marks_out : shop_marks (after_all both_are_out first).shop ≡ marks_at_first
+marks_out = refl
+
+-- once the second is back the first alone is shown, and at the end none
+abbrev marks_midway : Marks
+marks_midway =
+    record {
+      nodes = codes "n1" ∷ [];
+      resources = shows_mark (codes "r1") SpawnedRO (1 ∷ []) ∷ shows_mark (codes "r2") SpawnedRW (1 ∷ []) ∷ [];
+    }
+
+marks_back : shop_marks (after_all bind_is_back first).shop ≡ marks_midway
+marks_back = refl
+
+no_marks : shop_marks (after_all both_are_back (after_all bind_is_back first)).shop ≡ record { nodes = []; resources = [] }
+no_marks = refl
+
+-- the master shows the same
+abbrev masters_marks : State → Marks
+masters_marks w = marks w.controllers.master.ticket.rows w.controllers.master.records
+
+masters_out : masters_marks (world.after_all both_are_out shop) ≡ marks_at_first
+masters_out = refl
+
+masters_back : masters_marks (world.after_all bind_is_back shop) ≡ marks_midway
+masters_back = refl
 
 -- ---- repeats
 

@@ -3,6 +3,7 @@ use Rattle.std.specs.Prelude.{◌≡◌, ◌↔◌, ℕ, List, Some, slice_get}
 use Rattle.ticket_rows.specs.Ticket.{Job}
 use Rattle.message_items.specs.declared.message.Message.{Message}
 use Rattle.message_items.specs.declared.reply.Reply.{Reply}
+use Rattle.spawn.specs.Marking.{marks}
 use Rattle.spawn.specs.declared.tables.holder.Holder.TheVariants.{Master}
 use Rattle.master_core.specs.Master as master
 use Rattle.world.specs.Changing.{Changer, HoldsThere, MayChange, by_entry, by_master}
@@ -10,6 +11,7 @@ use Rattle.world.specs.Happening.{after, after_all, answer_to, answers_to}
 use Rattle.world.specs.Once.{AreMergedOnce, IsIn, TellsMerge}
 use Rattle.world.specs.Replay as replay
 use Rattle.world.specs.SeenTicket.{ticket_seen}
+use Rattle.world.specs.ShopMarks.{shop_marks}
 use Rattle.world.specs.Showing.{shop_shown, shows}
 use Rattle.world.specs.State.{IsKept, State, message_at, opening}
 use Rattle.world.specs.declared.answer.Answer.{Answer}
@@ -81,3 +83,10 @@ OpeningIsShown =
 abbrev pub TicketIsSeen : Type 0
 TicketIsSeen =
     (w : State) → IsKept w → ticket_seen (shop_shown w.controllers) ≡ w.controllers.master.ticket
+
+-- what that ticket shows of the spawns that are out is what the master shows
+abbrev pub MarksAreShown : Type 0
+MarksAreShown =
+    (w : State) → IsKept w
+    → shop_marks (shop_shown w.controllers)
+    ≡ marks w.controllers.master.ticket.rows w.controllers.master.records

@@ -7,6 +7,7 @@ pub mod Stepping
 pub mod Happening
 pub mod Shop
 pub mod SeenTicket
+pub mod ShopMarks
 pub mod ShopActs
 pub mod ShopSteps
 pub mod Replay

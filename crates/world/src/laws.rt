@@ -32,6 +32,12 @@ pub fn ticket_is_seen()
     ensures { law.TicketIsSeen }
 {}
 
+/// What that ticket shows of the spawns that are out, the copies to change and to read of its
+/// resources among them, is what the master shows.
+pub fn marks_are_shown()
+    ensures { law.MarksAreShown }
+{}
+
 /// Whatever happens, the answers and what the controllers show are those of one ticket with one
 /// table of holders.
 pub fn events_are_replayed()

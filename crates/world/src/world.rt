@@ -37,10 +37,13 @@ impl World {
     ghost use Rattle.std.specs.List.{Contains};
     ghost use Rattle.std.specs.Option.{option_copied};
     ghost use Rattle.ticket_items.specs.Ids.{are_distinct};
+    ghost use Rattle.spawn.specs.Marking.{marks};
     ghost use Rattle.world.specs.Changing.{Changer, MayChange};
     ghost use Rattle.world.specs.Happening as happening;
     ghost use Rattle.world.specs.Once.{AreMergedOnce};
     ghost use Rattle.world.specs.Replay as replay;
+    ghost use Rattle.world.specs.SeenTicket.{ticket_seen};
+    ghost use Rattle.world.specs.ShopMarks.{shop_marks};
     ghost use Rattle.world.specs.Showing.{shows};
     ghost use Rattle.world.specs.State as state;
 
@@ -64,9 +67,13 @@ impl World {
         })
     }
 
-    /// The master.
+    /// The master. Its ticket, and what that shows of the spawns that are out, are those of the one
+    /// ticket with one table of holders that the world shows.
     pub fn master(&self) -> &Master
-        ensures { result.now ≡ self.now.controllers.master }
+        ensures master { result.now ≡ self.now.controllers.master }
+        ensures seen { result.now.ticket ≡ ticket_seen (shows self.now).shop }
+        ensures marks { marks result.now.ticket.rows result.now.records
+            ≡ shop_marks (shows self.now).shop }
     {
         &self.master
     }
@@ -238,9 +245,12 @@ impl World {
     /// One event. What is told to a controller, or comes to it, is a step: its state is stored and
     /// its message is sent, as far as the stop lets it. Where there is no such controller it is
     /// `Refused` as `UnknownWorker`, and where there is no such message it is `NoMessage`, at any
-    /// stop. Where memory runs out nothing is changed. Whatever comes of it, then no two may change
-    /// one node or resource.
+    /// stop. The answer, and what is shown then, are those of one ticket with one table of holders,
+    /// to which the event happens. Where memory runs out nothing is changed. Whatever comes of it,
+    /// then no two may change one node or resource.
     pub fn step(&mut self, alloc: Global, event: Event) -> Result<Answer, AllocError>
+        ensures said { IfOk result (λ a. a ≡ replay.answer_to event (shows self.old)) }
+        ensures shown { OnOk result (shows self.new ≡ replay.after event (shows self.old)) }
         ensures answer { IfOk result (λ a. a ≡ happening.answer_to event self.old) }
         ensures state { OnOk result (self.new ≡ happening.after event self.old) }
         ensures err { OnErr result (self.new ≡ self.old) }
@@ -258,10 +268,18 @@ impl World {
         }
     }
 
-    /// Events in turn, and what comes of each. Where memory runs out the world stands after the
-    /// events before the one at which it did. Whatever comes of them, then no two may change one
-    /// node or resource; and the part of each spawn is put in at most once.
+    /// Events in turn, and what comes of each. The answers, and what is shown then, are those of one
+    /// ticket with one table of holders, to which the events happen in turn. Where memory runs out
+    /// the world stands, and shows, as after the events before the one at which it did. Whatever
+    /// comes of them, then no two may change one node or resource; and the part of each spawn is
+    /// put in at most once.
     pub fn run(&mut self, alloc: Global, events: Vec<Event>) -> Result<Vec<Answer>, AllocError>
+        ensures said { IfOk result
+            (λ answers. answers.items ≡ replay.answers_to events.items (shows self.old)) }
+        ensures shown { OnOk result
+            (shows self.new ≡ replay.after_all events.items (shows self.old)) }
+        ensures cut { OnErr result ((k : ℕ) × (k < length events.items)
+            × (shows self.new ≡ replay.after_all (take k events.items) (shows self.old))) }
         ensures answers { IfOk result
             (λ answers. answers.items ≡ happening.answers_to events.items self.old) }
         ensures state { OnOk result (self.new ≡ happening.after_all events.items self.old) }

@@ -1,9 +1,11 @@
-use Rattle.std.proofs.Common.{rules, refl, arith}
+use Rattle.std.proofs.Common.{rules, refl, arith, ap, ◌∙◌}
 use Rattle.std.proofs.lemmas.Iterator.Adapters.{YieldsList-from_vec}
 use Rattle.world.proofs.Answered.{on_err}
 use Rattle.world.proofs.Changing.{alone, alone_after_all}
 use Rattle.world.proofs.Once.{run_merges_once}
-use Rattle.world.proofs.Runs.{has_room, next_of, one_more, stands_before}
+use Rattle.world.proofs.Replayed.{all_said, all_shown, cut_before}
+use Rattle.world.proofs.Runs.{all_of, has_room, next_of, one_more, stands_before}
+use Rattle.world.specs.Happening.{after_all, answers_to}
 use Rattle.world.proofs.world.World.run.Goals as goal
 
 pub loop-event-init : goal.loop-event-init
@@ -22,8 +24,21 @@ returns-in_err-answer-clause-err c =
     let next = next_of all c.loop-event.yielded c.loop-event.event-iterator c.loop-event.yielded_by c.next.result c.next.new.self c.in-Some.event c.in-Some.is c.next.ensures.steps in
     on_err _ c.from_residual-in_err-answer.result (stands_before c.args.events.items c.loop-event.yielded c.in-Some.event c.args.self.now c.loop-event.answers.items c.loop-event.answers.len c.loop-event.answers.cap c.loop-event.self c.step.new.self c.loop-event.invariant next c.in_err-answer.ensures.err)
 
+pub returns-in_err-answer-clause-cut : goal.returns-in_err-answer-clause-cut
+returns-in_err-answer-clause-cut c =
+    let all = YieldsList-from_vec {s = c.into_iter-event-iterator.result} c.args.events.items (search rules) (search rules) in
+    let next = next_of all c.loop-event.yielded c.loop-event.event-iterator c.loop-event.yielded_by c.next.result c.next.new.self c.in-Some.event c.in-Some.is c.next.ensures.steps in
+    on_err _ c.from_residual-in_err-answer.result (cut_before c.args.events.items c.args.self.now c.step.new.self c.messages-sent.ensures.kept (stands_before c.args.events.items c.loop-event.yielded c.in-Some.event c.args.self.now c.loop-event.answers.items c.loop-event.answers.len c.loop-event.answers.cap c.loop-event.self c.step.new.self c.loop-event.invariant next c.in_err-answer.ensures.err))
+
 pub returns-in_err-extend_from_slice-clause-err : goal.returns-in_err-extend_from_slice-clause-err
 returns-in_err-extend_from_slice-clause-err c =
+    let all = YieldsList-from_vec {s = c.into_iter-event-iterator.result} c.args.events.items (search rules) (search rules) in
+    let next = next_of all c.loop-event.yielded c.loop-event.event-iterator c.loop-event.yielded_by c.next.result c.next.new.self c.in-Some.event c.in-Some.is c.next.ensures.steps in
+    let no = c.in_err-extend_from_slice.ensures.succeeds (has_room c.args.events.items c.loop-event.yielded c.in-Some.event c.args.self.now c.loop-event.answers.items c.loop-event.answers.len c.loop-event.answers.cap c.loop-event.self c.loop-event.invariant next) in
+    cc
+
+pub returns-in_err-extend_from_slice-clause-cut : goal.returns-in_err-extend_from_slice-clause-cut
+returns-in_err-extend_from_slice-clause-cut c =
     let all = YieldsList-from_vec {s = c.into_iter-event-iterator.result} c.args.events.items (search rules) (search rules) in
     let next = next_of all c.loop-event.yielded c.loop-event.event-iterator c.loop-event.yielded_by c.next.result c.next.new.self c.in-Some.event c.in-Some.is c.next.ensures.steps in
     let no = c.in_err-extend_from_slice.ensures.succeeds (has_room c.args.events.items c.loop-event.yielded c.in-Some.event c.args.self.now c.loop-event.answers.items c.loop-event.answers.len c.loop-event.answers.cap c.loop-event.self c.loop-event.invariant next) in
@@ -37,3 +52,15 @@ returns-clause-alone c = alone_after_all c.loop-event.yielded c.args.self.now c.
 
 pub returns-clause-once : goal.returns-clause-once
 returns-clause-once c = run_merges_once c.loop-event.yielded c.args.self.now c.loop-event.answers.items c.messages-sent.ensures.kept c.loop-event.invariant.answers_are
+
+pub returns-clause-said : goal.returns-clause-said
+returns-clause-said c =
+    let all = YieldsList-from_vec {s = c.into_iter-event-iterator.result} c.args.events.items (search rules) (search rules) in
+    let are = all_of all c.loop-event.yielded c.loop-event.event-iterator c.loop-event.yielded_by c.next.result c.next.new.self c.in-None.is c.next.ensures.steps in
+    all_said c.args.events.items c.args.self.now c.loop-event.answers.items c.messages-sent.ensures.kept (c.loop-event.invariant.answers_are ∙ ap (λ es. answers_to es c.args.self.now) are)
+
+pub returns-clause-shown : goal.returns-clause-shown
+returns-clause-shown c =
+    let all = YieldsList-from_vec {s = c.into_iter-event-iterator.result} c.args.events.items (search rules) (search rules) in
+    let are = all_of all c.loop-event.yielded c.loop-event.event-iterator c.loop-event.yielded_by c.next.result c.next.new.self c.in-None.is c.next.ensures.steps in
+    all_shown c.args.events.items c.args.self.now c.loop-event.self c.messages-sent.ensures.kept (c.loop-event.invariant.state_is ∙ ap (λ es. after_all es c.args.self.now) are)

@@ -1,6 +1,38 @@
+use Rattle.std.proofs.Common.{Ok, refl, ap, ◌∙◌}
+use Rattle.std.specs.declared.alloc.AllocError.{AllocError}
 use Rattle.world.proofs.Changing.{alone, alone_after}
-use Rattle.world.specs.declared.what.What.TheVariants.{MasterOrder, WorkerOrder, Deliver}
+use Rattle.world.proofs.Replayed.{said_so, shown_so}
+use Rattle.world.specs.Settling.{answer_without_step}
+use Rattle.world.specs.declared.what.What.TheVariants.{MasterOrder, WorkerOrder, Deliver, Restart}
 use Rattle.world.proofs.world.World.step.Goals as goal
+
+-- ---- what is answered, and what is shown then
+
+pub returns-in-MasterOrder-clause-said : goal.returns-in-MasterOrder-clause-said
+returns-in-MasterOrder-clause-said c = said_so c.order_master.result c.args.event (MasterOrder c.in-MasterOrder.order) c.args.self.now c.messages-sent.ensures.kept c.in-MasterOrder.is c.order_master.ensures.answer
+
+pub returns-in-MasterOrder-clause-shown : goal.returns-in-MasterOrder-clause-shown
+returns-in-MasterOrder-clause-shown c = shown_so c.order_master.result c.args.event (MasterOrder c.in-MasterOrder.order) c.args.self.now c.order_master.new.self c.messages-sent.ensures.kept c.in-MasterOrder.is c.order_master.ensures.state
+
+pub returns-in-WorkerOrder-clause-said : goal.returns-in-WorkerOrder-clause-said
+returns-in-WorkerOrder-clause-said c = said_so c.order_worker.result c.args.event (WorkerOrder c.in-WorkerOrder.name c.in-WorkerOrder.order) c.args.self.now c.messages-sent.ensures.kept c.in-WorkerOrder.is c.order_worker.ensures.answer
+
+pub returns-in-WorkerOrder-clause-shown : goal.returns-in-WorkerOrder-clause-shown
+returns-in-WorkerOrder-clause-shown c = shown_so c.order_worker.result c.args.event (WorkerOrder c.in-WorkerOrder.name c.in-WorkerOrder.order) c.args.self.now c.order_worker.new.self c.messages-sent.ensures.kept c.in-WorkerOrder.is c.order_worker.ensures.state
+
+pub returns-in-Deliver-clause-said : goal.returns-in-Deliver-clause-said
+returns-in-Deliver-clause-said c = said_so c.deliver.result c.args.event (Deliver c.in-Deliver.number) c.args.self.now c.messages-sent.ensures.kept c.in-Deliver.is c.deliver.ensures.answer
+
+pub returns-in-Deliver-clause-shown : goal.returns-in-Deliver-clause-shown
+returns-in-Deliver-clause-shown c = shown_so c.deliver.result c.args.event (Deliver c.in-Deliver.number) c.args.self.now c.deliver.new.self c.messages-sent.ensures.kept c.in-Deliver.is c.deliver.ensures.state
+
+pub returns-in-Restart-clause-said : goal.returns-in-Restart-clause-said
+returns-in-Restart-clause-said c = said_so {E = AllocError} (Ok c.without_step.result) c.args.event (Restart c.in-Restart.name) c.args.self.now c.messages-sent.ensures.kept c.in-Restart.is (c.without_step.ensures ∙ ap answer_without_step c.restart.ensures)
+
+pub returns-in-Restart-clause-shown : goal.returns-in-Restart-clause-shown
+returns-in-Restart-clause-shown c = shown_so {E = AllocError} (Ok c.without_step.result) c.args.event (Restart c.in-Restart.name) c.args.self.now c.args.self.now c.messages-sent.ensures.kept c.in-Restart.is refl
+
+-- ---- no two may change one
 
 pub returns-in-MasterOrder-clause-alone : goal.returns-in-MasterOrder-clause-alone
 returns-in-MasterOrder-clause-alone c = alone_after c.order_master.result (MasterOrder c.in-MasterOrder.order) c.args.event.at c.args.event.stop c.args.self.now c.order_master.new.self c.messages-sent.ensures.kept c.order_master.ensures.state c.order_master.ensures.err
