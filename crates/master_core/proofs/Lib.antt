@@ -1,5 +1,6 @@
 pub mod Refusals
 pub mod Recorded
+pub mod StandsIn
 pub mod OrderKept
 pub mod MessageKept
 pub mod OrderLaws
