@@ -14,3 +14,5 @@ pub mod NextNumbers
 pub mod Merging
 pub mod Passing
 pub mod Kept
+pub mod KeptStored
+mod Worked

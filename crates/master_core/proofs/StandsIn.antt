@@ -2,7 +2,7 @@
 use Rattle.std.proofs.Common.{◌≡◌, ◌∙◌, ℕ, ◌&&◌, ◌||◌, Bool, true, false, not, cond, List, [], ◌∷◌, map, Option, Some, None, is_some, slice_get, refl, sym, ap}
 use Rattle.std.proofs.lemmas.Bool.{true≢false, and_from, and_parts, not-true, or_left, or_right}
 use Rattle.std.proofs.lemmas.List.Folds.{list_all-map}
-use Rattle.std.specs.List.{filter, find, list_all, list_any}
+use Rattle.std.specs.List.{filter, list_all, list_any}
 use Rattle.std.specs.Option.{option_and_then, option_map, option_map_or}
 use Rattle.std.specs.Str.{bytes_eq}
 use Rattle.ticket_items.proofs.Apart.{bytes_eq-same}
@@ -19,13 +19,13 @@ use Rattle.ticket_rows.specs.Place.{Place, Thing, node, resource, fixed, fixed_a
 use Rattle.ticket_rows.specs.Ticket.{IsValid, has_node, ids}
 use Rattle.ticket_tree.proofs.OnPlaces.{stands_node, stands_resource}
 use Rattle.ticket_tree.proofs.PlainEdits.{edit_of_places}
-use Rattle.ticket_tree.specs.PlainEdit.{plain_places, stands, with_link}
+use Rattle.ticket_tree.specs.PlainEdit.{plain_places, with_link}
 use Rattle.spawn.proofs.SoundPart.{node_among_ids}
-use Rattle.spawn.specs.Claim.{ids_of, is_linked_below, is_linked_outside, linked_outside, linked_ro, linked_rw}
+use Rattle.spawn.specs.Claim.{is_linked_below, is_linked_outside, linked_outside, linked_ro, linked_rw}
 use Rattle.spawn.specs.Records.{IsGood}
 use Rattle.spawn.specs.Stored.{stands_in}
 use Rattle.spawn.specs.declared.records.spawn_rec.SpawnRec.{SpawnRec}
-use Rattle.master_core.proofs.EditedParts.{Told, edit_told, none_added, told, told_at}
+use Rattle.master_core.proofs.EditedParts.{Told, edit_told, none_added, told}
 
 -- ---- by places
 
