@@ -278,7 +278,7 @@ linked_told n a link (p ∷ tree) =
     ∙ told_step a q p (nodes_in (map (linked n link) tree)) (nodes_in tree) (is_node p) (id_linked b link p) (told_linked b link p) (linked_told n a link tree)
 
 -- what any node tells that has another id than a new one
-edit_told : (e : Edit) (a : List ℕ) (tree : List Place)
+pub edit_told : (e : Edit) (a : List ℕ) (tree : List Place)
     → ((i : List ℕ) → added_id e ≡ Some i → bytes_eq i a ≡ false)
     → told_at (nodes_in (plain_places e tree)) a ≡ told_at (nodes_in tree) a
 edit_told (SetStatus n status) a tree other = refl
@@ -331,7 +331,7 @@ added_new (AddResource n x) rows i free added =
 added_new (AddLink n link) rows i free added = cc
 
 -- so it is none that stands
-none_added : (e : Edit) (rows : List NodeRow) (x : List ℕ) → refusal_of e rows ≡ None
+pub none_added : (e : Edit) (rows : List NodeRow) (x : List ℕ) → refusal_of e rows ≡ None
     → mem x (ids rows) ≡ true
     → (i : List ℕ) → added_id e ≡ Some i → bytes_eq i x ≡ false
 none_added e rows x free stands i added =

@@ -1,5 +1,6 @@
 pub mod Refusals
 pub mod Recorded
+pub mod StandsIn
 pub mod OrderKept
 pub mod MessageKept
 pub mod OrderLaws
@@ -13,3 +14,5 @@ pub mod NextNumbers
 pub mod Merging
 pub mod Passing
 pub mod Kept
+pub mod KeptStored
+mod Worked

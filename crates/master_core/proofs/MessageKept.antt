@@ -8,6 +8,7 @@ use Rattle.ticket_items.specs.declared.node_row.NodeRow.{NodeRow}
 use Rattle.ticket_items.specs.declared.refusal.Refusal.{Refusal}
 use Rattle.ticket_items.specs.declared.resource.Resource.{Resource}
 use Rattle.ticket_rows.specs.Copies.{with_copies}
+use Rattle.ticket_rows.specs.Place.{places}
 use Rattle.ticket_rows.specs.Ticket.{IsValid, are_unreserved}
 use Rattle.ticket_tree.specs.Part.{Copied}
 use Rattle.message_items.specs.Reply.{spawn_in}
@@ -17,16 +18,19 @@ use Rattle.message_items.specs.declared.message.Message.{Message}
 use Rattle.spawn.proofs.Lawful.{Placed, placed}
 use Rattle.spawn.specs.Laws.{StandApart}
 use Rattle.spawn.specs.Records.{is_out}
+use Rattle.spawn.specs.Stored.{stands_in}
 use Rattle.spawn.specs.declared.records.spawn_rec.SpawnRec.{SpawnRec}
 use Rattle.merge.proofs.Fitting.{part_fits}
 use Rattle.merge.proofs.MergedHolders.{merge_keeps_apart}
+use Rattle.merge.proofs.PutPlaces.{put_of_places}
 use Rattle.merge.proofs.PutValid.{put_is_valid}
 use Rattle.merge.specs.Put.{put}
 use Rattle.merge.specs.Shape.{Fits}
 use Rattle.master_core.proofs.Recorded.{merged_at_place, merged_if, merged_worker, numbered_merged}
 use Rattle.master_core.proofs.Refusals.{part_free, take_free}
+use Rattle.master_core.proofs.StandsIn.{still_stands}
 use Rattle.master_core.specs.Laws.{MessageIsKept}
-use Rattle.master_core.specs.Master.{IsKept, Known, is_of, record_of, with_merged}
+use Rattle.master_core.specs.Master.{IsKept, Known, is_of, merged_record, record_of, with_merged}
 use Rattle.master_core.specs.Messages.{IsValidBody, body_refusal, merged, take_refusal, taken}
 
 -- ---- what a valid part says
@@ -42,6 +46,15 @@ sent_merged : (s : ℕ) (workers : List (List ℕ)) (records : List SpawnRec) �
 sent_merged s workers records sent =
     All-map (λ (r : SpawnRec). mem r.worker workers ≡ true) (merged_if s) records (λ k d within. ap (λ x. mem x workers) (merged_worker s (get_or records k d)) ∙ sent k d within)
 
+recorded_merged : (s : ℕ) (rows later : List NodeRow) (records : List SpawnRec) → places later ≡ places rows → All (λ (r : SpawnRec). stands_in rows r ≡ true) records → All (λ (r : SpawnRec). stands_in later r ≡ true) (with_merged s records)
+recorded_merged s rows later records same recorded =
+    All-map (λ (r : SpawnRec). stands_in later r ≡ true) (merged_if s) records
+    (λ k d within. merged_still (is_of s (get_or records k d)) later (get_or records k d) ∙ still_stands rows later (get_or records k d) same (recorded k d within))
+  where
+    merged_still : (b : Bool) (rows : List NodeRow) (r : SpawnRec) → stands_in rows (cond b (merged_record r) r) ≡ stands_in rows r
+    merged_still true rows r = refl
+    merged_still false rows r = refl
+
 merged_kept : (p : Copied) (at : ℕ) (w : Known) (r : SpawnRec) → IsValid (with_copies p.rows p.rw p.ro) → IsKept w → Placed w.records r → is_out r ≡ true → Fits w.ticket r p → IsKept (merged p at w r)
 merged_kept p at w r valid kept place out fits =
     let good = kept.apart.good place.place r place.there out in
@@ -50,6 +63,7 @@ merged_kept p at w r valid kept place out fits =
       valid = put_is_valid w.ticket r p at kept.valid good fits (unreserved_rows p.rows p.rw p.ro valid.unreserved);
       numbered = numbered_merged r.id w.records kept.numbered;
       sent = sent_merged r.id w.workers w.records kept.sent;
+      recorded = recorded_merged r.id w.ticket.rows (put w.ticket r p at).rows w.records (put_of_places w.ticket r p at kept.valid (kept.apart.good place.place r place.there out) fits) kept.recorded;
       apart = subst (StandApart (put w.ticket r p at).rows) (sym (merged_at_place w.records place.place r kept.numbered place.there)) (merge_keeps_apart w.ticket w.records place.place r p at kept.valid kept.apart place.there out fits);
     }
 

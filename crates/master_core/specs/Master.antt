@@ -7,6 +7,7 @@ use Rattle.ticket_items.specs.Ids.{are_distinct, mem}
 use Rattle.ticket_rows.specs.Ticket.{IsValid, Job}
 use Rattle.spawn.specs.Laws.{StandApart}
 use Rattle.spawn.specs.Records.{is_out}
+use Rattle.spawn.specs.Stored.{stands_in}
 use Rattle.spawn.specs.Table.{holder_of}
 use Rattle.spawn.specs.declared.records.phase.Phase.TheVariants.{Merged}
 use Rattle.spawn.specs.declared.records.spawn_rec.SpawnRec.{SpawnRec}
@@ -73,11 +74,13 @@ abbrev pub IsNumbered : List SpawnRec → Type 0
 IsNumbered records = (k : ℕ) (r : SpawnRec) → slice_get records k ≡ Some r → r.id ≡ suc k
 
 -- no two controllers have one name; the ticket is valid; the records are in order, each spawn went
--- to a worker, and they stand well beside the ticket: each that is out is good, and no two of those
+-- to a worker, and its node and the resources of its copies stand in the ticket, also once it is
+-- merged; and they stand well beside the ticket: each that is out is good, and no two of those
 -- claim one thing
 pub record IsKept (w : Known) : Type 0 where
   pub names : are_distinct (w.name ∷ w.workers) ≡ true
   pub valid : IsValid w.ticket.rows
   pub numbered : IsNumbered w.records
   pub sent : All (λ r. mem r.worker w.workers ≡ true) w.records
+  pub recorded : All (λ r. stands_in w.ticket.rows r ≡ true) w.records
   pub apart : StandApart w.ticket.rows w.records

@@ -2,6 +2,7 @@
 //! is the law.
 
 ghost use Rattle.master_core.specs.Laws as law;
+ghost use Rattle.master_core.specs.Stored.{AKeptMasterIsStored};
 
 /// What the master may change no spawn holds, and an edit that isn't refused is of what it may
 /// change.
@@ -39,4 +40,9 @@ pub fn a_spawn_is_merged_once()
 pub fn what_goes_out_tells_the_record()
     ensures sent { law.SubmitIsOfRecord }
     ensures none { law.NothingIsSent }
+{}
+
+/// A master of which all holds that always does is one whose stored parts are taken.
+pub fn a_kept_master_is_stored()
+    ensures { AKeptMasterIsStored }
 {}

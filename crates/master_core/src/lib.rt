@@ -8,6 +8,7 @@ mod names;
 mod order;
 mod ordering;
 mod records;
+mod stored;
 mod taking;
 
 pub use master::Master;

@@ -1,6 +1,7 @@
 use crate::names::are_apart;
 use crate::order::Order;
 use crate::ordering::do_order;
+use crate::stored::is_master;
 use crate::taking;
 use crate::taking::take_unless;
 use message_items::{Done, Message, Outcome};
@@ -40,6 +41,7 @@ impl Master {
     ghost use Rattle.master_core.specs.Master.{IsKept};
     ghost use Rattle.master_core.specs.Messages as messages;
     ghost use Rattle.master_core.specs.Orders as orders;
+    ghost use Rattle.master_core.specs.Stored as stored;
 
     /// A master of this name with these workers, none of whom has a part of its ticket. Refuses
     /// `SameName` where two of the names are equal (our own), and else `Memory`.
@@ -61,6 +63,47 @@ impl Master {
             workers,
             ticket,
             records: Vec::new(alloc),
+        })
+    }
+
+    /// The master of these parts, as they are once it was stored and is read again. Refuses
+    /// `BadState` (our own) just where two of the names are equal; where the first record isn't
+    /// numbered 1, the next 2 and so on; where a spawn went to none of the workers; where a
+    /// record's node isn't in the ticket or is its root, or a copy of it isn't that of a resource
+    /// of the ticket, also once it is merged; or where the record of a spawn that is out isn't good
+    /// in the ticket, or two of those claim one node or resource (JDF 1.5, 4.4). Else it refuses
+    /// `Memory`.
+    pub fn of_parts(
+        alloc: Global,
+        name: Id,
+        workers: Ids,
+        ticket: Ticket,
+        records: Vec<SpawnRec>,
+    ) -> Result<Master, Refusal>
+        ensures ok { IfOk result (λ m. m ≡ master.known name workers ticket records.items) }
+        ensures kept { IfOk result (λ m. IsKept m) }
+        ensures taken { OnOk result
+            (stored.is_master (master.known name workers ticket records.items) ≡ true) }
+        ensures refused { IsErrOf result Refusal.BadState
+            → stored.is_master (master.known name workers ticket records.items) ≡ false }
+        ensures memory { stored.is_master (master.known name workers ticket records.items) ≡ true
+            → IfErr result (λ e. e ≡ Refusal.Memory) }
+        ensures only { IfErr result (λ e. (e ≡ Refusal.BadState) ⊎ (e ≡ Refusal.Memory)) }
+    {
+        if !is_master(
+            alloc,
+            &name,
+            workers.as_slice(),
+            &ticket,
+            records.as_slice(),
+        )? {
+            return Err(Refusal::BadState);
+        }
+        Ok(Master {
+            name,
+            workers,
+            ticket,
+            records,
         })
     }
 
@@ -86,7 +129,8 @@ impl Master {
     }
 
     /// The records of its spawns, in the order in which they went out, the first of which has the
-    /// number 1, the next 2 and so on. Each went to a worker; no two controllers have one name; the
+    /// number 1, the next 2 and so on. Each went to a worker, and its node stands in the ticket
+    /// below another, as the resources of its copies do; no two controllers have one name; the
     /// ticket is valid; each record of a spawn that is out is good in it, and no two of those claim
     /// one node or resource.
     pub fn records(&self) -> &[SpawnRec]

@@ -33,3 +33,9 @@ pub mod Entries
 pub mod PartShows
 pub mod CutPlaces
 pub mod FirstHolder
+pub mod GoodTest
+pub mod HeldOnce
+pub mod ApartMore
+pub mod ClaimedIds
+pub mod BelowRoot
+pub mod StandingSets

@@ -1,6 +1,6 @@
 -- The definitions computed on a small job: a product with paper and sheets in its pool, whose
 -- printing takes paper and makes sheets, and whose cutting takes the sheets.
-use Rattle.std.proofs.Common.{◌≡◌, ℕ, List, [], ◌∷◌, map, Some, None, refl}
+use Rattle.std.proofs.Common.{◌≡◌, ℕ, true, false, List, [], ◌∷◌, map, Some, None, refl}
 use Rattle.std.specs.Fmt.{digits}
 use Rattle.std.specs.List.{filter}
 use Rattle.std.specs.Prelude.{codes}
@@ -20,6 +20,7 @@ use Rattle.spawn.specs.Claim.{ids_of, linked_outside, claim}
 use Rattle.spawn.specs.Marking.{marks}
 use Rattle.spawn.specs.Parts.{part_for}
 use Rattle.spawn.specs.Spawning.{spawn_refusal, new_record, spawned}
+use Rattle.spawn.specs.Stored.{are_apart, are_good, stands_in}
 use Rattle.spawn.specs.Table.{holder_of}
 use Rattle.spawn.specs.declared.tables.holder.Holder.TheVariants.{Master, Spawn}
 use Rattle.spawn.specs.declared.records.phase.Phase.TheVariants.{Out, Merged}
@@ -182,3 +183,53 @@ first_merged : marks told (record first { phase = Merged } ∷ second ∷ []) �
   resources = record { id = codes "r2"; status = SpawnedRO; spawn_ids = 2 ∷ [] } ∷ [];
 }
 first_merged = refl
+
+-- ---- what was stored
+
+stand : map (stands_in told) (first ∷ record second { phase = Merged } ∷ []) ≡ true ∷ true ∷ []
+stand = refl
+
+root_stands : stands_in told (record second { node = codes "n0"; phase = Merged }) ≡ false
+root_stands = refl
+
+unknown_stands : stands_in told (record second { node = codes "n9"; phase = Merged }) ≡ false
+unknown_stands = refl
+
+copy_of_a_node_stands : stands_in told (record second { rw = codes "n1" ∷ []; phase = Merged }) ≡ false
+copy_of_a_node_stands = refl
+
+good : are_good told (first ∷ second ∷ []) ≡ true
+good = refl
+
+-- a copy of another name isn't good while the spawn is out
+renamed : List Resource
+renamed = record sheets { name = codes "Media" } ∷ []
+
+renamed_good : are_good told (record second { ro = renamed } ∷ []) ≡ false
+unfolding renamed
+renamed_good = refl
+
+renamed_merged : are_good told (record second { ro = renamed; phase = Merged } ∷ []) ≡ true
+unfolding renamed
+renamed_merged = refl
+
+apart : are_apart (places told) (first ∷ second ∷ []) ≡ true
+apart = refl
+
+sheets_twice : are_apart (places told) (first ∷ record second { rw = codes "r2" ∷ []; ro = [] } ∷ [])
+    ≡ false
+sheets_twice = refl
+
+-- a copy of what is at home below another's node is claimed twice
+product_too : are_apart (places told) (record second { node = codes "n0" } ∷ first ∷ []) ≡ false
+product_too = refl
+
+merged_apart : are_apart (places told) (record second { node = codes "n0"; phase = Merged } ∷ first ∷ [])
+    ≡ true
+merged_apart = refl
+
+-- what stands nowhere is claimed by none
+unknown_apart : are_apart (places told)
+    (record first { node = codes "n8"; rw = codes "r9" ∷ [] } ∷ record second { rw = codes "r9" ∷ [] } ∷ [])
+    ≡ true
+unknown_apart = refl

@@ -8,6 +8,7 @@ pub mod Bounds
 pub mod IdSet
 pub mod At
 pub mod Laws
+pub mod Stored
 pub mod Walk
 pub mod OutTables
 pub mod ClaimSet

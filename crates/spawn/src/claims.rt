@@ -1,4 +1,5 @@
 pub mod above;
+pub mod apart;
 pub mod claim;
 pub mod claim_set;
 pub mod copies;

@@ -2,6 +2,7 @@
 //! is the law.
 
 ghost use Rattle.spawn.specs.Laws as law;
+ghost use Rattle.spawn.specs.Stored.{StandingIsATest};
 
 /// A spawn that is out holds just what it claims, where the records stand well beside the ticket.
 pub fn a_spawn_that_is_out_holds_its_claim()
@@ -50,4 +51,10 @@ pub fn a_part_shows_its_claim()
 /// with their paths cut at the node.
 pub fn rows_below_a_node_have_its_places()
     ensures { law.CutPlaces }
+{}
+
+/// Whether records stand well beside a ticket is a test: whether those that are out are good, and
+/// no two of them claim one thing.
+pub fn whether_records_stand_well_is_a_test()
+    ensures { StandingIsATest }
 {}

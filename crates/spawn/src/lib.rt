@@ -9,10 +9,12 @@ mod records;
 mod spawns;
 mod tables;
 
+pub use claims::apart::are_apart;
 pub use parts::spawned_part::part_for;
-pub use records::good::is_good;
+pub use records::good::{are_good, is_good};
 pub use records::phase::Phase;
 pub use records::spawn_rec::SpawnRec;
+pub use records::standing::stand_in;
 pub use spawns::refusing::may_spawn;
 pub use spawns::spawning::spawn;
 pub use tables::holder::Holder;

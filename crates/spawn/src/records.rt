@@ -2,3 +2,4 @@ pub mod good;
 pub mod out_tables;
 pub mod phase;
 pub mod spawn_rec;
+pub mod standing;

@@ -6,3 +6,4 @@ pub mod Places
 pub mod OrderLaws
 pub mod MessageLaws
 mod Worked
+pub mod KeptStored

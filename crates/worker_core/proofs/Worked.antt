@@ -1,6 +1,6 @@
 -- The definitions computed on a small job: the printing of a product was spawned to the press, with its sheets to change and its
 -- paper to read.
-use Rattle.std.proofs.Common.{◌≡◌, ℕ, true, false, List, [], ◌∷◌, map, Some, None, Ok, Err, refl}
+use Rattle.std.proofs.Common.{◌≡◌, ℕ, true, false, List, [], ◌∷◌, ◌++◌, map, Some, None, Ok, Err, refl}
 use Rattle.std.specs.Prelude.{codes}
 use Rattle.ticket_items.specs.declared.audit.Audit.TheVariants.{Notification}
 use Rattle.ticket_items.specs.declared.edit.Edit.TheVariants.{SetStatus, SetResStatus, Note, AddNode}
@@ -17,6 +17,7 @@ use Rattle.message_items.specs.declared.queue_status.QueueStatus.TheVariants.{Ru
 use Rattle.message_items.specs.declared.reply.Reply.TheVariants.{Again, Acked, Noted, Taken}
 use Rattle.worker_core.specs.Messages.{after_taking, taken_answer, taken_reply}
 use Rattle.worker_core.specs.Orders.{order_message, order_refusal, ordered}
+use Rattle.worker_core.specs.Stored.{is_worker}
 use Rattle.worker_core.specs.Worker.{Known, known, may_change}
 use Rattle.worker_core.specs.declared.end.End.TheVariants as end
 use Rattle.worker_core.specs.declared.order.Order.TheVariants.{Edit, Finish, Resend}
@@ -186,3 +187,20 @@ bad_part = refl
 
 bad_again : taken_reply (from_to (codes "mis") (codes "press") 100 (Submit (record (part (codes "Waiting")) { ancestors = [] }))) taken ≡ Ok (Again 1)
 bad_again = refl
+
+-- ---- what was stored
+
+stored : map is_worker (press ∷ taken ∷ done ∷ []) ≡ true ∷ true ∷ true ∷ []
+stored = refl
+
+same_name : is_worker (record done { master = codes "press" }) ≡ false
+same_name = refl
+
+one_spawn : is_worker (record taken { entries = taken.entries ++ done.entries }) ≡ false
+one_spawn = refl
+
+other_end : is_worker (record done { entries = record { phase = Done end.Aborted; part = part (codes "Completed"); at = 120 } ∷ [] }) ≡ false
+other_end = refl
+
+unsound : is_worker (record taken { entries = record { phase = Open; part = record (part (codes "Waiting")) { ancestors = [] }; at = 110 } ∷ [] }) ≡ false
+unsound = refl

@@ -3,3 +3,4 @@ pub mod Worker
 pub mod Orders
 pub mod Messages
 pub mod Laws
+pub mod Stored

@@ -2,6 +2,7 @@
 //! is the law.
 
 ghost use Rattle.worker_core.specs.Laws as law;
+ghost use Rattle.worker_core.specs.Stored.{AKeptWorkerIsStored};
 
 /// What a worker may change through a spawn stands in the entry of that spawn, which is open; and
 /// an edit that isn't refused is of what it may change.
@@ -37,4 +38,9 @@ pub fn a_part_is_taken_once()
 pub fn what_is_given_back_tells_the_entry()
     ensures entry { law.ReturnIsOfEntry }
     ensures again { law.ResentIsSame }
+{}
+
+/// A worker of which all holds that always does is one whose stored parts are taken.
+pub fn a_kept_worker_is_stored()
+    ensures { AKeptWorkerIsStored }
 {}

@@ -9,6 +9,7 @@ pub mod laws;
 mod order;
 mod ordering;
 mod stage;
+mod stored;
 mod taking;
 mod worker;
 

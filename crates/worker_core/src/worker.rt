@@ -2,6 +2,7 @@ use crate::entries;
 use crate::entry::Entry;
 use crate::order::Order;
 use crate::ordering::do_order;
+use crate::stored::is_worker;
 use crate::taking::do_take;
 use message_items::{Done, Message, Outcome};
 use std::alloc::{AllocError, Global};
@@ -29,11 +30,13 @@ impl Model for Worker {
 }
 
 impl Worker {
-    ghost use Rattle.std.specs.Prelude.{◌≡◌, ◌↔◌, true, [], Err, OnOk, OnErr, IfOk, IfErr};
+    ghost use Rattle.std.specs.Prelude.{◌≡◌, ◌↔◌, ◌⊎◌, true, false, [], Err, OnOk, OnErr};
+    ghost use Rattle.std.specs.Prelude.{IfOk, IfErr};
     ghost use Rattle.std.specs.Prelude.{IfNone, IfSome, IsErrOf, IsOk};
     ghost use Rattle.message_items.specs.Reply.{is_answer};
     ghost use Rattle.worker_core.specs.Messages as messages;
     ghost use Rattle.worker_core.specs.Orders as orders;
+    ghost use Rattle.worker_core.specs.Stored as stored;
     ghost use Rattle.worker_core.specs.Worker as worker;
     ghost use Rattle.worker_core.specs.Worker.{IsKept};
 
@@ -51,6 +54,36 @@ impl Worker {
             name,
             master,
             entries: Vec::new(alloc),
+        })
+    }
+
+    /// The worker of these parts, as they are once it was stored and is read again. Refuses
+    /// `BadState` (our own) just where the name is the master's, two entries are of one spawn, an
+    /// entry's part isn't sound, or the node of one that is finished hasn't the Status of its end;
+    /// and else `Memory`.
+    pub fn of_parts(
+        alloc: Global,
+        name: Id,
+        master: Id,
+        entries: Vec<Entry>,
+    ) -> Result<Worker, Refusal>
+        ensures ok { IfOk result (λ w. w ≡ worker.known name master entries.items) }
+        ensures kept { IfOk result (λ w. IsKept w) }
+        ensures taken { OnOk result
+            (stored.is_worker (worker.known name master entries.items) ≡ true) }
+        ensures refused { IsErrOf result Refusal.BadState
+            → stored.is_worker (worker.known name master entries.items) ≡ false }
+        ensures memory { stored.is_worker (worker.known name master entries.items) ≡ true
+            → IfErr result (λ e. e ≡ Refusal.Memory) }
+        ensures only { IfErr result (λ e. (e ≡ Refusal.BadState) ⊎ (e ≡ Refusal.Memory)) }
+    {
+        if !is_worker(alloc, &name, &master, entries.as_slice())? {
+            return Err(Refusal::BadState);
+        }
+        Ok(Worker {
+            name,
+            master,
+            entries,
         })
     }
 

@@ -1,13 +1,14 @@
 //! Whether a record fits a ticket.
 
 ghost use Rattle.std.specs.Prelude.{◌≡◌, ◌↔◌, ◌++◌, ◌-◌, ◌<◌, ◌≤◌, false, true, length, take, drop};
-ghost use Rattle.std.specs.Prelude.{nat_lt, slice_get, is_some, IfSome, IsTrue};
+ghost use Rattle.std.specs.Prelude.{◌||◌, not, nat_lt, slice_get, is_some, IfSome, IsTrue};
 ghost use Rattle.std.specs.List.{list_any};
 ghost use Rattle.std.specs.Option.{option_map, option_map_or, option_and_then};
 ghost use Rattle.std.specs.Str.{bytes_eq};
 ghost use Rattle.ticket_tree.specs.Part as part;
 ghost use Rattle.spawn.specs.Parts.{resources};
-ghost use Rattle.spawn.specs.Records.{IsGood};
+ghost use Rattle.spawn.specs.Records.{IsGood, is_out};
+ghost use Rattle.spawn.specs.Stored as stored;
 ghost use Rattle.spawn.specs.Walk as walk;
 
 use crate::records::spawn_rec::SpawnRec;
@@ -203,4 +204,18 @@ pub fn is_good(ticket: &Ticket, spawn: &SpawnRec) -> bool
         return false;
     };
     has_parent(at.inside) && has_copies(&at, spawn)
+}
+
+/// Whether a record is good in a ticket, where it is out.
+fn is_good_out(ticket: &Ticket, spawn: &SpawnRec) -> bool
+    ensures { result ≡ (not (is_out spawn.now) || stored.is_good ticket.now.rows spawn.now) }
+{
+    !spawn.is_out() || is_good(ticket, spawn)
+}
+
+/// Whether each record that is out is good in a ticket. Needs no memory.
+pub fn are_good(ticket: &Ticket, records: &[SpawnRec]) -> bool
+    ensures { result ≡ stored.are_good ticket.now.rows records.now }
+{
+    records.iter().all(|spawn| is_good_out(ticket, spawn))
 }

@@ -1,0 +1,93 @@
+-- A worker of which all holds that always does passes the test of what is stored.
+use Rattle.std.proofs.Common.{◌≡◌, ◌&&◌, ◌||◌, ℕ, Bool, true, false, cond, not, List, [], ◌∷◌, ◌++◌, take, drop, get_or, ◌+◌, ◌<◌, length, refl, sym, ap, eq-eqb, ◌∙◌, ◌==◌, is_eq, nat_cmp}
+use Rattle.std.proofs.lemmas.Bool.{and_from, and_parts, and_right, eqb-true, not_from_false, true≢false}
+use Rattle.std.proofs.lemmas.List.{drop_more, map-append, map_push, take-append-drop, take_more}
+use Rattle.std.proofs.lemmas.List.Elements.{All-head, All-tail}
+use Rattle.std.proofs.lemmas.List.Folds.{list_any-append}
+use Rattle.std.specs.BTreeSet.{BTreeSet, Updates, contains_by}
+use Rattle.std.specs.Cmp.{unsigned_ties}
+use Rattle.std.specs.List.{All, list_all}
+use Rattle.std.specs.Str.{bytes_eq}
+use Rattle.ticket_items.proofs.Apart.{or_none, or_true}
+use Rattle.ticket_rows.specs.Copies.{with_copies}
+use Rattle.ticket_rows.specs.Ticket.{IsValid}
+use Rattle.ticket_tree.specs.Part.{is_sound}
+use Rattle.worker_core.proofs.Kept.{number_of}
+use Rattle.worker_core.specs.Numbers.{are_distinct_numbers, has_number}
+use Rattle.worker_core.specs.Stored.{AKeptWorkerIsStored, is_entry}
+use Rattle.worker_core.specs.Worker.{IsKeptEntry, has_ended_so, numbers}
+use Rattle.worker_core.specs.declared.entry.Entry.{Entry}
+
+-- ---- entries
+
+entry_passes : (e : Entry) → IsKeptEntry e → is_entry e ≡ true
+entry_passes e kept = and_from (is_sound e.part) (has_ended_so e.phase e.part) kept.sound kept.ended
+
+entries_pass : (entries : List Entry) → All IsKeptEntry entries → list_all is_entry entries ≡ true
+entries_pass [] kept = refl
+entries_pass (e ∷ entries) kept =
+    and_from (is_entry e) (list_all is_entry entries) (entry_passes e (All-head IsKeptEntry e entries kept)) (entries_pass entries (All-tail IsKeptEntry e entries kept))
+
+-- an entry with a valid part that passes the test
+pub kept_entry : (e : Entry) → IsValid (with_copies e.part.rows e.part.rw e.part.ro) → is_entry e ≡ true → IsKeptEntry e
+kept_entry e valid passes =
+    let parts = and_parts (is_sound e.part) (has_ended_so e.phase e.part) passes in
+    record { valid = valid; sound = parts.0; ended = parts.1 }
+
+-- ---- one entry more
+
+pub front_more : (entries : List Entry) (i : ℕ) (e : Entry) → i < length entries → e ≡ get_or entries i e → take (i + 1) entries ≡ take i entries ++ e ∷ []
+front_more entries i e within is = take_more entries i e within ∙ ap (λ x. take i entries ++ x ∷ []) (sym is)
+
+pub passes_more : (entries : List Entry) (e : Entry) → list_all is_entry entries ≡ true → is_entry e ≡ true → list_all is_entry (entries ++ e ∷ []) ≡ true
+passes_more [] e all own = and_from (is_entry e) true own refl
+passes_more (x ∷ entries) e all own =
+    let parts = and_parts (is_entry x) (list_all is_entry entries) all in
+    and_from (is_entry x) (list_all is_entry (entries ++ e ∷ [])) parts.0 (passes_more entries e parts.1 own)
+
+-- ---- numbers
+
+same_number : (n : ℕ) → (n == n) ≡ true
+same_number n = eq-eqb n n refl
+
+pub numbers_more : (entries : List Entry) (e : Entry) → numbers (entries ++ e ∷ []) ≡ numbers entries ++ e.part.spawn_id ∷ []
+numbers_more entries e = map_push number_of entries e
+
+pub has_more : (n m : ℕ) (ns : List ℕ) → has_number n (ns ++ m ∷ []) ≡ (has_number n ns || (m == n))
+has_more n m ns = list_any-append (λ k. k == n) ns (m ∷ []) ∙ ap (λ b. has_number n ns || b) (or_none (m == n))
+
+twice_at : (b : Bool) (ns : List ℕ) (n m : ℕ) (ms : List ℕ) → (m == n) ≡ b → (has_number n ns ≡ true → are_distinct_numbers (ns ++ n ∷ ms) ≡ false) → (b || has_number n ns) ≡ true → are_distinct_numbers (m ∷ ns ++ n ∷ ms) ≡ false
+twice_at true ns n m ms e later h =
+    let there : has_number m (ns ++ n ∷ ms) ≡ true =
+    list_any-append (λ k. k == m) ns (n ∷ ms) ∙ ap (λ k. has_number m ns || ((k == m) || has_number m ms)) (sym (eqb-true m n e)) ∙ ap (λ b. has_number m ns || (b || has_number m ms)) (same_number m) ∙ or_true (has_number m ns) in
+    ap (λ b. not b && are_distinct_numbers (ns ++ n ∷ ms)) there
+twice_at false ns n m ms e later h = and_right (not (has_number m (ns ++ n ∷ ms))) (are_distinct_numbers (ns ++ n ∷ ms)) (later h)
+
+-- a number that stands before itself
+pub distinct_twice : (ns : List ℕ) (n : ℕ) (ms : List ℕ) → has_number n ns ≡ true → are_distinct_numbers (ns ++ n ∷ ms) ≡ false
+distinct_twice [] n ms h = absurd (true≢false (sym h))
+distinct_twice (m ∷ ns) n ms h = twice_at (m == n) ns n m ms refl (distinct_twice ns n ms) h
+
+-- entries of one spawn
+pub entries_twice : (entries : List Entry) (i : ℕ) (e : Entry) → i < length entries → e ≡ get_or entries i e → has_number e.part.spawn_id (numbers (take i entries)) ≡ true → are_distinct_numbers (numbers entries) ≡ false
+entries_twice entries i e within is there =
+    let whole : entries ≡ take i entries ++ e ∷ drop (i + 1) entries = sym (take-append-drop i entries) ∙ ap (λ es. take i entries ++ es) (drop_more entries i e within ∙ ap (λ x. x ∷ drop (i + 1) entries) (sym is)) in
+    ap (λ es. are_distinct_numbers (numbers es)) whole ∙ ap are_distinct_numbers (map-append number_of (take i entries) (e ∷ drop (i + 1) entries)) ∙ distinct_twice (numbers (take i entries)) e.part.spawn_id (numbers (drop (i + 1) entries)) there
+
+-- ---- a set of numbers
+
+or_first : (a b c : Bool) → a ≡ b → cond a true c ≡ (c || b)
+or_first true b c e = sym (ap (λ x. c || x) (sym e) ∙ or_true c)
+or_first false b c e = sym (ap (λ x. c || x) (sym e) ∙ or_none c)
+
+-- a set that got a number, asked for another
+pub inserted : (s n : BTreeSet ℕ) (k : ℕ) → Updates nat_cmp s n k true → (q : ℕ) → contains_by (nat_cmp q) n ≡ (contains_by (nat_cmp q) s || (k == q))
+inserted s n k h q = h.0 q ∙ or_first (is_eq (nat_cmp k q)) (k == q) (contains_by (nat_cmp q) s) (sym (unsigned_ties k q))
+
+-- ---- the whole
+
+pub a_kept_worker_is_stored : AKeptWorkerIsStored
+a_kept_worker_is_stored w kept =
+    and_from (not (bytes_eq w.name w.master) && are_distinct_numbers (numbers w.entries)) (list_all is_entry w.entries)
+    (and_from (not (bytes_eq w.name w.master)) (are_distinct_numbers (numbers w.entries)) (not_from_false (bytes_eq w.name w.master) kept.apart) kept.once)
+    (entries_pass w.entries kept.each)
