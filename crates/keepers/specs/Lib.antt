@@ -1,2 +1,3 @@
 pub mod Failing
+pub mod InFile
 pub mod Keeper

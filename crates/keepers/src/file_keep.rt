@@ -17,11 +17,11 @@ pub struct FileKeep<'a, R: Files> {
 }
 
 impl<'a, R: Files> Model for FileKeep<'a, R> {
-    ghost use Rattle.std.specs.Prelude.{ℕ};
+    ghost use Rattle.keepers.specs.InFile.{InFile};
 
-    ghost Value = { ℕ };
+    ghost Value = { InFile };
 
-    ghost view = { λ keep. keep.failures };
+    ghost view = { λ keep. record { path = keep.path.now; count = keep.failures } };
 }
 
 impl<'a, R: Files> FileKeep<'a, R> {
@@ -31,7 +31,7 @@ impl<'a, R: Files> FileKeep<'a, R> {
     /// A keeper in the file of this path, of which no call failed yet. Neither makes the file nor
     /// opens it.
     pub fn new(rt: &'a R, alloc: Global, path: &'a str) -> FileKeep<'a, R>
-        ensures { result ≡ 0 }
+        ensures { result ≡ record { path = path.now; count = 0 } }
     {
         FileKeep {
             rt,
@@ -50,9 +50,10 @@ impl<'a, R: Files> FileKeep<'a, R> {
     /// What a call answers, which is counted if it failed.
     fn counted<T>(&mut self, answer: Result<T, KeepFault>) -> Result<T, KeepFault>
         ensures answer { result ≡ answer }
-        ensures kept { self.old ≤ self.new }
+        ensures path { self.new.path ≡ self.old.path }
+        ensures kept { self.old.count ≤ self.new.count }
         ensures raised { IsErrOf result KeepFault.Failed →
-            (self.old < self.new) ⊎ (self.old ≡ most_failures) }
+            (self.old.count < self.new.count) ⊎ (self.old.count ≡ most_failures) }
     {
         if let Err(KeepFault::Failed) = &answer {
             self.failures = self.failures.saturating_add(1);
@@ -62,16 +63,20 @@ impl<'a, R: Files> FileKeep<'a, R> {
 }
 
 impl<'a, R: Files> Keep for FileKeep<'a, R> {
-    ghost use Rattle.std.specs.Prelude.{[], false};
+    ghost use Rattle.std.specs.Prelude.{◌≡◌, [], false};
+    ghost use Rattle.keepers.specs.Keeper.{CountsFailure};
 
     ghost held = { λ _. [] };
 
     ghost is_honest = { λ _. false };
 
-    ghost count = { λ keep. keep };
+    ghost count = { λ keep. keep.count };
 
     /// Reads the file to its end.
-    fn load(&mut self) -> Result<Vec<u8>, KeepFault> {
+    fn load(&mut self) -> Result<Vec<u8>, KeepFault>
+        ensures path { self.new.path ≡ self.old.path }
+        ensures failures { CountsFailure self.old.count self.new.count result }
+    {
         if self.failures == u64::MAX {
             return Err(KeepFault::Failed);
         }
@@ -80,7 +85,10 @@ impl<'a, R: Files> Keep for FileKeep<'a, R> {
     }
 
     /// Writes the bytes to a file beside it, with `.new` behind its name, and then renames that.
-    fn save(&mut self, bytes: &[u8]) -> Result<(), KeepFault> {
+    fn save(&mut self, bytes: &[u8]) -> Result<(), KeepFault>
+        ensures path { self.new.path ≡ self.old.path }
+        ensures failures { CountsFailure self.old.count self.new.count result }
+    {
         if self.failures == u64::MAX {
             return Err(KeepFault::Failed);
         }
