@@ -2,10 +2,13 @@
 
 use super::loads;
 use keepers::{FileKeep, Keep, KeepFault};
+use std::fs;
 use std::test::Fail;
 
 #[test]
 fn holds_what_was_saved(rt: HostRuntime) -> Result<(), Fail> {
+    // What a run that was cut off may have left.
+    let _ = fs::remove_file(&rt, "state");
     let mut keep = FileKeep::new(&rt, rt.alloc(), "state");
     assert!(rt; !keep.exists());
     for value in [b"one", b"two"] {
@@ -17,6 +20,7 @@ fn holds_what_was_saved(rt: HostRuntime) -> Result<(), Fail> {
     let mut again = FileKeep::new(&rt, rt.alloc(), "state");
     assert!(rt; loads(&mut again, b"two"));
     assert!(rt; !FileKeep::new(&rt, rt.alloc(), "state.new").exists());
+    fs::remove_file(&rt, "state")?;
     Ok(())
 }
 
