@@ -1,0 +1,7 @@
+-- What was read so far is what the reader gave.
+use Rattle.std.proofs.Common.{vec_len, ◌<◌}
+use Rattle.std.specs.Io.KnownBytes.{Consumes}
+use Rattle.keepers.proofs.files.read_to_end.Given as goal
+
+abbrev pub invariant-loop : goal.invariant-loop
+invariant-loop g l = (0 < vec_len l.buffer) × Consumes (g.R.Read.remaining l.fn.reader) (g.R.Read.remaining l.reader) l.bytes.items
