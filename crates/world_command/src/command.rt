@@ -30,11 +30,11 @@ impl Command for WorldCommand {
 }
 
 /// Reads a script, lets its events happen one after another, and writes a line for each answer and
-/// the text of the ticket that the master shows at the end. Answers the exit status: 0, also where
-/// events were refused. Where it gives up, it writes nothing, but for a front of that output where
-/// a write fails; it tells why in `faults`, as far as that takes it, and answers the status of the
-/// fault: 1 where memory ran out, 3 where the input was refused or has more bytes than
-/// `MAX_INPUT_BYTES`, 4 where a read or a write failed.
+/// the text of the ticket that the master shows at the end: what happens in one ticket with one
+/// table of holders. Answers the exit status: 0, also where events were refused. Where it gives up,
+/// it writes nothing, but for a front of that output where a write fails; it tells why in `faults`,
+/// as far as that takes it, and answers the status of the fault: 1 where memory ran out, 3 where
+/// the input was refused or has more bytes than `MAX_INPUT_BYTES`, 4 where a read or a write failed.
 pub fn run_world<R: Read, W: Write, F: Write>(
     alloc: Global,
     reader: &mut Counted<R>,

@@ -1,8 +1,12 @@
 //! From the bytes of a script to the bytes of the output.
 
-ghost use Rattle.std.specs.Prelude.{◌≡◌, ◌++◌, ◌∷◌, false, true, IfErr, IfOk, OnOk};
+ghost use Rattle.std.specs.Prelude.{◌≡◌, ◌++◌, [], ◌∷◌, false, true, IfErr, IfOk, OnOk};
+ghost use Rattle.serde_json.specs.Written.{compact_text};
+ghost use Rattle.json_writer.specs.Written.{shown_data};
+ghost use Rattle.spawn.specs.Marking.{marks};
 ghost use Rattle.ticket_items.specs.Ids.{are_distinct};
 ghost use Rattle.ticket_items.specs.declared.refusal.Refusal.TheVariants.{Memory};
+ghost use Rattle.world.specs.Showing.{shows};
 ghost use Rattle.world_command.specs.Run as run;
 ghost use Rattle.world_script.specs.Script.{IsRefusalOf};
 
@@ -37,7 +41,9 @@ fn push_lines(alloc: Global, text: &mut Vec<u8>, answers: &[Answer]) -> Result<(
 /// Appends the text of the ticket that a master shows, and the end of its line. Refuses `Memory`
 /// alone.
 fn push_shown(alloc: Global, text: &mut Vec<u8>, master: &Master) -> Result<(), Refusal>
-    ensures ok { OnOk result (text.new.items ≡ text.old.items ++ run.shown_text master.now) }
+    ensures ok { OnOk result (text.new.items ≡ text.old.items
+        ++ (compact_text (shown_data (marks master.now.ticket.rows master.now.records)
+        master.now.ticket) ++ 10 ∷ [])) }
     ensures memory { IfErr result (λ e. e ≡ Memory) }
 {
     let marks = marked(alloc, master.ticket(), master.records())?;
@@ -46,9 +52,11 @@ fn push_shown(alloc: Global, text: &mut Vec<u8>, master: &Master) -> Result<(), 
     Ok(())
 }
 
-/// Lets events happen in a world, and tells what is written of that. Refuses `Memory` alone.
+/// Lets events happen in a world, and tells what is written of that: the lines of the replay of the
+/// events in the shop that the world shows, and the ticket of the shop at the end. Refuses `Memory`
+/// alone.
 fn written_of(alloc: Global, world: &mut World, events: Vec<Event>) -> Result<Vec<u8>, Refusal>
-    ensures ok { IfOk result (λ text. text.items ≡ run.written_of events.items world.old) }
+    ensures ok { IfOk result (λ text. text.items ≡ run.written_of events.items (shows world.old)) }
     ensures memory { IfErr result (λ e. e ≡ Memory) }
 {
     let answers = world.run(alloc, events)?;
