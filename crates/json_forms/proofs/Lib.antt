@@ -1,6 +1,5 @@
 pub mod Attributes
 pub mod AuditNames
-pub mod EditNames
 pub mod ListLemmas
 pub mod Objects
 pub mod Pairs

@@ -4,7 +4,7 @@ ghost use Rattle.std.specs.Prelude.{◌≡◌, true, IfOk, OnOk};
 ghost use Rattle.serde_json.specs.Data.{put, string, array};
 ghost use Rattle.serde_json.specs.View.{items_view, members_view, view};
 
-use crate::written::Written;
+use crate::Written;
 use serde_json::{Map, Value};
 use std::alloc::{AllocError, Global};
 
