@@ -1,6 +1,6 @@
 pub mod Attributes
 pub mod AuditNames
-pub mod EditNames
+pub mod EditParts
 pub mod ListLemmas
 pub mod Objects
 pub mod Pairs

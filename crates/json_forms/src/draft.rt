@@ -1,7 +1,7 @@
 ghost use Rattle.std.specs.Prelude.{◌≡◌, true, IfOk, IfErr};
 ghost use Rattle.json_source.specs.Read.{Gives};
 
-use crate::form::Form;
+use crate::Form;
 use json_source::Source;
 use std::alloc::Global;
 use ticket_items::Refusal;

@@ -1,32 +1,22 @@
 //! Edits: their drafts, and how they are written.
 
-ghost use Rattle.std.specs.Prelude.{◌≡◌, ◌&&◌, true, codes, IfOk, OnOk};
-ghost use Rattle.serde_json.specs.Data as json;
-ghost use Rattle.serde_json.specs.Data.{no_members, object, string};
+ghost use Rattle.std.specs.Prelude.{◌≡◌, true, IfOk, IfErr, OnOk};
+ghost use Rattle.serde_json.specs.Data.{no_members};
 ghost use Rattle.serde_json.specs.View.{members_view};
-ghost use Rattle.ticket_items.specs.Names.{is_name, is_text};
+ghost use Rattle.ticket_items.specs.Names.{is_name};
 ghost use Rattle.json_forms.specs.Again.{edit_again};
 ghost use Rattle.json_forms.specs.DraftedEdits.{drafted_edit};
 ghost use Rattle.json_forms.specs.Edits as edits;
 ghost use Rattle.json_source.specs.Read.{Gives};
 
-use crate::draft::Draft;
-use crate::edit_build::{
-    build_add_link, build_add_node, build_add_resource, build_note, build_set_attr,
-    build_set_resource_attr, build_set_resource_status, build_set_status,
+use crate::{
+    Borrowed, Draft, Form, LinkDraft, ResourceDraft, Written, only, put, put_resource, put_text,
+    text_under, under,
 };
-use crate::form::Form;
-use crate::members::member::text_under;
-use crate::members::object::{put, put_text};
-use crate::members::one_member::under;
-use crate::nodes::link_form::LinkDraft;
-use crate::resources::resource_form::{ResourceDraft, resource_map};
-use crate::texts::borrowed::Borrowed;
-use crate::written::Written;
 use json_source::Source;
 use serde_json::{Map, Value};
 use std::alloc::{AllocError, Global};
-use ticket_items::{Edit, Id, Link, Name, Refusal, Resource, Text};
+use ticket_items::{Edit, Id, Name, Refusal, Text};
 
 /// An edit by its members and their kinds alone: its ids, names and texts may be any.
 #[derive(Drop)]
@@ -70,50 +60,12 @@ pub enum EditDraft<'a> {
     },
 }
 
-/// The draft of an edit of a kind that adds something, or of another kind.
-#[tactic(auto, unfolding(crate::specs::Edits::adding_draft))]
-fn adding<'a, S: Source>(alloc: Global, kind: &str, value: &'a S) -> Result<EditDraft<'a>, Refusal>
-    ensures { Gives drafted_edit result (edits.adding_draft kind.now (S.content value.now)) }
-{
-    if kind == "Note" {
-        note(alloc, value)
-    } else if kind == "AddNode" {
-        add_node(alloc, value)
-    } else if kind == "AddResource" {
-        add_resource(alloc, value)
-    } else if kind == "AddLink" {
-        add_link(alloc, value)
-    } else {
-        setting(alloc, kind, value)
-    }
-}
-
-/// The draft of an edit of a kind that sets something.
-#[tactic(auto, unfolding(crate::specs::Edits::setting_draft))]
-fn setting<'a, S: Source>(alloc: Global, kind: &str, value: &'a S) -> Result<EditDraft<'a>, Refusal>
-    ensures { Gives drafted_edit result (edits.setting_draft kind.now (S.content value.now)) }
-{
-    if kind == "SetStatus" {
-        set_status(alloc, value)
-    } else if kind == "SetAttr" {
-        set_attr(alloc, value)
-    } else if kind == "SetResStatus" {
-        set_resource_status(alloc, value)
-    } else if kind == "SetResAttr" {
-        set_resource_attr(alloc, value)
-    } else {
-        Err(Refusal::NotProfile)
-    }
-}
-
 /// A `SetStatus`.
 #[tactic(auto, unfolding(crate::specs::Edits::set_status_draft))]
 fn set_status<'a, S: Source>(alloc: Global, value: &'a S) -> Result<EditDraft<'a>, Refusal>
     ensures { Gives drafted_edit result (edits.set_status_draft (S.content value.now)) }
 {
-    if !value.has_only(&["Edit", "Node", "Status"]) {
-        return Err(Refusal::NotProfile);
-    }
+    only(value, &["Edit", "Node", "Status"])?;
     let node = under(alloc, value, "Node")?;
     let status = under(alloc, value, "Status")?;
     Ok(EditDraft::SetStatus { node, status })
@@ -124,16 +76,11 @@ fn set_status<'a, S: Source>(alloc: Global, value: &'a S) -> Result<EditDraft<'a
 fn set_attr<'a, S: Source>(alloc: Global, value: &'a S) -> Result<EditDraft<'a>, Refusal>
     ensures { Gives drafted_edit result (edits.set_attr_draft (S.content value.now)) }
 {
-    if !value.has_only(&["Edit", "Name", "Node", "Value"]) {
-        return Err(Refusal::NotProfile);
-    }
-    let name = under(alloc, value, "Name")?;
-    let node = under(alloc, value, "Node")?;
-    let text = under(alloc, value, "Value")?;
+    only(value, &["Edit", "Name", "Node", "Value"])?;
     Ok(EditDraft::SetAttr {
-        node,
-        name,
-        value: text,
+        name: under(alloc, value, "Name")?,
+        node: under(alloc, value, "Node")?,
+        value: under(alloc, value, "Value")?,
     })
 }
 
@@ -142,9 +89,7 @@ fn set_attr<'a, S: Source>(alloc: Global, value: &'a S) -> Result<EditDraft<'a>,
 fn set_resource_status<'a, S: Source>(alloc: Global, value: &'a S) -> Result<EditDraft<'a>, Refusal>
     ensures { Gives drafted_edit result (edits.set_resource_status_draft (S.content value.now)) }
 {
-    if !value.has_only(&["Edit", "Resource", "Status"]) {
-        return Err(Refusal::NotProfile);
-    }
+    only(value, &["Edit", "Resource", "Status"])?;
     let resource = under(alloc, value, "Resource")?;
     let status = under(alloc, value, "Status")?;
     Ok(EditDraft::SetResStatus { resource, status })
@@ -155,16 +100,11 @@ fn set_resource_status<'a, S: Source>(alloc: Global, value: &'a S) -> Result<Edi
 fn set_resource_attr<'a, S: Source>(alloc: Global, value: &'a S) -> Result<EditDraft<'a>, Refusal>
     ensures { Gives drafted_edit result (edits.set_resource_attr_draft (S.content value.now)) }
 {
-    if !value.has_only(&["Edit", "Name", "Resource", "Value"]) {
-        return Err(Refusal::NotProfile);
-    }
-    let name = under(alloc, value, "Name")?;
-    let resource = under(alloc, value, "Resource")?;
-    let text = under(alloc, value, "Value")?;
+    only(value, &["Edit", "Name", "Resource", "Value"])?;
     Ok(EditDraft::SetResAttr {
-        resource,
-        name,
-        value: text,
+        name: under(alloc, value, "Name")?,
+        resource: under(alloc, value, "Resource")?,
+        value: under(alloc, value, "Value")?,
     })
 }
 
@@ -173,9 +113,7 @@ fn set_resource_attr<'a, S: Source>(alloc: Global, value: &'a S) -> Result<EditD
 fn note<'a, S: Source>(alloc: Global, value: &'a S) -> Result<EditDraft<'a>, Refusal>
     ensures { Gives drafted_edit result (edits.note_draft (S.content value.now)) }
 {
-    if !value.has_only(&["Edit", "Node", "Text"]) {
-        return Err(Refusal::NotProfile);
-    }
+    only(value, &["Edit", "Node", "Text"])?;
     let node = under(alloc, value, "Node")?;
     let text = under(alloc, value, "Text")?;
     Ok(EditDraft::Note { node, text })
@@ -186,20 +124,14 @@ fn note<'a, S: Source>(alloc: Global, value: &'a S) -> Result<EditDraft<'a>, Ref
 fn add_node<'a, S: Source>(alloc: Global, value: &'a S) -> Result<EditDraft<'a>, Refusal>
     ensures { Gives drafted_edit result (edits.add_node_draft (S.content value.now)) }
 {
-    if !value.has_only(&["Edit", "ID", "JobPartID", "Node", "Status", "Type"]) {
-        return Err(Refusal::NotProfile);
-    }
-    let id = under(alloc, value, "ID")?;
-    let job_part = under(alloc, value, "JobPartID")?;
-    let node = under(alloc, value, "Node")?;
-    let status = under(alloc, value, "Status")?;
-    let kind = under(alloc, value, "Type")?;
+    let names = ["Edit", "ID", "JobPartID", "Node", "Status", "Type"];
+    only(value, &names)?;
     Ok(EditDraft::AddNode {
-        node,
-        id,
-        kind,
-        job_part,
-        status,
+        id: under(alloc, value, "ID")?,
+        job_part: under(alloc, value, "JobPartID")?,
+        node: under(alloc, value, "Node")?,
+        status: under(alloc, value, "Status")?,
+        kind: under(alloc, value, "Type")?,
     })
 }
 
@@ -208,9 +140,8 @@ fn add_node<'a, S: Source>(alloc: Global, value: &'a S) -> Result<EditDraft<'a>,
 fn add_resource<'a, S: Source>(alloc: Global, value: &'a S) -> Result<EditDraft<'a>, Refusal>
     ensures { Gives drafted_edit result (edits.add_resource_draft (S.content value.now)) }
 {
-    if !value.has_only(&["Attr", "Class", "Edit", "ID", "Name", "Node", "Status"]) {
-        return Err(Refusal::NotProfile);
-    }
+    let names = ["Attr", "Class", "Edit", "ID", "Name", "Node", "Status"];
+    only(value, &names)?;
     let node = under(alloc, value, "Node")?;
     let resource = ResourceDraft::of(alloc, value)?;
     Ok(EditDraft::AddResource { node, resource })
@@ -221,16 +152,47 @@ fn add_resource<'a, S: Source>(alloc: Global, value: &'a S) -> Result<EditDraft<
 fn add_link<'a, S: Source>(alloc: Global, value: &'a S) -> Result<EditDraft<'a>, Refusal>
     ensures { Gives drafted_edit result (edits.add_link_draft (S.content value.now)) }
 {
-    if !value.has_only(&["Edit", "Node", "Usage", "rRef"]) {
-        return Err(Refusal::NotProfile);
-    }
+    only(value, &["Edit", "Node", "Usage", "rRef"])?;
     let node = under(alloc, value, "Node")?;
     let usage = under(alloc, value, "Usage")?;
     let rref = under(alloc, value, "rRef")?;
-    Ok(EditDraft::AddLink {
-        node,
-        link: LinkDraft { rref, usage },
-    })
+    let link = LinkDraft { rref, usage };
+    Ok(EditDraft::AddLink { node, link })
+}
+
+/// The edit of a draft that sets something. Refuses `Memory` alone.
+fn build_setting(alloc: Global, draft: &EditDraft<'_>) -> Result<Edit, Refusal>
+    requires setting { edits.is_setting (drafted_edit draft.now) ≡ true }
+    requires names { edits.edit_has_names (drafted_edit draft.now) ≡ true }
+    requires texts { edits.edit_has_texts (drafted_edit draft.now) ≡ true }
+    ensures ok { IfOk result (λ edit. edit ≡ drafted_edit draft.now) }
+    ensures memory { IfErr result (λ e. e ≡ Refusal.Memory) }
+{
+    match draft {
+        EditDraft::SetStatus { node, status } => Ok(Edit::SetStatus {
+            node: node.build(alloc)?,
+            status: status.build(alloc)?,
+        }),
+        EditDraft::SetAttr { node, name, value } => Ok(Edit::SetAttr {
+            node: node.build(alloc)?,
+            name: name.build(alloc)?,
+            value: value.build(alloc)?,
+        }),
+        EditDraft::SetResStatus { resource, status } => Ok(Edit::SetResStatus {
+            resource: resource.build(alloc)?,
+            status: status.build(alloc)?,
+        }),
+        EditDraft::SetResAttr {
+            resource,
+            name,
+            value,
+        } => Ok(Edit::SetResAttr {
+            resource: resource.build(alloc)?,
+            name: name.build(alloc)?,
+            value: value.build(alloc)?,
+        }),
+        _ => unreachable!(),
+    }
 }
 
 impl Form for Edit {
@@ -246,10 +208,19 @@ impl<'a> Draft<'a> for EditDraft<'a> {
 
     ghost drafted = { drafted_edit };
 
-    #[tactic(auto, unfolding(crate::specs::Edits::edit_draft))]
+    #[tactic(auto, unfolding(crate::specs::Edits::edit_draft, crate::specs::Edits::adding_draft, crate::specs::Edits::setting_draft))]
     fn of<S: Source>(alloc: Global, value: &'a S) -> Result<EditDraft<'a>, Refusal> {
-        let kind = text_under(value, "Edit").ok_or(Refusal::NotProfile)?;
-        adding(alloc, kind, value)
+        match text_under(value, "Edit").ok_or(Refusal::NotProfile)? {
+            "Note" => note(alloc, value),
+            "AddNode" => add_node(alloc, value),
+            "AddResource" => add_resource(alloc, value),
+            "AddLink" => add_link(alloc, value),
+            "SetStatus" => set_status(alloc, value),
+            "SetAttr" => set_attr(alloc, value),
+            "SetResStatus" => set_resource_status(alloc, value),
+            "SetResAttr" => set_resource_attr(alloc, value),
+            _ => Err(Refusal::NotProfile),
+        }
     }
 
     fn has_names(&self) -> bool {
@@ -294,185 +265,118 @@ impl<'a> Draft<'a> for EditDraft<'a> {
 
     fn build(&self, alloc: Global) -> Result<Edit, Refusal> {
         match self {
-            EditDraft::SetStatus { node, status } => build_set_status(alloc, node, status),
-            EditDraft::SetAttr { node, name, value } => build_set_attr(alloc, node, name, value),
-            EditDraft::SetResStatus { resource, status } => {
-                build_set_resource_status(alloc, resource, status)
-            }
-            EditDraft::SetResAttr {
-                resource,
-                name,
-                value,
-            } => build_set_resource_attr(alloc, resource, name, value),
-            EditDraft::Note { node, text } => build_note(alloc, node, text),
+            EditDraft::Note { node, text } => Ok(Edit::Note {
+                node: node.build(alloc)?,
+                text: text.build(alloc)?,
+            }),
             EditDraft::AddNode {
                 node,
                 id,
                 kind,
                 job_part,
                 status,
-            } => build_add_node(alloc, node, id, kind, job_part, status),
-            EditDraft::AddResource { node, resource } => build_add_resource(alloc, node, resource),
-            EditDraft::AddLink { node, link } => build_add_link(alloc, node, link),
+            } => Ok(Edit::AddNode {
+                node: node.build(alloc)?,
+                id: id.build(alloc)?,
+                kind: kind.build(alloc)?,
+                job_part: job_part.build(alloc)?,
+                status: status.build(alloc)?,
+            }),
+            EditDraft::AddResource { node, resource } => Ok(Edit::AddResource {
+                node: node.build(alloc)?,
+                resource: resource.build(alloc)?,
+            }),
+            EditDraft::AddLink { node, link } => Ok(Edit::AddLink {
+                node: node.build(alloc)?,
+                link: link.build(alloc)?,
+            }),
+            _ => build_setting(alloc, self),
         }
     }
 }
 
-/// The members of an edit that gives what stands under `target` another Status.
-fn status_map(
-    alloc: Global,
-    kind: &str,
-    target: &str,
-    id: &Id,
-    status: &Name,
-) -> Result<Map<String, Value>, AllocError>
-    ensures members { IfOk result (λ m. members_view m.entries
-        ≡ json.put (codes "Status") (string status.now)
-        (json.put target.now (string id.now)
-        (json.put (codes "Edit") (string kind.now) no_members))) }
-    ensures names { OnOk result ((is_name id.now && is_name status.now) ≡ true) }
+/// The word for the kind of an edit.
+fn kind_word(edit: &Edit) -> &'static str
+    ensures { result.now ≡ edits.edit_kind edit.now }
 {
-    let mut members = Map::new(alloc);
-    put_text(alloc, &mut members, "Edit", kind)?;
-    put(alloc, &mut members, target, id)?;
-    put(alloc, &mut members, "Status", status)?;
-    Ok(members)
+    match edit {
+        Edit::SetStatus { .. } => "SetStatus",
+        Edit::SetAttr { .. } => "SetAttr",
+        Edit::SetResStatus { .. } => "SetResStatus",
+        Edit::SetResAttr { .. } => "SetResAttr",
+        Edit::Note { .. } => "Note",
+        Edit::AddNode { .. } => "AddNode",
+        Edit::AddResource { .. } => "AddResource",
+        Edit::AddLink { .. } => "AddLink",
+    }
 }
 
-/// The members of an edit that gives what stands under `target` an attribute.
-fn attr_map(
-    alloc: Global,
-    kind: &str,
-    target: &str,
-    id: &Id,
-    name: &Name,
-    value: &Text,
-) -> Result<Map<String, Value>, AllocError>
-    ensures members { IfOk result (λ m. members_view m.entries
-        ≡ json.put (codes "Value") (string value.now)
-        (json.put target.now (string id.now)
-        (json.put (codes "Name") (string name.now)
-        (json.put (codes "Edit") (string kind.now) no_members)))) }
-    ensures names { OnOk result ((is_name id.now && is_name name.now) ≡ true) }
-    ensures texts { OnOk result (is_text value.now ≡ true) }
+/// What an edit is about, under the name of its member: a node or a resource.
+fn target(edit: &Edit) -> (&'static str, &Id)
+    ensures name { result.0.now ≡ edits.target_name edit.now }
+    ensures id { result.1.now ≡ edits.target_id edit.now }
 {
-    let mut members = Map::new(alloc);
-    put_text(alloc, &mut members, "Edit", kind)?;
-    put(alloc, &mut members, "Name", name)?;
-    put(alloc, &mut members, target, id)?;
-    put(alloc, &mut members, "Value", value)?;
-    Ok(members)
+    match edit {
+        Edit::SetStatus { node, .. }
+        | Edit::SetAttr { node, .. }
+        | Edit::Note { node, .. }
+        | Edit::AddNode { node, .. }
+        | Edit::AddResource { node, .. }
+        | Edit::AddLink { node, .. } => ("Node", node),
+        Edit::SetResStatus { resource, .. } | Edit::SetResAttr { resource, .. } => {
+            ("Resource", resource)
+        }
+    }
 }
 
-/// The members of a `Note`.
-fn note_map(alloc: Global, node: &Id, text: &Text) -> Result<Map<String, Value>, AllocError>
-    ensures members { IfOk result (λ m. object (members_view m.entries)
-        ≡ edits.edit_data (Edit.Note node.now text.now)) }
-    ensures names { OnOk result (edits.edit_has_names (Edit.Note node.now text.now) ≡ true) }
-    ensures texts { OnOk result (edits.edit_has_texts (Edit.Note node.now text.now) ≡ true) }
-{
-    let mut members = Map::new(alloc);
-    put_text(alloc, &mut members, "Edit", "Note")?;
-    put(alloc, &mut members, "Node", node)?;
-    put(alloc, &mut members, "Text", text)?;
-    Ok(members)
-}
-
-/// The members of an `AddNode`.
-fn add_node_map(
-    alloc: Global,
-    node: &Id,
-    id: &Id,
-    kind: &Name,
-    job_part: &Name,
-    status: &Name,
-) -> Result<Map<String, Value>, AllocError>
-    ensures members { IfOk result (λ m. object (members_view m.entries)
-        ≡ edits.edit_data (Edit.AddNode node.now id.now kind.now job_part.now status.now)) }
-    ensures names { OnOk result (edits.edit_has_names
-        (Edit.AddNode node.now id.now kind.now job_part.now status.now) ≡ true) }
-{
-    let mut members = Map::new(alloc);
-    put_text(alloc, &mut members, "Edit", "AddNode")?;
-    put(alloc, &mut members, "ID", id)?;
-    put(alloc, &mut members, "JobPartID", job_part)?;
-    put(alloc, &mut members, "Node", node)?;
-    put(alloc, &mut members, "Status", status)?;
-    put(alloc, &mut members, "Type", kind)?;
-    Ok(members)
-}
-
-/// The members of an `AddLink`.
-fn add_link_map(alloc: Global, node: &Id, link: &Link) -> Result<Map<String, Value>, AllocError>
-    ensures members { IfOk result (λ m. object (members_view m.entries)
-        ≡ edits.edit_data (Edit.AddLink node.now link.now)) }
-    ensures names { OnOk result (edits.edit_has_names (Edit.AddLink node.now link.now) ≡ true) }
-{
-    let mut members = Map::new(alloc);
-    put_text(alloc, &mut members, "Edit", "AddLink")?;
-    put(alloc, &mut members, "Node", node)?;
-    put(alloc, &mut members, "Usage", &link.usage)?;
-    put(alloc, &mut members, "rRef", &link.rref)?;
-    Ok(members)
-}
-
-/// The members of an `AddResource`: those of the resource itself, and two more.
-fn add_resource_map(
-    alloc: Global,
-    node: &Id,
-    resource: &Resource,
-) -> Result<Map<String, Value>, AllocError>
-    ensures members { IfOk result (λ m. object (members_view m.entries)
-        ≡ edits.edit_data (Edit.AddResource node.now resource.now)) }
+/// Puts the members of an edit besides its kind and what it is about into an empty object. Their
+/// names and texts are valid.
+fn put_rest(alloc: Global, members: &mut Map<String, Value>, edit: &Edit) -> Result<(), AllocError>
+    requires { members_view members.old.entries ≡ no_members }
+    ensures members { OnOk result (members_view members.new.entries ≡ edits.edit_rest edit.now) }
     ensures names { OnOk result
-        (edits.edit_has_names (Edit.AddResource node.now resource.now) ≡ true) }
-    ensures texts { OnOk result
-        (edits.edit_has_texts (Edit.AddResource node.now resource.now) ≡ true) }
-{
-    let mut members = resource_map(alloc, resource)?;
-    put_text(alloc, &mut members, "Edit", "AddResource")?;
-    put(alloc, &mut members, "Node", node)?;
-    Ok(members)
-}
-
-/// The members of an edit.
-fn edit_map(alloc: Global, edit: &Edit) -> Result<Map<String, Value>, AllocError>
-    ensures members { IfOk result
-        (λ m. object (members_view m.entries) ≡ edits.edit_data edit.now) }
-    ensures names { OnOk result (edits.edit_has_names edit.now ≡ true) }
+        (is_name (edits.target_id edit.now) ≡ true → edits.edit_has_names edit.now ≡ true) }
     ensures texts { OnOk result (edits.edit_has_texts edit.now ≡ true) }
 {
     match edit {
-        Edit::SetStatus { node, status } => status_map(alloc, "SetStatus", "Node", node, status),
-        Edit::SetAttr { node, name, value } => {
-            attr_map(alloc, "SetAttr", "Node", node, name, value)
+        Edit::SetStatus { status, .. } | Edit::SetResStatus { status, .. } => {
+            put(alloc, members, "Status", status)
         }
-        Edit::SetResStatus { resource, status } => {
-            status_map(alloc, "SetResStatus", "Resource", resource, status)
+        Edit::SetAttr { name, value, .. } | Edit::SetResAttr { name, value, .. } => {
+            put(alloc, members, "Name", name)?;
+            put(alloc, members, "Value", value)
         }
-        Edit::SetResAttr {
-            resource,
-            name,
-            value,
-        } => attr_map(alloc, "SetResAttr", "Resource", resource, name, value),
-        Edit::Note { node, text } => note_map(alloc, node, text),
+        Edit::Note { text, .. } => put(alloc, members, "Text", text),
         Edit::AddNode {
-            node,
             id,
             kind,
             job_part,
             status,
-        } => add_node_map(alloc, node, id, kind, job_part, status),
-        Edit::AddResource { node, resource } => add_resource_map(alloc, node, resource),
-        Edit::AddLink { node, link } => add_link_map(alloc, node, link),
+            ..
+        } => {
+            put(alloc, members, "ID", id)?;
+            put(alloc, members, "JobPartID", job_part)?;
+            put(alloc, members, "Status", status)?;
+            put(alloc, members, "Type", kind)
+        }
+        Edit::AddResource { resource, .. } => put_resource(alloc, members, resource),
+        Edit::AddLink { link, .. } => {
+            put(alloc, members, "Usage", &link.usage)?;
+            put(alloc, members, "rRef", &link.rref)
+        }
     }
 }
 
 impl Written for Edit {
     ghost written = { edits.edit_data };
 
+    #[tactic(auto, using(crate::proofs::EditParts::edit_of_parts))]
     fn value(&self, alloc: Global) -> Result<Value, AllocError> {
-        let members = edit_map(alloc, self)?;
+        let (name, id) = target(self);
+        let mut members = Map::new(alloc);
+        put_rest(alloc, &mut members, self)?;
+        put_text(alloc, &mut members, "Edit", kind_word(self))?;
+        put(alloc, &mut members, name, id)?;
         Ok(Value::Object(members))
     }
 

@@ -3,7 +3,6 @@
 #![tactic(auto)]
 
 mod draft;
-mod edit_build;
 mod edit_form;
 mod form;
 mod lists;
@@ -20,7 +19,7 @@ pub use edit_form::EditDraft;
 pub use form::Form;
 pub use lists::drafts::Drafts;
 pub use lists::items_form::values_of;
-pub use members::member::{number_under, text_under};
+pub use members::member::{number_under, only, text_under};
 pub use members::object::{put, put_list, put_text, put_value, text_value};
 pub use members::one_member::{under, under_or};
 pub use nodes::ancestor_form::AncestorDraft;
@@ -28,11 +27,12 @@ pub use nodes::audit_form::AuditDraft;
 pub use nodes::link_form::LinkDraft;
 pub use resources::attrs_form::AttrsDraft;
 pub use resources::marked_form::{Marked, MarkedDraft, resource_value};
-pub use resources::resource_form::{ResourceDraft, resource_map};
+pub use resources::resource_form::{ResourceDraft, put_resource};
 pub use resources::shown_form::{Shown, ShownDraft};
 pub use texts::any_text::AnyText;
 pub use texts::borrowed::Borrowed;
 pub use whole::{whole_from, whole_of, written_value};
+pub use words::plain::Plain;
 pub use words::spawn_status_form::{spawn_status_named, spawn_status_word};
 pub use words::usage_form::{usage_named, usage_word};
 pub use words::word::Word;

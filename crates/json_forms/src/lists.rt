@@ -1,3 +1,2 @@
 pub mod drafts;
 pub mod items_form;
-pub mod listed;

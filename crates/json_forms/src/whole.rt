@@ -4,8 +4,7 @@ ghost use Rattle.std.specs.Prelude.{◌≡◌, true, Some, Ok, IfOk, OnOk};
 ghost use Rattle.serde_json.specs.View.{view};
 ghost use Rattle.json_forms.specs.Judged.{Answers, first_fault, judged, sound};
 
-use crate::draft::Draft;
-use crate::written::Written;
+use crate::{Draft, Written};
 use json_source::Source;
 use serde_json::Value;
 use std::alloc::{AllocError, Global};

@@ -7,8 +7,7 @@ ghost use Rattle.serde_json.specs.View.{items_of};
 ghost use Rattle.json_forms.specs.Listed.{each, pool_draft};
 ghost use Rattle.json_source.specs.Read.{Gives};
 
-use crate::draft::Draft;
-use crate::lists::listed::pool_items;
+use crate::{Draft, under_or};
 use json_source::Source;
 use std::alloc::{AllocError, Global};
 use std::marker::Model;
@@ -65,7 +64,7 @@ impl<'a, D: Draft<'a>> Drafts<D> {
         ensures { Gives (map D.drafted) result
             (pool_draft D.Whole.form (get name.now (S.content value.now))) }
     {
-        Drafts::of_items(alloc, pool_items(value, name)?)
+        under_or(alloc, value, name, Drafts::new(Vec::new(alloc)))
     }
 
     /// Takes off what stands from a place on.
@@ -77,30 +76,6 @@ impl<'a, D: Draft<'a>> Drafts<D> {
         let drafts = self.drafts.split_off(at)?;
         Ok(Drafts { drafts })
     }
-}
-
-/// Whether the ids and names of all are valid.
-fn have_names<'a, D: Draft<'a>>(drafts: &[D]) -> bool
-    ensures { result ≡ list_all (λ d. D.Whole.has_names (D.drafted d)) drafts.now }
-{
-    for draft in drafts {
-        if !draft.has_names() {
-            return false;
-        }
-    }
-    true
-}
-
-/// Whether the texts of all are valid.
-fn have_texts<'a, D: Draft<'a>>(drafts: &[D]) -> bool
-    ensures { result ≡ list_all (λ d. D.Whole.has_texts (D.drafted d)) drafts.now }
-{
-    for draft in drafts {
-        if !draft.has_texts() {
-            return false;
-        }
-    }
-    true
 }
 
 /// The wholes of drafts whose names and texts are valid. Refuses `Memory` alone.
@@ -124,20 +99,26 @@ impl<'a, D: Draft<'a>> Draft<'a> for Drafts<D> {
     ghost drafted = { map D.drafted };
 
     fn of<S: Source>(alloc: Global, value: &'a S) -> Result<Drafts<D>, Refusal> {
-        match value.items() {
-            Some(items) => Drafts::of_items(alloc, items),
-            None => Err(Refusal::NotProfile),
-        }
+        let items = value.items().ok_or(Refusal::NotProfile)?;
+        Drafts::of_items(alloc, items)
     }
 
-    #[tactic(auto, using(crate::proofs::Tests::all_mapped))]
     fn has_names(&self) -> bool {
-        have_names(self.as_slice())
+        for draft in self.as_slice() {
+            if !draft.has_names() {
+                return false;
+            }
+        }
+        true
     }
 
-    #[tactic(auto, using(crate::proofs::Tests::all_mapped))]
     fn has_texts(&self) -> bool {
-        have_texts(self.as_slice())
+        for draft in self.as_slice() {
+            if !draft.has_texts() {
+                return false;
+            }
+        }
+        true
     }
 
     #[tactic(auto, using(crate::proofs::Tests::all_mapped))]

@@ -7,8 +7,7 @@ ghost use Rattle.serde_json.specs.View.{items_view};
 ghost use Rattle.json_forms.specs.Listed.{data_items, list_form};
 ghost use Rattle.json_forms.specs.Again.{list_again};
 
-use crate::form::Form;
-use crate::written::Written;
+use crate::{Form, Written};
 use serde_json::Value;
 use std::alloc::{AllocError, Global};
 use ticket_items::Items;

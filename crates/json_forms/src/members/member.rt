@@ -1,10 +1,23 @@
 //! Reading one member of an object.
 
-ghost use Rattle.std.specs.Prelude.{◌≡◌};
+ghost use Rattle.std.specs.Prelude.{◌≡◌, map};
 ghost use Rattle.std.specs.Option.{option_map};
 ghost use Rattle.json_source.specs.Read as form;
 
 use json_source::Source;
+use ticket_items::Refusal;
+
+/// Refuses `NotProfile` unless the value is an object with no other members than these.
+pub fn only<S: Source>(value: &S, names: &[&str]) -> Result<(), Refusal>
+    ensures { form.Gives (λ u. u) result
+        (form.provided (form.has_only (map (λ n. n.now) names.now) (S.content value.now))) }
+{
+    if value.has_only(names) {
+        Ok(())
+    } else {
+        Err(Refusal::NotProfile)
+    }
+}
 
 /// The text under a name.
 pub fn text_under<'a, S: Source>(value: &'a S, name: &str) -> Option<&'a str>

@@ -4,7 +4,7 @@ ghost use Rattle.std.specs.Prelude.{◌≡◌, true, IfOk, OnOk};
 ghost use Rattle.serde_json.specs.Data.{put, string, array};
 ghost use Rattle.serde_json.specs.View.{items_view, members_view, view};
 
-use crate::written::Written;
+use crate::Written;
 use serde_json::{Map, Value};
 use std::alloc::{AllocError, Global};
 
@@ -44,8 +44,7 @@ pub fn put<T: Written>(
 pub fn text_value(alloc: Global, text: &str) -> Result<Value, AllocError>
     ensures { IfOk result (λ v. view v ≡ string text.now) }
 {
-    let text = String::from_str(alloc, text)?;
-    Ok(Value::String(text))
+    Ok(Value::String(String::from_str(alloc, text)?))
 }
 
 /// Puts a text under a name.

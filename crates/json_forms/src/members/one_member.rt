@@ -5,7 +5,7 @@ ghost use Rattle.std.specs.Option.{option_map_or};
 ghost use Rattle.serde_json.specs.Find.{get};
 ghost use Rattle.json_source.specs.Read.{Gives};
 
-use crate::draft::Draft;
+use crate::Draft;
 use json_source::Source;
 use std::alloc::Global;
 use ticket_items::Refusal;
@@ -20,10 +20,8 @@ pub fn under<'a, D: Draft<'a>, S: Source>(
     ensures { Gives D.drafted result
         (option_and_then D.Whole.form (get name.now (S.content value.now))) }
 {
-    match value.member(name) {
-        Some(member) => D::of(alloc, member),
-        None => Err(Refusal::NotProfile),
-    }
+    let member = value.member(name).ok_or(Refusal::NotProfile)?;
+    D::of(alloc, member)
 }
 
 /// The draft of what stands under a name, and `absent` where nothing does. Refuses `NotProfile`

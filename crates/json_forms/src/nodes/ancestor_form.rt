@@ -2,12 +2,7 @@ ghost use Rattle.std.specs.Prelude.{true};
 ghost use Rattle.json_forms.specs.Again.{ancestor_again};
 ghost use Rattle.json_forms.specs.Ancestors as ancestors;
 
-use crate::draft::Draft;
-use crate::form::Form;
-use crate::members::object::put;
-use crate::members::one_member::under;
-use crate::texts::borrowed::Borrowed;
-use crate::written::Written;
+use crate::{Borrowed, Draft, Form, Written, only, put, under};
 use json_source::Source;
 use serde_json::{Map, Value};
 use std::alloc::{AllocError, Global};
@@ -36,9 +31,7 @@ impl<'a> Draft<'a> for AncestorDraft<'a> {
 
     #[tactic(auto, unfolding(crate::specs::Ancestors::ancestor_draft))]
     fn of<S: Source>(alloc: Global, value: &'a S) -> Result<AncestorDraft<'a>, Refusal> {
-        if !value.has_only(&["JobPartID", "NodeID"]) {
-            return Err(Refusal::NotProfile);
-        }
+        only(value, &["JobPartID", "NodeID"])?;
         let job_part = under(alloc, value, "JobPartID")?;
         let node_id = under(alloc, value, "NodeID")?;
         Ok(AncestorDraft { node_id, job_part })

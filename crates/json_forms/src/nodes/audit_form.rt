@@ -1,22 +1,16 @@
 //! Audits: their drafts, and how they are written.
 
-ghost use Rattle.std.specs.Prelude.{◌≡◌, true, IfOk, OnOk};
-ghost use Rattle.serde_json.specs.View.{view};
+ghost use Rattle.std.specs.Prelude.{◌≡◌, true, OnOk};
+ghost use Rattle.serde_json.specs.Data.{no_members, object};
+ghost use Rattle.serde_json.specs.View.{members_view};
 ghost use Rattle.json_forms.specs.Again.{audit_again};
 ghost use Rattle.json_forms.specs.Audits as audits;
 
-use crate::draft::Draft;
-use crate::form::Form;
-use crate::lists::drafts::Drafts;
-use crate::members::member::text_under;
-use crate::members::object::{put, put_text};
-use crate::members::one_member::under;
-use crate::texts::borrowed::Borrowed;
-use crate::written::Written;
+use crate::{Borrowed, Draft, Drafts, Form, Written, only, put, put_text, text_under, under};
 use json_source::Source;
 use serde_json::{Map, Value};
 use std::alloc::{AllocError, Global};
-use ticket_items::{Audit, Id, Ids, Name, Refusal, Text};
+use ticket_items::{Audit, Id, Name, Refusal, Text};
 
 /// The members of an audit of a spawn.
 const SPAWNED_MEMBERS: &[&str] = &[
@@ -64,9 +58,7 @@ impl<'a> AuditDraft<'a> {
     fn notification<S: Source>(alloc: Global, value: &'a S) -> Result<AuditDraft<'a>, Refusal>
         ensures { Gives drafted_audit result (audits.notification_draft (S.content value.now)) }
     {
-        if !value.has_only(&["Name", "Text", "TimeStamp"]) {
-            return Err(Refusal::NotProfile);
-        }
+        only(value, &["Name", "Text", "TimeStamp"])?;
         let text = under(alloc, value, "Text")?;
         let at = under(alloc, value, "TimeStamp")?;
         Ok(AuditDraft::Notification { at, text })
@@ -76,22 +68,14 @@ impl<'a> AuditDraft<'a> {
     fn spawned<S: Source>(alloc: Global, value: &'a S) -> Result<AuditDraft<'a>, Refusal>
         ensures { Gives drafted_audit result (audits.spawned_draft (S.content value.now)) }
     {
-        if !value.has_only(SPAWNED_MEMBERS) {
-            return Err(Refusal::NotProfile);
-        }
-        let spawn_id = under(alloc, value, "NewSpawnID")?;
-        let status = under(alloc, value, "Status")?;
-        let at = under(alloc, value, "TimeStamp")?;
-        let jref = under(alloc, value, "jRef")?;
-        let ro = under(alloc, value, "rRefsROCopied")?;
-        let rw = under(alloc, value, "rRefsRWCopied")?;
+        only(value, SPAWNED_MEMBERS)?;
         Ok(AuditDraft::Spawned {
-            at,
-            jref,
-            spawn_id,
-            ro,
-            rw,
-            status,
+            spawn_id: under(alloc, value, "NewSpawnID")?,
+            status: under(alloc, value, "Status")?,
+            at: under(alloc, value, "TimeStamp")?,
+            jref: under(alloc, value, "jRef")?,
+            ro: under(alloc, value, "rRefsROCopied")?,
+            rw: under(alloc, value, "rRefsRWCopied")?,
         })
     }
 
@@ -99,18 +83,12 @@ impl<'a> AuditDraft<'a> {
     fn merged<S: Source>(alloc: Global, value: &'a S) -> Result<AuditDraft<'a>, Refusal>
         ensures { Gives drafted_audit result (audits.merged_draft (S.content value.now)) }
     {
-        if !value.has_only(MERGED_MEMBERS) {
-            return Err(Refusal::NotProfile);
-        }
-        let merge_id = under(alloc, value, "MergeID")?;
-        let at = under(alloc, value, "TimeStamp")?;
-        let jref = under(alloc, value, "jRef")?;
-        let overwritten = under(alloc, value, "rRefsOverwritten")?;
+        only(value, MERGED_MEMBERS)?;
         Ok(AuditDraft::Merged {
-            at,
-            jref,
-            merge_id,
-            overwritten,
+            merge_id: under(alloc, value, "MergeID")?,
+            at: under(alloc, value, "TimeStamp")?,
+            jref: under(alloc, value, "jRef")?,
+            overwritten: under(alloc, value, "rRefsOverwritten")?,
         })
     }
 }
@@ -132,15 +110,11 @@ impl<'a> Draft<'a> for AuditDraft<'a> {
 
     #[tactic(auto, unfolding(crate::specs::Audits::audit_draft))]
     fn of<S: Source>(alloc: Global, value: &'a S) -> Result<AuditDraft<'a>, Refusal> {
-        let kind = text_under(value, "Name").ok_or(Refusal::NotProfile)?;
-        if kind == "Notification" {
-            AuditDraft::notification(alloc, value)
-        } else if kind == "Spawned" {
-            AuditDraft::spawned(alloc, value)
-        } else if kind == "Merged" {
-            AuditDraft::merged(alloc, value)
-        } else {
-            Err(Refusal::NotProfile)
+        match text_under(value, "Name").ok_or(Refusal::NotProfile)? {
+            "Notification" => AuditDraft::notification(alloc, value),
+            "Spawned" => AuditDraft::spawned(alloc, value),
+            "Merged" => AuditDraft::merged(alloc, value),
+            _ => Err(Refusal::NotProfile),
         }
     }
 
@@ -216,91 +190,63 @@ impl<'a> Draft<'a> for AuditDraft<'a> {
     }
 }
 
-/// A note.
-#[tactic(auto, unfolding(crate::specs::Audits::audit_has_texts))]
-fn notification_value(alloc: Global, at: u64, text: &Text) -> Result<Value, AllocError>
-    ensures value { IfOk result (λ v. view v ≡ audits.audit_data (Audit.Notification at text.now)) }
-    ensures texts { OnOk result (audits.audit_has_texts (Audit.Notification at text.now) ≡ true) }
-{
-    let mut members = Map::new(alloc);
-    put_text(alloc, &mut members, "Name", "Notification")?;
-    put(alloc, &mut members, "Text", text)?;
-    put(alloc, &mut members, "TimeStamp", &at)?;
-    Ok(Value::Object(members))
-}
-
-/// An audit of a spawn.
-#[tactic(auto, unfolding(crate::specs::Audits::audit_has_names))]
-fn spawned_value(
+/// Puts the members of an audit into an empty object. Its names and texts are valid.
+#[tactic(auto, unfolding(crate::specs::Audits::audit_has_names, crate::specs::Audits::audit_has_texts))]
+fn put_audit(
     alloc: Global,
-    at: u64,
-    jref: &Id,
-    spawn_id: &Id,
-    ro: &Ids,
-    rw: &Ids,
-    status: &Name,
-) -> Result<Value, AllocError>
-    ensures value { IfOk result (λ v. view v
-        ≡ audits.audit_data (Audit.Spawned at jref.now spawn_id.now ro.now rw.now status.now)) }
-    ensures names { OnOk result (audits.audit_has_names
-        (Audit.Spawned at jref.now spawn_id.now ro.now rw.now status.now) ≡ true) }
+    members: &mut Map<String, Value>,
+    audit: &Audit,
+) -> Result<(), AllocError>
+    requires { members_view members.old.entries ≡ no_members }
+    ensures members { OnOk result
+        (object (members_view members.new.entries) ≡ audits.audit_data audit.now) }
+    ensures names { OnOk result (audits.audit_has_names audit.now ≡ true) }
+    ensures texts { OnOk result (audits.audit_has_texts audit.now ≡ true) }
 {
-    let mut members = Map::new(alloc);
-    put_text(alloc, &mut members, "Name", "Spawned")?;
-    put(alloc, &mut members, "NewSpawnID", spawn_id)?;
-    put(alloc, &mut members, "Status", status)?;
-    put(alloc, &mut members, "TimeStamp", &at)?;
-    put(alloc, &mut members, "jRef", jref)?;
-    put(alloc, &mut members, "rRefsROCopied", ro)?;
-    put(alloc, &mut members, "rRefsRWCopied", rw)?;
-    Ok(Value::Object(members))
-}
-
-/// An audit of a merge.
-#[tactic(auto, unfolding(crate::specs::Audits::audit_has_names))]
-fn merged_value(
-    alloc: Global,
-    at: u64,
-    jref: &Id,
-    merge_id: &Id,
-    overwritten: &Ids,
-) -> Result<Value, AllocError>
-    ensures value { IfOk result (λ v. view v
-        ≡ audits.audit_data (Audit.Merged at jref.now merge_id.now overwritten.now)) }
-    ensures names { OnOk result (audits.audit_has_names
-        (Audit.Merged at jref.now merge_id.now overwritten.now) ≡ true) }
-{
-    let mut members = Map::new(alloc);
-    put(alloc, &mut members, "MergeID", merge_id)?;
-    put_text(alloc, &mut members, "Name", "Merged")?;
-    put(alloc, &mut members, "TimeStamp", &at)?;
-    put(alloc, &mut members, "jRef", jref)?;
-    put(alloc, &mut members, "rRefsOverwritten", overwritten)?;
-    Ok(Value::Object(members))
+    match audit {
+        Audit::Notification { at, text } => {
+            put_text(alloc, members, "Name", "Notification")?;
+            put(alloc, members, "Text", text)?;
+            put(alloc, members, "TimeStamp", at)
+        }
+        Audit::Spawned {
+            at,
+            jref,
+            spawn_id,
+            ro,
+            rw,
+            status,
+        } => {
+            put_text(alloc, members, "Name", "Spawned")?;
+            put(alloc, members, "NewSpawnID", spawn_id)?;
+            put(alloc, members, "Status", status)?;
+            put(alloc, members, "TimeStamp", at)?;
+            put(alloc, members, "jRef", jref)?;
+            put(alloc, members, "rRefsROCopied", ro)?;
+            put(alloc, members, "rRefsRWCopied", rw)
+        }
+        Audit::Merged {
+            at,
+            jref,
+            merge_id,
+            overwritten,
+        } => {
+            put(alloc, members, "MergeID", merge_id)?;
+            put_text(alloc, members, "Name", "Merged")?;
+            put(alloc, members, "TimeStamp", at)?;
+            put(alloc, members, "jRef", jref)?;
+            put(alloc, members, "rRefsOverwritten", overwritten)
+        }
+    }
 }
 
 impl Written for Audit {
     ghost written = { audits.audit_data };
 
-    #[tactic(auto, unfolding(crate::specs::Audits::audit_has_names, crate::specs::Audits::audit_has_texts))]
     fn value(&self, alloc: Global) -> Result<Value, AllocError> {
-        match self {
-            Audit::Notification { at, text } => notification_value(alloc, *at, text),
-            Audit::Spawned {
-                at,
-                jref,
-                spawn_id,
-                ro,
-                rw,
-                status,
-            } => spawned_value(alloc, *at, jref, spawn_id, ro, rw, status),
-            Audit::Merged {
-                at,
-                jref,
-                merge_id,
-                overwritten,
-            } => merged_value(alloc, *at, jref, merge_id, overwritten),
-        }
+        let mut members = Map::new(alloc);
+        put_audit(alloc, &mut members, self)?;
+        Ok(Value::Object(members))
     }
 
     ghost again = { audit_again };

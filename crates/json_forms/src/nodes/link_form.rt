@@ -2,12 +2,7 @@ ghost use Rattle.std.specs.Prelude.{true};
 ghost use Rattle.json_forms.specs.Again.{link_again};
 ghost use Rattle.json_forms.specs.Links as links;
 
-use crate::draft::Draft;
-use crate::form::Form;
-use crate::members::object::put;
-use crate::members::one_member::under;
-use crate::texts::borrowed::Borrowed;
-use crate::written::Written;
+use crate::{Borrowed, Draft, Form, Written, only, put, under};
 use json_source::Source;
 use serde_json::{Map, Value};
 use std::alloc::{AllocError, Global};
@@ -36,9 +31,7 @@ impl<'a> Draft<'a> for LinkDraft<'a> {
 
     #[tactic(auto, unfolding(crate::specs::Links::link_draft))]
     fn of<S: Source>(alloc: Global, value: &'a S) -> Result<LinkDraft<'a>, Refusal> {
-        if !value.has_only(&["Usage", "rRef"]) {
-            return Err(Refusal::NotProfile);
-        }
+        only(value, &["Usage", "rRef"])?;
         let usage = under(alloc, value, "Usage")?;
         let rref = under(alloc, value, "rRef")?;
         Ok(LinkDraft { rref, usage })

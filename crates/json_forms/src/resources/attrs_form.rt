@@ -9,11 +9,7 @@ ghost use Rattle.json_forms.specs.Again.{attrs_again};
 ghost use Rattle.json_forms.specs.Attributes as attributes;
 ghost use Rattle.json_source.specs.Read.{attrs_draft, lent_pairs};
 
-use crate::draft::Draft;
-use crate::form::Form;
-use crate::members::object::put_text;
-use crate::words::word::Word;
-use crate::written::Written;
+use crate::{Draft, Form, Word, Written, put_text};
 use json_source::Source;
 use serde_json::{Map, Value};
 use std::alloc::{AllocError, Global};

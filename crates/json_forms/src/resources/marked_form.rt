@@ -6,14 +6,9 @@ ghost use Rattle.json_forms.specs.Again.{marked_again};
 ghost use Rattle.json_forms.specs.DraftedResources.{drafted_marked};
 ghost use Rattle.json_forms.specs.Resources as resources;
 
-use crate::draft::Draft;
-use crate::form::Form;
-use crate::members::object::put;
-use crate::resources::resource_form::{ResourceDraft, resource_map};
-use crate::resources::shown_form::{Shown, ShownDraft};
-use crate::written::Written;
+use crate::{Draft, Form, ResourceDraft, Shown, ShownDraft, Written, only, put, put_resource};
 use json_source::Source;
-use serde_json::Value;
+use serde_json::{Map, Value};
 use std::alloc::{AllocError, Global};
 use ticket_items::{Refusal, Resource};
 
@@ -58,9 +53,7 @@ impl<'a> Draft<'a> for MarkedDraft<'a> {
 
     #[tactic(auto, unfolding(crate::specs::Resources::resource_draft))]
     fn of<S: Source>(alloc: Global, value: &'a S) -> Result<MarkedDraft<'a>, Refusal> {
-        if !value.has_only(RESOURCE_MEMBERS) {
-            return Err(Refusal::NotProfile);
-        }
+        only(value, RESOURCE_MEMBERS)?;
         let resource = ResourceDraft::of(alloc, value)?;
         let shown = ShownDraft::of(alloc, value)?;
         Ok(MarkedDraft { resource, shown })
@@ -92,7 +85,8 @@ pub fn resource_value(
     ensures names { OnOk result (resources.resource_has_names resource.now ≡ true) }
     ensures texts { OnOk result (resources.resource_has_texts resource.now ≡ true) }
 {
-    let mut members = resource_map(alloc, resource)?;
+    let mut members = Map::new(alloc);
+    put_resource(alloc, &mut members, resource)?;
     put(alloc, &mut members, "Locked", &shown.locked)?;
     put(alloc, &mut members, "SpawnIDs", &shown.spawn_ids)?;
     put(alloc, &mut members, "SpawnStatus", &shown.spawn_status)?;

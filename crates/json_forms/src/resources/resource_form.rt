@@ -1,17 +1,13 @@
 //! Resources by themselves, without what they show of spawns: members of an object that may have
 //! more.
 
-ghost use Rattle.std.specs.Prelude.{◌≡◌, true, IfOk, OnOk};
+ghost use Rattle.std.specs.Prelude.{◌≡◌, true, OnOk};
+ghost use Rattle.serde_json.specs.Data.{no_members};
 ghost use Rattle.serde_json.specs.View.{members_view};
 ghost use Rattle.json_forms.specs.DraftedResources.{drafted_resource};
 ghost use Rattle.json_forms.specs.Resources as resources;
 
-use crate::draft::Draft;
-use crate::form::Form;
-use crate::members::object::put;
-use crate::members::one_member::{under, under_or};
-use crate::resources::attrs_form::AttrsDraft;
-use crate::texts::borrowed::Borrowed;
+use crate::{AttrsDraft, Borrowed, Draft, Form, put, under, under_or};
 use json_source::Source;
 use serde_json::{Map, Value};
 use std::alloc::{AllocError, Global};
@@ -43,17 +39,12 @@ impl<'a> Draft<'a> for ResourceDraft<'a> {
 
     #[tactic(auto, unfolding(crate::specs::Resources::own_resource))]
     fn of<S: Source>(alloc: Global, value: &'a S) -> Result<ResourceDraft<'a>, Refusal> {
-        let class = under(alloc, value, "Class")?;
-        let id = under(alloc, value, "ID")?;
-        let name = under(alloc, value, "Name")?;
-        let status = under(alloc, value, "Status")?;
-        let attrs = under_or(alloc, value, "Attr", AttrsDraft::none(alloc))?;
         Ok(ResourceDraft {
-            id,
-            name,
-            class,
-            status,
-            attrs,
+            class: under(alloc, value, "Class")?,
+            id: under(alloc, value, "ID")?,
+            name: under(alloc, value, "Name")?,
+            status: under(alloc, value, "Status")?,
+            attrs: under_or(alloc, value, "Attr", AttrsDraft::none(alloc))?,
         })
     }
 
@@ -83,20 +74,23 @@ impl<'a> Draft<'a> for ResourceDraft<'a> {
     }
 }
 
-/// A resource, without what it shows of spawns, as members of an object. Its names and texts are
-/// valid.
+/// Puts the members of a resource, without what it shows of spawns, into an empty object. Its names
+/// and texts are valid.
 #[tactic(auto, unfolding(crate::specs::Resources::resource_has_names, crate::specs::Resources::resource_has_texts))]
-pub fn resource_map(alloc: Global, resource: &Resource) -> Result<Map<String, Value>, AllocError>
-    ensures members { IfOk result (λ m. members_view m.entries
-        ≡ resources.own_members resource.now) }
+pub fn put_resource(
+    alloc: Global,
+    members: &mut Map<String, Value>,
+    resource: &Resource,
+) -> Result<(), AllocError>
+    requires { members_view members.old.entries ≡ no_members }
+    ensures members { OnOk result
+        (members_view members.new.entries ≡ resources.own_members resource.now) }
     ensures names { OnOk result (resources.resource_has_names resource.now ≡ true) }
     ensures texts { OnOk result (resources.resource_has_texts resource.now ≡ true) }
 {
-    let mut members = Map::new(alloc);
-    put(alloc, &mut members, "Attr", &resource.attrs)?;
-    put(alloc, &mut members, "Class", &resource.class)?;
-    put(alloc, &mut members, "ID", &resource.id)?;
-    put(alloc, &mut members, "Name", &resource.name)?;
-    put(alloc, &mut members, "Status", &resource.status)?;
-    Ok(members)
+    put(alloc, members, "Attr", &resource.attrs)?;
+    put(alloc, members, "Class", &resource.class)?;
+    put(alloc, members, "ID", &resource.id)?;
+    put(alloc, members, "Name", &resource.name)?;
+    put(alloc, members, "Status", &resource.status)
 }

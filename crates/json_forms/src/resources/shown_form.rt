@@ -4,12 +4,7 @@ ghost use Rattle.std.specs.Prelude.{◌≡◌, ◌∷◌, [], true, IfOk};
 ghost use Rattle.json_forms.specs.DraftedResources.{drafted_shown};
 ghost use Rattle.json_forms.specs.Shown as shown;
 
-use crate::draft::Draft;
-use crate::form::Form;
-use crate::lists::drafts::Drafts;
-use crate::members::one_member::under_or;
-use crate::texts::any_text::AnyText;
-use crate::texts::borrowed::Borrowed;
+use crate::{AnyText, Borrowed, Draft, Drafts, Form, under_or};
 use json_source::Source;
 use std::alloc::{AllocError, Global};
 use ticket_items::{Items, Refusal, SpawnStatus};
@@ -76,13 +71,6 @@ impl Shown {
     }
 }
 
-/// Whether there is no text.
-fn is_empty(texts: &[Borrowed<'_, AnyText>]) -> bool
-    ensures { result ≡ shown.is_empty texts.now }
-{
-    texts.is_empty()
-}
-
 /// Whether they are this text once, and nothing else.
 fn are_only(texts: &[Borrowed<'_, AnyText>], text: &str) -> bool
     ensures { result ≡ shown.are_only text.now texts.now }
@@ -90,33 +78,14 @@ fn are_only(texts: &[Borrowed<'_, AnyText>], text: &str) -> bool
     texts.len() == 1 && texts.iter().all(|other| other.as_str() == text)
 }
 
-/// Whether no copy is out.
-fn is_not_spawned(status: SpawnStatus) -> bool
-    ensures { result ≡ shown.is_not_spawned status }
-{
-    matches!(status, SpawnStatus::NotSpawned)
-}
-
-/// Whether a copy is out that may be changed.
-fn is_spawned_rw(status: SpawnStatus) -> bool
-    ensures { result ≡ shown.is_spawned_rw status }
-{
-    matches!(status, SpawnStatus::SpawnedRW)
-}
-
-/// Whether copies are out that may be read alone.
-fn is_spawned_ro(status: SpawnStatus) -> bool
-    ensures { result ≡ shown.is_spawned_ro status }
-{
-    matches!(status, SpawnStatus::SpawnedRO)
-}
-
 impl<'a> ShownDraft<'a> {
     /// Whether it is nothing.
     pub fn shows_nothing(&self) -> bool
         ensures { result ≡ shown.shows_nothing (drafted_shown self.now) }
     {
-        !self.locked && is_empty(self.spawn_ids.as_slice()) && is_not_spawned(self.spawn_status)
+        !self.locked
+            && self.spawn_ids.as_slice().is_empty()
+            && matches!(self.spawn_status, SpawnStatus::NotSpawned)
     }
 
     /// Whether it is what a copy shows that may be changed, of the spawn of this text.
@@ -125,7 +94,7 @@ impl<'a> ShownDraft<'a> {
     {
         !self.locked
             && are_only(self.spawn_ids.as_slice(), spawn)
-            && is_spawned_rw(self.spawn_status)
+            && matches!(self.spawn_status, SpawnStatus::SpawnedRW)
     }
 
     /// Whether it is what a copy shows that may be read alone, of the spawn of this text.
@@ -134,7 +103,7 @@ impl<'a> ShownDraft<'a> {
     {
         self.locked
             && are_only(self.spawn_ids.as_slice(), spawn)
-            && is_spawned_ro(self.spawn_status)
+            && matches!(self.spawn_status, SpawnStatus::SpawnedRO)
     }
 }
 
@@ -153,13 +122,10 @@ impl<'a> Draft<'a> for ShownDraft<'a> {
 
     #[tactic(auto, unfolding(crate::specs::Shown::shown_draft), using(crate::proofs::Tests::themselves))]
     fn of<S: Source>(alloc: Global, value: &'a S) -> Result<ShownDraft<'a>, Refusal> {
-        let locked = under_or(alloc, value, "Locked", false)?;
-        let spawn_ids = Drafts::under(alloc, value, "SpawnIDs")?;
-        let spawn_status = under_or(alloc, value, "SpawnStatus", SpawnStatus::NotSpawned)?;
         Ok(ShownDraft {
-            locked,
-            spawn_ids,
-            spawn_status,
+            locked: under_or(alloc, value, "Locked", false)?,
+            spawn_ids: Drafts::under(alloc, value, "SpawnIDs")?,
+            spawn_status: under_or(alloc, value, "SpawnStatus", SpawnStatus::NotSpawned)?,
         })
     }
 

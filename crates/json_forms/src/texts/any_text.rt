@@ -3,10 +3,7 @@ ghost use Rattle.serde_json.specs.Data.{string};
 ghost use Rattle.serde_json.specs.Find.{as_str};
 ghost use Rattle.json_forms.specs.Again.{text_again, text_itself};
 
-use crate::form::Form;
-use crate::members::object::text_value;
-use crate::words::word::Word;
-use crate::written::Written;
+use crate::{Form, Word, Written, text_value};
 use serde_json::Value;
 use std::alloc::{AllocError, Global};
 use std::marker::Model;
@@ -56,10 +53,7 @@ impl Word for AnyText {
     }
 
     fn known(alloc: Global, text: &str) -> Result<AnyText, Refusal> {
-        match AnyText::new(alloc, text) {
-            Ok(any) => Ok(any),
-            Err(_) => Err(Refusal::Memory),
-        }
+        Ok(AnyText::new(alloc, text)?)
     }
 
     ghost read = { text_itself };

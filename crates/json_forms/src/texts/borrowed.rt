@@ -1,5 +1,4 @@
-use crate::draft::Draft;
-use crate::words::word::Word;
+use crate::{Draft, Word};
 use json_source::Source;
 use serde_json::Value;
 use std::alloc::Global;
@@ -48,10 +47,8 @@ impl<'a, W: Word> Draft<'a> for Borrowed<'a, W> {
     ghost drafted = { W.word };
 
     fn of<S: Source>(_alloc: Global, value: &'a S) -> Result<Borrowed<'a, W>, Refusal> {
-        match value.text() {
-            Some(text) => Ok(Borrowed::new(text)),
-            None => Err(Refusal::NotProfile),
-        }
+        let text = value.text().ok_or(Refusal::NotProfile)?;
+        Ok(Borrowed::new(text))
     }
 
     fn has_names(&self) -> bool {

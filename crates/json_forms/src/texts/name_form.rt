@@ -4,10 +4,7 @@ ghost use Rattle.serde_json.specs.Find.{as_str};
 ghost use Rattle.ticket_items.specs.Names as names;
 ghost use Rattle.json_forms.specs.Again.{text_again, text_itself};
 
-use crate::form::Form;
-use crate::members::object::text_value;
-use crate::words::word::Word;
-use crate::written::Written;
+use crate::{Form, Word, Written, text_value};
 use serde_json::Value;
 use std::alloc::{AllocError, Global};
 use ticket_items::{Name, Refusal, is_name};
@@ -32,10 +29,7 @@ impl Word for Name {
     }
 
     fn known(alloc: Global, text: &str) -> Result<Name, Refusal> {
-        match Name::new(alloc, text) {
-            Ok(name) => Ok(name),
-            Err(refusal) => Err(refusal),
-        }
+        Name::new(alloc, text)
     }
 
     ghost read = { text_itself };

@@ -1,30 +1,24 @@
 //! The SpawnStatus of a resource.
 
-ghost use Rattle.std.specs.Prelude.{◌≡◌, true};
+ghost use Rattle.std.specs.Prelude.{◌≡◌, true, refl};
 ghost use Rattle.json_forms.specs.Again.{spawn_status_again};
 ghost use Rattle.json_forms.specs.Shown as shown;
 
-use crate::draft::Draft;
-use crate::form::Form;
-use crate::members::object::text_value;
-use crate::written::Written;
+use crate::{Form, Plain, Written, text_value};
 use json_source::Source;
 use serde_json::Value;
 use std::alloc::{AllocError, Global};
-use ticket_items::{Refusal, SpawnStatus};
+use ticket_items::SpawnStatus;
 
 /// The SpawnStatus of a resource (JDF 1.5, 3.8) that a word names.
 pub fn spawn_status_named(word: &str) -> Option<SpawnStatus>
     ensures { result ≡ shown.spawn_status_named word.now }
 {
-    if word == "NotSpawned" {
-        Some(SpawnStatus::NotSpawned)
-    } else if word == "SpawnedRO" {
-        Some(SpawnStatus::SpawnedRO)
-    } else if word == "SpawnedRW" {
-        Some(SpawnStatus::SpawnedRW)
-    } else {
-        None
+    match word {
+        "NotSpawned" => Some(SpawnStatus::NotSpawned),
+        "SpawnedRO" => Some(SpawnStatus::SpawnedRO),
+        "SpawnedRW" => Some(SpawnStatus::SpawnedRW),
+        _ => None,
     }
 }
 
@@ -47,27 +41,14 @@ impl Form for SpawnStatus {
     ghost has_texts = { λ _. true };
 }
 
-impl<'a> Draft<'a> for SpawnStatus {
-    type Whole = SpawnStatus;
-
-    ghost drafted = { λ status. status };
-
-    fn of<S: Source>(_alloc: Global, value: &'a S) -> Result<SpawnStatus, Refusal> {
-        let word = value.text().ok_or(Refusal::NotProfile)?;
-        spawn_status_named(word).ok_or(Refusal::NotProfile)
+impl Plain for SpawnStatus {
+    fn read<S: Source>(value: &S) -> Option<SpawnStatus> {
+        spawn_status_named(value.text()?)
     }
 
-    fn has_names(&self) -> bool {
-        true
-    }
+    ghost no_names = { λ _. refl };
 
-    fn has_texts(&self) -> bool {
-        true
-    }
-
-    fn build(&self, _alloc: Global) -> Result<SpawnStatus, Refusal> {
-        Ok(*self)
-    }
+    ghost no_texts = { λ _. refl };
 }
 
 impl Written for SpawnStatus {

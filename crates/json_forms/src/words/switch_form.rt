@@ -1,15 +1,12 @@
-ghost use Rattle.std.specs.Prelude.{true};
+ghost use Rattle.std.specs.Prelude.{true, refl};
 ghost use Rattle.serde_json.specs.Data.{boolean};
 ghost use Rattle.serde_json.specs.Find.{as_bool};
 ghost use Rattle.json_forms.specs.Again.{switch_again};
 
-use crate::draft::Draft;
-use crate::form::Form;
-use crate::written::Written;
+use crate::{Form, Plain, Written};
 use json_source::Source;
 use serde_json::Value;
 use std::alloc::{AllocError, Global};
-use ticket_items::Refusal;
 
 impl Form for bool {
     ghost form = { as_bool };
@@ -19,29 +16,14 @@ impl Form for bool {
     ghost has_texts = { λ _. true };
 }
 
-impl<'a> Draft<'a> for bool {
-    type Whole = bool;
-
-    ghost drafted = { λ b. b };
-
-    fn of<S: Source>(_alloc: Global, value: &'a S) -> Result<bool, Refusal> {
-        match value.truth() {
-            Some(switch) => Ok(switch),
-            None => Err(Refusal::NotProfile),
-        }
+impl Plain for bool {
+    fn read<S: Source>(value: &S) -> Option<bool> {
+        value.truth()
     }
 
-    fn has_names(&self) -> bool {
-        true
-    }
+    ghost no_names = { λ _. refl };
 
-    fn has_texts(&self) -> bool {
-        true
-    }
-
-    fn build(&self, _alloc: Global) -> Result<bool, Refusal> {
-        Ok(*self)
-    }
+    ghost no_texts = { λ _. refl };
 }
 
 impl Written for bool {

@@ -1,28 +1,23 @@
 //! The Usage of a link.
 
-ghost use Rattle.std.specs.Prelude.{◌≡◌, true};
+ghost use Rattle.std.specs.Prelude.{◌≡◌, true, refl};
 ghost use Rattle.json_forms.specs.Again.{usage_again};
 ghost use Rattle.json_forms.specs.Links as links;
 
-use crate::draft::Draft;
-use crate::form::Form;
-use crate::members::object::text_value;
-use crate::written::Written;
+use crate::{Form, Plain, Written, text_value};
 use json_source::Source;
 use serde_json::Value;
 use std::alloc::{AllocError, Global};
-use ticket_items::{Refusal, Usage};
+use ticket_items::Usage;
 
 /// The Usage of a link (JDF 1.5, 3.9) that a word names.
 pub fn usage_named(word: &str) -> Option<Usage>
     ensures { result ≡ links.usage_named word.now }
 {
-    if word == "Input" {
-        Some(Usage::Input)
-    } else if word == "Output" {
-        Some(Usage::Output)
-    } else {
-        None
+    match word {
+        "Input" => Some(Usage::Input),
+        "Output" => Some(Usage::Output),
+        _ => None,
     }
 }
 
@@ -44,27 +39,14 @@ impl Form for Usage {
     ghost has_texts = { λ _. true };
 }
 
-impl<'a> Draft<'a> for Usage {
-    type Whole = Usage;
-
-    ghost drafted = { λ usage. usage };
-
-    fn of<S: Source>(_alloc: Global, value: &'a S) -> Result<Usage, Refusal> {
-        let word = value.text().ok_or(Refusal::NotProfile)?;
-        usage_named(word).ok_or(Refusal::NotProfile)
+impl Plain for Usage {
+    fn read<S: Source>(value: &S) -> Option<Usage> {
+        usage_named(value.text()?)
     }
 
-    fn has_names(&self) -> bool {
-        true
-    }
+    ghost no_names = { λ _. refl };
 
-    fn has_texts(&self) -> bool {
-        true
-    }
-
-    fn build(&self, _alloc: Global) -> Result<Usage, Refusal> {
-        Ok(*self)
-    }
+    ghost no_texts = { λ _. refl };
 }
 
 impl Written for Usage {

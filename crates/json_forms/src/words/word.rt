@@ -3,7 +3,7 @@ ghost use Rattle.std.specs.Option.{option_map};
 ghost use Rattle.serde_json.specs.Data.{Data};
 ghost use Rattle.serde_json.specs.Find.{as_str};
 
-use crate::form::Form;
+use crate::Form;
 use std::alloc::Global;
 use ticket_items::Refusal;
 
