@@ -142,8 +142,11 @@ job_data_nests job (r ∷ rows) shallow =
     let parts = and_parts _ _ shallow in
     nests_within (job_data job (r ∷ rows)) r.row.depth rows parts.1 (leb-true _ _ parts.0) (root_nests job r (children r.row.depth (trees rows)))
 
+pub shown_data_low : (marks : Marks) (t : Job) → are_shallow t.rows ≡ true → depth (shown_data marks t) ≤ 68
+shown_data_low marks t shallow = job_data_nests t.job_id (marked_rows marks t.rows) (shallow-marked marks t.rows ∙ shallow)
+
 pub shown_data_nests : (marks : Marks) (t : Job) → are_shallow t.rows ≡ true → depth (shown_data marks t) ≤ 127
-shown_data_nests marks t shallow = readable _ (job_data_nests t.job_id (marked_rows marks t.rows) (shallow-marked marks t.rows ∙ shallow))
+shown_data_nests marks t shallow = readable _ (shown_data_low marks t shallow)
 
 rows_data_nests : (job spawn : List ℕ) (ancestors : List Ancestor) (rows : List NodeRow) (changes reads : List Resource) → are_shallow rows ≡ true → depth (rows_data job spawn ancestors rows changes reads) ≤ 68
 rows_data_nests job spawn ancestors [] changes reads shallow = omega arith

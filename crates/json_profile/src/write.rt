@@ -56,12 +56,14 @@ fn job_value(
     Ok(Value::Object(members))
 }
 
-/// A ticket as a value, which `ticket_of` reads as that ticket.
+/// A ticket as a value, which `ticket_of` reads as that ticket. It leaves room in the 127 levels
+/// that are read, so that it can stand in a larger document.
 pub fn ticket_value(alloc: Global, ticket: &Ticket) -> Result<Value, AllocError>
     ensures value { IfOk result (λ v. view v ≡ ticket_data ticket.now) }
     ensures again { IfOk result (λ v. ticket_read (view v) ≡ Ok ticket.now) }
     ensures plain { IfOk result (λ v. has_float (view v) ≡ false) }
     ensures nests { IfOk result (λ v. depth (view v) ≤ max_depth) }
+    ensures low { IfOk result (λ v. depth (view v) ≤ 68) }
 {
     let rows = rows_of(alloc, ticket.rows())?;
     let value = job_value(alloc, ticket.job(), rows.as_slice(), &no_marks(alloc))?;

@@ -19,4 +19,5 @@ mod tree_nodes;
 pub use checks::Checks;
 pub use found_ticket::FoundTicket;
 pub use part_draft::PartDraft;
+pub use resource_drafts::{build_resources, show_nothing};
 pub use ticket_draft::TicketDraft;

@@ -8,7 +8,7 @@ use Rattle.json_form.specs.Form.{ticket_read, job_has_names, job_has_texts, row_
 use Rattle.json_writer.specs.Marked.{no_marks, marked_rows}
 use Rattle.json_writer.specs.Written.{job_data}
 use Rattle.json_profile.proofs.RoundTrip.{ticket_again}
-use Rattle.json_profile.proofs.Shape.{job_data_plain, shown_data_nests}
+use Rattle.json_profile.proofs.Shape.{job_data_plain, shown_data_low, readable}
 use Rattle.json_profile.proofs.write.ticket_value.Goals as goal
 
 pub returns : goal.returns
@@ -20,9 +20,11 @@ returns c =
     let job : is_name t.job_id ≡ true = ap is_name (sym c.job.ensures) ∙ c.in_ok-value.ensures.job in
     let names : job_has_names t ≡ true = and_from _ _ job (ap (list_all row_has_names) (sym rows) ∙ c.in_ok-value.ensures.names) in
     let texts : job_has_texts t ≡ true = ap (list_all row_has_texts) (sym rows) ∙ c.in_ok-value.ensures.texts in
+    let low = shown_data_low no_marks t c.rows.ensures.valid.shallow in
     record {
       value = seen;
       again = ap ticket_read seen ∙ ticket_again t c.rows.ensures.valid names texts;
       plain = ap has_float seen ∙ job_data_plain t.job_id (marked_rows no_marks t.rows);
-      nests = subst (λ d. depth d ≤ 127) (sym seen) (shown_data_nests no_marks t c.rows.ensures.valid.shallow);
+      nests = subst (λ d. depth d ≤ 127) (sym seen) (readable _ low);
+      low = subst (λ d. depth d ≤ 68) (sym seen) low;
     }
