@@ -15,7 +15,7 @@ use Rattle.ticket_items.specs.declared.resource.Resource.{Resource}
 use Rattle.ticket_rows.proofs.Below.{mem-node_ids}
 use Rattle.ticket_rows.specs.Edit.{behind_last, edited_rows, refusal_of}
 use Rattle.ticket_rows.specs.Homes.{has_resource}
-use Rattle.ticket_rows.specs.Place.{Place, Thing, node, resource, fixed, fixed_at, is_node, is_node_thing, node_places, nodes_in, parent, place_at, places, resource_places, resources_in, up}
+use Rattle.ticket_rows.specs.Place.{Place, Thing, node, resource, below, fixed, fixed_at, is_node, is_node_thing, node_places, nodes_in, parent, place_at, places, up}
 use Rattle.ticket_rows.specs.Ticket.{IsValid, has_node, ids}
 use Rattle.ticket_tree.proofs.OnPlaces.{stands_node, stands_resource}
 use Rattle.ticket_tree.proofs.PlainEdits.{edit_of_places}
@@ -170,8 +170,8 @@ all_kept f g (p ∷ tree) all =
 
 outside_plain : (tree : List Place) (n : List ℕ) (p : Place) → is_linked_outside tree n p ≡ true → is_node p ≡ false
 outside_plain tree n p e =
-    let below' = and_parts (not (is_node p) && not (Rattle.ticket_rows.specs.Place.below n p)) (is_linked_below tree n p.id) e in
-    not-true (is_node p) (and_parts (not (is_node p)) (not (Rattle.ticket_rows.specs.Place.below n p)) below'.0).0
+    let parts = and_parts (not (is_node p) && not (below n p)) (is_linked_below tree n p.id) e in
+    not-true (is_node p) (and_parts (not (is_node p)) (not (below n p)) parts.0).0
 
 outside_has : (tree : List Place) (n : List ℕ) → list_all (λ p. has tree p.id) (linked_outside tree n) ≡ true
 outside_has tree n = all_has (is_linked_outside tree n) tree tree (outside_plain tree n) (λ x there. there)

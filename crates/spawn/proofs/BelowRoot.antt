@@ -49,6 +49,14 @@ depth_from before (r ∷ rows) n follows =
 
 -- ---- among the rows
 
+and_none : (b : Bool) → (b && false) ≡ false
+and_none true = refl
+and_none false = refl
+
+and_true : (b : Bool) → (b && true) ≡ b
+and_true true = refl
+and_true false = refl
+
 none_lower : (rows : List NodeRow) (x : List ℕ) → mem x (node_ids rows) ≡ false
     → list_any (λ r. is_lower r && bytes_eq r.id x) rows ≡ false
 none_lower [] x out = refl
@@ -57,10 +65,6 @@ none_lower (r ∷ rows) x out =
     ap (λ b. (is_lower r && b) || list_any (λ s. is_lower s && bytes_eq s.id x) rows) parts.0
     ∙ ap (λ b. b || list_any (λ s. is_lower s && bytes_eq s.id x) rows) (and_none (is_lower r))
     ∙ none_lower rows x parts.1
-  where
-    and_none : (b : Bool) → (b && false) ≡ false
-    and_none true = refl
-    and_none false = refl
 
 lower_at : (here : Bool) (r : NodeRow) (rows : List NodeRow) (x : List ℕ) → bytes_eq r.id x ≡ here
     → mem r.id (node_ids rows) ≡ false
@@ -69,15 +73,7 @@ lower_at : (here : Bool) (r : NodeRow) (rows : List NodeRow) (x : List ℕ) → 
     ≡ option_map_or is_lower (cond here (Some r) (row_of rows x)) false
 lower_at true r rows x e out later =
     ap (λ b. (is_lower r && true) || b) (none_lower rows x (ap (λ i. mem i (node_ids rows)) (sym ((bytes_eq-Decides r.id x).0 e)) ∙ out)) ∙ or_none (is_lower r && true) ∙ and_true (is_lower r)
-  where
-    and_true : (b : Bool) → (b && true) ≡ b
-    and_true true = refl
-    and_true false = refl
 lower_at false r rows x e out later = ap (λ b. b || list_any (λ s. is_lower s && bytes_eq s.id x) rows) (and_none (is_lower r)) ∙ later
-  where
-    and_none : (b : Bool) → (b && false) ≡ false
-    and_none true = refl
-    and_none false = refl
 
 lower_is : (rows : List NodeRow) (x : List ℕ) → are_distinct (node_ids rows) ≡ true
     → list_any (λ r. is_lower r && bytes_eq r.id x) rows ≡ option_map_or is_lower (row_of rows x) false

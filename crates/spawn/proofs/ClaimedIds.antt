@@ -14,7 +14,7 @@ use Rattle.ticket_items.specs.Ids.{mem}
 use Rattle.ticket_items.specs.declared.node_row.NodeRow.{NodeRow}
 use Rattle.ticket_items.specs.declared.resource.Resource.{Resource}
 use Rattle.ticket_rows.proofs.Below.{mem-node_ids}
-use Rattle.ticket_rows.specs.Place.{Place, below, node_places, place_at, places}
+use Rattle.ticket_rows.specs.Place.{Place, below, is_below, node_places, place_at, places}
 use Rattle.ticket_rows.specs.Ticket.{IsValid, has_node, ids, ids_of}
 use Rattle.ticket_tree.proofs.OnPlaces.{ids_of_places}
 use Rattle.spawn.proofs.Among.{mem_back, mem_front}
@@ -222,7 +222,7 @@ met_is rows recs r known claimed valid out all own =
     ap (λ b. b || list_any (λ x. is_in known x && is_in claimed x) r.rw) (any_rows (is_in claimed) (rows_below rows r.node) ∙ any_as (is_in claimed) f inner own.just)
     ∙ ap (λ b. list_any f inner || b) (any_as (λ x. is_in known x && is_in claimed x) (λ x. mem x (ids rows) && f x) r.rw (λ x. ap (λ b. b && is_in claimed x) (all.just x) ∙ ap (λ b. mem x (ids rows) && b) (own.just x)))
     ∙ same_test (list_any f inner || list_any (λ x. mem x (ids rows) && f x) r.rw) (list_any (λ x. (mem x inner || mem x r.rw) && f x) (ids rows))
-    (there_met (ids rows) inner r.rw f (ids_within (λ s. Rattle.ticket_rows.specs.Place.is_below (node_places rows) s.id r.node) rows)) (met_there (ids rows) inner r.rw f)
+    (there_met (ids rows) inner r.rw f (ids_within (λ s. is_below (node_places rows) s.id r.node) rows)) (met_there (ids rows) inner r.rw f)
     ∙ sym (both_ids rows recs r valid ∙ ap (λ b. list_any (λ x. (b && claims_id rows r x) && claimed_by rows recs x) (ids rows)) out)
 
 -- ---- one spawn more

@@ -9,6 +9,7 @@ use Rattle.spawn.proofs.ApartMore.{hold_both}
 use Rattle.spawn.proofs.ClaimedIds.{claimed_still, claimed_too, met_is, none_both}
 use Rattle.spawn.proofs.LinkedOutside.{same_set}
 use Rattle.spawn.specs.IdSet.{is_in}
+use Rattle.spawn.specs.Parts.{rows_below}
 use Rattle.spawn.specs.Stored.{claimed_by, claims_id}
 use Rattle.spawn.proofs.claims.apart.claim.Goals as goal
 
@@ -56,5 +57,5 @@ returns-clause-claimed c recs own _ =
     let f = claimed_by rows recs in
     claimed_too rows recs r c.add_claim.new.claimed (sym c.is_out.ensures ∙ c.if-not-is_out.false)
     (same_set (λ x. f x || (mem x (ids c.rows_below-below.result.now) || mem x c.as_slice-rw.result.now)) (λ x. f x || claims_id rows r x) c.add_claim.new.claimed
-    (λ x. ap (λ rs. f x || (mem x (ids rs) || mem x c.as_slice-rw.result.now)) c.rows_below-below.ensures.rows ∙ ap (λ xs. f x || (mem x (ids (Rattle.spawn.specs.Parts.rows_below rows r.node)) || mem x xs)) c.as_slice-rw.ensures)
+    (λ x. ap (λ rs. f x || (mem x (ids rs) || mem x c.as_slice-rw.result.now)) c.rows_below-below.ensures.rows ∙ ap (λ xs. f x || (mem x (ids (rows_below rows r.node)) || mem x xs)) c.as_slice-rw.ensures)
     (c.in_ok-add_claim.ensures f own))
