@@ -1,5 +1,6 @@
 pub mod Attributes
 pub mod AuditNames
+pub mod EditParts
 pub mod ListLemmas
 pub mod Objects
 pub mod Pairs

@@ -1,8 +1,9 @@
 //! Edits: their drafts, and how they are written.
 
-ghost use Rattle.std.specs.Prelude.{◌≡◌, true, OnOk};
-ghost use Rattle.serde_json.specs.Data.{no_members, object};
+ghost use Rattle.std.specs.Prelude.{◌≡◌, true, IfOk, IfErr, OnOk};
+ghost use Rattle.serde_json.specs.Data.{no_members};
 ghost use Rattle.serde_json.specs.View.{members_view};
+ghost use Rattle.ticket_items.specs.Names.{is_name};
 ghost use Rattle.json_forms.specs.Again.{edit_again};
 ghost use Rattle.json_forms.specs.DraftedEdits.{drafted_edit};
 ghost use Rattle.json_forms.specs.Edits as edits;
@@ -123,10 +124,8 @@ fn note<'a, S: Source>(alloc: Global, value: &'a S) -> Result<EditDraft<'a>, Ref
 fn add_node<'a, S: Source>(alloc: Global, value: &'a S) -> Result<EditDraft<'a>, Refusal>
     ensures { Gives drafted_edit result (edits.add_node_draft (S.content value.now)) }
 {
-    only(
-        value,
-        &["Edit", "ID", "JobPartID", "Node", "Status", "Type"],
-    )?;
+    let names = ["Edit", "ID", "JobPartID", "Node", "Status", "Type"];
+    only(value, &names)?;
     Ok(EditDraft::AddNode {
         id: under(alloc, value, "ID")?,
         job_part: under(alloc, value, "JobPartID")?,
@@ -141,10 +140,8 @@ fn add_node<'a, S: Source>(alloc: Global, value: &'a S) -> Result<EditDraft<'a>,
 fn add_resource<'a, S: Source>(alloc: Global, value: &'a S) -> Result<EditDraft<'a>, Refusal>
     ensures { Gives drafted_edit result (edits.add_resource_draft (S.content value.now)) }
 {
-    only(
-        value,
-        &["Attr", "Class", "Edit", "ID", "Name", "Node", "Status"],
-    )?;
+    let names = ["Attr", "Class", "Edit", "ID", "Name", "Node", "Status"];
+    only(value, &names)?;
     let node = under(alloc, value, "Node")?;
     let resource = ResourceDraft::of(alloc, value)?;
     Ok(EditDraft::AddResource { node, resource })
@@ -161,6 +158,41 @@ fn add_link<'a, S: Source>(alloc: Global, value: &'a S) -> Result<EditDraft<'a>,
     let rref = under(alloc, value, "rRef")?;
     let link = LinkDraft { rref, usage };
     Ok(EditDraft::AddLink { node, link })
+}
+
+/// The edit of a draft that sets something. Refuses `Memory` alone.
+fn build_setting(alloc: Global, draft: &EditDraft<'_>) -> Result<Edit, Refusal>
+    requires setting { edits.is_setting (drafted_edit draft.now) ≡ true }
+    requires names { edits.edit_has_names (drafted_edit draft.now) ≡ true }
+    requires texts { edits.edit_has_texts (drafted_edit draft.now) ≡ true }
+    ensures ok { IfOk result (λ edit. edit ≡ drafted_edit draft.now) }
+    ensures memory { IfErr result (λ e. e ≡ Refusal.Memory) }
+{
+    match draft {
+        EditDraft::SetStatus { node, status } => Ok(Edit::SetStatus {
+            node: node.build(alloc)?,
+            status: status.build(alloc)?,
+        }),
+        EditDraft::SetAttr { node, name, value } => Ok(Edit::SetAttr {
+            node: node.build(alloc)?,
+            name: name.build(alloc)?,
+            value: value.build(alloc)?,
+        }),
+        EditDraft::SetResStatus { resource, status } => Ok(Edit::SetResStatus {
+            resource: resource.build(alloc)?,
+            status: status.build(alloc)?,
+        }),
+        EditDraft::SetResAttr {
+            resource,
+            name,
+            value,
+        } => Ok(Edit::SetResAttr {
+            resource: resource.build(alloc)?,
+            name: name.build(alloc)?,
+            value: value.build(alloc)?,
+        }),
+        _ => unreachable!(),
+    }
 }
 
 impl Form for Edit {
@@ -233,28 +265,6 @@ impl<'a> Draft<'a> for EditDraft<'a> {
 
     fn build(&self, alloc: Global) -> Result<Edit, Refusal> {
         match self {
-            EditDraft::SetStatus { node, status } => Ok(Edit::SetStatus {
-                node: node.build(alloc)?,
-                status: status.build(alloc)?,
-            }),
-            EditDraft::SetAttr { node, name, value } => Ok(Edit::SetAttr {
-                node: node.build(alloc)?,
-                name: name.build(alloc)?,
-                value: value.build(alloc)?,
-            }),
-            EditDraft::SetResStatus { resource, status } => Ok(Edit::SetResStatus {
-                resource: resource.build(alloc)?,
-                status: status.build(alloc)?,
-            }),
-            EditDraft::SetResAttr {
-                resource,
-                name,
-                value,
-            } => Ok(Edit::SetResAttr {
-                resource: resource.build(alloc)?,
-                name: name.build(alloc)?,
-                value: value.build(alloc)?,
-            }),
             EditDraft::Note { node, text } => Ok(Edit::Note {
                 node: node.build(alloc)?,
                 text: text.build(alloc)?,
@@ -280,72 +290,77 @@ impl<'a> Draft<'a> for EditDraft<'a> {
                 node: node.build(alloc)?,
                 link: link.build(alloc)?,
             }),
+            _ => build_setting(alloc, self),
         }
     }
 }
 
-/// Puts the members of an edit into an empty object. Its names and texts are valid.
-fn put_edit(alloc: Global, members: &mut Map<String, Value>, edit: &Edit) -> Result<(), AllocError>
+/// The word for the kind of an edit.
+fn kind_word(edit: &Edit) -> &'static str
+    ensures { result.now ≡ edits.edit_kind edit.now }
+{
+    match edit {
+        Edit::SetStatus { .. } => "SetStatus",
+        Edit::SetAttr { .. } => "SetAttr",
+        Edit::SetResStatus { .. } => "SetResStatus",
+        Edit::SetResAttr { .. } => "SetResAttr",
+        Edit::Note { .. } => "Note",
+        Edit::AddNode { .. } => "AddNode",
+        Edit::AddResource { .. } => "AddResource",
+        Edit::AddLink { .. } => "AddLink",
+    }
+}
+
+/// What an edit is about, under the name of its member: a node or a resource.
+fn target(edit: &Edit) -> (&'static str, &Id)
+    ensures name { result.0.now ≡ edits.target_name edit.now }
+    ensures id { result.1.now ≡ edits.target_id edit.now }
+{
+    match edit {
+        Edit::SetStatus { node, .. }
+        | Edit::SetAttr { node, .. }
+        | Edit::Note { node, .. }
+        | Edit::AddNode { node, .. }
+        | Edit::AddResource { node, .. }
+        | Edit::AddLink { node, .. } => ("Node", node),
+        Edit::SetResStatus { resource, .. } | Edit::SetResAttr { resource, .. } => {
+            ("Resource", resource)
+        }
+    }
+}
+
+/// Puts the members of an edit besides its kind and what it is about into an empty object. Their
+/// names and texts are valid.
+fn put_rest(alloc: Global, members: &mut Map<String, Value>, edit: &Edit) -> Result<(), AllocError>
     requires { members_view members.old.entries ≡ no_members }
-    ensures members { OnOk result
-        (object (members_view members.new.entries) ≡ edits.edit_data edit.now) }
-    ensures names { OnOk result (edits.edit_has_names edit.now ≡ true) }
+    ensures members { OnOk result (members_view members.new.entries ≡ edits.edit_rest edit.now) }
+    ensures names { OnOk result
+        (is_name (edits.target_id edit.now) ≡ true → edits.edit_has_names edit.now ≡ true) }
     ensures texts { OnOk result (edits.edit_has_texts edit.now ≡ true) }
 {
     match edit {
-        Edit::SetStatus { node, status } => {
-            put_text(alloc, members, "Edit", "SetStatus")?;
-            put(alloc, members, "Node", node)?;
+        Edit::SetStatus { status, .. } | Edit::SetResStatus { status, .. } => {
             put(alloc, members, "Status", status)
         }
-        Edit::SetAttr { node, name, value } => {
-            put_text(alloc, members, "Edit", "SetAttr")?;
+        Edit::SetAttr { name, value, .. } | Edit::SetResAttr { name, value, .. } => {
             put(alloc, members, "Name", name)?;
-            put(alloc, members, "Node", node)?;
             put(alloc, members, "Value", value)
         }
-        Edit::SetResStatus { resource, status } => {
-            put_text(alloc, members, "Edit", "SetResStatus")?;
-            put(alloc, members, "Resource", resource)?;
-            put(alloc, members, "Status", status)
-        }
-        Edit::SetResAttr {
-            resource,
-            name,
-            value,
-        } => {
-            put_text(alloc, members, "Edit", "SetResAttr")?;
-            put(alloc, members, "Name", name)?;
-            put(alloc, members, "Resource", resource)?;
-            put(alloc, members, "Value", value)
-        }
-        Edit::Note { node, text } => {
-            put_text(alloc, members, "Edit", "Note")?;
-            put(alloc, members, "Node", node)?;
-            put(alloc, members, "Text", text)
-        }
+        Edit::Note { text, .. } => put(alloc, members, "Text", text),
         Edit::AddNode {
-            node,
             id,
             kind,
             job_part,
             status,
+            ..
         } => {
-            put_text(alloc, members, "Edit", "AddNode")?;
             put(alloc, members, "ID", id)?;
             put(alloc, members, "JobPartID", job_part)?;
-            put(alloc, members, "Node", node)?;
             put(alloc, members, "Status", status)?;
             put(alloc, members, "Type", kind)
         }
-        Edit::AddResource { node, resource } => {
-            put_resource(alloc, members, resource)?;
-            put_text(alloc, members, "Edit", "AddResource")?;
-            put(alloc, members, "Node", node)
-        }
-        Edit::AddLink { node, link } => {
-            put_text(alloc, members, "Edit", "AddLink")?;
-            put(alloc, members, "Node", node)?;
+        Edit::AddResource { resource, .. } => put_resource(alloc, members, resource),
+        Edit::AddLink { link, .. } => {
             put(alloc, members, "Usage", &link.usage)?;
             put(alloc, members, "rRef", &link.rref)
         }
@@ -355,9 +370,13 @@ fn put_edit(alloc: Global, members: &mut Map<String, Value>, edit: &Edit) -> Res
 impl Written for Edit {
     ghost written = { edits.edit_data };
 
+    #[tactic(auto, using(crate::proofs::EditParts::edit_of_parts))]
     fn value(&self, alloc: Global) -> Result<Value, AllocError> {
+        let (name, id) = target(self);
         let mut members = Map::new(alloc);
-        put_edit(alloc, &mut members, self)?;
+        put_rest(alloc, &mut members, self)?;
+        put_text(alloc, &mut members, "Edit", kind_word(self))?;
+        put(alloc, &mut members, name, id)?;
         Ok(Value::Object(members))
     }
 

@@ -44,8 +44,7 @@ pub fn put<T: Written>(
 pub fn text_value(alloc: Global, text: &str) -> Result<Value, AllocError>
     ensures { IfOk result (λ v. view v ≡ string text.now) }
 {
-    let text = String::from_str(alloc, text)?;
-    Ok(Value::String(text))
+    Ok(Value::String(String::from_str(alloc, text)?))
 }
 
 /// Puts a text under a name.
