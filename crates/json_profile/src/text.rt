@@ -19,13 +19,8 @@ pub fn value_of(alloc: Global, bytes: &[u8]) -> Result<Value, Refusal>
 {
     match Value::from_slice(alloc, bytes) {
         Ok(value) => Ok(value),
-        Err(error) => {
-            if error.is_memory() {
-                Err(Refusal::Memory)
-            } else {
-                Err(Refusal::NotJson)
-            }
-        }
+        Err(error) if error.is_memory() => Err(Refusal::Memory),
+        Err(_) => Err(Refusal::NotJson),
     }
 }
 

@@ -95,8 +95,7 @@ pub fn push_shown_text(
         ≡ text.old.items ++ compact_text (shown_data marks.now ticket.now)) }
 {
     let rows = rows_of(alloc, ticket.rows())?;
-    push_job_text(alloc, text, ticket.job(), rows.as_slice(), marks)?;
-    Ok(())
+    push_job_text(alloc, text, ticket.job(), rows.as_slice(), marks)
 }
 
 /// Appends the text of a ticket: the one that `text_of` gives of its `ticket_value`. Only one node
@@ -110,8 +109,7 @@ pub fn push_ticket_text(
     ensures { OnOk result (text.new.items
         ≡ text.old.items ++ compact_text (ticket_data ticket.now)) }
 {
-    push_shown_text(alloc, text, ticket, &no_marks(alloc))?;
-    Ok(())
+    push_shown_text(alloc, text, ticket, &no_marks(alloc))
 }
 
 /// The id of a part's spawn.
