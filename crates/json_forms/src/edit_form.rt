@@ -9,9 +9,10 @@ ghost use Rattle.json_forms.specs.DraftedEdits.{drafted_edit};
 ghost use Rattle.json_forms.specs.Edits as edits;
 ghost use Rattle.json_source.specs.Read.{Gives};
 
+use crate::resources::resource_form::put_resource;
 use crate::{
-    Borrowed, Draft, Form, LinkDraft, ResourceDraft, Written, only, put, put_resource, put_text,
-    text_under, under,
+    Borrowed, Draft, Form, LinkDraft, ResourceDraft, Written, only, put, put_text, text_under,
+    under,
 };
 use json_source::Source;
 use serde_json::{Map, Value};

@@ -27,7 +27,7 @@ pub use nodes::audit_form::AuditDraft;
 pub use nodes::link_form::LinkDraft;
 pub use resources::attrs_form::AttrsDraft;
 pub use resources::marked_form::{Marked, MarkedDraft, resource_value};
-pub use resources::resource_form::{ResourceDraft, put_resource};
+pub use resources::resource_form::ResourceDraft;
 pub use resources::shown_form::{Shown, ShownDraft};
 pub use texts::any_text::AnyText;
 pub use texts::borrowed::Borrowed;

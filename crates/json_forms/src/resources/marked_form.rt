@@ -6,7 +6,8 @@ ghost use Rattle.json_forms.specs.Again.{marked_again};
 ghost use Rattle.json_forms.specs.DraftedResources.{drafted_marked};
 ghost use Rattle.json_forms.specs.Resources as resources;
 
-use crate::{Draft, Form, ResourceDraft, Shown, ShownDraft, Written, only, put, put_resource};
+use crate::resources::resource_form::put_resource;
+use crate::{Draft, Form, ResourceDraft, Shown, ShownDraft, Written, only, put};
 use json_source::Source;
 use serde_json::{Map, Value};
 use std::alloc::{AllocError, Global};

@@ -28,11 +28,10 @@ pub struct ShownDraft<'a> {
 }
 
 /// This text alone.
-fn only(alloc: Global, text: &str) -> Result<Items<AnyText>, AllocError>
+fn one_text(alloc: Global, text: &str) -> Result<Items<AnyText>, AllocError>
     ensures { IfOk result (λ texts. texts ≡ text.now ∷ []) }
 {
-    let mut texts = Vec::with_capacity(alloc, 1)?;
-    texts.push(AnyText::new(alloc, text)?)?;
+    let texts = vec![in alloc; AnyText::new(alloc, text)?]?;
     Ok(Items::new(texts))
 }
 
@@ -54,7 +53,7 @@ impl Shown {
     {
         Ok(Shown {
             locked: false,
-            spawn_ids: only(alloc, spawn)?,
+            spawn_ids: one_text(alloc, spawn)?,
             spawn_status: SpawnStatus::SpawnedRW,
         })
     }
@@ -65,7 +64,7 @@ impl Shown {
     {
         Ok(Shown {
             locked: true,
-            spawn_ids: only(alloc, spawn)?,
+            spawn_ids: one_text(alloc, spawn)?,
             spawn_status: SpawnStatus::SpawnedRO,
         })
     }
