@@ -268,11 +268,11 @@ impl World {
         }
     }
 
-    /// Events in turn, and what comes of each. The answers, and what is shown then, are those of one
-    /// ticket with one table of holders, to which the events happen in turn. Where memory runs out
-    /// the world stands, and shows, as after the events before the one at which it did. Whatever
-    /// comes of them, then no two may change one node or resource; and the part of each spawn is
-    /// put in at most once.
+    /// Events in turn, and what comes of each. The answers, and what is shown then, are those of
+    /// one ticket with one table of holders, to which the events happen in turn. Where memory runs
+    /// out the world stands, and shows, as after the events before the one at which it did.
+    /// Whatever comes of them, then no two may change one node or resource; and the part of each
+    /// spawn is put in at most once.
     pub fn run(&mut self, alloc: Global, events: Vec<Event>) -> Result<Vec<Answer>, AllocError>
         ensures said { IfOk result
             (λ answers. answers.items ≡ replay.answers_to events.items (shows self.old)) }

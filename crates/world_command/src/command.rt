@@ -34,7 +34,8 @@ impl Command for WorldCommand {
 /// table of holders. Answers the exit status: 0, also where events were refused. Where it gives up,
 /// it writes nothing, but for a front of that output where a write fails; it tells why in `faults`,
 /// as far as that takes it, and answers the status of the fault: 1 where memory ran out, 3 where
-/// the input was refused or has more bytes than `MAX_INPUT_BYTES`, 4 where a read or a write failed.
+/// the input was refused or has more bytes than `MAX_INPUT_BYTES`, 4 where a read or a write
+/// failed.
 pub fn run_world<R: Read, W: Write, F: Write>(
     alloc: Global,
     reader: &mut Counted<R>,
