@@ -28,8 +28,8 @@ Rows = List ℕ → Option Row
 abbrev pub Holders : Type 0
 Holders = List ℕ → Option Holder
 
--- one ticket with one table of holders. What stands in `seen` and in `now` stands in `tree`, so they
--- differ in rows alone
+-- one ticket with one table of holders. What stands in `seen` and in `now` stands in `tree`, so
+-- they differ in rows alone
 pub record Shop : Type 0 where
   -- the names of the controllers
   pub master : List ℕ

@@ -1,0 +1,9 @@
+pub mod Reading
+pub mod RecordAgain
+pub mod MasterAgain
+pub mod WorkerAgain
+pub mod Shape
+pub mod PartsFault
+pub mod Copies
+pub mod Drafts
+pub mod Refusing

@@ -1,0 +1,8 @@
+pub mod StateFormat
+pub mod RecordForm
+pub mod MasterForm
+pub mod EntryForm
+pub mod PartFaults
+pub mod WorkerForm
+pub mod Writable
+pub mod Drafted
