@@ -1,5 +1,6 @@
 -- What may be wrong with parts whose names and texts are valid.
-use Rattle.std.specs.Prelude.{ℕ, Bool, true, false, List, [], ◌∷◌, nat_le, if◌then◌else◌, Option, Some, None}
+use Rattle.std.specs.Prelude.{ℕ, Bool, true, false, List, [], ◌∷◌, nat_le, if◌then◌else◌, Option}
+use Rattle.std.specs.Prelude.{Some, None}
 use Rattle.ticket_items.specs.declared.refusal.Refusal.{Refusal}
 use Rattle.ticket_items.specs.declared.refusal.Refusal.TheVariants.{DuplicateId, Memory, NotATree}
 use Rattle.ticket_items.specs.declared.refusal.Refusal.TheVariants.{ReservedStatus, TooDeep}
