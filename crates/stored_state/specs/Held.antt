@@ -1,6 +1,6 @@
 -- A controller beside the keeper of its state: what is shown, what is held, and what a call that
 -- gives nothing out leaves.
-use Rattle.std.specs.Prelude.{◌≡◌, ◌<◌, ◌⊎◌, ℕ, Bool, true, List, Option, Some, None, Result, Err}
+use Rattle.std.specs.Prelude.{◌≡◌, ◌<◌, ◌⊎◌, ℕ, Bool, true, List, Some, None, Result, Err}
 use Rattle.std.specs.Prelude.{⊤}
 use Rattle.std.specs.Str.{IsUtf8}
 use Rattle.serde_json.specs.Data.{Data}
@@ -60,10 +60,20 @@ pub record FailsToSave {K : Type 0} (is_honest : K → Bool) (held : K → List 
 -- why a text is not saved, and what that leaves: memory ran out, or a save failed
 abbrev pub IsNotSaved : {K : Type 0} → (K → Bool) → (K → List ℕ) → (K → ℕ) → List ℕ → K → K
     → Refused → Type 0
-IsNotSaved is_honest held count text old new (Core e) = (e ≡ Memory) × HoldsSame is_honest held old new
+IsNotSaved is_honest held count text old new (Core e) =
+    (e ≡ Memory) × HoldsSame is_honest held old new
 IsNotSaved is_honest held count text old new SaveFailed =
     FailsToSave is_honest held count text old new
 IsNotSaved is_honest held count text old new other = ⊥
+
+-- why a step of a controller gives nothing out, by the text of the state that was to be saved:
+-- memory ran out in the step, which changes nothing; or once it was done, or the save failed, and
+-- then it is stale from then on
+abbrev pub StepGivesNothing : {C K : Type 0} → (K → Bool) → (K → List ℕ) → (K → ℕ) → List ℕ
+    → Held C K → Held C K → Refused → Type 0
+StepGivesNothing is_honest held count text old new e =
+    ((e ≡ Core Memory) × (new ≡ old))
+    ⊎ ((new.stale ≡ true) × IsNotSaved is_honest held count text old.keep new.keep e)
 
 -- why a step gives nothing out, and what that leaves. `Refuses` tells the refusals that change
 -- nothing, `IsText` the text of the state that was to be saved. Where memory ran out once the step
