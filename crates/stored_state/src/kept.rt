@@ -1,0 +1,290 @@
+ghost use Rattle.std.specs.Prelude.{◌≡◌, ◌≤◌, ◌⊎◌, ◌↔◌, None, Ok, Err, false, true};
+ghost use Rattle.std.specs.Prelude.{IfOk, IfErr, IfSome, IsErrOf, OnOk, OnErr};
+ghost use Rattle.std.specs.Option.{option_map};
+ghost use Rattle.serde_json.specs.Written.{compact_text};
+ghost use Rattle.ticket_items.specs.declared.refusal.Refusal.TheVariants.{Memory};
+ghost use Rattle.jmf_message.specs.Decoded.{IsRefusalOf as IsUndecoded};
+ghost use Rattle.message_items.specs.Reply.{refused_or};
+ghost use Rattle.message_items.specs.Words.{may_be_sent};
+ghost use Rattle.stored_state.specs.Held.{CountRose, GivesNothing, HoldsSame, IsNotLoaded};
+ghost use Rattle.stored_state.specs.Held.{IsNotSaved, IsReadAs, StepGivesNothing};
+ghost use Rattle.stored_state.specs.Kept.{IsOfMessage, message_text, unless_refused};
+ghost use Rattle.stored_state.specs.declared.refused.Refused.TheVariants.{Core, LoadFailed};
+ghost use Rattle.stored_state.specs.declared.refused.Refused.TheVariants.{SaveFailed, Stale};
+
+use crate::controller::Controller;
+use crate::order_bytes::OrderBytes;
+use crate::refused::Refused;
+use crate::storing::{load, save, save_step, state_text};
+use crate::taken_bytes::TakenBytes;
+use jmf_message::decode;
+use keepers::Keep;
+use message_items::{Done, Message, Outcome};
+use std::alloc::Global;
+use std::marker::Model;
+use ticket_tree::Refusal;
+
+/// A controller beside the keeper of its state (our own). Each step is saved before anything of it
+/// is given out. Once a step could not be saved it is stale: another state may be held than is
+/// shown, and until it is loaded again no order and no message is taken.
+#[derive(Drop)]
+pub struct Kept<C: Controller, K: Keep> {
+    controller: C,
+    keep: K,
+    stale: bool,
+}
+
+impl<C: Controller, K: Keep> Model for Kept<C, K> {
+    ghost use Rattle.stored_state.specs.Held.{Held};
+
+    ghost Value = { Held C K };
+
+    ghost view = { λ kept. record {
+      controller = kept.controller;
+      keep = kept.keep;
+      stale = kept.stale;
+    } };
+}
+
+impl<C: Controller, K: Keep> Kept<C, K> {
+    /// A new controller beside its keeper, which holds its state from then on. Refuses `SaveFailed`
+    /// and `Memory`.
+    pub fn create(alloc: Global, controller: C, mut keep: K) -> Result<Kept<C, K>, Refused>
+        ensures controller { IfOk result (λ kept. kept.controller ≡ controller) }
+        ensures held { IfOk result (λ kept. K.is_honest kept.keep ≡ true →
+            K.held kept.keep ≡ compact_text (C.state_data controller)) }
+        ensures honest { IfOk result (λ kept. K.is_honest kept.keep ≡ K.is_honest keep) }
+        ensures fresh { IfOk result (λ kept. kept.stale ≡ false) }
+        ensures only { IfErr result (λ e. (e ≡ SaveFailed) ⊎ (e ≡ Core Memory)) }
+    {
+        let text = state_text(alloc, &controller)?;
+        save(&mut keep, text.as_slice())?;
+        drop(text);
+        Ok(Kept {
+            controller,
+            keep,
+            stale: false,
+        })
+    }
+
+    /// The controller whose state a keeper holds, beside the keeper, which holds it on. Refuses
+    /// `LoadFailed`, what the bytes held are refused for, and `Memory`.
+    pub fn open(alloc: Global, mut keep: K) -> Result<Kept<C, K>, Refused>
+        ensures controller { IfOk result (λ kept. K.is_honest keep ≡ true →
+            IsReadAs C.state_read (K.held keep) (Ok kept.controller)) }
+        ensures held { IfOk result (λ kept. HoldsSame K.is_honest K.held keep kept.keep) }
+        ensures honest { IfOk result (λ kept. K.is_honest kept.keep ≡ K.is_honest keep) }
+        ensures fresh { IfOk result (λ kept. kept.stale ≡ false) }
+        ensures refused { IfErr result
+            (IsNotLoaded C.state_read (K.is_honest keep) (K.held keep)) }
+    {
+        let controller = load(alloc, &mut keep)?;
+        Ok(Kept {
+            controller,
+            keep,
+            stale: false,
+        })
+    }
+
+    /// Saves the state, and gives the text of what goes out, if anything does. It is stale from
+    /// then on just where that failed.
+    fn give_out(
+        &mut self,
+        alloc: Global,
+        message: Option<Message>,
+    ) -> Result<Option<Vec<u8>>, Refused>
+        requires { IfSome message (λ m. may_be_sent m.body ≡ true) }
+        ensures text { IfOk result (λ text. option_map (λ b. b.items) text
+            ≡ option_map message_text message) }
+        ensures controller { self.new.controller ≡ self.old.controller }
+        ensures fresh { OnOk result (self.new.stale ≡ false) }
+        ensures stale { OnErr result (self.new.stale ≡ true) }
+        ensures held { OnOk result (K.is_honest self.old.keep ≡ true →
+            K.held self.new.keep ≡ compact_text (C.state_data self.old.controller)) }
+        ensures honest { K.is_honest self.new.keep ≡ K.is_honest self.old.keep }
+        ensures counted { K.count self.old.keep ≤ K.count self.new.keep }
+        ensures refused { IfErr result (IsNotSaved K.is_honest K.held K.count
+            (compact_text (C.state_data self.old.controller)) self.old.keep self.new.keep) }
+    {
+        let given = save_step(alloc, &self.controller, &mut self.keep, &message);
+        drop(message);
+        self.stale = given.is_err();
+        given
+    }
+
+    /// Tells the controller an order, at a time in seconds since 1970, and saves its state, also
+    /// where the controller refuses the order and so stays as it was. Gives out what it replies and
+    /// the text of the message that goes out. Refuses `Stale` while it is stale, and where memory
+    /// runs out in the step, `Memory`; neither changes anything. Where a text can't be made for
+    /// want of memory, and where the state can't be saved, `Memory` or `SaveFailed`, it is stale
+    /// from then on.
+    pub fn order(&mut self, alloc: Global, order: C::Order, at: u64) -> Result<OrderBytes, Refused>
+        ensures reply { IfOk result (λ given. given.reply
+            ≡ refused_or (C.order_refusal order self.old.controller)
+            (C.order_reply order self.old.controller)) }
+        ensures message { IfOk result (λ given. option_map (λ b. b.items) given.message
+            ≡ option_map message_text (unless_refused (C.order_refusal order self.old.controller)
+            None (C.order_message order at self.old.controller))) }
+        ensures state { OnOk result (self.new.controller
+            ≡ unless_refused (C.order_refusal order self.old.controller) self.old.controller
+            (C.ordered order at self.old.controller)) }
+        ensures fresh { OnOk result (self.new.stale ≡ false) }
+        ensures held { OnOk result (K.is_honest self.old.keep ≡ true →
+            K.held self.new.keep ≡ compact_text (C.state_data self.new.controller)) }
+        ensures stale { (self.old.stale ≡ true) ↔ IsErrOf result Stale }
+        ensures honest { K.is_honest self.new.keep ≡ K.is_honest self.old.keep }
+        ensures counted { K.count self.old.keep ≤ K.count self.new.keep }
+        ensures refused { IfErr result (GivesNothing K.is_honest K.held K.count (λ e. e ≡ Memory)
+            (λ text. text ≡ compact_text (C.state_data
+            (unless_refused (C.order_refusal order self.old.controller) self.old.controller
+            (C.ordered order at self.old.controller)))) self.old self.new) }
+    {
+        if self.stale {
+            drop(order);
+            return Err(Refused::Stale);
+        }
+        match self.controller.order(alloc, order, at) {
+            Ok(done) => self.give_done(alloc, done),
+            Err(Refusal::Memory) => Err(Refused::Core(Refusal::Memory)),
+            Err(refusal) => self.give_refusal(alloc, refusal),
+        }
+    }
+
+    /// Saves the state after an order, and gives out what came of it.
+    fn give_done(&mut self, alloc: Global, done: Done) -> Result<OrderBytes, Refused>
+        requires { IfSome done.message (λ m. may_be_sent m.body ≡ true) }
+        ensures reply { IfOk result (λ given. given.reply ≡ Ok done.reply) }
+        ensures message { IfOk result (λ given. option_map (λ b. b.items) given.message
+            ≡ option_map message_text done.message) }
+        ensures controller { self.new.controller ≡ self.old.controller }
+        ensures fresh { OnOk result (self.new.stale ≡ false) }
+        ensures stale { OnErr result (self.new.stale ≡ true) }
+        ensures held { OnOk result (K.is_honest self.old.keep ≡ true →
+            K.held self.new.keep ≡ compact_text (C.state_data self.old.controller)) }
+        ensures honest { K.is_honest self.new.keep ≡ K.is_honest self.old.keep }
+        ensures counted { K.count self.old.keep ≤ K.count self.new.keep }
+        ensures refused { IfErr result (IsNotSaved K.is_honest K.held K.count
+            (compact_text (C.state_data self.old.controller)) self.old.keep self.new.keep) }
+    {
+        let Done { reply, message } = done;
+        let message = self.give_out(alloc, message)?;
+        Ok(OrderBytes {
+            reply: Ok(reply),
+            message,
+        })
+    }
+
+    /// Saves the state after an order that the controller refused, and gives out the refusal.
+    fn give_refusal(&mut self, alloc: Global, refusal: Refusal) -> Result<OrderBytes, Refused>
+        ensures reply { IfOk result (λ given. given.reply ≡ Err refusal) }
+        ensures message { IfOk result (λ given. option_map (λ b. b.items) given.message ≡ None) }
+        ensures controller { self.new.controller ≡ self.old.controller }
+        ensures fresh { OnOk result (self.new.stale ≡ false) }
+        ensures stale { OnErr result (self.new.stale ≡ true) }
+        ensures held { OnOk result (K.is_honest self.old.keep ≡ true →
+            K.held self.new.keep ≡ compact_text (C.state_data self.old.controller)) }
+        ensures honest { K.is_honest self.new.keep ≡ K.is_honest self.old.keep }
+        ensures counted { K.count self.old.keep ≤ K.count self.new.keep }
+        ensures refused { IfErr result (IsNotSaved K.is_honest K.held K.count
+            (compact_text (C.state_data self.old.controller)) self.old.keep self.new.keep) }
+    {
+        let message = self.give_out(alloc, None)?;
+        Ok(OrderBytes {
+            reply: Err(refusal),
+            message,
+        })
+    }
+
+    /// Gives the controller the message that bytes are, at a time in seconds since 1970, and saves
+    /// its state. Gives out what the message was taken as or why it was refused, and the text of
+    /// the answer. Refuses `Stale` while it is stale; else what `decode` refuses the bytes for, and
+    /// where memory runs out in the step, `Memory`; none of these changes anything. Where a text
+    /// can't be made for want of memory, and where the state can't be saved, `Memory` or
+    /// `SaveFailed`, it is stale from then on.
+    pub fn take(&mut self, alloc: Global, bytes: &[u8], at: u64) -> Result<TakenBytes, Refused>
+        ensures ok { IfOk result (λ given. IsOfMessage bytes.now (λ m.
+            (self.new.controller ≡ C.taken m at self.old.controller)
+            × (given.reply ≡ C.taken_reply m self.old.controller)
+            × (option_map (λ b. b.items) given.answer
+            ≡ option_map message_text (C.taken_answer m at self.old.controller)))) }
+        ensures fresh { OnOk result (self.new.stale ≡ false) }
+        ensures held { OnOk result (K.is_honest self.old.keep ≡ true →
+            K.held self.new.keep ≡ compact_text (C.state_data self.new.controller)) }
+        ensures stale { (self.old.stale ≡ true) ↔ IsErrOf result Stale }
+        ensures honest { K.is_honest self.new.keep ≡ K.is_honest self.old.keep }
+        ensures counted { K.count self.old.keep ≤ K.count self.new.keep }
+        ensures refused { IfErr result (GivesNothing K.is_honest K.held K.count
+            (IsUndecoded bytes.now) (λ text. IsOfMessage bytes.now (λ m. text
+            ≡ compact_text (C.state_data (C.taken m at self.old.controller))))
+            self.old self.new) }
+    {
+        if self.stale {
+            return Err(Refused::Stale);
+        }
+        let message = decode(alloc, bytes)?;
+        self.take_message(alloc, message, at)
+    }
+
+    /// Gives the controller a message and saves its state.
+    fn take_message(
+        &mut self,
+        alloc: Global,
+        message: Message,
+        at: u64,
+    ) -> Result<TakenBytes, Refused>
+        ensures state { OnOk result (self.new.controller ≡ C.taken message at self.old.controller) }
+        ensures reply { IfOk result
+            (λ given. given.reply ≡ C.taken_reply message self.old.controller) }
+        ensures answer { IfOk result (λ given. option_map (λ b. b.items) given.answer
+            ≡ option_map message_text (C.taken_answer message at self.old.controller)) }
+        ensures fresh { OnOk result (self.new.stale ≡ false) }
+        ensures held { OnOk result (K.is_honest self.old.keep ≡ true →
+            K.held self.new.keep ≡ compact_text (C.state_data self.new.controller)) }
+        ensures honest { K.is_honest self.new.keep ≡ K.is_honest self.old.keep }
+        ensures counted { K.count self.old.keep ≤ K.count self.new.keep }
+        ensures refused { IfErr result (StepGivesNothing K.is_honest K.held K.count
+            (compact_text (C.state_data (C.taken message at self.old.controller)))
+            self.old self.new) }
+    {
+        let Outcome { reply, answer } = self.controller.take(alloc, message, at)?;
+        let answer = self.give_out(alloc, answer)?;
+        Ok(TakenBytes { reply, answer })
+    }
+
+    /// Loads the controller again, whose state its keeper holds; it isn't stale then. Refuses
+    /// `LoadFailed`, what the bytes held are refused for, and `Memory`, and then it stays as it
+    /// was.
+    pub fn reload(&mut self, alloc: Global) -> Result<(), Refused>
+        ensures controller { OnOk result (K.is_honest self.old.keep ≡ true →
+            IsReadAs C.state_read (K.held self.old.keep) (Ok self.new.controller)) }
+        ensures fresh { OnOk result (self.new.stale ≡ false) }
+        ensures held { HoldsSame K.is_honest K.held self.old.keep self.new.keep }
+        ensures honest { K.is_honest self.new.keep ≡ K.is_honest self.old.keep }
+        ensures counted { K.count self.old.keep ≤ K.count self.new.keep }
+        ensures refused { IfErr result
+            (IsNotLoaded C.state_read (K.is_honest self.old.keep) (K.held self.old.keep)) }
+        ensures shown { OnErr result (self.new.controller ≡ self.old.controller) }
+        ensures stale { OnErr result (self.new.stale ≡ self.old.stale) }
+        ensures failures { IsErrOf result LoadFailed →
+            CountRose (K.count self.old.keep) (K.count self.new.keep) }
+    {
+        self.controller = load(alloc, &mut self.keep)?;
+        self.stale = false;
+        Ok(())
+    }
+
+    /// Whether another state may be held than is shown.
+    pub fn is_stale(&self) -> bool
+        ensures { result ≡ self.now.stale }
+    {
+        self.stale
+    }
+
+    /// The controller. While it is stale it is open which state it shows: the one before the step
+    /// that could not be saved, or the one after it.
+    pub fn controller(&self) -> &C
+        ensures { result.now ≡ self.now.controller }
+    {
+        &self.controller
+    }
+}

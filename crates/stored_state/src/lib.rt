@@ -1,0 +1,17 @@
+//! Controllers whose states are kept: each step is saved before anything of it is given out.
+#![tactic(auto)]
+
+mod controller;
+mod kept;
+mod kind;
+mod order_bytes;
+mod refused;
+mod storing;
+mod taken_bytes;
+
+pub use controller::Controller;
+pub use kept::Kept;
+pub use kind::{Kind, kind_of};
+pub use order_bytes::OrderBytes;
+pub use refused::Refused;
+pub use taken_bytes::TakenBytes;

@@ -1,0 +1,124 @@
+//! States to and from keepers.
+
+ghost use Rattle.std.specs.Prelude.{◌≡◌, ◌≤◌, ◌⊎◌, Ok, true, IfOk, IfErr, IfSome, IsErrOf, OnOk};
+ghost use Rattle.std.specs.Option.{option_map};
+ghost use Rattle.serde_json.specs.Written.{compact_text};
+ghost use Rattle.ticket_items.specs.declared.refusal.Refusal.TheVariants.{Memory};
+ghost use Rattle.message_items.specs.Words.{may_be_sent};
+ghost use Rattle.stored_state.specs.Held.{CountRose, HoldsSame, IsNotLoaded, IsNotSaved, IsReadAs};
+ghost use Rattle.stored_state.specs.Held.{IsRefusalOf};
+ghost use Rattle.stored_state.specs.Kept.{message_text as text_sent};
+ghost use Rattle.stored_state.specs.declared.refused.Refused.TheVariants.{LoadFailed};
+
+use crate::controller::Controller;
+use crate::refused::Refused;
+use jmf_message::encode;
+use json_profile::{text_of, value_of};
+use keepers::{Keep, KeepFault};
+use message_items::Message;
+use std::alloc::{AllocError, Global};
+use ticket_tree::Refusal;
+
+/// The text of a controller's state. Refuses `Memory` alone.
+pub(crate) fn state_text<C: Controller>(
+    alloc: Global,
+    controller: &C,
+) -> Result<Vec<u8>, AllocError>
+    ensures { IfOk result (λ b. b.items ≡ compact_text (C.state_data controller.now)) }
+{
+    let value = controller.state_value(alloc)?;
+    text_of(alloc, &value)
+}
+
+/// The text of a message that goes out, if one does.
+fn message_text(alloc: Global, message: &Option<Message>) -> Result<Option<Vec<u8>>, AllocError>
+    requires { IfSome message.now (λ m. may_be_sent m.body ≡ true) }
+    ensures { IfOk result (λ text. option_map (λ b. b.items) text
+        ≡ option_map text_sent message.now) }
+{
+    match message {
+        Some(message) => Ok(Some(encode(alloc, message)?)),
+        None => Ok(None),
+    }
+}
+
+/// Saves a controller's state, once the text of the message that goes out is made too.
+pub(crate) fn save_step<C: Controller, K: Keep>(
+    alloc: Global,
+    controller: &C,
+    keep: &mut K,
+    message: &Option<Message>,
+) -> Result<Option<Vec<u8>>, Refused>
+    requires { IfSome message.now (λ m. may_be_sent m.body ≡ true) }
+    ensures text { IfOk result (λ text. option_map (λ b. b.items) text
+        ≡ option_map text_sent message.now) }
+    ensures held { OnOk result (K.is_honest keep.old ≡ true →
+        K.held keep.new ≡ compact_text (C.state_data controller.now)) }
+    ensures honest { K.is_honest keep.new ≡ K.is_honest keep.old }
+    ensures counted { K.count keep.old ≤ K.count keep.new }
+    ensures refused { IfErr result (IsNotSaved K.is_honest K.held K.count
+        (compact_text (C.state_data controller.now)) keep.old keep.new) }
+{
+    let given = message_text(alloc, message)?;
+    let text = state_text(alloc, controller)?;
+    save(keep, text.as_slice())?;
+    Ok(given)
+}
+
+/// The controller whose state's text the bytes are.
+fn read_state<C: Controller>(alloc: Global, bytes: &[u8]) -> Result<C, Refusal>
+    ensures ok { IfOk result (λ c. IsReadAs C.state_read bytes.now (Ok c)) }
+    ensures refused { IfErr result (IsRefusalOf C.state_read bytes.now) }
+{
+    let value = value_of(alloc, bytes)?;
+    C::state_of(alloc, &value)
+}
+
+/// Saves a text.
+pub(crate) fn save<K: Keep>(keep: &mut K, text: &[u8]) -> Result<(), Refused>
+    ensures held { OnOk result (K.is_honest keep.old ≡ true → K.held keep.new ≡ text.now) }
+    ensures honest { K.is_honest keep.new ≡ K.is_honest keep.old }
+    ensures counted { K.count keep.old ≤ K.count keep.new }
+    ensures refused { IfErr result
+        (IsNotSaved K.is_honest K.held K.count text.now keep.old keep.new) }
+{
+    match keep.save(text) {
+        Ok(()) => Ok(()),
+        Err(KeepFault::Failed) => Err(Refused::SaveFailed),
+        Err(KeepFault::Memory) => Err(Refused::Core(Refusal::Memory)),
+    }
+}
+
+/// The bytes that a keeper holds.
+fn load_bytes<K: Keep>(keep: &mut K) -> Result<Vec<u8>, Refused>
+    ensures ok { IfOk result (λ b. K.is_honest keep.old ≡ true → b.items ≡ K.held keep.old) }
+    ensures held { HoldsSame K.is_honest K.held keep.old keep.new }
+    ensures honest { K.is_honest keep.new ≡ K.is_honest keep.old }
+    ensures counted { K.count keep.old ≤ K.count keep.new }
+    ensures failures { IsErrOf result LoadFailed → CountRose (K.count keep.old) (K.count keep.new) }
+    ensures only { IfErr result (λ e. (e ≡ LoadFailed) ⊎ (e ≡ Refused.Core Memory)) }
+{
+    match keep.load() {
+        Ok(bytes) => Ok(bytes),
+        Err(KeepFault::Failed) => Err(Refused::LoadFailed),
+        Err(KeepFault::Memory) => Err(Refused::Core(Refusal::Memory)),
+    }
+}
+
+/// The controller whose state a keeper holds.
+pub(crate) fn load<C: Controller, K: Keep>(alloc: Global, keep: &mut K) -> Result<C, Refused>
+    ensures ok { IfOk result (λ c. K.is_honest keep.old ≡ true →
+        IsReadAs C.state_read (K.held keep.old) (Ok c)) }
+    ensures held { HoldsSame K.is_honest K.held keep.old keep.new }
+    ensures honest { K.is_honest keep.new ≡ K.is_honest keep.old }
+    ensures counted { K.count keep.old ≤ K.count keep.new }
+    ensures failures { IsErrOf result LoadFailed → CountRose (K.count keep.old) (K.count keep.new) }
+    ensures refused { IfErr result
+        (IsNotLoaded C.state_read (K.is_honest keep.old) (K.held keep.old)) }
+{
+    let bytes = load_bytes(keep)?;
+    match read_state(alloc, bytes.as_slice()) {
+        Ok(controller) => Ok(controller),
+        Err(refusal) => Err(Refused::Core(refusal)),
+    }
+}
