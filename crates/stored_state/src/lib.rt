@@ -4,10 +4,12 @@
 mod controller;
 mod kept;
 mod kind;
+mod master_controller;
 mod order_bytes;
 mod refused;
 mod storing;
 mod taken_bytes;
+mod worker_controller;
 
 pub use controller::Controller;
 pub use kept::Kept;

@@ -1,0 +1,16 @@
+use Rattle.std.proofs.Common.{◌≡◌, true, sym, subst}
+use Rattle.std.specs.Prelude.{IfSome}
+use Rattle.message_items.specs.Words.{may_be_sent}
+use Rattle.message_items.specs.Reply.{spawn_in}
+use Rattle.worker_core.specs.Messages.{after_taking, take_refusal, taken_result}
+use Rattle.worker_core.specs.Worker.{status_in}
+use Rattle.stored_state.proofs.Sendable.{answers_sent, if_ok, told}
+use Rattle.stored_state.proofs.worker_controller.WorkerController.take.Goals as goal
+
+pub returns-clause-sendable : goal.returns-clause-sendable
+returns-clause-sendable c =
+    let w = c.args.self.now in
+    let m = c.args.message in
+    let at' = c.args.at in
+    if_ok _ _ c.take.result c.take.ensures.answer (λ outcome is. subst (λ a. IfSome a (λ sent. may_be_sent sent.body ≡ true)) (sym is)
+    (answers_sent w.name m at' (taken_result m at' w) (told (take_refusal m w) (status_in (after_taking m at' w).entries (spawn_in m.body)))))
