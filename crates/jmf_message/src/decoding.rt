@@ -16,6 +16,7 @@ use crate::jmf::Jmf;
 use crate::response_message::ResponseMessage;
 use crate::said::{body_with, is_right_command, response_body};
 use crate::table::VERSION;
+use json_forms::Checked;
 use json_profile::{PartDraft, value_of};
 use message_items::Message;
 use serde_json::Value;

@@ -9,10 +9,10 @@ use Rattle.ticket_rows.specs.Ticket.{Job, fault_of, unless, first_of}
 use Rattle.ticket_items.specs.declared.node_row.NodeRow.{NodeRow}
 use Rattle.ticket_items.specs.declared.edit.Edit.{Edit}
 use Rattle.ticket_items.specs.declared.refusal.Refusal.{Refusal}
-use Rattle.ticket_items.specs.declared.refusal.Refusal.TheVariants.{NotProfile, BadId, BadText}
+use Rattle.ticket_items.specs.declared.refusal.Refusal.TheVariants.{NotProfile}
 use Rattle.ticket_items.specs.declared.refusal.Refusal.TheVariants.{ReservedStatus}
 pub use Rattle.json_forms.specs.Edits.{edit_has_names, edit_has_texts}
-pub use Rattle.json_forms.specs.Judged.{sound, judged, first_fault, Answers}
+pub use Rattle.json_forms.specs.Judged.{sound, judged, checked_fault, first_fault, Answers}
 use Rattle.json_form.specs.Draft.{RawTicket, ticket_draft}
 use Rattle.json_form.specs.EditDraft.{edit_draft}
 use Rattle.json_form.specs.PoolForm.{resource_has_names, resource_has_texts, link_has_names}
@@ -61,8 +61,7 @@ built_fault t = first_of (unless t.bare ReservedStatus ∷ fault_of t.job.rows �
 
 -- what is wrong with the draft of a ticket
 abbrev pub ticket_fault : RawTicket → Option Refusal
-ticket_fault t =
-    first_of (unless (has_names t) BadId ∷ unless (has_texts t) BadText ∷ built_fault t ∷ [])
+ticket_fault t = checked_fault (has_names t) (has_texts t) (built_fault t)
 
 -- what is wrong with the draft of an edit
 abbrev pub edit_fault : Edit → Option Refusal

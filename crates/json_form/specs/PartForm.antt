@@ -1,7 +1,7 @@
 -- The part that JSON data is, or the first refusal of it: `NotProfile`, `BadId`, `BadText`, and
 -- then what is wrong with its rows,
 -- with the copies as resources of the root.
-use Rattle.std.specs.Prelude.{◌&&◌, Bool, List, [], ◌∷◌, Option, Result, Err, is_some, unwrap_or}
+use Rattle.std.specs.Prelude.{◌&&◌, Bool, List, Option, Result, Err, is_some, unwrap_or}
 use Rattle.std.specs.List.{list_all}
 use Rattle.std.specs.Option.{option_map_or}
 use Rattle.serde_json.specs.Data.{Data}
@@ -9,12 +9,12 @@ use Rattle.ticket_items.specs.Names.{is_name}
 use Rattle.ticket_tree.specs.Part.{Copied}
 use Rattle.ticket_rows.specs.Copies.{with_copies}
 use Rattle.ticket_items.specs.SpawnId.{spawn_of}
-use Rattle.ticket_rows.specs.Ticket.{fault_of, unless, first_of}
+use Rattle.ticket_rows.specs.Ticket.{fault_of}
 use Rattle.ticket_items.specs.declared.node_row.NodeRow.{NodeRow}
 use Rattle.ticket_items.specs.declared.refusal.Refusal.{Refusal}
-use Rattle.ticket_items.specs.declared.refusal.Refusal.TheVariants.{NotProfile, BadId, BadText}
+use Rattle.ticket_items.specs.declared.refusal.Refusal.TheVariants.{NotProfile}
 use Rattle.ticket_items.specs.declared.resource.Resource.{Resource}
-use Rattle.json_form.specs.Form.{row_has_names, row_has_texts, sound}
+use Rattle.json_form.specs.Form.{checked_fault, row_has_names, row_has_texts, sound}
 use Rattle.json_form.specs.PartDraft.{RawPart, part_draft}
 use Rattle.json_form.specs.PoolForm.{resource_has_names, resource_has_texts}
 unfoldable pub use Rattle.json_forms.specs.Ancestors.{ancestor_has_names}
@@ -58,8 +58,7 @@ built_fault p = fault_of (all_rows p)
 
 -- what is wrong with the draft of a part
 abbrev pub part_fault : RawPart → Option Refusal
-part_fault p =
-    first_of (unless (has_names p) BadId ∷ unless (has_texts p) BadText ∷ built_fault p ∷ [])
+part_fault p = checked_fault (has_names p) (has_texts p) (built_fault p)
 
 -- the part of a draft whose names are such
 abbrev pub copied : RawPart → Copied

@@ -1,11 +1,9 @@
 -- A whole whose names and texts are valid is read.
 use Rattle.std.proofs.Common.{◌≡◌, Bool, true, false, Option, Some, None, Ok, refl, ap, ◌∙◌}
-use Rattle.std.specs.Prelude.{if◌then◌else◌}
 use Rattle.serde_json.specs.Data.{Data}
-use Rattle.ticket_items.specs.declared.refusal.Refusal.TheVariants.{BadId, BadText}
-use Rattle.json_forms.specs.Judged.{sound, judged, first_fault}
+use Rattle.json_forms.specs.Judged.{sound, judged, checked_fault, first_fault}
 
-sound_at : {X : Type 0} (named written : Bool) (x : X) → named ≡ true → written ≡ true → sound (if named then (if written then None else Some BadText) else Some BadId) x ≡ Ok x
+sound_at : {X : Type 0} (named written : Bool) (x : X) → named ≡ true → written ≡ true → sound (checked_fault named written None) x ≡ Ok x
 sound_at true true x p q = refl
 sound_at false written x p q = cc
 sound_at true false x p q = cc

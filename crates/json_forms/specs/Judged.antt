@@ -1,5 +1,6 @@
 -- What reading answers: the value, or the first refusal of it.
-use Rattle.std.specs.Prelude.{◌≡◌, ◌⊎◌, Bool, Option, Some, None, Result, Ok, Err, if◌then◌else◌}
+use Rattle.std.specs.Prelude.{◌≡◌, ◌⊎◌, Bool, [], ◌∷◌, Option, Some, None, Result, Ok, Err}
+use Rattle.ticket_items.specs.FirstFault.{first_of, unless}
 use Rattle.ticket_items.specs.declared.refusal.Refusal.{Refusal}
 use Rattle.ticket_items.specs.declared.refusal.Refusal.TheVariants.{NotProfile, BadId, BadText}
 use Rattle.ticket_items.specs.declared.refusal.Refusal.TheVariants.{Memory}
@@ -14,10 +15,13 @@ abbrev pub judged : {X : Type 0} → (X → Option Refusal) → Option X → Res
 judged fault None = Err NotProfile
 judged fault (Some x) = sound (fault x) x
 
--- what is wrong with a draft: first its ids and names, then its texts
+-- what is wrong with a draft: first its ids and names, then its texts, then what else there is
+abbrev pub checked_fault : Bool → Bool → Option Refusal → Option Refusal
+checked_fault names texts late = first_of (unless names BadId ∷ unless texts BadText ∷ late ∷ [])
+
+-- what is wrong with a draft of which only names and texts may be wrong
 abbrev pub first_fault : {X : Type 0} → (X → Bool) → (X → Bool) → X → Option Refusal
-first_fault has_names has_texts x =
-    if has_names x then (if has_texts x then None else Some BadText) else Some BadId
+first_fault has_names has_texts x = checked_fault (has_names x) (has_texts x) None
 
 -- what a reader answered is what is read, unless memory ran out
 abbrev pub Answers : {X : Type 0} → Result X Refusal → Result X Refusal → Type 0

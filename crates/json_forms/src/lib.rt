@@ -2,6 +2,7 @@
 //! and writing of lists, members and wholes are proved here once, over any of these types.
 #![tactic(auto)]
 
+mod checked;
 mod draft;
 mod edit_form;
 mod form;
@@ -14,6 +15,7 @@ mod whole;
 mod words;
 mod written;
 
+pub use checked::Checked;
 pub use draft::Draft;
 pub use edit_form::EditDraft;
 pub use form::Form;

@@ -5,7 +5,7 @@ ghost use Rattle.serde_json.specs.View.{view};
 ghost use Rattle.json_form.specs.Form.{Answers, edit_read, ticket_read};
 ghost use Rattle.json_form.specs.PartForm.{part_read};
 
-use json_forms::{EditDraft, whole_of};
+use json_forms::{Checked, EditDraft, whole_of};
 use json_reader::{PartDraft, TicketDraft};
 use serde_json::Value;
 use std::alloc::Global;

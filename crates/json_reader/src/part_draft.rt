@@ -3,7 +3,7 @@ use crate::node_drafts::{build_rows, have_names, have_texts, part_nodes};
 use crate::part_pool::taken_nodes;
 use crate::resource_drafts::build_resources;
 use crate::taken_nodes::TakenNodes;
-use json_forms::{AncestorDraft, AnyText, Borrowed, Draft, Drafts, MarkedDraft, under};
+use json_forms::{AncestorDraft, AnyText, Borrowed, Checked, Draft, Drafts, MarkedDraft, under};
 use serde_json::Value;
 use std::alloc::Global;
 use ticket_tree::{Name, Part, Refusal, SpawnId};
@@ -22,11 +22,9 @@ pub struct PartDraft<'a> {
 }
 
 impl<'a> PartDraft<'a> {
-    ghost use Rattle.std.specs.Prelude.{◌≡◌, ◌⊎◌, true, None, Some, is_some, IfOk, IfErr, OnOk};
+    ghost use Rattle.std.specs.Prelude.{◌≡◌, is_some};
     ghost use Rattle.serde_json.specs.View.{view};
     ghost use Rattle.ticket_items.specs.SpawnId.{spawn_of};
-    ghost use Rattle.ticket_rows.specs.Ticket.{IsValid};
-    ghost use Rattle.json_form.specs.Form.{Answers, sound};
     ghost use Rattle.json_form.specs.PartDraft.{part_draft};
     ghost use Rattle.json_form.specs.PartForm as form;
     ghost use Rattle.json_form.specs.Read.{Gives};
@@ -66,18 +64,6 @@ impl<'a> PartDraft<'a> {
         SpawnId::parse(self.spawn.as_str()).is_ok()
     }
 
-    /// Whether its ids and names are valid, and the text of its spawn's id names a spawn.
-    #[tactic(auto, using(crate::proofs::Faults::names_in_rows))]
-    pub fn has_names(&self) -> bool
-        ensures { result ≡ form.has_names (drafted_part self.now) }
-    {
-        self.job.has_names()
-            && self.names_spawn()
-            && self.ancestors.has_names()
-            && have_names(self.rows.as_slice())
-            && self.copies_have_names()
-    }
-
     /// Whether the ids and names of its copies are valid.
     #[tactic(auto, using(crate::proofs::Faults::names_in_pool))]
     fn copies_have_names(&self) -> bool
@@ -85,14 +71,6 @@ impl<'a> PartDraft<'a> {
             (drafted_part self.now).rw (drafted_part self.now).ro }
     {
         self.rw.has_names() && self.ro.has_names()
-    }
-
-    /// Whether its texts are valid.
-    #[tactic(auto, using(crate::proofs::Faults::texts_in_rows))]
-    pub fn has_texts(&self) -> bool
-        ensures { result ≡ form.has_texts (drafted_part self.now) }
-    {
-        have_texts(self.rows.as_slice()) && self.copies_have_texts()
     }
 
     /// Whether the texts of its copies are valid.
@@ -103,34 +81,42 @@ impl<'a> PartDraft<'a> {
     {
         self.rw.has_texts() && self.ro.has_texts()
     }
+}
 
-    /// The part. Refuses the first of `BadId`, `BadText`, `ReservedStatus`, `DuplicateId`,
-    /// `TooDeep` and `UnresolvedLink` that stands in the draft, with the copies as resources of the
-    /// root; `Memory` may come before the last four.
-    pub fn build(&self, alloc: Global) -> Result<Part, Refusal>
-        ensures answers { Answers result (sound (form.part_fault (drafted_part self.now))
-            (form.copied (drafted_part self.now))) }
-        ensures ok { IfOk result (λ p. p ≡ form.copied (drafted_part self.now)) }
-        ensures valid { OnOk result (IsValid (form.all_rows (drafted_part self.now))) }
-        ensures sound { OnOk result (form.built_fault (drafted_part self.now) ≡ None) }
-        ensures err { form.has_names (drafted_part self.now) ≡ true
-            → form.has_texts (drafted_part self.now) ≡ true
-            → IfErr result (λ e. (e ≡ Refusal.Memory)
-            ⊎ (form.built_fault (drafted_part self.now) ≡ Some e)) }
-    {
-        if !self.has_names() {
-            return Err(Refusal::BadId);
-        }
-        if !self.has_texts() {
-            return Err(Refusal::BadText);
-        }
-        self.build_known(alloc)
+impl<'a> Checked for PartDraft<'a> {
+    ghost use Rattle.std.specs.Prelude.{◌≡◌, ◌⊎◌, None, Some, IfOk, IfErr, OnOk};
+    ghost use Rattle.ticket_rows.specs.Ticket.{IsValid};
+    ghost use Rattle.json_form.specs.PartForm as form;
+    ghost use Rattle.json_reader.specs.DraftedPart.{drafted_part};
+
+    type Whole = Part;
+
+    ghost valid_names = { λ d. form.has_names (drafted_part d) };
+
+    ghost valid_texts = { λ d. form.has_texts (drafted_part d) };
+
+    ghost late_fault = { λ d. form.built_fault (drafted_part d) };
+
+    ghost made = { λ d. form.copied (drafted_part d) };
+
+    /// Whether its ids and names are valid, and the text of its spawn's id names a spawn.
+    #[tactic(auto, using(crate::proofs::Faults::names_in_rows))]
+    fn has_names(&self) -> bool {
+        self.job.has_names()
+            && self.names_spawn()
+            && self.ancestors.has_names()
+            && have_names(self.rows.as_slice())
+            && self.copies_have_names()
     }
 
-    /// The part of a draft whose names and texts are valid. Refuses what `Part::new` does.
+    #[tactic(auto, using(crate::proofs::Faults::texts_in_rows))]
+    fn has_texts(&self) -> bool {
+        have_texts(self.rows.as_slice()) && self.copies_have_texts()
+    }
+
+    /// Refuses the first of `ReservedStatus`, `DuplicateId`, `TooDeep` and `UnresolvedLink` that
+    /// stands in the draft, with the copies as resources of the root; `Memory` may come before any.
     fn build_known(&self, alloc: Global) -> Result<Part, Refusal>
-        requires names { form.has_names (drafted_part self.now) ≡ true }
-        requires texts { form.has_texts (drafted_part self.now) ≡ true }
         ensures ok { IfOk result (λ p. p ≡ form.copied (drafted_part self.now)) }
         ensures valid { OnOk result (IsValid (form.all_rows (drafted_part self.now))) }
         ensures sound { OnOk result (form.built_fault (drafted_part self.now) ≡ None) }

@@ -1,6 +1,6 @@
 use crate::node_draft::NodeDraft;
 use crate::node_drafts::{are_bare, build_rows, have_names, have_texts, ticket_nodes};
-use json_forms::{Borrowed, Draft, under};
+use json_forms::{Borrowed, Checked, Draft, under};
 use serde_json::Value;
 use std::alloc::Global;
 use ticket_tree::{Name, Refusal, Ticket};
@@ -15,11 +15,9 @@ pub struct TicketDraft<'a> {
 }
 
 impl<'a> TicketDraft<'a> {
-    ghost use Rattle.std.specs.Prelude.{◌≡◌, ◌⊎◌, true, None, Some, IfOk, IfErr, OnOk};
+    ghost use Rattle.std.specs.Prelude.{◌≡◌};
     ghost use Rattle.serde_json.specs.View.{view};
-    ghost use Rattle.ticket_rows.specs.Ticket.{IsValid};
     ghost use Rattle.json_form.specs.Draft.{ticket_draft};
-    ghost use Rattle.json_form.specs.Form as form;
     ghost use Rattle.json_form.specs.Read.{Gives};
     ghost use Rattle.json_reader.specs.DraftedTicket.{drafted_ticket};
 
@@ -33,60 +31,45 @@ impl<'a> TicketDraft<'a> {
         Ok(TicketDraft { job, rows })
     }
 
-    /// Whether its ids and names are valid.
-    #[tactic(auto, using(crate::proofs::Faults::names_in_rows))]
-    pub fn has_names(&self) -> bool
-        ensures { result ≡ form.has_names (drafted_ticket self.now) }
-    {
-        self.job.has_names() && have_names(self.rows.as_slice())
-    }
-
-    /// Whether its texts are valid.
-    #[tactic(auto, using(crate::proofs::Faults::texts_in_rows))]
-    pub fn has_texts(&self) -> bool
-        ensures { result ≡ form.has_texts (drafted_ticket self.now) }
-    {
-        have_texts(self.rows.as_slice())
-    }
-
     /// Whether its resources show nothing of spawns.
     #[tactic(auto, using(crate::proofs::Faults::bare_in_rows))]
-    pub fn is_bare(&self) -> bool
+    fn is_bare(&self) -> bool
         ensures { result ≡ (drafted_ticket self.now).bare }
     {
         are_bare(self.rows.as_slice())
     }
+}
 
-    /// The ticket. Refuses the first of `BadId`, `BadText`, `ReservedStatus` (a node's Status, or
-    /// what a resource shows of spawns), `DuplicateId`, `TooDeep` and `UnresolvedLink` that stands
-    /// in the draft; `Memory` may come before the last four.
-    pub fn build(&self, alloc: Global) -> Result<Ticket, Refusal>
-        ensures answers { form.Answers result
-            (form.sound (form.ticket_fault (drafted_ticket self.now))
-            (drafted_ticket self.now).job) }
-        ensures ok { IfOk result (λ t. t ≡ (drafted_ticket self.now).job) }
-        ensures valid { OnOk result (IsValid (drafted_ticket self.now).job.rows) }
-        ensures sound { OnOk result (form.built_fault (drafted_ticket self.now) ≡ None) }
-        ensures err { form.has_names (drafted_ticket self.now) ≡ true
-            → form.has_texts (drafted_ticket self.now) ≡ true
-            → IfErr result (λ e. (e ≡ Refusal.Memory)
-            ⊎ (form.built_fault (drafted_ticket self.now) ≡ Some e)) }
-    {
-        if !self.has_names() {
-            return Err(Refusal::BadId);
-        }
-        if !self.has_texts() {
-            return Err(Refusal::BadText);
-        }
-        self.build_known(alloc)
+impl<'a> Checked for TicketDraft<'a> {
+    ghost use Rattle.std.specs.Prelude.{◌≡◌, ◌⊎◌, None, Some, IfOk, IfErr, OnOk};
+    ghost use Rattle.ticket_rows.specs.Ticket.{IsValid};
+    ghost use Rattle.json_form.specs.Form as form;
+    ghost use Rattle.json_reader.specs.DraftedTicket.{drafted_ticket};
+
+    type Whole = Ticket;
+
+    ghost valid_names = { λ d. form.has_names (drafted_ticket d) };
+
+    ghost valid_texts = { λ d. form.has_texts (drafted_ticket d) };
+
+    ghost late_fault = { λ d. form.built_fault (drafted_ticket d) };
+
+    ghost made = { λ d. (drafted_ticket d).job };
+
+    #[tactic(auto, using(crate::proofs::Faults::names_in_rows))]
+    fn has_names(&self) -> bool {
+        self.job.has_names() && have_names(self.rows.as_slice())
     }
 
-    /// The ticket of a draft whose names and texts were checked before. Refuses the first of
-    /// `ReservedStatus`, `DuplicateId`, `TooDeep` and `UnresolvedLink` that stands in the draft;
-    /// `Memory` may come before any but the first.
-    pub fn build_known(&self, alloc: Global) -> Result<Ticket, Refusal>
-        requires names { form.has_names (drafted_ticket self.now) ≡ true }
-        requires texts { form.has_texts (drafted_ticket self.now) ≡ true }
+    #[tactic(auto, using(crate::proofs::Faults::texts_in_rows))]
+    fn has_texts(&self) -> bool {
+        have_texts(self.rows.as_slice())
+    }
+
+    /// Refuses the first of `ReservedStatus` (a node's Status, or what a resource shows of spawns),
+    /// `DuplicateId`, `TooDeep` and `UnresolvedLink` that stands in the draft; `Memory` may come
+    /// before any but what a resource shows.
+    fn build_known(&self, alloc: Global) -> Result<Ticket, Refusal>
         ensures ok { IfOk result (λ t. t ≡ (drafted_ticket self.now).job) }
         ensures valid { OnOk result (IsValid (drafted_ticket self.now).job.rows) }
         ensures sound { OnOk result (form.built_fault (drafted_ticket self.now) ≡ None) }

@@ -2,13 +2,13 @@
 
 ghost use Rattle.std.specs.Prelude.{◌≡◌, true, IfOk, IfErr};
 ghost use Rattle.serde_json.specs.View.{view};
-ghost use Rattle.json_forms.specs.Judged.{Answers, first_fault, sound};
+ghost use Rattle.json_forms.specs.Judged.{Answers};
 ghost use Rattle.json_source.specs.Read.{Gives};
 ghost use Rattle.order_form.specs.DraftedMasterOrder.{drafted_master_order};
 ghost use Rattle.order_form.specs.MasterForm as forms;
 
 use crate::spawn_named::names_spawn;
-use json_forms::{AnyText, Borrowed, Draft, Drafts, EditDraft, text_under, under};
+use json_forms::{AnyText, Borrowed, Checked, Draft, Drafts, EditDraft, text_under, under};
 use json_source::Source;
 use master_core::Order;
 use serde_json::Value;
@@ -99,11 +99,25 @@ impl<'a> MasterOrderDraft<'a> {
         let kind = text_under(value, "Order").ok_or(Refusal::NotProfile)?;
         draft_of_kind(alloc, kind, value)
     }
+}
+
+impl<'a> Checked for MasterOrderDraft<'a> {
+    ghost use Rattle.std.specs.Prelude.{None};
+    ghost use Rattle.order_form.specs.DraftedMasterOrder.{drafted_master_order};
+    ghost use Rattle.order_form.specs.MasterForm as forms;
+
+    type Whole = Order;
+
+    ghost valid_names = { λ d. forms.order_has_names (drafted_master_order d) };
+
+    ghost valid_texts = { λ d. forms.order_has_texts (drafted_master_order d) };
+
+    ghost late_fault = { λ _. None };
+
+    ghost made = { drafted_master_order };
 
     /// Whether its ids and names are valid, and its SpawnID names a spawn.
-    pub fn has_names(&self) -> bool
-        ensures { result ≡ forms.order_has_names (drafted_master_order self.now) }
-    {
+    fn has_names(&self) -> bool {
         match self {
             MasterOrderDraft::Edit(edit) => edit.has_names(),
             MasterOrderDraft::Spawn { node, worker, rw } => node.has_names()
@@ -114,9 +128,7 @@ impl<'a> MasterOrderDraft<'a> {
     }
 
     /// Whether the texts of its edit are valid.
-    pub fn has_texts(&self) -> bool
-        ensures { result ≡ forms.order_has_texts (drafted_master_order self.now) }
-    {
+    fn has_texts(&self) -> bool {
         match self {
             MasterOrderDraft::Edit(edit) => edit.has_texts(),
             MasterOrderDraft::Spawn { .. } => true,
@@ -124,28 +136,8 @@ impl<'a> MasterOrderDraft<'a> {
         }
     }
 
-    /// The order. Refuses the first of `BadId` and `BadText` that stands in it, and `Memory`.
-    fn checked(&self, alloc: Global) -> Result<Order, Refusal>
-        ensures { Answers result
-            (sound (first_fault forms.order_has_names forms.order_has_texts
-            (drafted_master_order self.now)) (drafted_master_order self.now)) }
-    {
-        if !self.has_names() {
-            return Err(Refusal::BadId);
-        }
-        if !self.has_texts() {
-            return Err(Refusal::BadText);
-        }
-        self.build(alloc)
-    }
-
-    /// The order of a draft whose names and texts were checked before. Refuses `Memory` alone.
-    pub fn build(&self, alloc: Global) -> Result<Order, Refusal>
-        requires names { forms.order_has_names (drafted_master_order self.now) ≡ true }
-        requires texts { forms.order_has_texts (drafted_master_order self.now) ≡ true }
-        ensures ok { IfOk result (λ order. order ≡ drafted_master_order self.now) }
-        ensures memory { IfErr result (λ e. e ≡ Refusal.Memory) }
-    {
+    /// Refuses `Memory` alone.
+    fn build_known(&self, alloc: Global) -> Result<Order, Refusal> {
         match self {
             MasterOrderDraft::Edit(edit) => Ok(Order::Edit(edit.build(alloc)?)),
             MasterOrderDraft::Spawn { node, worker, rw } => build_spawn(alloc, node, worker, rw),
@@ -182,5 +174,5 @@ pub fn master_order_of(alloc: Global, value: &Value) -> Result<Order, Refusal>
     ensures { Answers result (forms.master_order_read (view value.now)) }
 {
     let draft = MasterOrderDraft::of(alloc, value)?;
-    draft.checked(alloc)
+    draft.build(alloc)
 }

@@ -1,14 +1,13 @@
 //! The orders of workers.
 
-ghost use Rattle.std.specs.Prelude.{◌≡◌, true, IfOk, IfErr};
 ghost use Rattle.serde_json.specs.View.{view};
-ghost use Rattle.json_forms.specs.Judged.{Answers, first_fault, sound};
+ghost use Rattle.json_forms.specs.Judged.{Answers};
 ghost use Rattle.json_source.specs.Read.{Gives};
 ghost use Rattle.order_form.specs.DraftedWorkerOrder.{drafted_worker_order};
 ghost use Rattle.order_form.specs.WorkerForm as forms;
 
 use crate::spawn_named::names_spawn;
-use json_forms::{AnyText, Borrowed, Draft, EditDraft, text_under, under};
+use json_forms::{AnyText, Borrowed, Checked, Draft, EditDraft, text_under, under};
 use json_source::Source;
 use serde_json::Value;
 use std::alloc::Global;
@@ -117,11 +116,25 @@ impl<'a> WorkerOrderDraft<'a> {
         let kind = text_under(value, "Order").ok_or(Refusal::NotProfile)?;
         draft_of_kind(alloc, kind, value)
     }
+}
+
+impl<'a> Checked for WorkerOrderDraft<'a> {
+    ghost use Rattle.std.specs.Prelude.{None};
+    ghost use Rattle.order_form.specs.DraftedWorkerOrder.{drafted_worker_order};
+    ghost use Rattle.order_form.specs.WorkerForm as forms;
+
+    type Whole = Order;
+
+    ghost valid_names = { λ d. forms.order_has_names (drafted_worker_order d) };
+
+    ghost valid_texts = { λ d. forms.order_has_texts (drafted_worker_order d) };
+
+    ghost late_fault = { λ _. None };
+
+    ghost made = { drafted_worker_order };
 
     /// Whether its SpawnID names a spawn, and the ids and names of its edit are valid.
-    pub fn has_names(&self) -> bool
-        ensures { result ≡ forms.order_has_names (drafted_worker_order self.now) }
-    {
+    fn has_names(&self) -> bool {
         match self {
             WorkerOrderDraft::Edit { spawn, edit } => names_spawn(spawn.as_str())
                 && edit.has_names(),
@@ -131,9 +144,7 @@ impl<'a> WorkerOrderDraft<'a> {
     }
 
     /// Whether the texts of its edit are valid.
-    pub fn has_texts(&self) -> bool
-        ensures { result ≡ forms.order_has_texts (drafted_worker_order self.now) }
-    {
+    fn has_texts(&self) -> bool {
         match self {
             WorkerOrderDraft::Edit { edit, .. } => edit.has_texts(),
             WorkerOrderDraft::Finish { .. } => true,
@@ -141,28 +152,8 @@ impl<'a> WorkerOrderDraft<'a> {
         }
     }
 
-    /// The order. Refuses the first of `BadId` and `BadText` that stands in it, and `Memory`.
-    fn checked(&self, alloc: Global) -> Result<Order, Refusal>
-        ensures { Answers result
-            (sound (first_fault forms.order_has_names forms.order_has_texts
-            (drafted_worker_order self.now)) (drafted_worker_order self.now)) }
-    {
-        if !self.has_names() {
-            return Err(Refusal::BadId);
-        }
-        if !self.has_texts() {
-            return Err(Refusal::BadText);
-        }
-        self.build(alloc)
-    }
-
-    /// The order of a draft whose names and texts were checked before. Refuses `Memory` alone.
-    pub fn build(&self, alloc: Global) -> Result<Order, Refusal>
-        requires names { forms.order_has_names (drafted_worker_order self.now) ≡ true }
-        requires texts { forms.order_has_texts (drafted_worker_order self.now) ≡ true }
-        ensures ok { IfOk result (λ order. order ≡ drafted_worker_order self.now) }
-        ensures memory { IfErr result (λ e. e ≡ Refusal.Memory) }
-    {
+    /// Refuses `Memory` alone.
+    fn build_known(&self, alloc: Global) -> Result<Order, Refusal> {
         match self {
             WorkerOrderDraft::Edit { spawn, edit } => {
                 let spawn = SpawnId::parse(spawn.as_str())?;
@@ -185,5 +176,5 @@ pub fn worker_order_of(alloc: Global, value: &Value) -> Result<Order, Refusal>
     ensures { Answers result (forms.worker_order_read (view value.now)) }
 {
     let draft = WorkerOrderDraft::of(alloc, value)?;
-    draft.checked(alloc)
+    draft.build(alloc)
 }

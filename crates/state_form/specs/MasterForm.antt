@@ -7,12 +7,12 @@ use Rattle.serde_json.specs.Data.{Data, no_members, member, string, array, objec
 use Rattle.serde_json.specs.Find.{as_str, get}
 use Rattle.ticket_items.specs.Names.{is_name}
 use Rattle.ticket_items.specs.declared.refusal.Refusal.{Refusal}
-use Rattle.ticket_items.specs.declared.refusal.Refusal.TheVariants.{BadId, BadText, BadState}
+use Rattle.ticket_items.specs.declared.refusal.Refusal.TheVariants.{BadState}
 use Rattle.ticket_items.specs.declared.refusal.Refusal.TheVariants.{NotProfile, ReservedStatus}
 use Rattle.ticket_rows.specs.Ticket.{first_of, unless}
 use Rattle.json_form.specs.Draft.{RawTicket, ticket_draft}
 use Rattle.json_form.specs.Form as ticket_form
-use Rattle.json_forms.specs.Judged.{sound}
+use Rattle.json_forms.specs.Judged.{checked_fault, sound}
 use Rattle.json_forms.specs.Listed.{data_items, list_form, texts_data}
 use Rattle.json_source.specs.Read.{◌>>=◌, provided, has_only, text_under}
 use Rattle.json_writer.specs.Written.{ticket_data}
@@ -72,10 +72,7 @@ master_built_fault m =
 
 -- what is wrong with a draft: each fault in all of it before the next one
 abbrev pub master_fault : RawMaster → Option Refusal
-master_fault m =
-    first_of
-    (unless (master_has_names m) BadId ∷ unless (master_has_texts m) BadText
-    ∷ master_built_fault m ∷ [])
+master_fault m = checked_fault (master_has_names m) (master_has_texts m) (master_built_fault m)
 
 -- ---- what data is read as
 

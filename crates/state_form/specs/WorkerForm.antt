@@ -9,11 +9,11 @@ use Rattle.serde_json.specs.Find.{get}
 use Rattle.ticket_items.specs.Names.{is_name}
 use Rattle.ticket_items.specs.Refusal.{number_of}
 use Rattle.ticket_items.specs.declared.refusal.Refusal.{Refusal}
-use Rattle.ticket_items.specs.declared.refusal.Refusal.TheVariants.{BadId, BadText, BadState}
+use Rattle.ticket_items.specs.declared.refusal.Refusal.TheVariants.{BadState}
 use Rattle.ticket_items.specs.declared.refusal.Refusal.TheVariants.{NotProfile}
 use Rattle.ticket_rows.specs.Ticket.{first_of, unless}
 use Rattle.json_form.specs.PartForm as part_form
-use Rattle.json_forms.specs.Judged.{sound}
+use Rattle.json_forms.specs.Judged.{checked_fault, sound}
 use Rattle.json_forms.specs.Listed.{data_items, list_form}
 use Rattle.json_source.specs.Read.{◌>>=◌, provided, has_only, text_under}
 use Rattle.worker_core.specs.Stored.{is_worker}
@@ -73,10 +73,7 @@ worker_built_fault w =
 
 -- what is wrong with a draft: each fault in all of it before the next one
 abbrev pub worker_fault : RawWorker → Option Refusal
-worker_fault w =
-    first_of
-    (unless (worker_has_names w) BadId ∷ unless (worker_has_texts w) BadText
-    ∷ worker_built_fault w ∷ [])
+worker_fault w = checked_fault (worker_has_names w) (worker_has_texts w) (worker_built_fault w)
 
 -- ---- what data is read as
 

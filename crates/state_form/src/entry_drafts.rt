@@ -13,6 +13,7 @@ ghost use Rattle.state_form.specs.PartFaults as faults;
 ghost use Rattle.state_form.specs.WorkerForm as form;
 
 use crate::entry_draft::EntryDraft;
+use json_forms::Checked;
 use serde_json::Value;
 use std::alloc::Global;
 use ticket_tree::Refusal;
@@ -55,7 +56,7 @@ fn build_entry(alloc: Global, draft: &EntryDraft<'_>) -> Result<Entry, Refusal>
     ensures refused { IfErr result (λ e. (e ≡ Refusal.Memory)
         ⊎ (part_form.built_fault (drafted_part draft.now.part) ≡ Some e)) }
 {
-    let part = draft.part.build(alloc)?;
+    let part = draft.part.build_known(alloc)?;
     Ok(Entry {
         phase: draft.phase,
         part,

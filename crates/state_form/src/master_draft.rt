@@ -7,7 +7,7 @@ ghost use Rattle.state_form.specs.MasterForm as form;
 ghost use Rattle.state_form.specs.RecordForm.{record_has_names, record_has_texts};
 
 use crate::record_draft::RecordDraft;
-use json_forms::{Borrowed, Draft, Drafts, only, under};
+use json_forms::{Borrowed, Checked, Draft, Drafts, only, under};
 use json_profile::TicketDraft;
 use json_source::Source;
 use master_core::Master;
@@ -48,13 +48,12 @@ fn build_spawns(alloc: Global, records: &[RecordDraft<'_>]) -> Result<Vec<SpawnR
 }
 
 impl<'a> MasterDraft<'a> {
-    ghost use Rattle.std.specs.Prelude.{◌≡◌, ◌⊎◌, true, None, Some, IfOk, IfErr, OnOk, codes};
+    ghost use Rattle.std.specs.Prelude.{codes};
     ghost use Rattle.serde_json.specs.View.{view};
     ghost use Rattle.serde_json.specs.Find.{get};
     ghost use Rattle.std.specs.Option.{option_and_then};
     ghost use Rattle.json_form.specs.Draft.{ticket_draft};
     ghost use Rattle.json_form.specs.Read.{Gives};
-    ghost use Rattle.json_forms.specs.Judged.{Answers, sound};
     ghost use Rattle.json_reader.specs.DraftedTicket.{drafted_ticket};
     ghost use Rattle.state_form.specs.Drafted.{drafted_master};
     ghost use Rattle.state_form.specs.MasterForm as form;
@@ -87,52 +86,38 @@ impl<'a> MasterDraft<'a> {
             None => Err(Refusal::NotProfile),
         }
     }
+}
 
-    /// Whether all ids and names are valid.
+impl<'a> Checked for MasterDraft<'a> {
+    ghost use Rattle.state_form.specs.Drafted.{drafted_master};
+    ghost use Rattle.state_form.specs.MasterForm as form;
+
+    type Whole = Master;
+
+    ghost valid_names = { λ d. form.master_has_names (drafted_master d) };
+
+    ghost valid_texts = { λ d. form.master_has_texts (drafted_master d) };
+
+    ghost late_fault = { λ d. form.master_built_fault (drafted_master d) };
+
+    ghost made = { λ d. form.master_in (drafted_master d) };
+
     #[tactic(auto, using(json_forms::proofs::Tests::all_mapped))]
-    fn has_names(&self) -> bool
-        ensures { result ≡ form.master_has_names (drafted_master self.now) }
-    {
+    fn has_names(&self) -> bool {
         self.name.has_names()
             && self.workers.has_names()
             && self.ticket.has_names()
             && self.records.has_names()
     }
 
-    /// Whether all texts are valid.
     #[tactic(auto, using(json_forms::proofs::Tests::all_mapped))]
-    fn has_texts(&self) -> bool
-        ensures { result ≡ form.master_has_texts (drafted_master self.now) }
-    {
+    fn has_texts(&self) -> bool {
         self.ticket.has_texts() && self.records.has_texts()
     }
 
-    /// The master. Refuses the first of `BadId`, `BadText`, `ReservedStatus`, `DuplicateId`,
-    /// `TooDeep`, `UnresolvedLink` and `BadState` that stands in the draft; `Memory` may come
-    /// before the last five.
-    pub fn build(&self, alloc: Global) -> Result<Master, Refusal>
-        ensures { Answers result (sound (form.master_fault (drafted_master self.now))
-            (form.master_in (drafted_master self.now))) }
-    {
-        if !self.has_names() {
-            return Err(Refusal::BadId);
-        }
-        if !self.has_texts() {
-            return Err(Refusal::BadText);
-        }
-        self.build_known(alloc)
-    }
-
-    /// The master of a draft whose names and texts are valid. Refuses its first fault, and
-    /// `Memory`.
-    fn build_known(&self, alloc: Global) -> Result<Master, Refusal>
-        requires names { form.master_has_names (drafted_master self.now) ≡ true }
-        requires texts { form.master_has_texts (drafted_master self.now) ≡ true }
-        ensures ok { IfOk result (λ m. m ≡ form.master_in (drafted_master self.now)) }
-        ensures sound { OnOk result (form.master_built_fault (drafted_master self.now) ≡ None) }
-        ensures refused { IfErr result (λ e. (e ≡ Refusal.Memory)
-            ⊎ (form.master_built_fault (drafted_master self.now) ≡ Some e)) }
-    {
+    /// Refuses the first of `ReservedStatus`, `DuplicateId`, `TooDeep`, `UnresolvedLink` and
+    /// `BadState` that stands in the draft; `Memory` may come before any but what copies show.
+    fn build_known(&self, alloc: Global) -> Result<Master, Refusal> {
         if !are_bare(self.records.as_slice()) {
             return Err(Refusal::ReservedStatus);
         }

@@ -12,7 +12,7 @@ ghost use Rattle.state_form.specs.Writable.{IsWritableMaster};
 use crate::format::{check_format, controller_under, state_value};
 use crate::master_draft::MasterDraft;
 use crate::record_value::record_values;
-use json_forms::{put, put_list, put_value, values_of};
+use json_forms::{Checked, put, put_list, put_value, values_of};
 use json_profile::ticket_value;
 use master_core::Master;
 use serde_json::{Map, Value};

@@ -12,7 +12,7 @@ ghost use Rattle.state_form.specs.Writable.{IsWritableWorker};
 use crate::entry_value::entry_values;
 use crate::format::{check_format, controller_under, state_value};
 use crate::worker_draft::WorkerDraft;
-use json_forms::{put, put_list};
+use json_forms::{Checked, put, put_list};
 use serde_json::{Map, Value};
 use std::alloc::{AllocError, Global};
 use ticket_tree::Refusal;

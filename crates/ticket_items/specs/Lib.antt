@@ -4,3 +4,4 @@ pub mod Attrs
 pub mod Ids
 pub mod SpawnId
 pub mod Resource
+pub mod FirstFault

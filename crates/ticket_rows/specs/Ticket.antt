@@ -1,8 +1,9 @@
 -- A ticket by its rows: a job id, and each node with its depth, in preorder.
 use Rattle.std.specs.Prelude.{◌≡◌, ℕ, Bool, true, false, not, List, [], ◌∷◌, map, codes, nat_le}
-use Rattle.std.specs.Prelude.{Option, Some, None, is_some}
+use Rattle.std.specs.Prelude.{Option, is_some}
 use Rattle.std.specs.List.{find, flat_map, list_all}
 use Rattle.std.specs.Str.{bytes_eq}
+pub use Rattle.ticket_items.specs.FirstFault.{first_of, unless}
 use Rattle.ticket_items.specs.Ids.{are_distinct}
 use Rattle.ticket_rows.specs.Outline.{is_outline}
 use Rattle.ticket_rows.specs.Place.{are_links_above, places, resource_places}
@@ -65,17 +66,6 @@ pub record IsValid (rows : List NodeRow) : Type 0 where
   pub distinct : are_distinct (ids rows) ≡ true
   pub shallow : are_shallow rows ≡ true
   pub resolved : are_resolved rows ≡ true
-
--- the refusal, unless the test holds
-abbrev pub unless : Bool → Refusal → Option Refusal
-unless true e = None
-unless false e = Some e
-
--- the first refusal of a list of tests
-abbrev pub first_of : List (Option Refusal) → Option Refusal
-first_of [] = None
-first_of (None ∷ rest) = first_of rest
-first_of (Some e ∷ rest) = Some e
 
 -- what is wrong with rows, the first in this order
 abbrev pub fault_of : List NodeRow → Option Refusal

@@ -10,12 +10,12 @@ use Rattle.serde_json.specs.Read.{read}
 use Rattle.ticket_items.specs.Ids.{are_distinct}
 use Rattle.ticket_items.specs.Names.{is_name}
 use Rattle.ticket_items.specs.declared.refusal.Refusal.{Refusal}
-use Rattle.ticket_items.specs.declared.refusal.Refusal.TheVariants.{BadId, BadText, Memory, NotJson}
+use Rattle.ticket_items.specs.declared.refusal.Refusal.TheVariants.{Memory, NotJson}
 use Rattle.ticket_items.specs.declared.refusal.Refusal.TheVariants.{NotProfile, SameName}
 use Rattle.ticket_rows.specs.Ticket.{first_of, unless}
 use Rattle.json_form.specs.Draft.{RawTicket, ticket_draft}
 use Rattle.json_form.specs.Form as ticket_form
-use Rattle.json_forms.specs.Judged.{sound}
+use Rattle.json_forms.specs.Judged.{checked_fault, sound}
 use Rattle.json_forms.specs.Listed.{list_form}
 use Rattle.json_source.specs.Read.{◌>>=◌, provided, has_only, text_under}
 use Rattle.world.specs.declared.event.Event.{Event}
@@ -75,9 +75,7 @@ shop_fault s =
 
 -- what is wrong with a draft: each fault in all of it before the next one
 abbrev pub script_fault : RawScript → Option Refusal
-script_fault s =
-    first_of
-    (unless (script_has_names s) BadId ∷ unless (script_has_texts s) BadText ∷ shop_fault s ∷ [])
+script_fault s = checked_fault (script_has_names s) (script_has_texts s) (shop_fault s)
 
 -- ---- what data and bytes are read as
 

@@ -7,6 +7,7 @@ ghost use Rattle.world_script.specs.Script.{IsReadAs, IsRefusalOf, script_read};
 
 use crate::script::Script;
 use crate::script_draft::ScriptDraft;
+use json_forms::Checked;
 use json_profile::value_of;
 use serde_json::Value;
 use std::alloc::Global;

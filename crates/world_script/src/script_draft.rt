@@ -1,7 +1,7 @@
 use crate::event_draft::EventDraft;
 use crate::event_drafts::{build_events, event_drafts, have_names, have_texts};
 use crate::script::Script;
-use json_forms::{Borrowed, Draft, Drafts, under};
+use json_forms::{Borrowed, Checked, Draft, Drafts, under};
 use json_profile::TicketDraft;
 use json_source::Source;
 use master_core::are_apart;
@@ -30,7 +30,6 @@ impl<'a> ScriptDraft<'a> {
     ghost use Rattle.std.specs.Prelude.{◌≡◌, ◌⊎◌, true, None, Some, IfOk, IfErr, OnOk};
     ghost use Rattle.serde_json.specs.View.{view};
     ghost use Rattle.json_form.specs.Read.{Gives};
-    ghost use Rattle.json_forms.specs.Judged.{Answers, sound};
     ghost use Rattle.json_reader.specs.DraftedTicket.{drafted_ticket};
     ghost use Rattle.world_script.specs.DraftedEvent.{drafted_events};
     ghost use Rattle.world_script.specs.DraftedScript.{drafted_script};
@@ -80,67 +79,12 @@ impl<'a> ScriptDraft<'a> {
         Ok(Drafts::new(drafts))
     }
 
-    /// Whether all ids and names are valid.
-    pub fn has_names(&self) -> bool
-        ensures { result ≡ form.script_has_names (drafted_script self.now) }
-    {
-        self.has_shop_names() && have_names(self.events.as_slice())
-    }
-
     /// Whether the names of the controllers, and the ids and names of their ticket, are valid.
     #[tactic(auto, using(json_forms::proofs::Tests::all_mapped))]
     fn has_shop_names(&self) -> bool
         ensures { result ≡ form.shop_has_names (drafted_script self.now) }
     {
         self.master.has_names() && self.workers.has_names() && self.ticket.has_names()
-    }
-
-    /// Whether all texts are valid.
-    #[tactic(auto, using(json_forms::proofs::Tests::all_mapped))]
-    pub fn has_texts(&self) -> bool
-        ensures { result ≡ form.script_has_texts (drafted_script self.now) }
-    {
-        self.ticket.has_texts() && have_texts(self.events.as_slice())
-    }
-
-    /// The script. Refuses the first of `BadId`, `BadText`, `ReservedStatus`, `DuplicateId`,
-    /// `TooDeep`, `UnresolvedLink` and `SameName` that stands in it; `Memory` may come before the
-    /// last five.
-    pub fn build(&self, alloc: Global) -> Result<Script, Refusal>
-        ensures { Answers result (sound (form.script_fault (drafted_script self.now))
-            (form.script_of (drafted_script self.now))) }
-    {
-        if !self.has_names() {
-            return Err(Refusal::BadId);
-        }
-        if !self.has_texts() {
-            return Err(Refusal::BadText);
-        }
-        self.build_known(alloc)
-    }
-
-    /// The script of a draft whose names and texts are valid. Refuses the first fault of its shop,
-    /// and `Memory`.
-    fn build_known(&self, alloc: Global) -> Result<Script, Refusal>
-        requires names { form.script_has_names (drafted_script self.now) ≡ true }
-        requires texts { form.script_has_texts (drafted_script self.now) ≡ true }
-        ensures ok { IfOk result (λ s. s ≡ form.script_of (drafted_script self.now)) }
-        ensures sound { OnOk result (form.shop_fault (drafted_script self.now) ≡ None) }
-        ensures refused { IfErr result (λ e. (e ≡ Refusal.Memory)
-            ⊎ (form.shop_fault (drafted_script self.now) ≡ Some e)) }
-    {
-        let Shop {
-            master,
-            workers,
-            ticket,
-        } = self.build_shop(alloc)?;
-        let events = build_events(alloc, self.events.as_slice())?;
-        Ok(Script {
-            master,
-            workers,
-            ticket,
-            events,
-        })
     }
 
     /// The shop of a draft whose names and texts are valid. Refuses its first fault, and `Memory`.
@@ -166,6 +110,46 @@ impl<'a> ScriptDraft<'a> {
             master,
             workers,
             ticket,
+        })
+    }
+}
+
+impl<'a> Checked for ScriptDraft<'a> {
+    ghost use Rattle.world_script.specs.DraftedScript.{drafted_script};
+    ghost use Rattle.world_script.specs.Script as form;
+
+    type Whole = Script;
+
+    ghost valid_names = { λ d. form.script_has_names (drafted_script d) };
+
+    ghost valid_texts = { λ d. form.script_has_texts (drafted_script d) };
+
+    ghost late_fault = { λ d. form.shop_fault (drafted_script d) };
+
+    ghost made = { λ d. form.script_of (drafted_script d) };
+
+    fn has_names(&self) -> bool {
+        self.has_shop_names() && have_names(self.events.as_slice())
+    }
+
+    #[tactic(auto, using(json_forms::proofs::Tests::all_mapped))]
+    fn has_texts(&self) -> bool {
+        self.ticket.has_texts() && have_texts(self.events.as_slice())
+    }
+
+    /// Refuses the first fault of its shop, and `Memory`.
+    fn build_known(&self, alloc: Global) -> Result<Script, Refusal> {
+        let Shop {
+            master,
+            workers,
+            ticket,
+        } = self.build_shop(alloc)?;
+        let events = build_events(alloc, self.events.as_slice())?;
+        Ok(Script {
+            master,
+            workers,
+            ticket,
+            events,
         })
     }
 }

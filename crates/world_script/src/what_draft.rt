@@ -6,7 +6,7 @@ ghost use Rattle.json_source.specs.Read.{Gives};
 ghost use Rattle.world_script.specs.DraftedEvent.{drafted_what};
 ghost use Rattle.world_script.specs.EventForm as form;
 
-use json_forms::{Borrowed, Draft, number_under, text_under};
+use json_forms::{Borrowed, Checked, Draft, number_under, text_under};
 use json_source::Source;
 use order_form::{MasterOrderDraft, WorkerOrderDraft};
 use serde_json::Value;
@@ -146,10 +146,10 @@ impl<'a> WhatDraft<'a> {
         ensures memory { IfErr result (λ e. e ≡ Refusal.Memory) }
     {
         match self {
-            WhatDraft::MasterOrder(order) => Ok(What::MasterOrder(order.build(alloc)?)),
+            WhatDraft::MasterOrder(order) => Ok(What::MasterOrder(order.build_known(alloc)?)),
             WhatDraft::WorkerOrder(name, order) => {
                 let name = name.build(alloc)?;
-                Ok(What::WorkerOrder(name, order.build(alloc)?))
+                Ok(What::WorkerOrder(name, order.build_known(alloc)?))
             }
             WhatDraft::Deliver(number) => Ok(What::Deliver(*number)),
             WhatDraft::Restart(name) => Ok(What::Restart(name.build(alloc)?)),

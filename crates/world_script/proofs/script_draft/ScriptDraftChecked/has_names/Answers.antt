@@ -3,7 +3,7 @@ use Rattle.std.specs.List.{list_all}
 use Rattle.json_forms.proofs.Tests.{all_mapped}
 use Rattle.world_script.specs.DraftedEvent.{drafted_event, drafted_events}
 use Rattle.world_script.specs.EventForm.{event_has_names}
-use Rattle.world_script.proofs.script_draft.ScriptDraft.has_names.Goals as goal
+use Rattle.world_script.proofs.script_draft.ScriptDraftChecked.has_names.Goals as goal
 
 pub returns-then-has_shop_names : goal.returns-then-has_shop_names
 returns-then-has_shop_names c =

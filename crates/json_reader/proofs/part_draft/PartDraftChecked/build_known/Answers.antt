@@ -16,7 +16,7 @@ use Rattle.json_reader.specs.DraftedPart.{drafted_ancestor, drafted_part}
 use Rattle.json_reader.specs.DraftedPool.{drafted_resource}
 use Rattle.json_reader.proofs.Faults.{no_fault, names_in_rows, texts_in_rows, names_in_resources, texts_in_resources}
 use Rattle.json_reader.proofs.PartFaults.{names_of_part, texts_of_part, built_part, built_rows}
-use Rattle.json_reader.proofs.part_draft.PartDraft.build_known.Goals as goal
+use Rattle.json_reader.proofs.part_draft.PartDraftChecked.build_known.Goals as goal
 
 pub build-requires-2 : goal.build-requires-2
 build-requires-2 c κs =

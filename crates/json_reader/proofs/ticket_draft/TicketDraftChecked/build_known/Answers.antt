@@ -5,7 +5,7 @@ use Rattle.json_form.specs.Form.{row_has_names, row_has_texts}
 use Rattle.json_reader.specs.Drafted.{drafted_row}
 use Rattle.json_reader.specs.DraftedTicket.{drafted_ticket}
 use Rattle.json_reader.proofs.Faults.{fault_of_marks, names_in_rows, texts_in_rows}
-use Rattle.json_reader.proofs.ticket_draft.TicketDraft.build_known.Goals as goal
+use Rattle.json_reader.proofs.ticket_draft.TicketDraftChecked.build_known.Goals as goal
 
 pub build_rows-requires-clause-names : goal.build_rows-requires-clause-names
 build_rows-requires-clause-names c =

@@ -4,7 +4,7 @@ use Rattle.std.specs.List.{list_all}
 use Rattle.json_forms.proofs.Tests.{all_mapped}
 use Rattle.world_script.specs.DraftedEvent.{drafted_event}
 use Rattle.world_script.specs.EventForm.{event_has_names, event_has_texts}
-use Rattle.world_script.proofs.script_draft.ScriptDraft.build_known.Goals as goal
+use Rattle.world_script.proofs.script_draft.ScriptDraftChecked.build_known.Goals as goal
 
 pub build_events-requires-clause-names : goal.build_events-requires-clause-names
 build_events-requires-clause-names c =

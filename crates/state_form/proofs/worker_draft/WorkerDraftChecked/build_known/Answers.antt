@@ -6,7 +6,7 @@ use Rattle.json_forms.proofs.Tests.{all_mapped}
 use Rattle.json_reader.specs.DraftedPart.{drafted_part}
 use Rattle.state_form.specs.Drafted.{drafted_entry}
 use Rattle.state_form.specs.EntryForm.{RawEntry}
-use Rattle.state_form.proofs.worker_draft.WorkerDraft.build_known.Goals as goal
+use Rattle.state_form.proofs.worker_draft.WorkerDraftChecked.build_known.Goals as goal
 
 pub build_entries-requires-clause-names : goal.build_entries-requires-clause-names
 build_entries-requires-clause-names c =

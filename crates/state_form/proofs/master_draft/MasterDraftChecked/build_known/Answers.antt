@@ -14,7 +14,7 @@ use Rattle.state_form.specs.declared.record_draft.StoredRecord.{StoredRecord}
 use Rattle.state_form.proofs.Drafts.{spawns_drafted}
 use Rattle.state_form.proofs.Reading.{if_ok}
 use Rattle.state_form.proofs.Refusing.{in_state, in_ticket, not_bare, nothing, on_ok, refused_part, refused_parts}
-use Rattle.state_form.proofs.master_draft.MasterDraft.build_known.Goals as goal
+use Rattle.state_form.proofs.master_draft.MasterDraftChecked.build_known.Goals as goal
 
 pub build_spawns-requires-clause-names : goal.build_spawns-requires-clause-names
 build_spawns-requires-clause-names c =
@@ -53,14 +53,14 @@ returns-clause-ok c = if_ok _ _ c.of_parts.result c.of_parts.ensures.ok (λ m is
 pub returns-clause-sound : goal.returns-clause-sound
 returns-clause-sound c = on_ok c.of_parts.result _ _ c.of_parts.ensures.taken (λ taken. nothing _ _ _ (bare c) c.in_ok-ticket.ensures.sound (sym (ap is_master (parts c)) ∙ taken))
 
-pub returns-clause-refused : goal.returns-clause-refused
-returns-clause-refused c = refused_parts c.of_parts.result (master_built_fault (drafted_master c.args.self.now)) c.of_parts.ensures.only (λ bad. in_state _ _ _ (bare c) c.in_ok-ticket.ensures.sound (sym (ap is_master (parts c)) ∙ c.of_parts.ensures.refused bad))
+pub returns-clause-err : goal.returns-clause-err
+returns-clause-err c = refused_parts c.of_parts.result (master_built_fault (drafted_master c.args.self.now)) c.of_parts.ensures.only (λ bad. in_state _ _ _ (bare c) c.in_ok-ticket.ensures.sound (sym (ap is_master (parts c)) ∙ c.of_parts.ensures.refused bad))
 
-pub returns-then-not-are_bare-clause-refused : goal.returns-then-not-are_bare-clause-refused
-returns-then-not-are_bare-clause-refused c =
+pub returns-then-not-are_bare-clause-err : goal.returns-then-not-are_bare-clause-err
+returns-then-not-are_bare-clause-err c =
     inr (not_bare _ _ _ (all_mapped (λ (r : StoredRecord). r.bare) drafted_record c.args.self.now.records ∙ sym (ap (list_all (λ d. (drafted_record d).bare)) c.as_slice.ensures) ∙ sym c.are_bare.ensures ∙ c.if-not-are_bare.true))
 
-pub returns-in_err-ticket-clause-refused : goal.returns-in_err-ticket-clause-refused
-returns-in_err-ticket-clause-refused c =
+pub returns-in_err-ticket-clause-err : goal.returns-in_err-ticket-clause-err
+returns-in_err-ticket-clause-err c =
     let shown = all_mapped (λ (r : StoredRecord). r.bare) drafted_record c.args.self.now.records ∙ sym (ap (list_all (λ d. (drafted_record d).bare)) c.as_slice.ensures) ∙ sym c.are_bare.ensures ∙ c.if-not-are_bare.false in
     refused_part c.from_residual.result c.in_err-ticket.field-0.0 (built_fault (drafted_ticket c.args.self.now.ticket)) (master_built_fault (drafted_master c.args.self.now)) c.from_residual.ensures.1 c.in_err-ticket.ensures.err (λ is. in_ticket _ _ _ _ shown is)
