@@ -43,9 +43,10 @@ pub trait Checked: Drop {
     /// The whole. Refuses the first of `BadId`, `BadText` and what else is wrong with the draft;
     /// `Memory` may come before what comes behind `BadText`.
     final fn build(&self, alloc: Global) -> Result<Self::Whole, Refusal>
-        ensures { Answers result
+        ensures answers { Answers result
             (sound (checked_fault (valid_names self.now) (valid_texts self.now)
             (late_fault self.now)) (made self.now)) }
+        ensures ok { IfOk result (λ whole. whole ≡ made self.now) }
     {
         if !self.has_names() {
             return Err(Refusal::BadId);

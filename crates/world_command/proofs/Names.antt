@@ -32,7 +32,7 @@ is_it (Some r) x y e = cc
 of_draft : (o : Option RawScript) (s : Script) → option_map_or (λ r. sound (script_fault r) (script_of r)) o (Err NotProfile) ≡ Ok s → are_distinct (s.master ∷ s.workers) ≡ true
 of_draft None s e = cc
 of_draft (Some r) s e =
-    subst (λ (v : Script). are_distinct (v.master ∷ v.workers) ≡ true) (is_it (script_fault r) (script_of r) s e) (last_passed _ _ (are_distinct (r.master ∷ r.workers)) _ (free (script_fault r) (script_of r) s e))
+    subst (λ (v : Script). are_distinct (v.master ∷ v.workers) ≡ true) (is_it (script_fault r) (script_of r) s e) (last_passed _ _ (are_distinct (r.shop.master ∷ r.shop.workers)) _ (free (script_fault r) (script_of r) s e))
 
 pub names_apart : (bytes : List ℕ) (s : Script) → IsReadAs bytes (Ok s) → are_distinct (s.master ∷ s.workers) ≡ true
 names_apart bytes s read = of_draft (script_draft read.value) s read.form

@@ -55,8 +55,9 @@ returns-clause-ok c =
     (c.in_ok-ro.ensures.ok ∙ ap (λ ds. resources_of (drafted_resources ds)) c.as_slice-3.ensures))
     c.new.ensures.ok
 
-pub returns-clause-valid : goal.returns-clause-valid
-returns-clause-valid c =
+-- the rows with the copies are a ticket's
+valid : (c : goal.After-new) → OnOk c.new.result (IsValid (all_rows (drafted_part c.args.self.now)))
+valid c =
     subst (λ rs. OnOk c.new.result (IsValid rs))
     (built_rows (drafted_part c.args.self.now) _ _ _
     (c.in_ok-rows.ensures.ok ∙ ap (λ ds. map (λ r. r.row) (drafted_rows ds)) c.as_slice.ensures.value)
@@ -69,7 +70,7 @@ valid_is_sound (Ok x) rs h = no_fault rs h
 valid_is_sound (Err e) rs h = tt
 
 pub returns-clause-sound : goal.returns-clause-sound
-returns-clause-sound c = valid_is_sound c.new.result (all_rows (drafted_part c.args.self.now)) (returns-clause-valid c)
+returns-clause-sound c = valid_is_sound c.new.result (all_rows (drafted_part c.args.self.now)) (valid c)
 
 pub returns-clause-err : goal.returns-clause-err
 returns-clause-err c =

@@ -2,7 +2,7 @@ use Rattle.std.proofs.Common.{◌∙◌, ℕ, List, map, refl}
 use Rattle.std.proofs.lemmas.Bool.{and_parts}
 use Rattle.ticket_items.specs.Names.{is_name}
 use Rattle.json_forms.proofs.Tests.{all_mapped, all_true}
-use Rattle.world_script.proofs.script_draft.ScriptDraft.build_shop.Goals as goal
+use Rattle.shop_form.proofs.shop_draft.ShopDraftChecked.build_known.Goals as goal
 
 -- the names of the workers are among those that are asked for
 pub build-requires-2 : goal.build-requires-2

@@ -1,0 +1,4 @@
+pub mod ShopForm
+pub mod DraftedShop
+pub mod OpeningForm
+pub mod DraftedOpening
