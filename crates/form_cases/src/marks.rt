@@ -1,11 +1,12 @@
 //! Marks of spawns from JSON:
 //! `{"Nodes":[..],"Resources":[{"ID":..,"SpawnIDs":[..],"SpawnStatus":..}]}`.
 
-use json_form::spawn_status_named;
+use json_forms::Plain;
 use json_profile::text_under;
+use json_source::Source;
 use serde_json::Value;
 use std::alloc::Global;
-use ticket_tree::{Id, Ids, Items, Marks, Refusal, ResMark, SpawnId, SpawnIds};
+use ticket_tree::{Id, Ids, Items, Marks, Refusal, ResMark, SpawnId, SpawnIds, SpawnStatus};
 
 /// The marks that a value is.
 pub fn marks_of(alloc: Global, value: &Value) -> Result<Marks, Refusal> {
@@ -49,7 +50,10 @@ fn resources_of(alloc: Global, items: &[Value]) -> Result<Vec<ResMark>, Refusal>
 
 /// What one resource shows.
 fn mark_of(alloc: Global, value: &Value) -> Result<ResMark, Refusal> {
-    let status = text_under(value, "SpawnStatus").and_then(|word| spawn_status_named(word));
+    let status = match value.member("SpawnStatus") {
+        Some(word) => SpawnStatus::read(word),
+        None => None,
+    };
     let id = text_under(value, "ID").ok_or(Refusal::NotProfile)?;
     let id = Id::new(alloc, id)?;
     let status = status.ok_or(Refusal::NotProfile)?;

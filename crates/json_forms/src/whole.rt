@@ -10,22 +10,6 @@ use serde_json::Value;
 use std::alloc::{AllocError, Global};
 use ticket_items::Refusal;
 
-/// The whole of a draft. Refuses the first of `BadId` and `BadText` that stands in it, and
-/// `Memory`.
-pub fn whole_from<'a, D: Draft<'a>>(alloc: Global, draft: &D) -> Result<D::Whole, Refusal>
-    ensures { Answers result
-        (sound (first_fault D.Whole.has_names D.Whole.has_texts (D.drafted draft.now))
-        (D.drafted draft.now)) }
-{
-    if !draft.has_names() {
-        return Err(Refusal::BadId);
-    }
-    if !draft.has_texts() {
-        return Err(Refusal::BadText);
-    }
-    draft.build(alloc)
-}
-
 /// The whole that a value is. Refuses the first of `NotProfile`, `BadId` and `BadText` that stands
 /// in it, and `Memory`.
 pub fn whole_of<'a, D: Draft<'a>, S: Source>(
@@ -36,7 +20,13 @@ pub fn whole_of<'a, D: Draft<'a>, S: Source>(
         (judged (first_fault D.Whole.has_names D.Whole.has_texts) (D.Whole.form (S.content value.now))) }
 {
     let draft = D::of(alloc, value)?;
-    whole_from(alloc, &draft)
+    if !draft.has_names() {
+        return Err(Refusal::BadId);
+    }
+    if !draft.has_texts() {
+        return Err(Refusal::BadText);
+    }
+    draft.build(alloc)
 }
 
 /// It as a value, which is read again.

@@ -39,6 +39,14 @@ impl Id {
         if !is_name(text) {
             return Err(Refusal::BadId);
         }
+        Ok(Id::known(alloc, text)?)
+    }
+
+    /// The id of a text that is one, as `is_name` tells.
+    pub fn known(alloc: Global, text: &str) -> Result<Id, AllocError>
+        requires { names.is_name text.now ≡ true }
+        ensures { IfOk result (λ id. id ≡ text.now) }
+    {
         let text = String::from_str(alloc, text)?;
         Ok(Id { text })
     }

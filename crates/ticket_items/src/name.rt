@@ -38,6 +38,14 @@ impl Name {
         if !is_name(text) {
             return Err(Refusal::BadId);
         }
+        Ok(Name::known(alloc, text)?)
+    }
+
+    /// The name of a text that is one, as `is_name` tells.
+    pub fn known(alloc: Global, text: &str) -> Result<Name, AllocError>
+        requires { names.is_name text.now ≡ true }
+        ensures { IfOk result (λ name. name ≡ text.now) }
+    {
         let text = String::from_str(alloc, text)?;
         Ok(Name { text })
     }

@@ -29,7 +29,7 @@ impl Word for Id {
     }
 
     fn known(alloc: Global, text: &str) -> Result<Id, Refusal> {
-        Id::new(alloc, text)
+        Ok(Id::known(alloc, text)?)
     }
 
     ghost read = { text_itself };

@@ -29,7 +29,7 @@ impl Word for Name {
     }
 
     fn known(alloc: Global, text: &str) -> Result<Name, Refusal> {
-        Name::new(alloc, text)
+        Ok(Name::known(alloc, text)?)
     }
 
     ghost read = { text_itself };

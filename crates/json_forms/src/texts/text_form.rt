@@ -29,7 +29,7 @@ impl Word for Text {
     }
 
     fn known(alloc: Global, text: &str) -> Result<Text, Refusal> {
-        Text::new(alloc, text)
+        Ok(Text::known(alloc, text)?)
     }
 
     ghost read = { text_itself };

@@ -1,4 +1,4 @@
-//! The SpawnStatus of a resource.
+//! The SpawnStatus of a resource (JDF 1.5, 3.8), by its word.
 
 ghost use Rattle.std.specs.Prelude.{◌≡◌, true, refl};
 ghost use Rattle.json_forms.specs.Again.{spawn_status_again};
@@ -10,29 +10,6 @@ use serde_json::Value;
 use std::alloc::{AllocError, Global};
 use ticket_items::SpawnStatus;
 
-/// The SpawnStatus of a resource (JDF 1.5, 3.8) that a word names.
-pub fn spawn_status_named(word: &str) -> Option<SpawnStatus>
-    ensures { result ≡ shown.spawn_status_named word.now }
-{
-    match word {
-        "NotSpawned" => Some(SpawnStatus::NotSpawned),
-        "SpawnedRO" => Some(SpawnStatus::SpawnedRO),
-        "SpawnedRW" => Some(SpawnStatus::SpawnedRW),
-        _ => None,
-    }
-}
-
-/// The word of a SpawnStatus.
-pub fn spawn_status_word(status: SpawnStatus) -> &'static str
-    ensures { result.now ≡ shown.spawn_status_word status }
-{
-    match status {
-        SpawnStatus::NotSpawned => "NotSpawned",
-        SpawnStatus::SpawnedRO => "SpawnedRO",
-        SpawnStatus::SpawnedRW => "SpawnedRW",
-    }
-}
-
 impl Form for SpawnStatus {
     ghost form = { shown.spawn_status_form };
 
@@ -43,7 +20,12 @@ impl Form for SpawnStatus {
 
 impl Plain for SpawnStatus {
     fn read<S: Source>(value: &S) -> Option<SpawnStatus> {
-        spawn_status_named(value.text()?)
+        match value.text()? {
+            "NotSpawned" => Some(SpawnStatus::NotSpawned),
+            "SpawnedRO" => Some(SpawnStatus::SpawnedRO),
+            "SpawnedRW" => Some(SpawnStatus::SpawnedRW),
+            _ => None,
+        }
     }
 
     ghost no_names = { λ _. refl };
@@ -55,7 +37,11 @@ impl Written for SpawnStatus {
     ghost written = { shown.spawn_status_data };
 
     fn value(&self, alloc: Global) -> Result<Value, AllocError> {
-        text_value(alloc, spawn_status_word(*self))
+        match self {
+            SpawnStatus::NotSpawned => text_value(alloc, "NotSpawned"),
+            SpawnStatus::SpawnedRO => text_value(alloc, "SpawnedRO"),
+            SpawnStatus::SpawnedRW => text_value(alloc, "SpawnedRW"),
+        }
     }
 
     ghost again = { spawn_status_again };

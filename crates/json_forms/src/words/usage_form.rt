@@ -1,4 +1,4 @@
-//! The Usage of a link.
+//! The Usage of a link (JDF 1.5, 3.9), by its word.
 
 ghost use Rattle.std.specs.Prelude.{◌≡◌, true, refl};
 ghost use Rattle.json_forms.specs.Again.{usage_again};
@@ -10,27 +10,6 @@ use serde_json::Value;
 use std::alloc::{AllocError, Global};
 use ticket_items::Usage;
 
-/// The Usage of a link (JDF 1.5, 3.9) that a word names.
-pub fn usage_named(word: &str) -> Option<Usage>
-    ensures { result ≡ links.usage_named word.now }
-{
-    match word {
-        "Input" => Some(Usage::Input),
-        "Output" => Some(Usage::Output),
-        _ => None,
-    }
-}
-
-/// The word of a Usage.
-pub fn usage_word(usage: Usage) -> &'static str
-    ensures { result.now ≡ links.usage_word usage }
-{
-    match usage {
-        Usage::Input => "Input",
-        Usage::Output => "Output",
-    }
-}
-
 impl Form for Usage {
     ghost form = { links.usage_form };
 
@@ -41,7 +20,11 @@ impl Form for Usage {
 
 impl Plain for Usage {
     fn read<S: Source>(value: &S) -> Option<Usage> {
-        usage_named(value.text()?)
+        match value.text()? {
+            "Input" => Some(Usage::Input),
+            "Output" => Some(Usage::Output),
+            _ => None,
+        }
     }
 
     ghost no_names = { λ _. refl };
@@ -53,7 +36,10 @@ impl Written for Usage {
     ghost written = { links.usage_data };
 
     fn value(&self, alloc: Global) -> Result<Value, AllocError> {
-        text_value(alloc, usage_word(*self))
+        match self {
+            Usage::Input => text_value(alloc, "Input"),
+            Usage::Output => text_value(alloc, "Output"),
+        }
     }
 
     ghost again = { usage_again };
