@@ -1,6 +1,6 @@
 -- What calls and faults say.
 use Rattle.std.specs.Prelude.{◌≡◌, ◌≢◌, ◌≤◌, ⊤, ℕ, List, Option, Some, codes, option_and_then}
-use Rattle.std.specs.Prelude.{option_map}
+use Rattle.std.specs.Prelude.{[], ◌∷◌, ◌++◌, None, option_map}
 use Rattle.std.specs.Str.Parse.{digits_value, without_leading_plus}
 use Rattle.clap.specs.Kinds.{IsAmong, Kinds}
 use Rattle.clap.specs.Words.{Row, Text, first_of, kind_of, one_of}
@@ -51,3 +51,8 @@ TellsOf e fault = (kind_of e ≡ OutOfMemory → fault ≡ Memory)
 abbrev pub Tells : Kinds → CallFault → Type 0
 Tells kinds (Clap e) = IsAmong (kind_of e) kinds × (kind_of e ≢ OutOfMemory)
 Tells kinds Memory = ⊤
+
+-- the line that is shown where memory ran out; of clap's texts nothing is said
+abbrev pub fault_text : CallFault → Option Text
+fault_text (Clap e) = None
+fault_text Memory = Some (codes "error: out of memory" ++ 10 ∷ [])

@@ -1,5 +1,5 @@
 ghost use Rattle.std.specs.Prelude.{◌≡◌};
-ghost use Rattle.command_words.specs.Calls.{TellsOf};
+ghost use Rattle.command_words.specs.Calls.{TellsOf, fault_text};
 ghost use Rattle.command_words.specs.declared.call_fault.CallFault.TheVariants.{Memory};
 
 use clap::error::ErrorKind;
@@ -34,7 +34,10 @@ impl From<clap::Error> for CallFault {
     }
 }
 
+/// Whole lines, as `clap`'s own texts are.
 impl fmt::Display for CallFault {
+    ghost output = { fault_text };
+
     fn fmt<W: fmt::Write>(&self, f: &mut fmt::Formatter<W>) -> fmt::Result {
         match self {
             CallFault::Clap(error) => error.fmt(f),
