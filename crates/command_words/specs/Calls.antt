@@ -27,6 +27,7 @@ number_of text = digits_value 10 (without_leading_plus text)
 abbrev pub at_in : Option (Text × List Row) → Option ℕ
 at_in = option_and_then (λ found. option_map number_of (one_of (codes "at") found.1))
 
+-- what was found is the command of this name, on this FILE at this N
 abbrev pub IsTimed : Text → Text → ℕ → Option (Text × List Row) → Type 0
 IsTimed name file at found = (name_in found ≡ Some name) × (file_in found ≡ Some file)
     × (at_in found ≡ Some at) × (at ≤ 9999999999)
@@ -42,7 +43,7 @@ Means (Take file at) found = IsTimed (codes "take") file.now at found
 Means (Show file) found =
     (name_in found ≡ Some (codes "show")) × (file_in found ≡ Some file.now)
 
--- the fault says what clap's error says: memory ran out, or that error itself
+-- the fault says what clap's error says: that memory ran out, or else that error itself
 abbrev pub TellsOf : Error → CallFault → Type 0
 TellsOf e fault = (kind_of e ≡ OutOfMemory → fault ≡ Memory)
     × (kind_of e ≢ OutOfMemory → fault ≡ Clap e)

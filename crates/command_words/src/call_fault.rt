@@ -9,7 +9,8 @@ use std::{error, fmt};
 /// Why words call for nothing.
 #[derive(Debug, Drop)]
 pub enum CallFault {
-    /// The words are wrong or ask for help: `clap`'s text says which. It is not for want of memory.
+    /// The words are wrong or ask for help, which `clap`'s text says. Its kind is never
+    /// `OutOfMemory`.
     Clap(clap::Error),
     /// Memory ran out.
     Memory,

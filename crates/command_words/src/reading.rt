@@ -1,7 +1,7 @@
 //! The call that words stand for.
 
-ghost use Rattle.std.specs.Prelude.{◌≡◌, ◌≢◌, ◌≤◌, [], IfErr, IfOk, IfSome, IsOk, Some, map, true, codes};
-ghost use Rattle.std.specs.Prelude.{MatchResult, option_map, string_bytes};
+ghost use Rattle.std.specs.Prelude.{◌≡◌, ◌≢◌, ◌≤◌, [], IfErr, IfOk, IfSome, IsOk, MatchResult};
+ghost use Rattle.std.specs.Prelude.{Some, codes, map, option_map, string_bytes, true};
 ghost use Rattle.clap.specs.Words.{fault_of, found_of, rows_of, subcommand_of, subcommand_rows_of};
 ghost use Rattle.clap.specs.Words.{first_of, one_of, takes};
 ghost use Rattle.command_words.specs.Calls.{Means, Tells, number_of};
@@ -88,5 +88,6 @@ pub fn command_of<'a>(alloc: Global, words: &'a [String]) -> Result<Call<'a>, Ca
         return Ok(Call::Edit);
     }
     let matches = commands::jdf(alloc)?.try_get_matches_from(words)?;
+    // `clap` has seen to the command and its arguments, so a call is always found.
     call_in(&matches).ok_or(CallFault::Memory)
 }

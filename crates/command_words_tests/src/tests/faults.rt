@@ -56,3 +56,23 @@ fn texts(rt: HostRuntime) -> Result<(), Fail> {
     }
     Ok(())
 }
+
+#[test]
+fn help_names_each_command(rt: HostRuntime) -> Result<(), Fail> {
+    let words = words_in(rt.alloc(), "help")?;
+    let text = match command_of(rt.alloc(), words.as_slice()) {
+        Err(fault) => fault.to_string(rt.alloc())?,
+        Ok(_call) => String::new(rt.alloc()),
+    };
+    for line in [
+        "\n  edit ",
+        "\n  world ",
+        "\n  new ",
+        "\n  order ",
+        "\n  take ",
+        "\n  show ",
+    ] {
+        assert!(rt; text.contains(line), "{text}");
+    }
+    Ok(())
+}
