@@ -3,13 +3,14 @@
 use Rattle.std.specs.Prelude.{◌≡◌, ◌⊎◌, ℕ, ◌<◌, Bool, List, length, if◌then◌else◌}
 use Rattle.ticket_items.specs.declared.refusal.Refusal.{Refusal}
 use Rattle.ticket_items.specs.declared.refusal.Refusal.TheVariants.{Memory}
+use Rattle.call_refusals.specs.declared.refused.Refused.TheVariants.{Core, TooLarge, ReadFailed}
+use Rattle.call_refusals.specs.declared.refused.Refused.TheVariants.{WriteFailed}
 use Rattle.command_streams.specs.Fault.{fault_line, fault_status}
 use Rattle.command_streams.specs.Streams.{Use, IsUntouched, Reads, IsInput, HasFailedReading}
 use Rattle.command_streams.specs.Streams.{Writes, WritesFront}
 use Rattle.command_streams.specs.declared.input.TheConstants.{MAX_INPUT_BYTES}
 use Rattle.command_streams.specs.declared.fault.Fault.{Fault}
-use Rattle.command_streams.specs.declared.fault.Fault.TheVariants.{Refused, TooLarge, ReadFailed}
-use Rattle.command_streams.specs.declared.fault.Fault.TheVariants.{WriteFailed}
+use Rattle.command_streams.specs.declared.fault.Fault.TheVariants.{Input, Device}
 
 -- what is written for an input, and whether something that was asked for was refused
 abbrev pub Outputs : Type 1
@@ -41,10 +42,10 @@ IsOutOfMemory input e = (e ≡ Memory) × (input.after.failures ≡ input.before
 
 -- why the input isn't read
 abbrev pub IsUnread : Use → Fault → Type 0
-IsUnread input (Refused e) = IsOutOfMemory input e
-IsUnread input TooLarge = IsTooLarge input
-IsUnread input ReadFailed = HasFailedReading input
-IsUnread input WriteFailed = ⊥
+IsUnread input (Input (Core e)) = IsOutOfMemory input e
+IsUnread input (Input TooLarge) = IsTooLarge input
+IsUnread input (Device ReadFailed) = HasFailedReading input
+IsUnread input _ = ⊥
 
 -- memory ran out, or the input is refused for what it is
 abbrev pub IsRefused : Refusals → Use → Refusal → Type 0
@@ -54,13 +55,15 @@ IsRefused IsRefusalOf input e =
 -- why a command gives up with a fault, and what it has written then: nothing, or a front of the
 -- output
 abbrev pub GivesUp : Outputs → Refusals → Fault → Use → Use → Type 0
-GivesUp IsOutput IsRefusalOf (Refused e) input output =
+GivesUp IsOutput IsRefusalOf (Input (Core e)) input output =
     IsRefused IsRefusalOf input e × IsUntouched output
-GivesUp IsOutput IsRefusalOf TooLarge input output = IsTooLarge input × IsUntouched output
-GivesUp IsOutput IsRefusalOf ReadFailed input output = HasFailedReading input × IsUntouched output
-GivesUp IsOutput IsRefusalOf WriteFailed input output =
+GivesUp IsOutput IsRefusalOf (Input TooLarge) input output = IsTooLarge input × IsUntouched output
+GivesUp IsOutput IsRefusalOf (Device ReadFailed) input output =
+    HasFailedReading input × IsUntouched output
+GivesUp IsOutput IsRefusalOf (Device WriteFailed) input output =
     (bytes : List ℕ) × (text : List ℕ) × (refused : Bool) × IsInput input bytes
     × IsOutput bytes text refused × WritesFront output text
+GivesUp IsOutput IsRefusalOf _ input output = ⊥
 
 -- the fault's line was told, or a front of it where a write failed
 abbrev pub Tells : Fault → Use → Type 0

@@ -1,7 +1,7 @@
 //! A command, from its input to its exit status.
 
 ghost use Rattle.std.specs.Prelude.{ℕ, Bool, List, IfOk, IfErr};
-ghost use Rattle.ticket_items.specs.declared.refusal.Refusal.{Refusal as Refused};
+ghost use Rattle.ticket_items.specs.declared.refusal.Refusal.{Refusal as RefusalSeen};
 ghost use Rattle.command_streams.specs.Ends.{Does, Ends, GivesUp};
 ghost use Rattle.command_streams.specs.Streams.{used};
 
@@ -28,7 +28,7 @@ pub trait Command {
     ghost is_output: { List ℕ → List ℕ → Bool → Type 0 };
 
     /// Why an input is refused.
-    ghost is_refusal: { List ℕ → Refused → Type 0 };
+    ghost is_refusal: { List ℕ → RefusalSeen → Type 0 };
 
     /// What is written for an input, or why it is refused.
     fn output(alloc: Global, input: Vec<u8>) -> Result<Output, Refusal>

@@ -5,6 +5,7 @@ ghost use Rattle.command_streams.specs.Streams.{used, IsInput};
 ghost use Rattle.command_streams.specs.Ends.{IsUnread};
 
 use crate::fault::Fault;
+use call_refusals::Refused;
 use counted::Counted;
 use std::alloc::{AllocError, Global};
 use std::io::{ErrorKind, Read};
@@ -39,16 +40,16 @@ pub fn read_input<R: Read>(alloc: Global, reader: &mut Counted<R>) -> Result<Vec
             Ok(0) => return Ok(input),
             Ok(count) => {
                 if count > MAX_INPUT_BYTES - input.len() {
-                    return Err(Fault::TooLarge);
+                    return Err(Fault::Input(Refused::TooLarge));
                 }
                 input.extend_from_slice(&buffer[..count])?;
             }
             Err(error) => {
                 if error.kind() != ErrorKind::Interrupted {
-                    return Err(Fault::ReadFailed);
+                    return Err(Fault::Device(Refused::ReadFailed));
                 }
                 if reader.interruptions() - interrupted_before > MAX_INTERRUPTIONS {
-                    return Err(Fault::ReadFailed);
+                    return Err(Fault::Device(Refused::ReadFailed));
                 }
             }
         }

@@ -1,9 +1,12 @@
 //! Writing the output.
 
 ghost use Rattle.std.specs.Prelude.{◌≡◌, OnOk, OnErr, IfErr};
+ghost use Rattle.call_refusals.specs.declared.refused.Refused.TheVariants.{WriteFailed};
 ghost use Rattle.command_streams.specs.Streams.{used, Writes, WritesFront};
+ghost use Rattle.command_streams.specs.declared.fault.Fault.TheVariants.{Device};
 
 use crate::fault::Fault;
+use call_refusals::Refused;
 use counted::Counted;
 use std::io::Write;
 
@@ -12,14 +15,14 @@ use std::io::Write;
 pub fn write_bytes<W: Write>(writer: &mut Counted<W>, bytes: &[u8]) -> Result<(), Fault>
     ensures ok { OnOk result (Writes (used W.contents writer.old writer.new) bytes.now) }
     ensures front { OnErr result (WritesFront (used W.contents writer.old writer.new) bytes.now) }
-    ensures fault { IfErr result (λ f. f ≡ Fault.WriteFailed) }
+    ensures fault { IfErr result (λ f. f ≡ Device WriteFailed) }
 {
     let mut done = 0;
     while done < bytes.len() {
         match writer.write(&bytes[done..]) {
-            Ok(0) => return Err(Fault::WriteFailed),
+            Ok(0) => return Err(Fault::Device(Refused::WriteFailed)),
             Ok(count) => done += count,
-            Err(_) => return Err(Fault::WriteFailed),
+            Err(_) => return Err(Fault::Device(Refused::WriteFailed)),
         }
     }
     Ok(())

@@ -8,9 +8,9 @@ use Rattle.serde_json.specs.Read.{read}
 use Rattle.keepers.specs.Keeper.{most_failures}
 use Rattle.ticket_items.specs.declared.refusal.Refusal.{Refusal}
 use Rattle.ticket_items.specs.declared.refusal.Refusal.TheVariants.{Memory, NotJson}
-use Rattle.stored_state.specs.declared.refused.Refused.{Refused}
-use Rattle.stored_state.specs.declared.refused.Refused.TheVariants.{Core, LoadFailed, SaveFailed}
-use Rattle.stored_state.specs.declared.refused.Refused.TheVariants.{Stale}
+use Rattle.call_refusals.specs.declared.refused.Refused.{Refused}
+use Rattle.call_refusals.specs.declared.refused.Refused.TheVariants.{Core, LoadFailed, SaveFailed}
+use Rattle.call_refusals.specs.declared.refused.Refused.TheVariants.{Stale}
 
 -- a controller beside its keeper; stale where another state may be held than is shown
 pub record Held (C K : Type 0) : Type 0 where

@@ -1,4 +1,3 @@
 pub mod Held
 pub mod Kept
 pub mod Kind
-pub mod Refused

@@ -9,14 +9,14 @@ ghost use Rattle.message_items.specs.Words.{may_be_sent};
 ghost use Rattle.stored_state.specs.Held.{CountRose, GivesNothing, HoldsSame, IsNotLoaded};
 ghost use Rattle.stored_state.specs.Held.{IsNotSaved, IsReadAs, StepGivesNothing};
 ghost use Rattle.stored_state.specs.Kept.{IsOfMessage, message_text, unless_refused};
-ghost use Rattle.stored_state.specs.declared.refused.Refused.TheVariants.{Core, LoadFailed};
-ghost use Rattle.stored_state.specs.declared.refused.Refused.TheVariants.{SaveFailed, Stale};
+ghost use Rattle.call_refusals.specs.declared.refused.Refused.TheVariants.{Core, LoadFailed};
+ghost use Rattle.call_refusals.specs.declared.refused.Refused.TheVariants.{SaveFailed, Stale};
 
 use crate::controller::Controller;
 use crate::order_bytes::OrderBytes;
-use crate::refused::Refused;
 use crate::storing::{load, save, save_step, state_text};
 use crate::taken_bytes::TakenBytes;
+use call_refusals::Refused;
 use jmf_message::decode;
 use keepers::Keep;
 use message_items::{Done, Message, Outcome};

@@ -6,14 +6,13 @@ mod kept;
 mod kind;
 mod master_controller;
 mod order_bytes;
-mod refused;
 mod storing;
 mod taken_bytes;
 mod worker_controller;
 
+pub use call_refusals::Refused;
 pub use controller::Controller;
 pub use kept::Kept;
 pub use kind::{Kind, kind_of};
 pub use order_bytes::OrderBytes;
-pub use refused::Refused;
 pub use taken_bytes::TakenBytes;

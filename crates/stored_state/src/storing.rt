@@ -8,10 +8,10 @@ ghost use Rattle.message_items.specs.Words.{may_be_sent};
 ghost use Rattle.stored_state.specs.Held.{CountRose, HoldsSame, IsNotLoaded, IsNotSaved, IsReadAs};
 ghost use Rattle.stored_state.specs.Held.{IsRefusalOf};
 ghost use Rattle.stored_state.specs.Kept.{message_text as text_sent};
-ghost use Rattle.stored_state.specs.declared.refused.Refused.TheVariants.{LoadFailed};
+ghost use Rattle.call_refusals.specs.declared.refused.Refused.TheVariants.{LoadFailed};
 
 use crate::controller::Controller;
-use crate::refused::Refused;
+use call_refusals::Refused;
 use jmf_message::encode;
 use json_profile::{text_of, value_of};
 use keepers::{Keep, KeepFault};

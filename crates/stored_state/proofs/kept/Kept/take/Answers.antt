@@ -7,8 +7,8 @@ use Rattle.message_items.specs.declared.message.Message.{Message}
 use Rattle.jmf_message.specs.Decoded.{IsDecodedAs, IsRefusalOf as IsUndecoded}
 use Rattle.stored_state.specs.Held.{GivesNothing, Held, StepGivesNothing}
 use Rattle.stored_state.specs.Kept.{IsOfMessage}
-use Rattle.stored_state.specs.declared.refused.Refused.{Refused}
-use Rattle.stored_state.specs.declared.refused.Refused.TheVariants as refused
+use Rattle.call_refusals.specs.declared.refused.Refused.{Refused}
+use Rattle.call_refusals.specs.declared.refused.Refused.TheVariants as refused
 use Rattle.stored_state.proofs.kept.Kept.take.Goals as goal
 
 core_memory : (e : Refusal) → refused.Core e ≡ refused.Core Memory → e ≡ Memory

@@ -1,8 +1,8 @@
 -- The number and the name of each refusal of a call over bytes, files or connections.
 use Rattle.std.specs.Prelude.{ℕ, List, codes}
 use Rattle.ticket_items.specs.Refusal as core
-use Rattle.stored_state.specs.declared.refused.Refused.{Refused}
-use Rattle.stored_state.specs.declared.refused.Refused.TheVariants as refusals
+use Rattle.call_refusals.specs.declared.refused.Refused.{Refused}
+use Rattle.call_refusals.specs.declared.refused.Refused.TheVariants as refusals
 
 abbrev pub number_of : Refused → ℕ
 number_of (refusals.Core e) = core.number_of e

@@ -1,6 +1,6 @@
 use Rattle.std.proofs.Common.{refl}
 use Rattle.std.specs.Fmt.{digits}
-use Rattle.command_streams.proofs.fault.refusal_line.Goals as goal
+use Rattle.command_streams.proofs.line.refusal_line.Goals as goal
 
 pub returns-in-BadId : goal.returns-in-BadId
 unfolding digits

@@ -1,7 +1,7 @@
 use std::alloc::AllocError;
 use std::error::Error;
 use std::fmt;
-use ticket_tree::Refusal;
+use ticket_items::Refusal;
 
 /// Why a call over bytes, files or connections was refused. Each has a number and a name, which are
 /// our own profile's.
@@ -37,7 +37,7 @@ pub enum Refused {
 
 impl Refused {
     ghost use Rattle.std.specs.Prelude.{◌≡◌};
-    ghost use Rattle.stored_state.specs.Refused as refusals;
+    ghost use Rattle.call_refusals.specs.Refused as refusals;
 
     /// Its number.
     pub fn number(self) -> u16
@@ -84,7 +84,7 @@ impl Refused {
 
 impl fmt::Display for Refused {
     ghost use Rattle.std.specs.Prelude.{Some};
-    ghost use Rattle.stored_state.specs.Refused as refusals;
+    ghost use Rattle.call_refusals.specs.Refused as refusals;
 
     ghost output = { λ refused. Some (refusals.name_of refused) };
 
@@ -97,7 +97,7 @@ impl Error for Refused {}
 
 impl From<Refusal> for Refused {
     ghost use Rattle.std.specs.Prelude.{◌≡◌};
-    ghost use Rattle.stored_state.specs.declared.refused.Refused.TheVariants.{Core};
+    ghost use Rattle.call_refusals.specs.declared.refused.Refused.TheVariants.{Core};
 
     ghost from_gives = { λ refusal refused. refused ≡ Core refusal };
 
@@ -109,7 +109,7 @@ impl From<Refusal> for Refused {
 impl From<AllocError> for Refused {
     ghost use Rattle.std.specs.Prelude.{◌≡◌};
     ghost use Rattle.ticket_items.specs.declared.refusal.Refusal.TheVariants.{Memory};
-    ghost use Rattle.stored_state.specs.declared.refused.Refused.TheVariants.{Core};
+    ghost use Rattle.call_refusals.specs.declared.refused.Refused.TheVariants.{Core};
 
     ghost from_gives = { λ _ refused. refused ≡ Core Memory };
 
