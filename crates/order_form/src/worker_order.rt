@@ -1,5 +1,6 @@
 //! The orders of workers.
 
+ghost use Rattle.std.specs.Prelude.{◌≡◌};
 ghost use Rattle.serde_json.specs.View.{view};
 ghost use Rattle.json_forms.specs.Judged.{Answers};
 ghost use Rattle.json_source.specs.Read.{Gives};

@@ -32,6 +32,7 @@ impl<'a> WorkerOpening<'a> {
 }
 
 impl<'a> Checked for WorkerOpening<'a> {
+    ghost use Rattle.std.specs.Prelude.{true};
     ghost use Rattle.shop_form.specs.DraftedOpening.{drafted_worker};
     ghost use Rattle.shop_form.specs.OpeningForm as form;
 
