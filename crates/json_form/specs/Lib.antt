@@ -9,3 +9,4 @@ pub mod PoolForm
 pub mod PoolWritten
 pub mod PartDraft
 pub mod PartForm
+pub mod ResourceForm

@@ -28,7 +28,7 @@ pub use nodes::ancestor_form::AncestorDraft;
 pub use nodes::audit_form::AuditDraft;
 pub use nodes::link_form::LinkDraft;
 pub use resources::attrs_form::AttrsDraft;
-pub use resources::marked_form::{Marked, MarkedDraft, resource_value};
+pub use resources::marked_form::{Marked, MarkedDraft, marked_value};
 pub use resources::resource_form::ResourceDraft;
 pub use resources::shown_form::{Shown, ShownDraft};
 pub use texts::any_text::AnyText;

@@ -1,6 +1,7 @@
-//! Tickets, parts and edits as JSON, in our own profile.
+//! Tickets, parts, resources and edits as JSON, in our own profile.
 #![tactic(auto)]
 
+mod bare_draft;
 mod read;
 mod text;
 mod write;
@@ -8,8 +9,9 @@ mod write;
 pub use json_forms::{EditDraft, number_under, text_under};
 pub use json_reader::{Checks, FoundTicket, PartDraft, TicketDraft};
 pub use json_source::Source;
-pub use read::{edit_of, part_of, ticket_of};
+pub use read::{edit_of, part_of, resource_of, ticket_of};
 pub use text::{text_of, value_of};
 pub use write::{
-    edit_value, part_value, push_shown_text, push_ticket_text, shown_value, ticket_value,
+    edit_value, part_value, push_shown_text, push_ticket_text, resource_value, shown_value,
+    ticket_value,
 };

@@ -1,4 +1,4 @@
-//! Tickets, parts and edits as JSON.
+//! Tickets, parts, resources and edits as JSON.
 
 ghost use Rattle.std.specs.Prelude.{◌≡◌, ◌≤◌, ◌++◌, Ok, false, true, map, IfOk, OnOk};
 ghost use Rattle.std.specs.List.{list_all};
@@ -10,16 +10,19 @@ ghost use Rattle.ticket_items.specs.Names.{is_name};
 ghost use Rattle.ticket_items.specs.SpawnId.{is_spawn_number, spawn_text};
 ghost use Rattle.json_form.specs.Form.{edit_read, row_has_names, row_has_texts, ticket_read};
 ghost use Rattle.json_form.specs.PartForm.{part_read};
+ghost use Rattle.json_form.specs.PoolForm.{nothing_shown, resource_has_names, resource_has_texts};
+ghost use Rattle.json_form.specs.PoolWritten.{resource_data};
+ghost use Rattle.json_form.specs.ResourceForm.{resource_read};
 ghost use Rattle.json_writer.specs.Marked.{marked_rows};
 ghost use Rattle.json_writer.specs.PartWritten.{part_data};
 ghost use Rattle.json_writer.specs.Written.{edit_data, job_data, shown_data, ticket_data};
 
-use json_forms::{put_text, written_value};
+use json_forms::{Shown, marked_value, put_text, written_value};
 use json_writer::forest::{forest, take_children};
 use json_writer::{marked_map, no_marks, push_job_text, rows_value};
 use serde_json::{Map, Value};
 use std::alloc::{AllocError, Global};
-use ticket_tree::{Edit, Id, Marks, Name, NodeRow, Part, Rows, Ticket};
+use ticket_tree::{Edit, Id, Marks, Name, NodeRow, Part, Resource, Rows, Ticket};
 
 /// The nodes of a ticket or a part in preorder.
 fn rows_of<'a>(alloc: Global, all: Rows<'a>) -> Result<Vec<&'a NodeRow>, AllocError>
@@ -136,6 +139,20 @@ pub fn part_value(alloc: Global, part: &Part) -> Result<Value, AllocError>
     let spawn = spawn_id(alloc, part)?;
     let rows = rows_of(alloc, part.rows())?;
     let value = rows_value(alloc, part, spawn.as_str(), rows.as_slice())?;
+    Ok(value)
+}
+
+/// A resource as a value that shows nothing of spawns, which `resource_of` reads as that resource.
+/// Its names and texts are valid.
+pub fn resource_value(alloc: Global, resource: &Resource) -> Result<Value, AllocError>
+    ensures value { IfOk result (λ v. view v ≡ resource_data nothing_shown resource.now) }
+    ensures again { IfOk result (λ v. resource_read (view v) ≡ Ok resource.now) }
+    ensures plain { IfOk result (λ v. has_float (view v) ≡ false) }
+    ensures nests { IfOk result (λ v. depth (view v) ≤ max_depth) }
+    ensures names { OnOk result (resource_has_names resource.now ≡ true) }
+    ensures texts { OnOk result (resource_has_texts resource.now ≡ true) }
+{
+    let value = marked_value(alloc, resource, &Shown::nothing(alloc))?;
     Ok(value)
 }
 

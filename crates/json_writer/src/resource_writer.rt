@@ -8,7 +8,7 @@ ghost use Rattle.json_form.specs.PoolWritten as written;
 ghost use Rattle.json_writer.specs.Marked as marked;
 
 use crate::marked::shown_of;
-use json_forms::{Shown, resource_value};
+use json_forms::{Shown, marked_value};
 use serde_json::Value;
 use std::alloc::{AllocError, Global};
 use ticket_tree::{Marks, Resource};
@@ -27,7 +27,7 @@ pub fn marked_values(
     let mut values = Vec::with_capacity(alloc, resources.len())?;
     for resource in resources {
         let shown = shown_of(alloc, marks, resource)?;
-        values.push(resource_value(alloc, resource, &shown)?)?;
+        values.push(marked_value(alloc, resource, &shown)?)?;
     }
     Ok(values)
 }
@@ -45,7 +45,7 @@ pub fn resource_values(
 {
     let mut values = Vec::with_capacity(alloc, resources.len())?;
     for resource in resources {
-        values.push(resource_value(alloc, resource, shown)?)?;
+        values.push(marked_value(alloc, resource, shown)?)?;
     }
     Ok(values)
 }

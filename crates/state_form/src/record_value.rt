@@ -10,7 +10,8 @@ ghost use Rattle.json_forms.specs.Shown.{nothing_shown};
 ghost use Rattle.state_form.specs.RecordForm as form;
 
 use crate::phase_word::phase_word;
-use json_forms::{Shown, put, put_list, put_text, resource_value};
+use json_forms::{put, put_list, put_text};
+use json_profile::resource_value;
 use serde_json::{Map, Value};
 use spawn::SpawnRec;
 use std::alloc::{AllocError, Global};
@@ -23,10 +24,9 @@ fn copy_values(alloc: Global, copies: &[Resource]) -> Result<Vec<Value>, AllocEr
     ensures names { OnOk result (list_all resource_has_names copies.now ≡ true) }
     ensures texts { OnOk result (list_all resource_has_texts copies.now ≡ true) }
 {
-    let nothing = Shown::nothing(alloc);
     let mut values = Vec::with_capacity(alloc, copies.len())?;
     for copy in copies {
-        values.push(resource_value(alloc, copy, &nothing)?)?;
+        values.push(resource_value(alloc, copy)?)?;
     }
     Ok(values)
 }

@@ -77,11 +77,7 @@ impl<'a> Draft<'a> for MarkedDraft<'a> {
 }
 
 /// A resource that shows this of spawns, as a value. Its names and texts are valid.
-pub fn resource_value(
-    alloc: Global,
-    resource: &Resource,
-    shown: &Shown,
-) -> Result<Value, AllocError>
+pub fn marked_value(alloc: Global, resource: &Resource, shown: &Shown) -> Result<Value, AllocError>
     ensures value { IfOk result (λ v. view v ≡ resources.resource_data shown.now resource.now) }
     ensures names { OnOk result (resources.resource_has_names resource.now ≡ true) }
     ensures texts { OnOk result (resources.resource_has_texts resource.now ≡ true) }
@@ -98,7 +94,7 @@ impl Written for Marked {
     ghost written = { resources.raw_data };
 
     fn value(&self, alloc: Global) -> Result<Value, AllocError> {
-        resource_value(alloc, &self.resource, &self.shown)
+        marked_value(alloc, &self.resource, &self.shown)
     }
 
     ghost again = { marked_again };

@@ -10,9 +10,9 @@ use Rattle.json_writer.proofs.resource_writer.resource_values.Goals as goal
 
 pub loop-resource-preserved : goal.loop-resource-preserved
 loop-resource-preserved c =
-    let values = map-more_made (λ r. record { resource = r; shown = c.args.shown.now }) raw_data view c.args.resources.now c.loop-resource.resource-index c.resource-item.result c.in_ok-resource_value.field-0 c.loop-resource.values.items c.push.new.self.items c.loop-resource-test.true c.resource-item.is c.in_ok-resource_value.ensures.value c.loop-resource.invariant.0 c.in_ok-push.ensures.items in
-    let names = list_all-more resource_has_names c.args.resources.now c.loop-resource.resource-index c.resource-item.result c.loop-resource-test.true c.resource-item.is c.in_ok-resource_value.ensures.names c.loop-resource.invariant.1 in
-    let texts = list_all-more resource_has_texts c.args.resources.now c.loop-resource.resource-index c.resource-item.result c.loop-resource-test.true c.resource-item.is c.in_ok-resource_value.ensures.texts c.loop-resource.invariant.2 in
+    let values = map-more_made (λ r. record { resource = r; shown = c.args.shown.now }) raw_data view c.args.resources.now c.loop-resource.resource-index c.resource-item.result c.in_ok-marked_value.field-0 c.loop-resource.values.items c.push.new.self.items c.loop-resource-test.true c.resource-item.is c.in_ok-marked_value.ensures.value c.loop-resource.invariant.0 c.in_ok-push.ensures.items in
+    let names = list_all-more resource_has_names c.args.resources.now c.loop-resource.resource-index c.resource-item.result c.loop-resource-test.true c.resource-item.is c.in_ok-marked_value.ensures.names c.loop-resource.invariant.1 in
+    let texts = list_all-more resource_has_texts c.args.resources.now c.loop-resource.resource-index c.resource-item.result c.loop-resource-test.true c.resource-item.is c.in_ok-marked_value.ensures.texts c.loop-resource.invariant.2 in
     (values, names, texts)
 
 pub returns : goal.returns
