@@ -34,7 +34,7 @@ fn name_in(alloc: Global, text: &str) -> Result<Option<Name>, Refusal>
     if !is_name(text) {
         return Ok(None);
     }
-    let name = Name::new(alloc, text)?;
+    let name = Name::known(alloc, text)?;
     Ok(Some(name))
 }
 
