@@ -64,13 +64,12 @@ abbrev pub worker_fault : RawWorker → Option Refusal
 worker_fault w = checked_fault (worker_has_names w) true (worker_late_fault w)
 
 -- a worker that has taken nothing
-abbrev pub worker_in : RawWorker → worker.Known
-worker_in w = worker.known w.name w.master []
+abbrev pub worker_in : RawWorker → Opening
+worker_in w = Worker (worker.known w.name w.master [])
 
 abbrev pub worker_read : Data → Result Opening Refusal
 worker_read d =
-    option_map_or (λ w. sound (worker_fault w) (Worker (worker_in w))) (worker_draft d)
-    (Err NotProfile)
+    option_map_or (λ w. sound (worker_fault w) (worker_in w)) (worker_draft d) (Err NotProfile)
 
 -- ---- either
 

@@ -2,6 +2,7 @@
 //! controller is begun of, a master or a worker.
 #![tactic(auto)]
 
+mod master_opening;
 mod opening;
 mod opening_read;
 mod shop;

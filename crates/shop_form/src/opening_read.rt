@@ -6,38 +6,30 @@ ghost use Rattle.json_forms.specs.Judged.{Answers};
 ghost use Rattle.json_profile.specs.ReadAs.{IsReadAs, IsRefusalOf};
 ghost use Rattle.shop_form.specs.OpeningForm as form;
 
+use crate::master_opening::MasterOpening;
 use crate::opening::Opening;
-use crate::shop::Shop;
-use crate::shop_draft::ShopDraft;
 use crate::worker_opening::WorkerOpening;
-use json_forms::{Checked, only};
+use json_forms::Checked;
 use json_profile::value_of;
 use json_source::Source;
-use master_core::Master;
 use serde_json::Value;
 use std::alloc::Global;
 use ticket_tree::Refusal;
 
-/// The master of a shop.
+/// The master that a value begins.
 fn master_opening(alloc: Global, value: &Value) -> Result<Opening, Refusal>
     ensures { Answers result (form.master_read (view value.now)) }
 {
-    only(value, &["Master", "Ticket", "Workers"])?;
-    let draft = ShopDraft::of(alloc, value)?;
-    let Shop {
-        master,
-        workers,
-        ticket,
-    } = draft.build(alloc)?;
-    Ok(Opening::Master(Master::new(alloc, master, workers, ticket)?))
+    let draft = MasterOpening::of(alloc, value)?;
+    draft.build(alloc)
 }
 
-/// The worker of two names.
+/// The worker that a value begins.
 fn worker_opening(alloc: Global, value: &Value) -> Result<Opening, Refusal>
     ensures { Answers result (form.worker_read (view value.now)) }
 {
     let draft = WorkerOpening::of(alloc, value)?;
-    Ok(Opening::Worker(draft.build(alloc)?))
+    draft.build(alloc)
 }
 
 /// The controller that a value begins.

@@ -1,5 +1,6 @@
 //! What a worker is begun of.
 
+use crate::opening::Opening;
 use json_forms::{Borrowed, Checked, Draft, only, under};
 use serde_json::Value;
 use std::alloc::Global;
@@ -36,7 +37,7 @@ impl<'a> Checked for WorkerOpening<'a> {
     ghost use Rattle.shop_form.specs.DraftedOpening.{drafted_worker};
     ghost use Rattle.shop_form.specs.OpeningForm as form;
 
-    type Whole = Worker;
+    type Whole = Opening;
 
     ghost valid_names = { λ d. form.worker_has_names (drafted_worker d) };
 
@@ -55,9 +56,9 @@ impl<'a> Checked for WorkerOpening<'a> {
     }
 
     /// Refuses `SameName` where the two are equal; `Memory` may come before it.
-    fn build_known(&self, alloc: Global) -> Result<Worker, Refusal> {
+    fn build_known(&self, alloc: Global) -> Result<Opening, Refusal> {
         let name = self.name.build(alloc)?;
         let master = self.master.build(alloc)?;
-        Worker::new(alloc, name, master)
+        Ok(Opening::Worker(Worker::new(alloc, name, master)?))
     }
 }
