@@ -1,3 +1,4 @@
 pub mod Held
 pub mod Kept
 pub mod Kind
+pub mod Opened

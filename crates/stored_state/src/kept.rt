@@ -47,24 +47,35 @@ impl<C: Controller, K: Keep> Model for Kept<C, K> {
 }
 
 impl<C: Controller, K: Keep> Kept<C, K> {
+    /// A controller beside the keeper that holds its state.
+    pub(crate) fn fresh(controller: C, keep: K) -> Kept<C, K>
+        ensures { result ≡ record { controller = controller; keep = keep; stale = false } }
+    {
+        Kept {
+            controller,
+            keep,
+            stale: false,
+        }
+    }
+
     /// A new controller beside its keeper, which holds its state from then on. Refuses `SaveFailed`
     /// and `Memory`.
     pub fn create(alloc: Global, controller: C, mut keep: K) -> Result<Kept<C, K>, Refused>
         ensures controller { IfOk result (λ kept. kept.controller ≡ controller) }
         ensures held { IfOk result (λ kept. K.is_honest kept.keep ≡ true →
             K.held kept.keep ≡ compact_text (C.state_data controller)) }
+        ensures again { IfOk result (λ kept. K.is_honest kept.keep ≡ true →
+            IsReadAs C.state_read (K.held kept.keep) (Ok kept.controller)) }
         ensures honest { IfOk result (λ kept. K.is_honest kept.keep ≡ K.is_honest keep) }
         ensures fresh { IfOk result (λ kept. kept.stale ≡ false) }
         ensures only { IfErr result (λ e. (e ≡ SaveFailed) ⊎ (e ≡ Core Memory)) }
+        ensures failures { IsErrOf result SaveFailed → (after : K)
+            × CountRose (K.count keep) (K.count after) }
     {
         let text = state_text(alloc, &controller)?;
         save(&mut keep, text.as_slice())?;
         drop(text);
-        Ok(Kept {
-            controller,
-            keep,
-            stale: false,
-        })
+        Ok(Kept::fresh(controller, keep))
     }
 
     /// The controller whose state a keeper holds, beside the keeper, which holds it on. Refuses
@@ -77,13 +88,11 @@ impl<C: Controller, K: Keep> Kept<C, K> {
         ensures fresh { IfOk result (λ kept. kept.stale ≡ false) }
         ensures refused { IfErr result
             (IsNotLoaded C.state_read (K.is_honest keep) (K.held keep)) }
+        ensures failures { IsErrOf result LoadFailed → (after : K)
+            × CountRose (K.count keep) (K.count after) }
     {
         let controller = load(alloc, &mut keep)?;
-        Ok(Kept {
-            controller,
-            keep,
-            stale: false,
-        })
+        Ok(Kept::fresh(controller, keep))
     }
 
     /// Saves the state, and gives the text of what goes out, if anything does. It is stale from
@@ -101,6 +110,8 @@ impl<C: Controller, K: Keep> Kept<C, K> {
         ensures stale { OnErr result (self.new.stale ≡ true) }
         ensures held { OnOk result (K.is_honest self.old.keep ≡ true →
             K.held self.new.keep ≡ compact_text (C.state_data self.old.controller)) }
+        ensures again { OnOk result (K.is_honest self.old.keep ≡ true →
+            IsReadAs C.state_read (K.held self.new.keep) (Ok self.old.controller)) }
         ensures honest { K.is_honest self.new.keep ≡ K.is_honest self.old.keep }
         ensures counted { K.count self.old.keep ≤ K.count self.new.keep }
         ensures refused { IfErr result (IsNotSaved K.is_honest K.held K.count
@@ -131,6 +142,8 @@ impl<C: Controller, K: Keep> Kept<C, K> {
         ensures fresh { OnOk result (self.new.stale ≡ false) }
         ensures held { OnOk result (K.is_honest self.old.keep ≡ true →
             K.held self.new.keep ≡ compact_text (C.state_data self.new.controller)) }
+        ensures again { OnOk result (K.is_honest self.old.keep ≡ true →
+            IsReadAs C.state_read (K.held self.new.keep) (Ok self.new.controller)) }
         ensures stale { (self.old.stale ≡ true) ↔ IsErrOf result Stale }
         ensures honest { K.is_honest self.new.keep ≡ K.is_honest self.old.keep }
         ensures counted { K.count self.old.keep ≤ K.count self.new.keep }
@@ -161,6 +174,8 @@ impl<C: Controller, K: Keep> Kept<C, K> {
         ensures stale { OnErr result (self.new.stale ≡ true) }
         ensures held { OnOk result (K.is_honest self.old.keep ≡ true →
             K.held self.new.keep ≡ compact_text (C.state_data self.old.controller)) }
+        ensures again { OnOk result (K.is_honest self.old.keep ≡ true →
+            IsReadAs C.state_read (K.held self.new.keep) (Ok self.old.controller)) }
         ensures honest { K.is_honest self.new.keep ≡ K.is_honest self.old.keep }
         ensures counted { K.count self.old.keep ≤ K.count self.new.keep }
         ensures refused { IfErr result (IsNotSaved K.is_honest K.held K.count
@@ -183,6 +198,8 @@ impl<C: Controller, K: Keep> Kept<C, K> {
         ensures stale { OnErr result (self.new.stale ≡ true) }
         ensures held { OnOk result (K.is_honest self.old.keep ≡ true →
             K.held self.new.keep ≡ compact_text (C.state_data self.old.controller)) }
+        ensures again { OnOk result (K.is_honest self.old.keep ≡ true →
+            IsReadAs C.state_read (K.held self.new.keep) (Ok self.old.controller)) }
         ensures honest { K.is_honest self.new.keep ≡ K.is_honest self.old.keep }
         ensures counted { K.count self.old.keep ≤ K.count self.new.keep }
         ensures refused { IfErr result (IsNotSaved K.is_honest K.held K.count
@@ -210,6 +227,8 @@ impl<C: Controller, K: Keep> Kept<C, K> {
         ensures fresh { OnOk result (self.new.stale ≡ false) }
         ensures held { OnOk result (K.is_honest self.old.keep ≡ true →
             K.held self.new.keep ≡ compact_text (C.state_data self.new.controller)) }
+        ensures again { OnOk result (K.is_honest self.old.keep ≡ true →
+            IsReadAs C.state_read (K.held self.new.keep) (Ok self.new.controller)) }
         ensures stale { (self.old.stale ≡ true) ↔ IsErrOf result Stale }
         ensures honest { K.is_honest self.new.keep ≡ K.is_honest self.old.keep }
         ensures counted { K.count self.old.keep ≤ K.count self.new.keep }
@@ -240,6 +259,8 @@ impl<C: Controller, K: Keep> Kept<C, K> {
         ensures fresh { OnOk result (self.new.stale ≡ false) }
         ensures held { OnOk result (K.is_honest self.old.keep ≡ true →
             K.held self.new.keep ≡ compact_text (C.state_data self.new.controller)) }
+        ensures again { OnOk result (K.is_honest self.old.keep ≡ true →
+            IsReadAs C.state_read (K.held self.new.keep) (Ok self.new.controller)) }
         ensures honest { K.is_honest self.new.keep ≡ K.is_honest self.old.keep }
         ensures counted { K.count self.old.keep ≤ K.count self.new.keep }
         ensures refused { IfErr result (StepGivesNothing K.is_honest K.held K.count

@@ -16,7 +16,8 @@ core_memory e same = cc
 
 error_tells : {C K : Type 0} (is_honest : K → Bool) (held : K → List ℕ) (count : K → ℕ) (bytes : List ℕ) (text : Message → List ℕ) (old new : Held C K) (m : Message) → IsDecodedAs bytes (Ok m) → (e : Refused) → StepGivesNothing is_honest held count (text m) old new e → GivesNothing is_honest held count (IsUndecoded bytes) (λ t. IsOfMessage bytes (λ m. t ≡ text m)) old new e
 error_tells h b n bytes text old new m decoded (refused.Core e) (inl fact) = inl (inr (inr (core_memory e fact.0)), fact.1)
-error_tells h b n bytes text old new m decoded (refused.Core e) (inr fact) = inr (fact.1.0, fact.0, fact.1.1)
+error_tells h b n bytes text old new m decoded (refused.Core e) (inr fact) =
+    inr (fact.1.0, fact.0, (text m, record { message = m; decoded = decoded; holds = refl }), fact.1.1)
 error_tells h b n bytes text old new m decoded refused.SaveFailed (inl fact) = absurd (let e = fact.0 in cc)
 error_tells h b n bytes text old new m decoded refused.SaveFailed (inr fact) = (fact.0, (text m, record { message = m; decoded = decoded; holds = refl }, fact.1))
 error_tells h b n bytes text old new m decoded e (inl fact) = absurd (let e = fact.0 in cc)
