@@ -1,4 +1,5 @@
 pub mod Held
 pub mod Kept
 pub mod Kind
+pub mod Opened
 pub mod Refused

@@ -47,6 +47,17 @@ impl<C: Controller, K: Keep> Model for Kept<C, K> {
 }
 
 impl<C: Controller, K: Keep> Kept<C, K> {
+    /// A controller beside the keeper that holds its state.
+    pub(crate) fn fresh(controller: C, keep: K) -> Kept<C, K>
+        ensures { result ≡ record { controller = controller; keep = keep; stale = false } }
+    {
+        Kept {
+            controller,
+            keep,
+            stale: false,
+        }
+    }
+
     /// A new controller beside its keeper, which holds its state from then on. Refuses `SaveFailed`
     /// and `Memory`.
     pub fn create(alloc: Global, controller: C, mut keep: K) -> Result<Kept<C, K>, Refused>
@@ -60,11 +71,7 @@ impl<C: Controller, K: Keep> Kept<C, K> {
         let text = state_text(alloc, &controller)?;
         save(&mut keep, text.as_slice())?;
         drop(text);
-        Ok(Kept {
-            controller,
-            keep,
-            stale: false,
-        })
+        Ok(Kept::fresh(controller, keep))
     }
 
     /// The controller whose state a keeper holds, beside the keeper, which holds it on. Refuses
@@ -79,11 +86,7 @@ impl<C: Controller, K: Keep> Kept<C, K> {
             (IsNotLoaded C.state_read (K.is_honest keep) (K.held keep)) }
     {
         let controller = load(alloc, &mut keep)?;
-        Ok(Kept {
-            controller,
-            keep,
-            stale: false,
-        })
+        Ok(Kept::fresh(controller, keep))
     }
 
     /// Saves the state, and gives the text of what goes out, if anything does. It is stale from

@@ -2,11 +2,12 @@
 
 ghost use Rattle.std.specs.Prelude.{◌≡◌, ◌≤◌, ◌⊎◌, Ok, true, IfOk, IfErr, IfSome, IsErrOf, OnOk};
 ghost use Rattle.std.specs.Option.{option_map};
+ghost use Rattle.serde_json.specs.View.{view};
 ghost use Rattle.serde_json.specs.Written.{compact_text};
 ghost use Rattle.ticket_items.specs.declared.refusal.Refusal.TheVariants.{Memory};
 ghost use Rattle.message_items.specs.Words.{may_be_sent};
-ghost use Rattle.stored_state.specs.Held.{CountRose, HoldsSame, IsNotLoaded, IsNotSaved, IsReadAs};
-ghost use Rattle.stored_state.specs.Held.{IsRefusalOf};
+ghost use Rattle.stored_state.specs.Held.{CountRose, HoldsSame, IsNoValue, IsNotLoaded, IsNotSaved};
+ghost use Rattle.stored_state.specs.Held.{IsReadAs, IsTextOf};
 ghost use Rattle.stored_state.specs.Kept.{message_text as text_sent};
 ghost use Rattle.stored_state.specs.declared.refused.Refused.TheVariants.{LoadFailed};
 
@@ -16,6 +17,7 @@ use jmf_message::encode;
 use json_profile::{text_of, value_of};
 use keepers::{Keep, KeepFault};
 use message_items::Message;
+use serde_json::Value;
 use std::alloc::{AllocError, Global};
 use ticket_tree::Refusal;
 
@@ -65,15 +67,6 @@ pub(crate) fn save_step<C: Controller, K: Keep>(
     Ok(given)
 }
 
-/// The controller whose state's text the bytes are.
-fn read_state<C: Controller>(alloc: Global, bytes: &[u8]) -> Result<C, Refusal>
-    ensures ok { IfOk result (λ c. IsReadAs C.state_read bytes.now (Ok c)) }
-    ensures refused { IfErr result (IsRefusalOf C.state_read bytes.now) }
-{
-    let value = value_of(alloc, bytes)?;
-    C::state_of(alloc, &value)
-}
-
 /// Saves a text.
 pub(crate) fn save<K: Keep>(keep: &mut K, text: &[u8]) -> Result<(), Refused>
     ensures held { OnOk result (K.is_honest keep.old ≡ true → K.held keep.new ≡ text.now) }
@@ -105,6 +98,20 @@ fn load_bytes<K: Keep>(keep: &mut K) -> Result<Vec<u8>, Refused>
     }
 }
 
+/// The JSON value whose text a keeper holds.
+pub(crate) fn load_value<K: Keep>(alloc: Global, keep: &mut K) -> Result<Value, Refused>
+    ensures ok { IfOk result (λ v. K.is_honest keep.old ≡ true →
+        IsTextOf (K.held keep.old) (view v)) }
+    ensures held { HoldsSame K.is_honest K.held keep.old keep.new }
+    ensures honest { K.is_honest keep.new ≡ K.is_honest keep.old }
+    ensures counted { K.count keep.old ≤ K.count keep.new }
+    ensures failures { IsErrOf result LoadFailed → CountRose (K.count keep.old) (K.count keep.new) }
+    ensures refused { IfErr result (IsNoValue (K.is_honest keep.old) (K.held keep.old)) }
+{
+    let bytes = load_bytes(keep)?;
+    Ok(value_of(alloc, bytes.as_slice())?)
+}
+
 /// The controller whose state a keeper holds.
 pub(crate) fn load<C: Controller, K: Keep>(alloc: Global, keep: &mut K) -> Result<C, Refused>
     ensures ok { IfOk result (λ c. K.is_honest keep.old ≡ true →
@@ -116,9 +123,6 @@ pub(crate) fn load<C: Controller, K: Keep>(alloc: Global, keep: &mut K) -> Resul
     ensures refused { IfErr result
         (IsNotLoaded C.state_read (K.is_honest keep.old) (K.held keep.old)) }
 {
-    let bytes = load_bytes(keep)?;
-    match read_state(alloc, bytes.as_slice()) {
-        Ok(controller) => Ok(controller),
-        Err(refusal) => Err(Refused::Core(refusal)),
-    }
+    let value = load_value(alloc, keep)?;
+    Ok(C::state_of(alloc, &value)?)
 }
