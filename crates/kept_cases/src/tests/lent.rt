@@ -1,0 +1,36 @@
+//! A keeper that is lent, so that it can be looked at afterwards, and opened again.
+
+use keepers::{Keep, KeepFault};
+
+/// A keeper that another has.
+#[derive(Drop)]
+pub struct Lent<'a, K: Keep> {
+    keep: &'a mut K,
+}
+
+impl<'a, K: Keep> Lent<'a, K> {
+    /// The keeper, as long as it is lent.
+    pub fn new(keep: &'a mut K) -> Lent<'a, K> {
+        Lent { keep }
+    }
+}
+
+impl<'a, K: Keep> Keep for Lent<'a, K> {
+    ghost held = { λ lent. K.held lent.keep.now };
+
+    ghost is_honest = { λ lent. K.is_honest lent.keep.now };
+
+    ghost count = { λ lent. K.count lent.keep.now };
+
+    fn load(&mut self) -> Result<Vec<u8>, KeepFault> {
+        self.keep.load()
+    }
+
+    fn save(&mut self, bytes: &[u8]) -> Result<(), KeepFault> {
+        self.keep.save(bytes)
+    }
+
+    fn failures(&self) -> u64 {
+        self.keep.failures()
+    }
+}
