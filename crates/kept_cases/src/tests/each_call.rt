@@ -83,10 +83,11 @@ fn do_step<K: Keep>(alloc: Global, kept: &mut Kept<Worker, K>, step: Step) -> Re
 /// Does a step of which the save fails, loads the state again, and does what it doesn't show once
 /// more.
 fn do_again<K: Keep>(alloc: Global, kept: &mut Kept<Worker, K>, step: Step) -> Result<(), Refused> {
-    for refused in [Refused::SaveFailed, Refused::Stale] {
-        if do_step(alloc, kept, step) != Err(refused) {
-            return Err(refused);
-        }
+    if do_step(alloc, kept, step) != Err(Refused::SaveFailed) {
+        return Err(Refused::SaveFailed);
+    }
+    if do_step(alloc, kept, step) != Err(Refused::Stale) {
+        return Err(Refused::Stale);
     }
     kept.reload(alloc)?;
     if shows(kept.controller(), step) {

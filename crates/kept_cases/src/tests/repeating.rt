@@ -22,10 +22,11 @@ struct Repeated {
 /// What comes of a step of which the save fails, on a keeper whose second call fails.
 fn repeat(alloc: Global, keep: &mut FailingKeep) -> Result<Repeated, Refused> {
     let mut kept: Kept<Worker, Lent<'_, FailingKeep>> = Kept::open(alloc, Lent::new(keep))?;
-    for refused in [Refused::SaveFailed, Refused::Stale] {
-        if kept.take(alloc, SUBMIT.as_bytes(), 110).err() != Some(refused) {
-            return Err(refused);
-        }
+    if kept.take(alloc, SUBMIT.as_bytes(), 110).err() != Some(Refused::SaveFailed) {
+        return Err(Refused::SaveFailed);
+    }
+    if kept.take(alloc, SUBMIT.as_bytes(), 110).err() != Some(Refused::Stale) {
+        return Err(Refused::Stale);
     }
     kept.reload(alloc)?;
     let entries = kept.controller().entries().len();
