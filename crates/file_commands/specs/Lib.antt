@@ -1,0 +1,4 @@
+pub mod Step
+pub mod Shown
+pub mod Beginning
+pub mod Ends

@@ -1,0 +1,40 @@
+-- What `show` writes of a controller.
+use Rattle.std.specs.Prelude.{ℕ, List, [], ◌∷◌, ◌++◌, codes}
+use Rattle.std.specs.List.{flat_map}
+use Rattle.serde_json.specs.Written.{compact_text}
+use Rattle.ticket_items.specs.SpawnId.{spawn_text}
+use Rattle.json_writer.specs.PartWritten.{part_data}
+use Rattle.json_writer.specs.Written.{shown_data}
+use Rattle.spawn.specs.Marking.{marks}
+use Rattle.master_core.specs.Master as master
+use Rattle.worker_core.specs.Worker as worker
+use Rattle.worker_core.specs.declared.entry.Entry.{Entry}
+use Rattle.worker_core.specs.declared.stage.Stage.{Stage}
+use Rattle.worker_core.specs.declared.stage.Stage.TheVariants.{Open, Done}
+
+-- the text of a master's ticket with the marks of what is out, and the end of its line
+abbrev pub master_text : master.Known → List ℕ
+master_text m =
+    compact_text (shown_data (marks m.ticket.rows m.records) m.ticket) ++ 10 ∷ []
+
+-- how far the work on a part is, in a word
+abbrev pub stage_word : Stage → List ℕ
+stage_word Open = codes "Open"
+stage_word (Done how) = worker.end_word how
+
+-- the id of a spawn and a word, with a space behind each
+abbrev pub entry_head : ℕ → List ℕ → List ℕ
+entry_head spawn word = spawn_text spawn ++ codes " " ++ word ++ codes " "
+
+-- the line of a worker's entry: its spawn, how far the work is, and the text of its part
+abbrev pub entry_line : Entry → List ℕ
+entry_line e =
+    entry_head e.part.spawn_id (stage_word e.phase) ++ compact_text (part_data e.part) ++ 10 ∷ []
+
+-- a line for each of several entries
+abbrev pub entry_lines : List Entry → List ℕ
+entry_lines entries = flat_map entry_line entries
+
+-- what a worker shows: its entries, in the order in which their parts were taken
+abbrev pub worker_text : worker.Known → List ℕ
+worker_text w = entry_lines w.entries
