@@ -1,7 +1,7 @@
 //! Marks of spawns from JSON:
 //! `{"Nodes":[..],"Resources":[{"ID":..,"SpawnIDs":[..],"SpawnStatus":..}]}`.
 
-use json_forms::Plain;
+use json_items::Plain;
 use json_profile::text_under;
 use json_source::Source;
 use serde_json::Value;

@@ -3,11 +3,11 @@
 //! events happen, and prints a line for each and the ticket that the master is left with.
 #![tactic(auto)]
 
-use command_line::run_words;
-use counted::Counted;
+use jdf_commands::run_words;
 use std::alloc::AllocError;
 use std::process::ExitCode;
 use std::{env, io};
+use streams::Counted;
 
 /// The words of the command line, the program's name first; none where one isn't text or there is
 /// no memory for them.

@@ -7,11 +7,11 @@ use Rattle.ticket_items.proofs.SpawnTexts.{spawn_of-spawn_text}
 use Rattle.ticket_items.specs.Names.{is_digit}
 use Rattle.ticket_items.specs.SpawnId.{is_numeral, is_spawn_number, number_read, spawn_of}
 use Rattle.jmf_message.specs.Laws.{IdsTellApart, SaysTheSame}
-use Rattle.message_items.specs.Words.{answer_id, command_id, command_in, is_answer, message_id, spawn_in}
-use Rattle.message_items.specs.declared.body.Body.{Body}
-use Rattle.message_items.specs.declared.body.Body.TheVariants as bodies
-use Rattle.message_items.specs.declared.command.Command.{Command}
-use Rattle.message_items.specs.declared.command.Command.TheVariants.{Submit, Return}
+use Rattle.controller.specs.Words.{answer_id, command_id, command_in, is_answer, message_id, spawn_in}
+use Rattle.controller.specs.declared.body.Body.{Body}
+use Rattle.controller.specs.declared.body.Body.TheVariants as bodies
+use Rattle.controller.specs.declared.command.Command.{Command}
+use Rattle.controller.specs.declared.command.Command.TheVariants.{Submit, Return}
 
 -- ---- what stands behind digits
 

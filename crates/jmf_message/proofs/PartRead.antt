@@ -3,9 +3,9 @@ use Rattle.std.proofs.Common.{◌≡◌, ℕ, Bool, true, false, List, [], ◌�
 use Rattle.std.proofs.lemmas.Bool.{and_parts}
 use Rattle.std.specs.Option.{option_map_or}
 use Rattle.serde_json.specs.Data.{Data}
-use Rattle.json_forms.specs.Judged.{sound}
-use Rattle.json_form.specs.PartDraft.{RawPart, part_draft}
-use Rattle.json_form.specs.PartForm.{has_names, has_texts, built_fault, part_fault, copied, part_read}
+use Rattle.json_items.specs.Judged.{sound}
+use Rattle.json_shapes.specs.PartDraft.{RawPart, part_draft}
+use Rattle.json_shapes.specs.PartForm.{has_names, has_texts, built_fault, part_fault, copied, part_read}
 use Rattle.ticket_items.proofs.SpawnTexts.{spawn_of-Some}
 use Rattle.ticket_items.specs.SpawnId.{spawn_of, spawn_text}
 use Rattle.ticket_items.specs.declared.refusal.Refusal.{Refusal}

@@ -4,10 +4,10 @@ use Rattle.std.proofs.lemmas.Bool.{and_from}
 use Rattle.std.specs.Option.{option_map, option_map_or}
 use Rattle.std.specs.Str.{bytes_eq}
 use Rattle.serde_json.specs.Data.{Data}
-use Rattle.json_forms.specs.Judged.{sound}
+use Rattle.json_items.specs.Judged.{sound}
 use Rattle.json_source.specs.Read.{◌>>=◌, provided}
-use Rattle.json_form.specs.PartDraft.{RawPart, part_draft}
-use Rattle.json_form.specs.PartForm as part
+use Rattle.json_shapes.specs.PartDraft.{RawPart, part_draft}
+use Rattle.json_shapes.specs.PartForm as part
 use Rattle.json_writer.specs.PartWritten.{part_data}
 use Rattle.ticket_items.proofs.SpawnTexts.{spawn_of-spawn_text}
 use Rattle.ticket_items.specs.Names.{is_name}
@@ -19,16 +19,16 @@ use Rattle.jmf_message.specs.Decoded.{draft_read, message_fault, message_read, m
 use Rattle.jmf_message.specs.DocumentForm.{RawMessage, document_form, part_beside}
 use Rattle.jmf_message.specs.Known.{IsKnown, IsWritten}
 use Rattle.jmf_message.specs.Said.{body_with, command_body, response_body, result_in, same_command, same_response}
-use Rattle.message_items.specs.Words.{may_be_sent}
+use Rattle.controller.specs.Words.{may_be_sent}
 use Rattle.jmf_message.specs.Written.{command_for, jmf_for, message_data, response_for}
-use Rattle.message_items.specs.declared.body.Body.{Body}
-use Rattle.message_items.specs.declared.body.Body.TheVariants as bodies
-use Rattle.message_items.specs.declared.command.Command.{Command}
-use Rattle.message_items.specs.declared.command.Command.TheVariants as commands
+use Rattle.controller.specs.declared.body.Body.{Body}
+use Rattle.controller.specs.declared.body.Body.TheVariants as bodies
+use Rattle.controller.specs.declared.command.Command.{Command}
+use Rattle.controller.specs.declared.command.Command.TheVariants as commands
 use Rattle.jmf_message.specs.declared.jmf.Jmf.{Jmf}
-use Rattle.message_items.specs.declared.message.Message.{Message}
-use Rattle.message_items.specs.declared.queue_status.QueueStatus.{QueueStatus}
-use Rattle.message_items.specs.declared.queue_status.QueueStatus.TheVariants.{Running, Completed, Aborted}
+use Rattle.controller.specs.declared.message.Message.{Message}
+use Rattle.controller.specs.declared.queue_status.QueueStatus.{QueueStatus}
+use Rattle.controller.specs.declared.queue_status.QueueStatus.TheVariants.{Running, Completed, Aborted}
 use Rattle.jmf_message.proofs.PartRead.{no_fault-back, read_of, spawn_named}
 use Rattle.jmf_message.proofs.Tests.{bytes_eq-same, command_same, response_same}
 

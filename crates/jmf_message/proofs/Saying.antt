@@ -2,10 +2,10 @@
 use Rattle.std.proofs.Common.{◌≡◌, ◌⊎◌, inl, inr, ⊎_elim, ℕ, ◌&&◌, Bool, true, false, List, [], ◌∷◌, Option, Some, None, Result, Ok, Err, IfErr, IsErrAnd, is_some, refl, sym, ap, subst, ◌∙◌}
 use Rattle.std.specs.Option.{option_map_or}
 use Rattle.std.specs.Str.{bytes_eq}
-use Rattle.json_forms.specs.Judged.{Answers, sound}
+use Rattle.json_items.specs.Judged.{Answers, sound}
 use Rattle.json_source.specs.Read.{◌>>=◌, provided}
-use Rattle.json_form.specs.PartDraft.{RawPart}
-use Rattle.json_form.specs.PartForm.{has_names, has_texts, built_fault, part_fault, copied}
+use Rattle.json_shapes.specs.PartDraft.{RawPart}
+use Rattle.json_shapes.specs.PartForm.{has_names, has_texts, built_fault, part_fault, copied}
 use Rattle.ticket_items.specs.SpawnId.{spawn_of, spawn_text}
 use Rattle.ticket_items.specs.declared.refusal.Refusal.{Refusal}
 use Rattle.ticket_items.specs.declared.refusal.Refusal.TheVariants.{BadId, BadText, Memory, WrongMessage}
@@ -15,10 +15,10 @@ use Rattle.jmf_message.specs.Decoded.{are_ids, message_fault, message_saying, me
 use Rattle.jmf_message.specs.DocumentForm.{RawMessage}
 use Rattle.jmf_message.specs.Said.{body_with, command_body, command_of, entry_of, same_command}
 use Rattle.jmf_message.specs.Written.{command_for}
-use Rattle.message_items.specs.declared.body.Body.{Body}
+use Rattle.controller.specs.declared.body.Body.{Body}
 use Rattle.jmf_message.specs.declared.command_message.CommandMessage.{CommandMessage}
 use Rattle.jmf_message.specs.declared.jmf.Jmf.{Jmf}
-use Rattle.message_items.specs.declared.message.Message.{Message}
+use Rattle.controller.specs.declared.message.Message.{Message}
 
 -- ---- what says nothing
 

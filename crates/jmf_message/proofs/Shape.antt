@@ -5,9 +5,9 @@ use Rattle.serde_json.specs.Data.{depth}
 use Rattle.serde_json.specs.Written.{has_float}
 use Rattle.jmf_message.specs.Known.{IsKnown}
 use Rattle.jmf_message.specs.Written.{message_data}
-use Rattle.message_items.specs.declared.body.Body.{Body}
-use Rattle.message_items.specs.declared.body.Body.TheVariants.{Submit, Return, Answer}
-use Rattle.message_items.specs.declared.message.Message.{Message}
+use Rattle.controller.specs.declared.body.Body.{Body}
+use Rattle.controller.specs.declared.body.Body.TheVariants.{Submit, Return, Answer}
+use Rattle.controller.specs.declared.message.Message.{Message}
 
 plain_at : (m : Message) (b : Body) → IsKnown b → has_float (message_data (record m { body = b })) ≡ false
 plain_at m (Submit p) known = or_from _ _ known.plain refl

@@ -9,12 +9,12 @@ use Rattle.jmf_message.specs.DocumentForm.{document_form}
 use Rattle.jmf_message.specs.JmfForm.{jmf_form}
 use Rattle.jmf_message.specs.ResponseForm.{entry_form, response_form}
 use Rattle.jmf_message.specs.Said.{response_body}
-use Rattle.message_items.specs.Words.{message_id}
+use Rattle.controller.specs.Words.{message_id}
 use Rattle.jmf_message.specs.Written.{message_data}
-use Rattle.message_items.specs.declared.body.Body.TheVariants as bodies
-use Rattle.message_items.specs.declared.command.Command.TheVariants.{Submit}
-use Rattle.message_items.specs.declared.message.Message.{Message}
-use Rattle.message_items.specs.declared.queue_status.QueueStatus.TheVariants.{Running}
+use Rattle.controller.specs.declared.body.Body.TheVariants as bodies
+use Rattle.controller.specs.declared.command.Command.TheVariants.{Submit}
+use Rattle.controller.specs.declared.message.Message.{Message}
+use Rattle.controller.specs.declared.queue_status.QueueStatus.TheVariants.{Running}
 
 -- ---- the answer of press to the part that it took
 

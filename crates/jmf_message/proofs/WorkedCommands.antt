@@ -3,12 +3,12 @@ use Rattle.std.proofs.Common.{◌≡◌, ℕ, List, [], ◌∷◌, Ok, Err, refl
 use Rattle.std.specs.Fmt.{digits}
 use Rattle.std.specs.Prelude.{codes}
 use Rattle.serde_json.specs.Data.{Data, no_members, member, null, unsigned, number, string, object}
-use Rattle.json_form.specs.Draft.{own_row}
-use Rattle.json_form.specs.Form.{node_has_names, pools_have_names, row_has_texts}
-use Rattle.json_form.specs.PartDraft.{ancestor_draft, part_draft}
-use Rattle.json_form.specs.PartForm.{ancestor_has_names}
-use Rattle.json_form.specs.PoolDraft.{link_draft, own_resource, resource_draft, shown_draft}
-use Rattle.json_form.specs.PoolForm.{resource_has_names, resource_has_texts}
+use Rattle.json_shapes.specs.Draft.{own_row}
+use Rattle.json_shapes.specs.Form.{node_has_names, pools_have_names, row_has_texts}
+use Rattle.json_shapes.specs.PartDraft.{ancestor_draft, part_draft}
+use Rattle.json_shapes.specs.PartForm.{ancestor_has_names}
+use Rattle.json_shapes.specs.PoolDraft.{link_draft, own_resource, resource_draft, shown_draft}
+use Rattle.json_shapes.specs.PoolForm.{resource_has_names, resource_has_texts}
 use Rattle.json_writer.specs.PartWritten.{part_data}
 use Rattle.ticket_items.specs.declared.node_row.NodeRow.{NodeRow}
 use Rattle.ticket_items.specs.declared.refusal.Refusal.TheVariants.{BadId, NotProfile, ReservedStatus, WrongMessage, WrongVersion}
@@ -20,10 +20,10 @@ use Rattle.jmf_message.specs.Decoded.{message_read}
 use Rattle.jmf_message.specs.DocumentForm.{document_form}
 use Rattle.jmf_message.specs.JmfForm.{jmf_form}
 use Rattle.jmf_message.specs.Said.{command_body}
-use Rattle.message_items.specs.Words.{message_id}
+use Rattle.controller.specs.Words.{message_id}
 use Rattle.jmf_message.specs.Written.{message_data}
-use Rattle.message_items.specs.declared.body.Body.TheVariants as bodies
-use Rattle.message_items.specs.declared.message.Message.{Message}
+use Rattle.controller.specs.declared.body.Body.TheVariants as bodies
+use Rattle.controller.specs.declared.message.Message.{Message}
 
 -- ---- the part of n1, with r2 to change and r1 to read
 

@@ -7,8 +7,8 @@ use Rattle.std.specs.Option.{option_map_or}
 use Rattle.std.specs.Str.{IsUtf8, bytes_eq}
 use Rattle.serde_json.specs.Data.{Data}
 use Rattle.serde_json.specs.Read.{read}
-use Rattle.json_forms.specs.Judged.{sound}
-use Rattle.json_form.specs.PartForm as part
+use Rattle.json_items.specs.Judged.{sound}
+use Rattle.json_shapes.specs.PartForm as part
 use Rattle.ticket_items.specs.Names.{is_name}
 use Rattle.ticket_rows.specs.Ticket.{unless, first_of}
 use Rattle.ticket_items.specs.declared.refusal.Refusal.{Refusal}
@@ -17,10 +17,10 @@ use Rattle.ticket_items.specs.declared.refusal.Refusal.TheVariants.{WrongVersion
 use Rattle.ticket_items.specs.declared.refusal.Refusal.TheVariants.{BadId, BadText, Memory}
 use Rattle.jmf_message.specs.DocumentForm.{RawMessage, document_form}
 use Rattle.jmf_message.specs.Said.{body_of}
-use Rattle.message_items.specs.Words.{version}
-use Rattle.message_items.specs.declared.body.Body.{Body}
+use Rattle.controller.specs.Words.{version}
+use Rattle.controller.specs.declared.body.Body.{Body}
 use Rattle.jmf_message.specs.declared.jmf.Jmf.{Jmf}
-use Rattle.message_items.specs.declared.message.Message.{Message}
+use Rattle.controller.specs.declared.message.Message.{Message}
 
 -- whether the sender and the receiver are ids
 abbrev pub are_ids : Jmf → Bool

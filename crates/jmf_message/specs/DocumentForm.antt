@@ -3,7 +3,7 @@ use Rattle.std.specs.Prelude.{ℕ, List, [], ◌∷◌, codes, Option, Some, Non
 use Rattle.std.specs.Option.{option_map, option_and_then}
 use Rattle.serde_json.specs.Data.{Data}
 use Rattle.serde_json.specs.Find.{get}
-use Rattle.json_form.specs.PartDraft.{RawPart, part_draft}
+use Rattle.json_shapes.specs.PartDraft.{RawPart, part_draft}
 use Rattle.json_source.specs.Read.{◌>>=◌, provided, has_only}
 use Rattle.jmf_message.specs.JmfForm.{jmf_form}
 use Rattle.jmf_message.specs.declared.family.Family.{Family}

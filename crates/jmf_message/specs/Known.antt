@@ -2,12 +2,12 @@
 use Rattle.std.specs.Prelude.{◌≡◌, ◌≤◌, true, false, Ok}
 use Rattle.serde_json.specs.Data.{depth}
 use Rattle.serde_json.specs.Written.{has_float}
-use Rattle.json_form.specs.PartForm.{part_read}
+use Rattle.json_shapes.specs.PartForm.{part_read}
 use Rattle.json_writer.specs.PartWritten.{part_data}
 use Rattle.ticket_items.specs.SpawnId.{is_spawn_number}
 use Rattle.ticket_tree.specs.Part.{Copied}
-use Rattle.message_items.specs.declared.body.Body.{Body}
-use Rattle.message_items.specs.declared.body.Body.TheVariants.{Submit, Return, Answer}
+use Rattle.controller.specs.declared.body.Body.{Body}
+use Rattle.controller.specs.declared.body.Body.TheVariants.{Submit, Return, Answer}
 
 -- a part that is read again, and whose data has no float and nests little
 pub record IsWritten (part : Copied) : Type 0 where

@@ -1,8 +1,8 @@
 -- Laws of the definitions.
 use Rattle.std.specs.Prelude.{◌≡◌, ◌↔◌, true}
 use Rattle.ticket_items.specs.SpawnId.{is_spawn_number}
-use Rattle.message_items.specs.Words.{command_in, is_answer, message_id, spawn_in}
-use Rattle.message_items.specs.declared.body.Body.{Body}
+use Rattle.controller.specs.Words.{command_in, is_answer, message_id, spawn_in}
+use Rattle.controller.specs.declared.body.Body.{Body}
 
 -- two messages are of the same kind and spawn
 pub record SaysTheSame (a b : Body) : Type 0 where

@@ -3,26 +3,26 @@ use Rattle.std.specs.Prelude.{ℕ, ◌&&◌, ◌==◌, Bool, true, false, List, 
 use Rattle.std.specs.Prelude.{Option, Some, None, option_and_then, Result, Ok, Err}
 use Rattle.std.specs.Option.{option_map}
 use Rattle.std.specs.Str.{bytes_eq}
-use Rattle.json_form.specs.PartDraft.{RawPart}
-use Rattle.json_form.specs.PartForm.{copied}
+use Rattle.json_shapes.specs.PartDraft.{RawPart}
+use Rattle.json_shapes.specs.PartForm.{copied}
 use Rattle.json_source.specs.Read.{◌>>=◌, provided}
 use Rattle.ticket_items.specs.SpawnId.{spawn_of, spawn_text}
 use Rattle.ticket_tree.specs.Part.{Copied}
 use Rattle.jmf_message.specs.DocumentForm.{RawMessage}
-use Rattle.message_items.specs.Words.{command_named, status_named}
-use Rattle.message_items.specs.Words.{is_reason, mark_of}
+use Rattle.controller.specs.Words.{command_named, status_named}
+use Rattle.controller.specs.Words.{is_reason, mark_of}
 use Rattle.jmf_message.specs.Written.{command_for, response_for}
-use Rattle.message_items.specs.declared.body.Body.{Body}
-use Rattle.message_items.specs.declared.body.Body.TheVariants as bodies
-use Rattle.message_items.specs.declared.command.Command.{Command}
-use Rattle.message_items.specs.declared.command.Command.TheVariants as commands
+use Rattle.controller.specs.declared.body.Body.{Body}
+use Rattle.controller.specs.declared.body.Body.TheVariants as bodies
+use Rattle.controller.specs.declared.command.Command.{Command}
+use Rattle.controller.specs.declared.command.Command.TheVariants as commands
 use Rattle.jmf_message.specs.declared.command_message.CommandMessage.{CommandMessage}
 use Rattle.jmf_message.specs.declared.family.Family.{Family}
 use Rattle.jmf_message.specs.declared.family.Family.TheVariants as families
 use Rattle.jmf_message.specs.declared.params.Params.{Params}
 use Rattle.jmf_message.specs.declared.params.Params.TheVariants.{Submission, Return}
 use Rattle.jmf_message.specs.declared.queue_entry.QueueEntry.{QueueEntry}
-use Rattle.message_items.specs.declared.queue_status.QueueStatus.{QueueStatus}
+use Rattle.controller.specs.declared.queue_status.QueueStatus.{QueueStatus}
 use Rattle.jmf_message.specs.declared.response_message.ResponseMessage.{ResponseMessage}
 
 -- ---- the same

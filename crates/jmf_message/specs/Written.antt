@@ -5,21 +5,21 @@ use Rattle.serde_json.specs.Data.{Data, Members, no_members, member, put, object
 use Rattle.json_writer.specs.PartWritten.{part_data}
 use Rattle.ticket_items.specs.SpawnId.{spawn_text}
 use Rattle.jmf_message.specs.JmfForm.{jmf_data}
-use Rattle.message_items.specs.Words.{answer_id, command_id, no_place, place_of, status_word}
-use Rattle.message_items.specs.Words.{type_of, version}
-use Rattle.message_items.specs.declared.body.Body.{Body}
-use Rattle.message_items.specs.declared.body.Body.TheVariants.{Submit, Return, Answer}
-use Rattle.message_items.specs.declared.command.Command.{Command}
-use Rattle.message_items.specs.declared.command.Command.TheVariants as commands
+use Rattle.controller.specs.Words.{answer_id, command_id, no_place, place_of, status_word}
+use Rattle.controller.specs.Words.{type_of, version}
+use Rattle.controller.specs.declared.body.Body.{Body}
+use Rattle.controller.specs.declared.body.Body.TheVariants.{Submit, Return, Answer}
+use Rattle.controller.specs.declared.command.Command.{Command}
+use Rattle.controller.specs.declared.command.Command.TheVariants as commands
 use Rattle.jmf_message.specs.declared.command_message.CommandMessage.{CommandMessage}
 use Rattle.jmf_message.specs.declared.family.Family.{Family}
 use Rattle.jmf_message.specs.declared.family.Family.TheVariants as families
 use Rattle.jmf_message.specs.declared.jmf.Jmf.{Jmf}
-use Rattle.message_items.specs.declared.message.Message.{Message}
+use Rattle.controller.specs.declared.message.Message.{Message}
 use Rattle.jmf_message.specs.declared.params.Params.{Params}
 use Rattle.jmf_message.specs.declared.params.Params.TheVariants as params
 use Rattle.jmf_message.specs.declared.queue_entry.QueueEntry.{QueueEntry}
-use Rattle.message_items.specs.declared.queue_status.QueueStatus.{QueueStatus}
+use Rattle.controller.specs.declared.queue_status.QueueStatus.{QueueStatus}
 use Rattle.jmf_message.specs.declared.response_message.ResponseMessage.{ResponseMessage}
 
 -- the params of a sender's command of a spawn

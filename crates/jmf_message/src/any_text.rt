@@ -1,9 +1,9 @@
 ghost use Rattle.std.specs.Prelude.{true};
 ghost use Rattle.serde_json.specs.Data.{string};
 ghost use Rattle.serde_json.specs.Find.{as_str};
-ghost use Rattle.json_forms.specs.Again.{text_again};
+ghost use Rattle.json_items.specs.Again.{text_again};
 
-use json_forms::{Draft, Form, Written, text_value};
+use json_items::{Draft, Form, Written, text_value};
 use json_source::Source;
 use serde_json::Value;
 use std::alloc::{AllocError, Global};

@@ -4,7 +4,7 @@ ghost use Rattle.jmf_message.specs.CommandForm as forms;
 
 use crate::any_text::AnyText;
 use crate::params::Params;
-use json_forms::{Draft, Form, Written, put, under};
+use json_items::{Draft, Form, Written, put, under};
 use json_source::Source;
 use serde_json::{Map, Value};
 use std::alloc::{AllocError, Global};

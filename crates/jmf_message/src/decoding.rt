@@ -2,12 +2,12 @@
 
 ghost use Rattle.std.specs.Prelude.{◌≡◌, ◌⊎◌, None, Ok, Some, false, true, IfOk, IfErr, OnOk};
 ghost use Rattle.serde_json.specs.View.{view};
-ghost use Rattle.json_forms.specs.Judged.{Answers};
+ghost use Rattle.json_items.specs.Judged.{Answers};
 ghost use Rattle.json_reader.specs.DraftedPart.{drafted_part};
 ghost use Rattle.jmf_message.specs.Decoded as decoded;
 ghost use Rattle.jmf_message.specs.Drafted.{drafted_document};
 ghost use Rattle.jmf_message.specs.Said as said;
-ghost use Rattle.message_items.specs.Words.{may_be_sent};
+ghost use Rattle.controller.specs.Words.{may_be_sent};
 
 use crate::command_message::CommandMessage;
 use crate::document_draft::DocumentDraft;
@@ -16,9 +16,9 @@ use crate::jmf::Jmf;
 use crate::response_message::ResponseMessage;
 use crate::said::{body_with, is_right_command, response_body};
 use crate::table::VERSION;
-use json_forms::Checked;
+use controller::Message;
+use json_items::Checked;
 use json_profile::{PartDraft, value_of};
-use message_items::Message;
 use serde_json::Value;
 use std::alloc::Global;
 use ticket_tree::{Id, Refusal};

@@ -1,6 +1,6 @@
 use crate::family::Family;
 use crate::jmf::Jmf;
-use json_forms::{Draft, under};
+use json_items::{Draft, under};
 use json_profile::PartDraft;
 use json_source::Source;
 use serde_json::Value;

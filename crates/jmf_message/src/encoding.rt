@@ -11,15 +11,15 @@ ghost use Rattle.ticket_items.specs.Names.{is_name};
 ghost use Rattle.jmf_message.specs.Decoded.{IsDecodedAs, message_read};
 ghost use Rattle.jmf_message.specs.JmfForm.{jmf_data};
 ghost use Rattle.jmf_message.specs.Known.{IsKnown, IsWritten};
-ghost use Rattle.message_items.specs.Words.{may_be_sent};
+ghost use Rattle.controller.specs.Words.{may_be_sent};
 ghost use Rattle.jmf_message.specs.Written as written;
 
 use crate::any_text::AnyText;
 use crate::jmf::Jmf;
 use crate::table::{VERSION, family_for};
-use json_forms::{put, put_value};
+use controller::{Body, Message};
+use json_items::{put, put_value};
 use json_profile::{part_value, text_of};
-use message_items::{Body, Message};
 use serde_json::{Map, Value};
 use std::alloc::{AllocError, Global};
 use ticket_tree::Part;

@@ -1,6 +1,6 @@
 use crate::command_message::CommandMessage;
 use crate::response_message::ResponseMessage;
-use json_forms::{Draft, put};
+use json_items::{Draft, put};
 use json_source::Source;
 use serde_json::{Map, Value};
 use std::alloc::{AllocError, Global};

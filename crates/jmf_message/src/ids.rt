@@ -1,9 +1,9 @@
 //! The IDs of messages.
 
 ghost use Rattle.std.specs.Prelude.{◌≡◌, string_bytes, IfOk};
-ghost use Rattle.message_items.specs.Words as words;
+ghost use Rattle.controller.specs.Words as words;
 
-use message_items::{Body, Command, Message};
+use controller::{Body, Command, Message};
 use std::alloc::{AllocError, Global};
 use ticket_tree::SpawnId;
 

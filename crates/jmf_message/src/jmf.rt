@@ -4,7 +4,7 @@ ghost use Rattle.jmf_message.specs.JmfForm as forms;
 
 use crate::any_text::AnyText;
 use crate::family::Family;
-use json_forms::{Draft, Form, Written, put, under};
+use json_items::{Draft, Form, Written, put, under};
 use json_source::Source;
 use serde_json::{Map, Value};
 use std::alloc::{AllocError, Global};

@@ -19,7 +19,7 @@ mod said;
 mod submission_params;
 mod table;
 
+pub use controller::{Body, Command, Done, Message, Outcome, QueueStatus, Reply};
 pub use decoding::decode;
 pub use encoding::encode;
 pub use ids::id_of;
-pub use message_items::{Body, Command, Done, Message, Outcome, QueueStatus, Reply};

@@ -1,8 +1,8 @@
 use crate::return_params::ReturnParams;
 use crate::submission_params::SubmissionParams;
-use json_forms::{Draft, put};
+use controller::Command;
+use json_items::{Draft, put};
 use json_source::Source;
-use message_items::Command;
 use serde_json::{Map, Value};
 use std::alloc::{AllocError, Global};
 use ticket_tree::Refusal;

@@ -10,7 +10,7 @@ ghost use Rattle.jmf_message.specs.Said.{same_entry, same_response};
 
 use crate::any_text::AnyText;
 use crate::queue_entry::QueueEntry;
-use json_forms::{Draft, Form, Written, put, under};
+use json_items::{Draft, Form, Written, put, under};
 use json_source::Source;
 use serde_json::{Map, Value};
 use std::alloc::{AllocError, Global};

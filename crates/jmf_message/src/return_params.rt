@@ -3,7 +3,7 @@ ghost use Rattle.jmf_message.specs.Again.{return_again};
 ghost use Rattle.jmf_message.specs.CommandForm as forms;
 
 use crate::any_text::AnyText;
-use json_forms::{Draft, Form, Written, put, under};
+use json_items::{Draft, Form, Written, put, under};
 use json_source::Source;
 use serde_json::{Map, Value};
 use std::alloc::{AllocError, Global};

@@ -2,18 +2,18 @@
 
 ghost use Rattle.std.specs.Prelude.{◌≡◌, Err, Ok, is_some, true, IfOk, IfSome};
 ghost use Rattle.std.specs.Option.{option_map, option_map_or};
-ghost use Rattle.json_forms.specs.Judged.{Answers};
+ghost use Rattle.json_items.specs.Judged.{Answers};
 ghost use Rattle.json_reader.specs.DraftedPart.{drafted_part};
 ghost use Rattle.jmf_message.specs.Said as said;
 ghost use Rattle.jmf_message.specs.Written as written;
-ghost use Rattle.message_items.specs.Words.{is_told, may_be_sent};
+ghost use Rattle.controller.specs.Words.{is_told, may_be_sent};
 
 use crate::command_message::CommandMessage;
 use crate::queue_entry::QueueEntry;
 use crate::response_message::ResponseMessage;
 use crate::table::{command_for, response_for};
+use controller::{Body, Command, QueueStatus};
 use json_profile::PartDraft;
-use message_items::{Body, Command, QueueStatus};
 use std::alloc::{AllocError, Global};
 use ticket_tree::{Part, Refusal, SpawnId};
 

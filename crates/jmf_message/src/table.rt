@@ -3,7 +3,7 @@
 
 ghost use Rattle.std.specs.Prelude.{◌≡◌, IfOk};
 ghost use Rattle.ticket_items.specs.SpawnId.{spawn_text};
-ghost use Rattle.message_items.specs.Words.{place_of};
+ghost use Rattle.controller.specs.Words.{place_of};
 ghost use Rattle.jmf_message.specs.Written as written;
 
 use crate::any_text::AnyText;
@@ -15,7 +15,7 @@ use crate::queue_entry::QueueEntry;
 use crate::response_message::ResponseMessage;
 use crate::return_params::ReturnParams;
 use crate::submission_params::SubmissionParams;
-use message_items::{Body, Command, QueueStatus};
+use controller::{Body, Command, QueueStatus};
 use std::alloc::{AllocError, Global};
 use ticket_tree::SpawnId;
 

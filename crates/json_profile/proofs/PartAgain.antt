@@ -15,15 +15,15 @@ use Rattle.ticket_rows.specs.Ticket.{IsValid}
 use Rattle.ticket_items.specs.declared.ancestor.Ancestor.{Ancestor}
 use Rattle.ticket_items.specs.declared.node_row.NodeRow.{NodeRow}
 use Rattle.ticket_items.specs.declared.resource.Resource.{Resource}
-use Rattle.json_form.specs.Draft.{resources_of, node_rows, item_rows, next_depth}
-use Rattle.json_form.specs.Form.{row_has_names, row_has_texts, sound}
-use Rattle.json_form.specs.PartDraft.{shown_rw, shown_ro, Groups, RawPart, Taken, behind, is_own, is_change, is_read, grouped, taken, taken_groups, ancestor_draft, part_members, part_draft, raw_part}
-use Rattle.json_forms.specs.Again.{each_again, ancestor_again}
-use Rattle.json_form.specs.PartForm.{ancestor_has_names, copies_have_names, copies_have_texts, has_names, part_fault, copied, part_read}
-use Rattle.json_form.specs.PoolDraft.{Marked}
-use Rattle.json_form.specs.PoolForm.{nothing_shown}
-use Rattle.json_form.specs.PoolWritten.{all_showing}
-use Rattle.json_form.specs.Read.{◌>>=◌, provided}
+use Rattle.json_shapes.specs.Draft.{resources_of, node_rows, item_rows, next_depth}
+use Rattle.json_shapes.specs.Form.{row_has_names, row_has_texts, sound}
+use Rattle.json_shapes.specs.PartDraft.{shown_rw, shown_ro, Groups, RawPart, Taken, behind, is_own, is_change, is_read, grouped, taken, taken_groups, ancestor_draft, part_members, part_draft, raw_part}
+use Rattle.json_items.specs.Again.{each_again, ancestor_again}
+use Rattle.json_shapes.specs.PartForm.{ancestor_has_names, copies_have_names, copies_have_texts, has_names, part_fault, copied, part_read}
+use Rattle.json_shapes.specs.PoolDraft.{Marked}
+use Rattle.json_shapes.specs.PoolForm.{nothing_shown}
+use Rattle.json_shapes.specs.PoolWritten.{all_showing}
+use Rattle.json_shapes.specs.Read.{◌>>=◌, provided}
 use Rattle.json_reader.proofs.Faults.{no_fault}
 use Rattle.json_writer.specs.Marked.{no_marks, marked_rows}
 use Rattle.json_writer.specs.PartWritten.{ancestor_data, copies_pool, root_pool, part_root_data, copied_root, rows_data, part_data}

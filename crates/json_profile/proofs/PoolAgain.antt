@@ -4,13 +4,13 @@ use Rattle.serde_json.specs.Data.{array}
 use Rattle.ticket_items.specs.declared.audit.Audit.{Audit}
 use Rattle.ticket_items.specs.declared.link.Link.{Link}
 use Rattle.ticket_items.specs.declared.resource.Resource.{Resource}
-use Rattle.json_forms.specs.Again.{pool_again, marked_again, link_again, audit_again}
-use Rattle.json_forms.specs.declared.resources.shown_form.Shown.{Shown}
-use Rattle.json_form.specs.AuditDraft.{audit_draft}
-use Rattle.json_form.specs.Draft.{resources_of}
-use Rattle.json_form.specs.Listed.{pool_draft, data_items}
-use Rattle.json_form.specs.PoolDraft.{Marked, resource_draft, link_draft}
-use Rattle.json_form.specs.PoolWritten.{raw_data, all_showing, link_data, audit_data}
+use Rattle.json_items.specs.Again.{pool_again, marked_again, link_again, audit_again}
+use Rattle.json_items.specs.declared.resources.shown_form.Shown.{Shown}
+use Rattle.json_shapes.specs.AuditDraft.{audit_draft}
+use Rattle.json_shapes.specs.Draft.{resources_of}
+use Rattle.json_shapes.specs.Listed.{pool_draft, data_items}
+use Rattle.json_shapes.specs.PoolDraft.{Marked, resource_draft, link_draft}
+use Rattle.json_shapes.specs.PoolWritten.{raw_data, all_showing, link_data, audit_data}
 
 -- a pool whose resources show something each
 pub raw_resources-again : (raws : List Marked) → pool_draft resource_draft (Some (array (data_items raw_data raws))) ≡ Some raws

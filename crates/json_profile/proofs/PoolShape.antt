@@ -7,10 +7,10 @@ use Rattle.ticket_items.specs.declared.audit.Audit.{Audit}
 use Rattle.ticket_items.specs.declared.audit.Audit.TheVariants.{Notification, Spawned, Merged}
 use Rattle.ticket_items.specs.declared.link.Link.{Link}
 use Rattle.ticket_items.specs.declared.resource.Resource.{Resource}
-use Rattle.json_form.specs.Listed.{data_items}
-use Rattle.json_form.specs.PoolDraft.{Marked}
-use Rattle.json_form.specs.PoolWritten.{attr_members, resource_data, raw_data, link_data, audit_data}
-use Rattle.json_forms.specs.declared.resources.shown_form.Shown.{Shown}
+use Rattle.json_shapes.specs.Listed.{data_items}
+use Rattle.json_shapes.specs.PoolDraft.{Marked}
+use Rattle.json_shapes.specs.PoolWritten.{attr_members, resource_data, raw_data, link_data, audit_data}
+use Rattle.json_items.specs.declared.resources.shown_form.Shown.{Shown}
 use Rattle.json_writer.specs.PartWritten.{ancestor_data}
 use Rattle.json_writer.specs.Written.{pool_data}
 

@@ -3,11 +3,11 @@ use Rattle.std.proofs.Common.{◌≡◌, ◌∙◌, Bool, true, false, Ok, Err, 
 use Rattle.std.specs.Option.{option_map_or}
 use Rattle.ticket_items.specs.declared.refusal.Refusal.TheVariants.{NotProfile}
 use Rattle.ticket_items.specs.declared.resource.Resource.{Resource}
-use Rattle.json_forms.specs.Again.{marked_again}
-use Rattle.json_forms.specs.Judged.{checked_fault, sound}
-use Rattle.json_form.specs.PoolForm.{nothing_shown, resource_has_names, resource_has_texts}
-use Rattle.json_form.specs.PoolWritten.{resource_data}
-use Rattle.json_form.specs.ResourceForm.{resource_fault, resource_read}
+use Rattle.json_items.specs.Again.{marked_again}
+use Rattle.json_items.specs.Judged.{checked_fault, sound}
+use Rattle.json_shapes.specs.PoolForm.{nothing_shown, resource_has_names, resource_has_texts}
+use Rattle.json_shapes.specs.PoolWritten.{resource_data}
+use Rattle.json_shapes.specs.ResourceForm.{resource_fault, resource_read}
 
 -- nothing is wrong with it
 passes : (r : Resource) (names texts : Bool) → names ≡ true → texts ≡ true → sound (checked_fault names texts None) r ≡ Ok r

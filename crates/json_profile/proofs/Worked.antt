@@ -8,13 +8,13 @@ use Rattle.ticket_items.specs.declared.refusal.Refusal.TheVariants.{NotATree, Re
 use Rattle.ticket_items.specs.declared.resource.Resource.{Resource}
 use Rattle.ticket_items.specs.declared.spawn_status.SpawnStatus.TheVariants.{NotSpawned, SpawnedRO, SpawnedRW}
 use Rattle.ticket_items.specs.declared.usage.Usage.TheVariants.{Input, Output}
-use Rattle.json_form.specs.AuditDraft.{notification_draft, spawned_draft, merged_draft, audit_draft}
-use Rattle.json_form.specs.Draft.{node_members, own_row}
-use Rattle.json_form.specs.Form.{built_fault}
-use Rattle.json_form.specs.Listed.{pool_draft}
-use Rattle.json_form.specs.PoolDraft.{own_resource, shown_draft, resource_draft, link_draft}
-use Rattle.json_form.specs.PoolForm.{resource_has_names, audit_has_names, nothing_shown, shows_nothing}
-use Rattle.json_form.specs.PoolWritten.{link_data}
+use Rattle.json_shapes.specs.AuditDraft.{notification_draft, spawned_draft, merged_draft, audit_draft}
+use Rattle.json_shapes.specs.Draft.{node_members, own_row}
+use Rattle.json_shapes.specs.Form.{built_fault}
+use Rattle.json_shapes.specs.Listed.{pool_draft}
+use Rattle.json_shapes.specs.PoolDraft.{own_resource, shown_draft, resource_draft, link_draft}
+use Rattle.json_shapes.specs.PoolForm.{resource_has_names, audit_has_names, nothing_shown, shows_nothing}
+use Rattle.json_shapes.specs.PoolWritten.{link_data}
 
 -- ---- resources
 

@@ -10,13 +10,13 @@ use Rattle.ticket_items.specs.declared.refusal.Refusal.TheVariants.{BadId, NotPr
 use Rattle.ticket_items.specs.declared.resource.Resource.{Resource}
 use Rattle.ticket_items.specs.declared.spawn_status.SpawnStatus.TheVariants.{SpawnedRO, SpawnedRW}
 use Rattle.ticket_items.specs.declared.usage.Usage.TheVariants.{Input, Output}
-use Rattle.json_form.specs.Draft.{own_row}
-use Rattle.json_form.specs.Form.{node_has_names, pools_have_names, row_has_texts}
-use Rattle.json_form.specs.PartDraft.{ancestor_draft, part_draft, shows_change, shows_read, shown_rw, shown_ro}
-use Rattle.json_form.specs.PartForm.{ancestor_has_names, part_read}
-use Rattle.json_form.specs.PoolDraft.{own_resource, resource_draft, shown_draft, link_draft}
-use Rattle.json_form.specs.PoolForm.{resource_has_names, resource_has_texts, nothing_shown}
-use Rattle.json_form.specs.PoolWritten.{resource_data}
+use Rattle.json_shapes.specs.Draft.{own_row}
+use Rattle.json_shapes.specs.Form.{node_has_names, pools_have_names, row_has_texts}
+use Rattle.json_shapes.specs.PartDraft.{ancestor_draft, part_draft, shows_change, shows_read, shown_rw, shown_ro}
+use Rattle.json_shapes.specs.PartForm.{ancestor_has_names, part_read}
+use Rattle.json_shapes.specs.PoolDraft.{own_resource, resource_draft, shown_draft, link_draft}
+use Rattle.json_shapes.specs.PoolForm.{resource_has_names, resource_has_texts, nothing_shown}
+use Rattle.json_shapes.specs.PoolWritten.{resource_data}
 use Rattle.json_writer.specs.Marked.{marked_rows, shown_of, no_marks}
 use Rattle.json_writer.specs.PartWritten.{part_data}
 

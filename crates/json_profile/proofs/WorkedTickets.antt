@@ -12,13 +12,13 @@ use Rattle.ticket_items.specs.declared.refusal.Refusal.{Refusal}
 use Rattle.ticket_items.specs.declared.refusal.Refusal.TheVariants.{NotProfile, BadId}
 use Rattle.ticket_items.specs.declared.resource.Resource.{Resource}
 use Rattle.ticket_items.specs.declared.usage.Usage.TheVariants.{Input, Output}
-use Rattle.json_form.specs.Draft.{own_row, ticket_draft}
-use Rattle.json_form.specs.EditDraft.{edit_draft, adding_draft, setting_draft, set_status_draft}
-use Rattle.json_form.specs.EditDraft.{note_draft, add_link_draft}
-use Rattle.json_form.specs.Form.{ticket_read, edit_read, node_has_names, pools_have_names}
-use Rattle.json_form.specs.Form.{row_has_texts}
-use Rattle.json_form.specs.PoolDraft.{own_resource, shown_draft, resource_draft, link_draft}
-use Rattle.json_form.specs.PoolForm.{resource_has_names, resource_has_texts}
+use Rattle.json_shapes.specs.Draft.{own_row, ticket_draft}
+use Rattle.json_shapes.specs.EditDraft.{edit_draft, adding_draft, setting_draft, set_status_draft}
+use Rattle.json_shapes.specs.EditDraft.{note_draft, add_link_draft}
+use Rattle.json_shapes.specs.Form.{ticket_read, edit_read, node_has_names, pools_have_names}
+use Rattle.json_shapes.specs.Form.{row_has_texts}
+use Rattle.json_shapes.specs.PoolDraft.{own_resource, shown_draft, resource_draft, link_draft}
+use Rattle.json_shapes.specs.PoolForm.{resource_has_names, resource_has_texts}
 use Rattle.json_writer.specs.Written.{ticket_data, edit_data}
 
 -- ---- a shop's ticket

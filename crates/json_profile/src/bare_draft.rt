@@ -1,6 +1,6 @@
 //! Resources by themselves, as they are read.
 
-use json_forms::{Checked, Draft, MarkedDraft};
+use json_items::{Checked, Draft, MarkedDraft};
 use serde_json::Value;
 use std::alloc::Global;
 use ticket_tree::{Refusal, Resource};
@@ -14,9 +14,9 @@ pub struct BareDraft<'a> {
 
 impl<'a> BareDraft<'a> {
     ghost use Rattle.serde_json.specs.View.{view};
-    ghost use Rattle.json_form.specs.PoolDraft.{resource_draft};
-    ghost use Rattle.json_form.specs.Read.{Gives};
-    ghost use Rattle.json_forms.specs.DraftedResources.{drafted_marked};
+    ghost use Rattle.json_shapes.specs.PoolDraft.{resource_draft};
+    ghost use Rattle.json_shapes.specs.Read.{Gives};
+    ghost use Rattle.json_items.specs.DraftedResources.{drafted_marked};
 
     /// The draft that a value is. Refuses `NotProfile`, and `Memory`.
     pub fn of(alloc: Global, value: &'a Value) -> Result<BareDraft<'a>, Refusal>
@@ -28,9 +28,9 @@ impl<'a> BareDraft<'a> {
 }
 
 impl<'a> Checked for BareDraft<'a> {
-    ghost use Rattle.json_form.specs.PoolForm as pool;
-    ghost use Rattle.json_form.specs.ResourceForm as form;
-    ghost use Rattle.json_forms.specs.DraftedResources.{drafted_marked};
+    ghost use Rattle.json_shapes.specs.PoolForm as pool;
+    ghost use Rattle.json_shapes.specs.ResourceForm as form;
+    ghost use Rattle.json_items.specs.DraftedResources.{drafted_marked};
 
     type Whole = Resource;
 

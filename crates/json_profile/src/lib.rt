@@ -6,7 +6,7 @@ mod read;
 mod text;
 mod write;
 
-pub use json_forms::{EditDraft, number_under, text_under};
+pub use json_items::{EditDraft, number_under, text_under};
 pub use json_reader::{Checks, FoundTicket, PartDraft, TicketDraft};
 pub use json_source::Source;
 pub use read::{edit_of, part_of, resource_of, ticket_of};

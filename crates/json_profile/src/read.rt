@@ -2,12 +2,12 @@
 
 ghost use Rattle.std.specs.Prelude.{◌≡◌, IfErr};
 ghost use Rattle.serde_json.specs.View.{view};
-ghost use Rattle.json_form.specs.Form.{Answers, edit_read, ticket_read};
-ghost use Rattle.json_form.specs.PartForm.{part_read};
-ghost use Rattle.json_form.specs.ResourceForm.{resource_read};
+ghost use Rattle.json_shapes.specs.Form.{Answers, edit_read, ticket_read};
+ghost use Rattle.json_shapes.specs.PartForm.{part_read};
+ghost use Rattle.json_shapes.specs.ResourceForm.{resource_read};
 
 use crate::bare_draft::BareDraft;
-use json_forms::{Checked, EditDraft, whole_of};
+use json_items::{Checked, EditDraft, whole_of};
 use json_reader::{PartDraft, TicketDraft};
 use serde_json::Value;
 use std::alloc::Global;

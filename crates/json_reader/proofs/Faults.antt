@@ -9,13 +9,13 @@ use Rattle.ticket_items.specs.declared.refusal.Refusal.{Refusal}
 use Rattle.ticket_items.specs.declared.refusal.Refusal.TheVariants.{NotATree, ReservedStatus, DuplicateId, TooDeep, UnresolvedLink}
 use Rattle.ticket_items.specs.declared.node_row.NodeRow.{NodeRow}
 use Rattle.ticket_items.specs.declared.resource.Resource.{Resource}
-use Rattle.json_form.specs.Draft.{RawTicket, resources_of, are_bare}
-use Rattle.json_form.specs.Form.{built_fault, node_has_names, pools_have_names, row_has_names, row_has_texts}
-use Rattle.json_form.specs.PoolForm.{resource_has_names, resource_has_texts, marked_has_names, marked_has_texts, link_has_names, audit_has_names, audit_has_texts, shows_nothing}
+use Rattle.json_shapes.specs.Draft.{RawTicket, resources_of, are_bare}
+use Rattle.json_shapes.specs.Form.{built_fault, node_has_names, pools_have_names, row_has_names, row_has_texts}
+use Rattle.json_shapes.specs.PoolForm.{resource_has_names, resource_has_texts, marked_has_names, marked_has_texts, link_has_names, audit_has_names, audit_has_texts, shows_nothing}
 use Rattle.json_reader.specs.Drafted.{drafted_raw, drafted_resources, drafted_row, drafted_rows}
 use Rattle.json_reader.specs.DraftedPool.{drafted_resource, drafted_shown}
 use Rattle.json_reader.specs.declared.node_draft.NodeDraft.{NodeDraft}
-use Rattle.json_forms.specs.declared.resources.marked_form.MarkedDraft.{MarkedDraft}
+use Rattle.json_items.specs.declared.resources.marked_form.MarkedDraft.{MarkedDraft}
 
 -- the id and the names of a row itself
 pub record NamesOfNode (r : NodeRow) : Type 0 where

@@ -12,8 +12,8 @@ use Rattle.serde_json.specs.Find.{get, get_member}
 use Rattle.serde_json.specs.View.{items_view, members_view, view}
 use Rattle.serde_json.proofs.Views.{view-Array, view-Object, view-lookup, view_of_ref}
 use Rattle.serde_json.specs.declared.value.Value.{Value, Array, Object}
-use Rattle.json_form.specs.Draft.{RawRow, own_row, node_rows, child_rows, list_rows, item_rows, next_depth, node_members}
-use Rattle.json_form.specs.Read.{◌>>=◌}
+use Rattle.json_shapes.specs.Draft.{RawRow, own_row, node_rows, child_rows, list_rows, item_rows, next_depth, node_members}
+use Rattle.json_shapes.specs.Read.{◌>>=◌}
 use Rattle.json_reader.specs.Drafted.{drafted_raw, drafted_rows}
 use Rattle.json_reader.specs.declared.node_draft.NodeDraft.{NodeDraft}
 

@@ -4,17 +4,17 @@ use Rattle.std.proofs.lemmas.Bool.{true≢false}
 use Rattle.std.proofs.lemmas.List.{length-drop, take_all, take-map}
 use Rattle.std.proofs.lemmas.List.Folds.{list_all-map}
 use Rattle.std.specs.List.{list_all, prefix_len, take_while}
-use Rattle.json_form.specs.Draft.{are_bare}
-use Rattle.json_form.specs.PartDraft.{Groups, behind, is_own, is_change, is_read, grouped, taken, taken_groups, shows_change, shows_read}
-use Rattle.json_form.specs.PoolDraft.{Marked}
-use Rattle.json_form.specs.PoolForm.{shows_nothing}
-use Rattle.json_form.specs.Read.{◌>>=◌, provided}
+use Rattle.json_shapes.specs.Draft.{are_bare}
+use Rattle.json_shapes.specs.PartDraft.{Groups, behind, is_own, is_change, is_read, grouped, taken, taken_groups, shows_change, shows_read}
+use Rattle.json_shapes.specs.PoolDraft.{Marked}
+use Rattle.json_shapes.specs.PoolForm.{shows_nothing}
+use Rattle.json_shapes.specs.Read.{◌>>=◌, provided}
 use Rattle.json_reader.proofs.Faults.{bare_in_rows}
 use Rattle.json_reader.specs.Drafted.{drafted_raw, drafted_resources, drafted_row, drafted_rows}
 use Rattle.json_reader.specs.DraftedPart.{drafted_groups, drafted_taken}
 use Rattle.json_reader.specs.DraftedPool.{drafted_marked, drafted_shown}
 use Rattle.json_reader.specs.declared.node_draft.NodeDraft.{NodeDraft}
-use Rattle.json_forms.specs.declared.resources.marked_form.MarkedDraft.{MarkedDraft}
+use Rattle.json_items.specs.declared.resources.marked_form.MarkedDraft.{MarkedDraft}
 
 -- ---- tests of drafts are tests of what they are
 

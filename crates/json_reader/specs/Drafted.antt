@@ -1,9 +1,9 @@
 -- What drafts are as values.
 use Rattle.std.specs.Prelude.{List, map}
 use Rattle.ticket_items.specs.declared.node_row.NodeRow.{NodeRow}
-use Rattle.json_form.specs.Draft.{RawRow, resources_of}
-use Rattle.json_form.specs.PoolDraft.{Marked}
-use Rattle.json_forms.specs.declared.resources.marked_form.MarkedDraft.{MarkedDraft}
+use Rattle.json_shapes.specs.Draft.{RawRow, resources_of}
+use Rattle.json_shapes.specs.PoolDraft.{Marked}
+use Rattle.json_items.specs.declared.resources.marked_form.MarkedDraft.{MarkedDraft}
 use Rattle.json_reader.specs.DraftedPool.{drafted_marked, drafted_link, drafted_audit}
 use Rattle.json_reader.specs.declared.node_draft.NodeDraft.{NodeDraft}
 

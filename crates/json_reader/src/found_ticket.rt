@@ -1,12 +1,12 @@
 ghost use Rattle.std.specs.Prelude.{◌≡◌, codes, IfErr, IfOk};
-ghost use Rattle.json_form.specs.Read as read;
-ghost use Rattle.json_form.specs.Read.{Gives};
+ghost use Rattle.json_shapes.specs.Read as read;
+ghost use Rattle.json_shapes.specs.Read.{Gives};
 ghost use Rattle.json_reader.specs.Found.{name_in};
 
 use crate::checks::Checks;
 use crate::found_nodes::FoundNodes;
 use crate::tree_nodes::found_nodes;
-use json_forms::text_under;
+use json_items::text_under;
 use json_source::Source;
 use std::alloc::Global;
 use ticket_tree::{Name, NodeRow, Refusal, Ticket, is_name};
@@ -40,8 +40,8 @@ fn name_in(alloc: Global, text: &str) -> Result<Option<Name>, Refusal>
 
 impl FoundTicket {
     ghost use Rattle.std.specs.Prelude.{◌≡◌, true, Some, IfErr, IfOk};
-    ghost use Rattle.json_form.specs.Draft.{RawTicket, ticket_draft};
-    ghost use Rattle.json_form.specs.Read.{Fails};
+    ghost use Rattle.json_shapes.specs.Draft.{RawTicket, ticket_draft};
+    ghost use Rattle.json_shapes.specs.Read.{Fails};
     ghost use Rattle.json_reader.specs.Found.{Builds, IsFoundTicket, all_hold, found_ticket};
 
     /// What is found of the ticket that a value is. Refuses `NotProfile`, and `Memory`.

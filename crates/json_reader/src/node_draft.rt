@@ -1,6 +1,6 @@
 use crate::checks::Checks;
 use crate::resource_drafts::{build_resources, show_nothing};
-use json_forms::{AttrsDraft, AuditDraft, Borrowed, Draft, Drafts, LinkDraft, MarkedDraft};
+use json_items::{AttrsDraft, AuditDraft, Borrowed, Draft, Drafts, LinkDraft, MarkedDraft};
 use std::alloc::Global;
 use ticket_tree::{Attrs, Id, Name, NodeRow, Refusal};
 
@@ -33,9 +33,9 @@ impl<'a> NodeDraft<'a> {
     ghost use Rattle.std.specs.Prelude.{◌≡◌, true, IfOk, IfErr};
     ghost use Rattle.std.specs.List.{list_all};
     ghost use Rattle.ticket_items.specs.Names.{is_text};
-    ghost use Rattle.json_form.specs.Draft.{are_bare};
-    ghost use Rattle.json_form.specs.Form.{node_has_names, pools_have_names, row_has_names};
-    ghost use Rattle.json_form.specs.Form.{row_has_texts};
+    ghost use Rattle.json_shapes.specs.Draft.{are_bare};
+    ghost use Rattle.json_shapes.specs.Form.{node_has_names, pools_have_names, row_has_names};
+    ghost use Rattle.json_shapes.specs.Form.{row_has_texts};
     ghost use Rattle.json_reader.specs.Drafted.{drafted_raw, drafted_row};
     ghost use Rattle.json_reader.specs.Found.{row_checks};
 
@@ -47,7 +47,7 @@ impl<'a> NodeDraft<'a> {
     }
 
     /// Whether its own id and names are valid.
-    #[tactic(auto, unfolding(json_form::specs::Form::node_has_names))]
+    #[tactic(auto, unfolding(json_shapes::specs::Form::node_has_names))]
     fn has_own_names(&self) -> bool
         ensures { result ≡ node_has_names (drafted_row self.now) }
     {
@@ -59,7 +59,7 @@ impl<'a> NodeDraft<'a> {
     }
 
     /// Whether the ids and names in its pools are valid.
-    #[tactic(auto, unfolding(json_form::specs::Form::pools_have_names), using(crate::proofs::Faults::names_in_pool))]
+    #[tactic(auto, unfolding(json_shapes::specs::Form::pools_have_names), using(crate::proofs::Faults::names_in_pool))]
     fn pools_have_names(&self) -> bool
         ensures { result ≡ pools_have_names (drafted_row self.now) }
     {
@@ -67,7 +67,7 @@ impl<'a> NodeDraft<'a> {
     }
 
     /// Whether all texts in it are valid.
-    #[tactic(auto, unfolding(json_form::specs::Form::row_has_texts), using(crate::proofs::Faults::texts_in_pool))]
+    #[tactic(auto, unfolding(json_shapes::specs::Form::row_has_texts), using(crate::proofs::Faults::texts_in_pool))]
     pub fn has_texts(&self) -> bool
         ensures { result ≡ row_has_texts (drafted_row self.now) }
     {
@@ -94,7 +94,7 @@ impl<'a> NodeDraft<'a> {
     }
 
     /// The node, without what its resources show of spawns. Refuses `Memory` alone.
-    #[tactic(auto, unfolding(json_form::specs::Form::row_has_texts))]
+    #[tactic(auto, unfolding(json_shapes::specs::Form::row_has_texts))]
     pub fn build(&self, alloc: Global) -> Result<NodeRow, Refusal>
         requires names { row_has_names (drafted_row self.now) ≡ true }
         requires texts { row_has_texts (drafted_row self.now) ≡ true }

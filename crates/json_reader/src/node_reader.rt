@@ -3,12 +3,12 @@
 ghost use Rattle.std.specs.Prelude.{◌≡◌, map};
 ghost use Rattle.serde_json.specs.Data.{depth};
 ghost use Rattle.serde_json.specs.View.{view};
-ghost use Rattle.json_form.specs.Draft as form;
-ghost use Rattle.json_form.specs.Read.{Adds, Gives};
+ghost use Rattle.json_shapes.specs.Draft as form;
+ghost use Rattle.json_shapes.specs.Read.{Adds, Gives};
 ghost use Rattle.json_reader.specs.Drafted.{drafted_raw, drafted_rows};
 
 use crate::node_draft::NodeDraft;
-use json_forms::{AttrsDraft, Drafts, under, under_or};
+use json_items::{AttrsDraft, Drafts, under, under_or};
 use json_source::Source;
 use serde_json::Value;
 use std::alloc::Global;
@@ -61,7 +61,7 @@ pub const PART_MEMBERS: &[&str] = &[
 const DEEPEST_READ: u32 = 33;
 
 /// A node without its children, of an object with no other members than `names`.
-#[tactic(auto, unfolding(json_form::specs::Draft::own_row))]
+#[tactic(auto, unfolding(json_shapes::specs::Draft::own_row))]
 pub fn own_row<'a, S: Source>(
     alloc: Global,
     names: &[&str],

@@ -3,7 +3,7 @@ use crate::node_drafts::{build_rows, have_names, have_texts, part_nodes};
 use crate::part_pool::taken_nodes;
 use crate::resource_drafts::build_resources;
 use crate::taken_nodes::TakenNodes;
-use json_forms::{AncestorDraft, AnyText, Borrowed, Checked, Draft, Drafts, MarkedDraft, under};
+use json_items::{AncestorDraft, AnyText, Borrowed, Checked, Draft, Drafts, MarkedDraft, under};
 use serde_json::Value;
 use std::alloc::Global;
 use ticket_tree::{Name, Part, Refusal, SpawnId};
@@ -25,13 +25,13 @@ impl<'a> PartDraft<'a> {
     ghost use Rattle.std.specs.Prelude.{◌≡◌, is_some};
     ghost use Rattle.serde_json.specs.View.{view};
     ghost use Rattle.ticket_items.specs.SpawnId.{spawn_of};
-    ghost use Rattle.json_form.specs.PartDraft.{part_draft};
-    ghost use Rattle.json_form.specs.PartForm as form;
-    ghost use Rattle.json_form.specs.Read.{Gives};
+    ghost use Rattle.json_shapes.specs.PartDraft.{part_draft};
+    ghost use Rattle.json_shapes.specs.PartForm as form;
+    ghost use Rattle.json_shapes.specs.Read.{Gives};
     ghost use Rattle.json_reader.specs.DraftedPart.{drafted_part};
 
     /// The draft that a value is. Refuses `NotProfile`, and `Memory`.
-    #[tactic(auto, unfolding(json_form::specs::PartDraft::part_draft))]
+    #[tactic(auto, unfolding(json_shapes::specs::PartDraft::part_draft))]
     pub fn of(alloc: Global, value: &'a Value) -> Result<PartDraft<'a>, Refusal>
         ensures { Gives drafted_part result (part_draft (view value.now)) }
     {
@@ -84,7 +84,7 @@ impl<'a> PartDraft<'a> {
 }
 
 impl<'a> Checked for PartDraft<'a> {
-    ghost use Rattle.json_form.specs.PartForm as form;
+    ghost use Rattle.json_shapes.specs.PartForm as form;
     ghost use Rattle.json_reader.specs.DraftedPart.{drafted_part};
 
     type Whole = Part;

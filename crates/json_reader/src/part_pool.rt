@@ -2,9 +2,9 @@
 
 ghost use Rattle.std.specs.Prelude.{◌≡◌, Some, IfOk, IfErr};
 ghost use Rattle.std.specs.List.{list_all, prefix_len};
-ghost use Rattle.json_form.specs.PartDraft as draft;
-ghost use Rattle.json_form.specs.PoolForm as form;
-ghost use Rattle.json_form.specs.Read.{Fails, Gives};
+ghost use Rattle.json_shapes.specs.PartDraft as draft;
+ghost use Rattle.json_shapes.specs.PoolForm as form;
+ghost use Rattle.json_shapes.specs.Read.{Fails, Gives};
 ghost use Rattle.json_reader.specs.Drafted.{drafted_resources, drafted_rows};
 ghost use Rattle.json_reader.specs.DraftedPart.{drafted_groups, drafted_taken};
 ghost use Rattle.json_reader.specs.DraftedPool.{drafted_shown};
@@ -12,7 +12,7 @@ ghost use Rattle.json_reader.specs.DraftedPool.{drafted_shown};
 use crate::node_draft::NodeDraft;
 use crate::node_drafts::are_bare;
 use crate::taken_nodes::TakenNodes;
-use json_forms::{Drafts, MarkedDraft};
+use json_items::{Drafts, MarkedDraft};
 use ticket_tree::Refusal;
 
 /// Copies that may be changed, and copies that may be read alone.

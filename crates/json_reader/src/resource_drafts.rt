@@ -2,12 +2,12 @@
 
 ghost use Rattle.std.specs.Prelude.{◌≡◌, true, IfOk, IfErr};
 ghost use Rattle.std.specs.List.{list_all};
-ghost use Rattle.json_form.specs.Draft.{resources_of};
-ghost use Rattle.json_form.specs.PoolForm as form;
+ghost use Rattle.json_shapes.specs.Draft.{resources_of};
+ghost use Rattle.json_shapes.specs.PoolForm as form;
 ghost use Rattle.json_reader.specs.Drafted.{drafted_resources};
 ghost use Rattle.json_reader.specs.DraftedPool.{drafted_resource, drafted_shown};
 
-use json_forms::{Draft, MarkedDraft};
+use json_items::{Draft, MarkedDraft};
 use std::alloc::Global;
 use ticket_tree::{Items, Refusal, Resources};
 

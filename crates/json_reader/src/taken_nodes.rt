@@ -1,5 +1,5 @@
 use crate::node_draft::NodeDraft;
-use json_forms::{Drafts, MarkedDraft};
+use json_items::{Drafts, MarkedDraft};
 
 /// The nodes of a part, without the copies that stood in its root's pool, and these copies (JDF
 /// 1.5, 4.4).

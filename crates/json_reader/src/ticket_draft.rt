@@ -1,6 +1,6 @@
 use crate::node_draft::NodeDraft;
 use crate::node_drafts::{are_bare, build_rows, have_names, have_texts, ticket_nodes};
-use json_forms::{Borrowed, Checked, Draft, under};
+use json_items::{Borrowed, Checked, Draft, under};
 use serde_json::Value;
 use std::alloc::Global;
 use ticket_tree::{Name, Refusal, Ticket};
@@ -17,12 +17,12 @@ pub struct TicketDraft<'a> {
 impl<'a> TicketDraft<'a> {
     ghost use Rattle.std.specs.Prelude.{◌≡◌};
     ghost use Rattle.serde_json.specs.View.{view};
-    ghost use Rattle.json_form.specs.Draft.{ticket_draft};
-    ghost use Rattle.json_form.specs.Read.{Gives};
+    ghost use Rattle.json_shapes.specs.Draft.{ticket_draft};
+    ghost use Rattle.json_shapes.specs.Read.{Gives};
     ghost use Rattle.json_reader.specs.DraftedTicket.{drafted_ticket};
 
     /// The draft that a value is. Refuses `NotProfile`, and `Memory`.
-    #[tactic(auto, unfolding(json_form::specs::Draft::ticket_draft))]
+    #[tactic(auto, unfolding(json_shapes::specs::Draft::ticket_draft))]
     pub fn of(alloc: Global, value: &'a Value) -> Result<TicketDraft<'a>, Refusal>
         ensures { Gives drafted_ticket result (ticket_draft (view value.now)) }
     {
@@ -41,7 +41,7 @@ impl<'a> TicketDraft<'a> {
 }
 
 impl<'a> Checked for TicketDraft<'a> {
-    ghost use Rattle.json_form.specs.Form as form;
+    ghost use Rattle.json_shapes.specs.Form as form;
     ghost use Rattle.json_reader.specs.DraftedTicket.{drafted_ticket};
 
     type Whole = Ticket;

@@ -4,8 +4,8 @@
 ghost use Rattle.std.specs.Prelude.{◌≡◌, ◌∷◌, [], List, codes, map, IfErr, IfOk, Some};
 ghost use Rattle.std.specs.Option.{option_map};
 ghost use Rattle.serde_json.specs.Find.{get};
-ghost use Rattle.json_form.specs.Draft as form;
-ghost use Rattle.json_form.specs.Read.{Fails};
+ghost use Rattle.json_shapes.specs.Draft as form;
+ghost use Rattle.json_shapes.specs.Read.{Fails};
 ghost use Rattle.json_reader.specs.Found.{AddsFound, IsFound};
 
 use crate::found_nodes::FoundNodes;

@@ -5,7 +5,7 @@ use Rattle.std.proofs.lemmas.List.{drop_more, drop_all}
 use Rattle.std.specs.List.{list_all}
 use Rattle.ticket_items.specs.declared.marks.Marks.{Marks}
 use Rattle.ticket_items.specs.declared.node_row.NodeRow.{NodeRow}
-use Rattle.json_form.specs.Form.{row_has_names, row_has_texts}
+use Rattle.json_shapes.specs.Form.{row_has_names, row_has_texts}
 use Rattle.json_writer.specs.Marked.{marked_row, marked_rows}
 use Rattle.json_writer.specs.Trees.{trees_of}
 use Rattle.json_writer.specs.Written.{trees, with_tree}

@@ -7,9 +7,9 @@ use Rattle.std.specs.Prelude.{codes}
 use Rattle.serde_json.specs.Data.{Data, string, array, object, Items, no_items, Members, no_members, member}
 use Rattle.serde_json.specs.Written.{compact_text, items_text, members_text, members_have_float}
 use Rattle.ticket_items.specs.declared.node_row.NodeRow.{NodeRow}
-use Rattle.json_form.specs.Listed.{data_items}
-use Rattle.json_form.specs.PoolDraft.{Marked}
-use Rattle.json_form.specs.PoolWritten.{attr_members, audit_data}
+use Rattle.json_shapes.specs.Listed.{data_items}
+use Rattle.json_shapes.specs.PoolDraft.{Marked}
+use Rattle.json_shapes.specs.PoolWritten.{attr_members, audit_data}
 use Rattle.json_writer.specs.Written.{first_members, last_members, pool_data}
 use Rattle.json_writer.proofs.Plain.{attrs_plain, audits_plain, links_plain, pool_plain}
 

@@ -6,9 +6,9 @@ use Rattle.serde_json.specs.View.{items_of}
 use Rattle.ticket_items.specs.declared.ancestor.Ancestor.{Ancestor}
 use Rattle.ticket_items.specs.declared.node_row.NodeRow.{NodeRow}
 use Rattle.ticket_items.specs.declared.resource.Resource.{Resource}
-use Rattle.json_form.specs.Listed.{data_items}
-use Rattle.json_form.specs.PoolForm.{nothing_shown}
-use Rattle.json_form.specs.PoolWritten.{all_showing, raw_data}
+use Rattle.json_shapes.specs.Listed.{data_items}
+use Rattle.json_shapes.specs.PoolForm.{nothing_shown}
+use Rattle.json_shapes.specs.PoolWritten.{all_showing, raw_data}
 use Rattle.json_writer.specs.PartWritten.{ancestor_data, copies_pool, root_pool, part_root_data, copied_root}
 use Rattle.json_writer.specs.Written.{first_members, last_members, node_object, pool_data}
 

@@ -7,13 +7,13 @@ use Rattle.ticket_items.specs.SpawnId.{spawn_text}
 use Rattle.ticket_items.specs.declared.ancestor.Ancestor.{Ancestor}
 use Rattle.ticket_items.specs.declared.node_row.NodeRow.{NodeRow}
 use Rattle.ticket_items.specs.declared.resource.Resource.{Resource}
-use Rattle.json_form.specs.Draft.{RawRow}
-use Rattle.json_form.specs.Listed.{data_items}
-use Rattle.json_form.specs.PartDraft.{shown_rw, shown_ro}
-use Rattle.json_form.specs.PoolDraft.{Marked}
-use Rattle.json_form.specs.PoolForm.{nothing_shown}
-use Rattle.json_form.specs.PoolWritten.{all_showing, link_data}
-pub use Rattle.json_forms.specs.Ancestors.{ancestor_data}
+use Rattle.json_shapes.specs.Draft.{RawRow}
+use Rattle.json_shapes.specs.Listed.{data_items}
+use Rattle.json_shapes.specs.PartDraft.{shown_rw, shown_ro}
+use Rattle.json_shapes.specs.PoolDraft.{Marked}
+use Rattle.json_shapes.specs.PoolForm.{nothing_shown}
+use Rattle.json_shapes.specs.PoolWritten.{all_showing, link_data}
+pub use Rattle.json_items.specs.Ancestors.{ancestor_data}
 use Rattle.json_writer.specs.Marked.{no_marks, marked_rows}
 use Rattle.json_writer.specs.Written.{first_members, pool_data, children, trees}
 

@@ -5,12 +5,12 @@ use Rattle.serde_json.specs.Data.{string, array, object, put}
 use Rattle.ticket_rows.specs.Ticket.{Job}
 use Rattle.ticket_items.specs.declared.node_row.NodeRow.{NodeRow}
 use Rattle.ticket_items.specs.declared.marks.Marks.{Marks}
-use Rattle.json_form.specs.Draft.{RawRow}
-use Rattle.json_form.specs.Listed.{data_items}
-use Rattle.json_form.specs.PoolDraft.{Marked}
-use Rattle.json_form.specs.PoolWritten.{attr_members, raw_data, link_data, audit_data}
+use Rattle.json_shapes.specs.Draft.{RawRow}
+use Rattle.json_shapes.specs.Listed.{data_items}
+use Rattle.json_shapes.specs.PoolDraft.{Marked}
+use Rattle.json_shapes.specs.PoolWritten.{attr_members, raw_data, link_data, audit_data}
 use Rattle.json_writer.specs.Marked.{no_marks, marked_rows}
-pub use Rattle.json_forms.specs.Edits.{edit_data}
+pub use Rattle.json_items.specs.Edits.{edit_data}
 
 -- ---- nodes
 

@@ -4,7 +4,7 @@
 ghost use Rattle.std.specs.Prelude.{◌≡◌, true, map, IfOk, OnOk};
 ghost use Rattle.std.specs.List.{list_all};
 ghost use Rattle.serde_json.specs.View.{items_view};
-ghost use Rattle.json_form.specs.Form.{row_has_names, row_has_texts};
+ghost use Rattle.json_shapes.specs.Form.{row_has_names, row_has_texts};
 ghost use Rattle.json_writer.specs.Marked.{marked_row, marked_rows};
 ghost use Rattle.json_writer.specs.Trees.{trees_of};
 ghost use Rattle.json_writer.specs.Written as written;

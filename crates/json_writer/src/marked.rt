@@ -6,7 +6,7 @@ ghost use Rattle.ticket_items.specs.Names.{is_name};
 ghost use Rattle.ticket_items.specs.SpawnId.{spawn_text};
 ghost use Rattle.json_writer.specs.Marked as marked;
 
-use json_forms::{AnyText, Shown};
+use json_items::{AnyText, Shown};
 use std::alloc::{AllocError, Global};
 use ticket_items::is_among;
 use ticket_tree::{Id, Items, Marks, NodeRow, ResMark, Resource, SpawnId};

@@ -5,14 +5,14 @@ ghost use Rattle.std.specs.List.{list_all};
 ghost use Rattle.serde_json.specs.Data.{no_members, object};
 ghost use Rattle.serde_json.specs.View.{items_view, members_view};
 ghost use Rattle.ticket_items.specs.Names.{is_name, is_text};
-ghost use Rattle.json_form.specs.Form.{node_has_names, row_has_names, row_has_texts};
-ghost use Rattle.json_form.specs.PoolForm.{link_has_names, audit_has_names, audit_has_texts};
+ghost use Rattle.json_shapes.specs.Form.{node_has_names, row_has_names, row_has_texts};
+ghost use Rattle.json_shapes.specs.PoolForm.{link_has_names, audit_has_names, audit_has_texts};
 ghost use Rattle.json_writer.specs.Marked.{marked_node, marked_pool, marked_row};
 ghost use Rattle.json_writer.specs.Written as written;
 
 use crate::marked::shown_status;
 use crate::resource_writer::marked_values;
-use json_forms::{put, put_list, put_text};
+use json_items::{put, put_list, put_text};
 use serde_json::{Map, Value};
 use std::alloc::{AllocError, Global};
 use ticket_tree::{Marks, NodeRow};
@@ -80,7 +80,7 @@ pub fn last_map(
 }
 
 /// A node of a ticket that shows these marks, with these resources, as members of an object.
-#[tactic(auto, unfolding(json_form::specs::Form::node_has_names))]
+#[tactic(auto, unfolding(json_shapes::specs::Form::node_has_names))]
 pub fn node_map(
     alloc: Global,
     row: &NodeRow,
@@ -103,7 +103,7 @@ pub fn node_map(
 }
 
 /// A node of a ticket that shows these marks, as members of an object.
-#[tactic(auto, unfolding(json_form::specs::Form::pools_have_names, json_form::specs::Form::row_has_texts))]
+#[tactic(auto, unfolding(json_shapes::specs::Form::pools_have_names, json_shapes::specs::Form::row_has_texts))]
 pub fn marked_map(
     alloc: Global,
     row: &NodeRow,

@@ -5,11 +5,11 @@ ghost use Rattle.std.specs.List.{list_all};
 ghost use Rattle.serde_json.specs.Data.{object};
 ghost use Rattle.serde_json.specs.View.{items_of, items_view, members_view, view};
 ghost use Rattle.ticket_items.specs.Names.{is_name};
-ghost use Rattle.json_form.specs.Form.{row_has_names, row_has_texts};
-ghost use Rattle.json_form.specs.PartForm.{ancestor_has_names, copies_have_names};
-ghost use Rattle.json_form.specs.PartForm.{copies_have_texts};
-ghost use Rattle.json_form.specs.PoolForm.{nothing_shown, resource_has_names, resource_has_texts};
-ghost use Rattle.json_form.specs.PoolWritten.{all_showing, raw_data};
+ghost use Rattle.json_shapes.specs.Form.{row_has_names, row_has_texts};
+ghost use Rattle.json_shapes.specs.PartForm.{ancestor_has_names, copies_have_names};
+ghost use Rattle.json_shapes.specs.PartForm.{copies_have_texts};
+ghost use Rattle.json_shapes.specs.PoolForm.{nothing_shown, resource_has_names, resource_has_texts};
+ghost use Rattle.json_shapes.specs.PoolWritten.{all_showing, raw_data};
 ghost use Rattle.json_writer.specs.PartWritten as written;
 ghost use Rattle.json_writer.specs.Marked.{no_marks, marked_rows};
 ghost use Rattle.json_writer.specs.Written.{children, node_object, trees};
@@ -18,7 +18,7 @@ use crate::forest::{forest, take_children};
 use crate::marked::no_marks;
 use crate::node_writer::node_map;
 use crate::resource_writer::resource_values;
-use json_forms::{Shown, put_list, put_text, values_of};
+use json_items::{Shown, put_list, put_text, values_of};
 use serde_json::{Map, Value};
 use std::alloc::{AllocError, Global};
 use ticket_tree::{NodeRow, Part, Resource};
@@ -55,7 +55,7 @@ fn root_values(
 }
 
 /// A part's root as members of an object, with the copies behind its own resources.
-#[tactic(auto, unfolding(json_form::specs::Form::pools_have_names, json_form::specs::Form::row_has_texts))]
+#[tactic(auto, unfolding(json_shapes::specs::Form::pools_have_names, json_shapes::specs::Form::row_has_texts))]
 fn root_map(
     alloc: Global,
     root: &NodeRow,

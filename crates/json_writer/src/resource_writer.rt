@@ -3,12 +3,12 @@
 ghost use Rattle.std.specs.Prelude.{◌≡◌, true, map, IfOk, OnOk};
 ghost use Rattle.std.specs.List.{list_all};
 ghost use Rattle.serde_json.specs.View.{view};
-ghost use Rattle.json_form.specs.PoolForm.{resource_has_names, resource_has_texts};
-ghost use Rattle.json_form.specs.PoolWritten as written;
+ghost use Rattle.json_shapes.specs.PoolForm.{resource_has_names, resource_has_texts};
+ghost use Rattle.json_shapes.specs.PoolWritten as written;
 ghost use Rattle.json_writer.specs.Marked as marked;
 
 use crate::marked::shown_of;
-use json_forms::{Shown, marked_value};
+use json_items::{Shown, marked_value};
 use serde_json::Value;
 use std::alloc::{AllocError, Global};
 use ticket_tree::{Marks, Resource};

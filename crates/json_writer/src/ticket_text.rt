@@ -13,7 +13,7 @@ ghost use Rattle.json_writer.specs.TicketText.{shown_node, IsBehindDeeper, IsDee
 ghost use Rattle.json_writer.specs.Written.{first_members, job_data};
 
 use crate::node_writer::{first_map, last_map};
-use json_forms::put_text;
+use json_items::put_text;
 use serde_json::{Map, Value};
 use std::alloc::{AllocError, Global};
 use ticket_tree::{Marks, Name, NodeRow};

@@ -5,7 +5,7 @@ use std::marker::Model;
 /// A keeper in memory of which one call fails, for tests of what stands on keepers (our own). Loads
 /// and saves count as its calls, from 1 on; a call that is refused memory changes nothing and
 /// doesn't count.
-#[derive(Debug, Drop)]
+#[derive(Drop)]
 pub struct FailingKeep {
     bytes: Vec<u8>,
     calls: u64,

@@ -3,7 +3,7 @@ use crate::keep_fault::KeepFault;
 use std::marker::Model;
 
 /// A keeper in memory. No call of it fails, but for want of memory (our own).
-#[derive(Debug, Drop)]
+#[derive(Drop)]
 pub struct MemoryKeep {
     bytes: Vec<u8>,
 }

@@ -5,7 +5,7 @@ use crate::telling::{push_message, reply_words};
 use case_lines::{refusal_line, word_and_text};
 use jmf_message::decode;
 use master_core::Master;
-use message_items::{Message, Outcome};
+use controller::{Message, Outcome};
 use std::alloc::Global;
 use ticket_tree::Refusal;
 

@@ -1,13 +1,13 @@
 //! Replies, messages, holders and the ticket in words.
 
 ghost use Rattle.std.specs.Prelude.{◌≡◌};
-ghost use Rattle.message_items.specs.Words as words;
+ghost use Rattle.controller.specs.Words as words;
 
 use crate::arguments::ids_in;
 use jmf_message::encode;
 use json_profile::{shown_value, text_of};
 use master_core::Master;
-use message_items::{Body, Message, Reply};
+use controller::{Body, Message, Reply};
 use serde_json::Value;
 use spawn::Holder;
 use std::alloc::{AllocError, Global};

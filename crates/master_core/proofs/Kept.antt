@@ -2,7 +2,7 @@
 use Rattle.std.proofs.Common.{◌≡◌, ◌∙◌, ℕ, Bool, true, false, List, None, Result, Ok, Err, OnOk, OnErr, cond, is_some, refl, sym, ap, subst}
 use Rattle.ticket_items.specs.declared.refusal.Refusal.{Refusal}
 use Rattle.ticket_rows.specs.Ticket.{Job}
-use Rattle.message_items.specs.declared.message.Message.{Message}
+use Rattle.controller.specs.declared.message.Message.{Message}
 use Rattle.spawn.specs.declared.records.spawn_rec.SpawnRec.{SpawnRec}
 use Rattle.master_core.proofs.MessageKept.{message_is_kept}
 use Rattle.master_core.proofs.OrderKept.{order_is_kept}

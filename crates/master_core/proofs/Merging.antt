@@ -4,9 +4,9 @@ use Rattle.std.specs.Option.{option_map_or}
 use Rattle.ticket_items.proofs.Places.{same_found}
 use Rattle.ticket_rows.specs.Ticket.{Job}
 use Rattle.ticket_tree.specs.Part.{Copied}
-use Rattle.message_items.specs.Reply.{spawn_in}
-use Rattle.message_items.specs.declared.body.Body.TheVariants.{Return}
-use Rattle.message_items.specs.declared.message.Message.{Message}
+use Rattle.controller.specs.Reply.{spawn_in}
+use Rattle.controller.specs.declared.body.Body.TheVariants.{Return}
+use Rattle.controller.specs.declared.message.Message.{Message}
 use Rattle.spawn.specs.Records.{is_out}
 use Rattle.spawn.specs.declared.records.spawn_rec.SpawnRec.{SpawnRec}
 use Rattle.merge.specs.Alike.{is_fit}

@@ -17,9 +17,9 @@ use Rattle.ticket_tree.proofs.StaysValid.{append_is_valid}
 use Rattle.ticket_tree.specs.Part.{Copied}
 use Rattle.ticket_tree.specs.PartView.{part_row}
 use Rattle.ticket_tree.specs.PlainEdit.{touch}
-use Rattle.message_items.specs.Reply.{spawn_in}
-use Rattle.message_items.specs.declared.body.Body.TheVariants.{Return}
-use Rattle.message_items.specs.declared.message.Message.{Message}
+use Rattle.controller.specs.Reply.{spawn_in}
+use Rattle.controller.specs.declared.body.Body.TheVariants.{Return}
+use Rattle.controller.specs.declared.message.Message.{Message}
 use Rattle.spawn.proofs.KeptApart.{spawn_keeps_apart}
 use Rattle.spawn.proofs.Lawful.{claim_is_held, parent_is_masters, placed}
 use Rattle.spawn.proofs.Outside.{kept_found}
@@ -43,7 +43,7 @@ use Rattle.merge.specs.Put.{put}
 use Rattle.merge.specs.Shape.{Fits}
 use Rattle.master_core.proofs.EditedParts.{edit_keeps_parts, same_ancestors}
 use Rattle.merge.proofs.Fitting.{part_fits}
-use Rattle.message_items.specs.declared.reply.Reply.TheVariants as reply
+use Rattle.controller.specs.declared.reply.Reply.TheVariants as reply
 use Rattle.master_core.proofs.MessageKept.{unreserved_rows}
 use Rattle.master_core.proofs.MessageLaws.{message_changes_by_merge}
 use Rattle.master_core.proofs.OrderLaws.{records_stay}

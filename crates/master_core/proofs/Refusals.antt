@@ -16,9 +16,9 @@ use Rattle.ticket_rows.specs.Place.{Place, is_node, places, place_at}
 use Rattle.ticket_rows.specs.Ticket.{first_of, has_node, unless}
 use Rattle.ticket_tree.proofs.OnPlaces.{stands_node, stands_resource}
 use Rattle.ticket_tree.specs.Part.{Copied}
-use Rattle.message_items.specs.Reply.{spawn_in}
-use Rattle.message_items.specs.declared.body.Body.TheVariants.{Return}
-use Rattle.message_items.specs.declared.message.Message.{Message}
+use Rattle.controller.specs.Reply.{spawn_in}
+use Rattle.controller.specs.declared.body.Body.TheVariants.{Return}
+use Rattle.controller.specs.declared.message.Message.{Message}
 use Rattle.spawn.specs.Records.{is_out}
 use Rattle.spawn.specs.Spawning.{spawn_refusal}
 use Rattle.spawn.specs.Table.{holder_at}

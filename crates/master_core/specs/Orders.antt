@@ -10,10 +10,10 @@ use Rattle.ticket_items.specs.declared.refusal.Refusal.TheVariants.{NotHeld, Not
 use Rattle.ticket_rows.specs.Edit.{edited, lookups, target}
 use Rattle.ticket_rows.specs.EditRefusal.{later_refusal, unknown_refusal}
 use Rattle.ticket_rows.specs.Ticket.{Job, first_of, unless}
-use Rattle.message_items.specs.declared.body.Body.TheVariants.{Submit}
-use Rattle.message_items.specs.declared.message.Message.{Message}
-use Rattle.message_items.specs.declared.reply.Reply.{Reply}
-use Rattle.message_items.specs.declared.reply.Reply.TheVariants as reply
+use Rattle.controller.specs.declared.body.Body.TheVariants.{Submit}
+use Rattle.controller.specs.declared.message.Message.{Message}
+use Rattle.controller.specs.declared.reply.Reply.{Reply}
+use Rattle.controller.specs.declared.reply.Reply.TheVariants as reply
 use Rattle.spawn.specs.Parts.{part_for}
 use Rattle.spawn.specs.Spawning.{new_record, spawn_refusal, spawned}
 use Rattle.spawn.specs.declared.records.spawn_rec.SpawnRec.{SpawnRec}

@@ -6,7 +6,7 @@ ghost use Rattle.ticket_rows.specs.Edit as edits;
 ghost use Rattle.master_core.specs.Master as master;
 ghost use Rattle.master_core.specs.Orders as orders;
 
-use message_items::{Done, Reply};
+use controller::{Done, Reply};
 use spawn::{Holder, SpawnRec, holder_of};
 use std::alloc::Global;
 use ticket_tree::{Edit, Id, Refusal, Ticket, target_of};

@@ -4,7 +4,7 @@ use crate::ordering::do_order;
 use crate::stored::is_master;
 use crate::taking;
 use crate::taking::take_unless;
-use message_items::{Done, Message, Outcome};
+use controller::{Done, Message, Outcome};
 use spawn::{Holder, SpawnRec, marked};
 use std::alloc::{AllocError, Global};
 use std::marker::Model;
@@ -13,7 +13,7 @@ use ticket_tree::{Duplicate, Id, Ids, Marks, Refusal, Ticket};
 
 /// A controller that owns a job's ticket (JDF 1.5, 4.4). It spawns nodes of it to its workers, and
 /// keeps a record of each spawn.
-#[derive(Debug, Drop)]
+#[derive(Drop)]
 pub struct Master {
     name: Id,
     workers: Ids,
@@ -35,7 +35,7 @@ impl Master {
     ghost use Rattle.std.specs.Prelude.{◌≡◌, ◌⊎◌, ◌∷◌, true, false, [], Err, OnOk, OnErr};
     ghost use Rattle.std.specs.Prelude.{IfOk, IfErr, IfNone, IfSome, IsErrOf, IsOk};
     ghost use Rattle.ticket_items.specs.Ids.{are_distinct};
-    ghost use Rattle.message_items.specs.Reply.{is_answer};
+    ghost use Rattle.controller.specs.Reply.{is_answer};
     ghost use Rattle.spawn.specs.Marking as marking;
     ghost use Rattle.master_core.specs.Master as master;
     ghost use Rattle.master_core.specs.Master.{IsKept};

@@ -1,7 +1,7 @@
 use ticket_tree::{Edit, Id, Ids, SpawnId};
 
 /// What a master is told to do.
-#[derive(Debug, Drop)]
+#[derive(Drop)]
 pub enum Order {
     /// To change its ticket.
     Edit(Edit),

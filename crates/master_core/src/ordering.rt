@@ -11,7 +11,7 @@ ghost use Rattle.master_core.specs.Orders as orders;
 use crate::editing::do_edit;
 use crate::order::Order;
 use crate::records::{next_number, record_of};
-use message_items::{Body, Done, Message, Reply};
+use controller::{Body, Done, Message, Reply};
 use spawn::{SpawnRec, may_spawn, part_for};
 use std::alloc::{AllocError, Global};
 use ticket_items::is_among;

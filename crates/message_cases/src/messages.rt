@@ -1,7 +1,7 @@
 //! What is written for a copy of a message, and what it says.
 
 ghost use Rattle.std.specs.Prelude.{◌≡◌, true};
-ghost use Rattle.message_items.specs.Words.{may_be_sent};
+ghost use Rattle.controller.specs.Words.{may_be_sent};
 
 use crate::words::answer_of;
 use case_lines::Answers;

@@ -1,7 +1,7 @@
 //! Answers from words: `answer SENDER RECEIVER TIME COMMAND SPAWN RESULT`.
 
 ghost use Rattle.std.specs.Prelude.{◌≡◌, true, IfOk};
-ghost use Rattle.message_items.specs.Words.{is_told};
+ghost use Rattle.controller.specs.Words.{is_told};
 
 use crate::messages::written;
 use jmf_message::{Body, Command, Message, QueueStatus};

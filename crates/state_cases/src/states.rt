@@ -1,6 +1,6 @@
 use case_lines::Answers;
 use json_profile::{text_of, value_of};
-use state_form::{master_state_of, master_state_value, worker_state_of, worker_state_value};
+use controller_form::{master_state_of, master_state_value, worker_state_of, worker_state_value};
 use std::alloc::Global;
 use ticket_tree::Refusal;
 

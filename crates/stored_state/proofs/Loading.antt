@@ -6,14 +6,14 @@ use Rattle.ticket_items.specs.declared.refusal.Refusal.{Refusal}
 use Rattle.ticket_items.specs.declared.refusal.Refusal.TheVariants.{Memory}
 use Rattle.master_core.specs.Master as master
 use Rattle.worker_core.specs.Worker as worker
-use Rattle.state_form.specs.MasterForm.{master_state_read}
-use Rattle.state_form.specs.WorkerForm.{worker_state_read}
+use Rattle.controller_form.specs.States.MasterForm.{master_state_read}
+use Rattle.controller_form.specs.States.WorkerForm.{worker_state_read}
 use Rattle.stored_state.specs.Held.{IsNoValue, IsNotLoaded, IsTextOf}
 use Rattle.stored_state.specs.Kind.{kind_in}
 use Rattle.stored_state.specs.Opened.{any_state_read, of_master, of_worker, state_read_as}
 use Rattle.stored_state.specs.declared.kind.Kind.TheVariants as kinds
-use Rattle.call_refusals.specs.declared.refused.Refused.{Refused}
-use Rattle.call_refusals.specs.declared.refused.Refused.TheVariants as refused
+use Rattle.streams.specs.declared.refused.Refused.{Refused}
+use Rattle.streams.specs.declared.refused.Refused.TheVariants as refused
 
 between : (P Q R : Type 0) → P ⊎ R → P ⊎ (Q ⊎ R)
 between P Q R (inl p) = inl p

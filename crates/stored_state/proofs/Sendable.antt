@@ -5,11 +5,11 @@ use Rattle.std.specs.Prelude.{IfSome}
 use Rattle.ticket_items.specs.Refusal.{number_of}
 use Rattle.ticket_items.specs.declared.refusal.Refusal.{Refusal}
 use Rattle.ticket_items.specs.declared.refusal.Refusal.TheVariants as refusals
-use Rattle.message_items.specs.Reply.{answer_message, answer_to, command_given, told_of}
-use Rattle.message_items.specs.Words.{is_told, may_be_sent}
-use Rattle.message_items.specs.declared.command.Command.{Command}
-use Rattle.message_items.specs.declared.message.Message.{Message}
-use Rattle.message_items.specs.declared.queue_status.QueueStatus.{QueueStatus}
+use Rattle.controller.specs.Reply.{answer_message, answer_to, command_given, told_of}
+use Rattle.controller.specs.Words.{is_told, may_be_sent}
+use Rattle.controller.specs.declared.command.Command.{Command}
+use Rattle.controller.specs.declared.message.Message.{Message}
+use Rattle.controller.specs.declared.queue_status.QueueStatus.{QueueStatus}
 
 number_told : (e : Refusal) → is_told (Err (number_of e)) ≡ true
 number_told refusals.BadId = refl

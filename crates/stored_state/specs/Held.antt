@@ -9,9 +9,9 @@ use Rattle.keepers.specs.Keeper.{most_failures}
 pub use Rattle.json_profile.specs.ReadAs.{IsReadAs, IsRefusalOf}
 use Rattle.ticket_items.specs.declared.refusal.Refusal.{Refusal}
 use Rattle.ticket_items.specs.declared.refusal.Refusal.TheVariants.{Memory, NotJson}
-use Rattle.call_refusals.specs.declared.refused.Refused.{Refused}
-use Rattle.call_refusals.specs.declared.refused.Refused.TheVariants.{Core, LoadFailed, SaveFailed}
-use Rattle.call_refusals.specs.declared.refused.Refused.TheVariants.{Stale}
+use Rattle.streams.specs.declared.refused.Refused.{Refused}
+use Rattle.streams.specs.declared.refused.Refused.TheVariants.{Core, LoadFailed, SaveFailed}
+use Rattle.streams.specs.declared.refused.Refused.TheVariants.{Stale}
 
 -- a controller beside its keeper; stale where another state may be held than is shown
 pub record Held (C K : Type 0) : Type 0 where

@@ -5,8 +5,8 @@ use Rattle.serde_json.specs.Data.{Data}
 use Rattle.ticket_items.specs.declared.refusal.Refusal.{Refusal}
 use Rattle.master_core.specs.Master as master
 use Rattle.worker_core.specs.Worker as worker
-use Rattle.state_form.specs.MasterForm.{master_state_read}
-use Rattle.state_form.specs.WorkerForm.{worker_state_read}
+use Rattle.controller_form.specs.States.MasterForm.{master_state_read}
+use Rattle.controller_form.specs.States.WorkerForm.{worker_state_read}
 use Rattle.stored_state.specs.Kind.{kind_in}
 use Rattle.stored_state.specs.declared.kind.Kind.{Kind}
 use Rattle.stored_state.specs.declared.kind.Kind.TheVariants as kinds

@@ -4,24 +4,24 @@ ghost use Rattle.std.specs.Option.{option_map};
 ghost use Rattle.serde_json.specs.Written.{compact_text};
 ghost use Rattle.ticket_items.specs.declared.refusal.Refusal.TheVariants.{Memory};
 ghost use Rattle.jmf_message.specs.Decoded.{IsRefusalOf as IsUndecoded};
-ghost use Rattle.message_items.specs.Reply.{refused_or};
-ghost use Rattle.message_items.specs.Words.{may_be_sent};
+ghost use Rattle.controller.specs.Reply.{refused_or};
+ghost use Rattle.controller.specs.Words.{may_be_sent};
 ghost use Rattle.stored_state.specs.Held.{CountRose, GivesNothing, HoldsSame, IsNotLoaded};
 ghost use Rattle.stored_state.specs.Held.{IsNotSaved, IsReadAs, StepGivesNothing};
 ghost use Rattle.stored_state.specs.Kept.{IsOfMessage, message_text, unless_refused};
-ghost use Rattle.call_refusals.specs.declared.refused.Refused.TheVariants.{Core, LoadFailed};
-ghost use Rattle.call_refusals.specs.declared.refused.Refused.TheVariants.{SaveFailed, Stale};
+ghost use Rattle.streams.specs.declared.refused.Refused.TheVariants.{Core, LoadFailed};
+ghost use Rattle.streams.specs.declared.refused.Refused.TheVariants.{SaveFailed, Stale};
 
-use crate::controller::Controller;
 use crate::order_bytes::OrderBytes;
+use crate::stored_controller::Controller;
 use crate::storing::{load, save, save_step, state_text};
 use crate::taken_bytes::TakenBytes;
-use call_refusals::Refused;
+use controller::{Done, Message, Outcome};
 use jmf_message::decode;
 use keepers::Keep;
-use message_items::{Done, Message, Outcome};
 use std::alloc::Global;
 use std::marker::Model;
+use streams::Refused;
 use ticket_tree::Refusal;
 
 /// A controller beside the keeper of its state (our own). Each step is saved before anything of it

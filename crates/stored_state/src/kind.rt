@@ -6,7 +6,7 @@ use serde_json::Value;
 use ticket_tree::Refusal;
 
 /// What a controller is (our own).
-#[derive(Clone, Copy, Debug, PartialEq, Eq)]
+#[derive(Clone, Copy, PartialEq, Eq)]
 pub enum Kind {
     /// It owns the job's ticket.
     Master,

@@ -1,15 +1,15 @@
-use crate::controller::Controller;
+use crate::stored_controller::Controller;
+use controller::{Done, Message, Outcome};
+use controller_form::{master_state_of, master_state_value};
 use master_core::{Master, Order};
-use message_items::{Done, Message, Outcome};
 use serde_json::Value;
-use state_form::{master_state_of, master_state_value};
 use std::alloc::{AllocError, Global};
 use ticket_tree::{Id, Refusal};
 
 impl Controller for Master {
     ghost use Rattle.master_core.specs.Messages as messages;
     ghost use Rattle.master_core.specs.Orders as orders;
-    ghost use Rattle.state_form.specs.MasterForm as form;
+    ghost use Rattle.controller_form.specs.States.MasterForm as form;
 
     type Order = Order;
 

@@ -1,16 +1,16 @@
 ghost use Rattle.std.specs.Prelude.{◌≡◌, Ok, false, true, IfOk, IfErr, IsErrOf};
-ghost use Rattle.call_refusals.specs.declared.refused.Refused.TheVariants.{LoadFailed};
+ghost use Rattle.streams.specs.declared.refused.Refused.TheVariants.{LoadFailed};
 ghost use Rattle.stored_state.specs.Held.{CountRose, HoldsSame, IsNotLoaded, IsReadAs};
 ghost use Rattle.stored_state.specs.Opened.{any_state_read, controller_in, is_stale_in, keep_in};
 
-use crate::controller::Controller;
 use crate::kept::Kept;
 use crate::kind::{Kind, kind_of};
+use crate::stored_controller::Controller;
 use crate::storing::load_value;
-use call_refusals::Refused;
 use keepers::Keep;
 use master_core::Master;
 use std::alloc::Global;
+use streams::Refused;
 use worker_core::Worker;
 
 /// A controller beside the keeper of its state, whichever it is (our own).

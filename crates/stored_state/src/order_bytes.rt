@@ -1,8 +1,8 @@
-use message_items::Reply;
+use controller::Reply;
 use ticket_tree::Refusal;
 
 /// What an order gives out once its step is saved.
-#[derive(Debug, Drop)]
+#[derive(Drop)]
 pub struct OrderBytes {
     /// What the controller replies, or why it refused the order.
     pub reply: Result<Reply, Refusal>,

@@ -5,20 +5,20 @@ ghost use Rattle.std.specs.Option.{option_map};
 ghost use Rattle.serde_json.specs.View.{view};
 ghost use Rattle.serde_json.specs.Written.{compact_text};
 ghost use Rattle.ticket_items.specs.declared.refusal.Refusal.TheVariants.{Memory};
-ghost use Rattle.message_items.specs.Words.{may_be_sent};
+ghost use Rattle.controller.specs.Words.{may_be_sent};
 ghost use Rattle.stored_state.specs.Held.{CountRose, HoldsSame, IsNoValue, IsNotLoaded, IsNotSaved};
 ghost use Rattle.stored_state.specs.Held.{IsReadAs, IsTextOf};
 ghost use Rattle.stored_state.specs.Kept.{message_text as text_sent};
-ghost use Rattle.call_refusals.specs.declared.refused.Refused.TheVariants.{LoadFailed};
+ghost use Rattle.streams.specs.declared.refused.Refused.TheVariants.{LoadFailed};
 
-use crate::controller::Controller;
-use call_refusals::Refused;
+use crate::stored_controller::Controller;
+use controller::Message;
 use jmf_message::encode;
 use json_profile::{text_of, value_of};
 use keepers::{Keep, KeepFault};
-use message_items::Message;
 use serde_json::Value;
 use std::alloc::{AllocError, Global};
+use streams::Refused;
 use ticket_tree::Refusal;
 
 /// The text of a controller's state. Refuses `Memory` alone.

@@ -1,8 +1,8 @@
-use message_items::Reply;
+use controller::Reply;
 use ticket_tree::Refusal;
 
 /// What the bytes of a message give out once their step is saved.
-#[derive(Debug, Drop)]
+#[derive(Drop)]
 pub struct TakenBytes {
     /// What the message was taken as, or why the controller refused it.
     pub reply: Result<Reply, Refusal>,

@@ -1,7 +1,7 @@
-use crate::controller::Controller;
-use message_items::{Done, Message, Outcome};
+use crate::stored_controller::Controller;
+use controller::{Done, Message, Outcome};
+use controller_form::{worker_state_of, worker_state_value};
 use serde_json::Value;
-use state_form::{worker_state_of, worker_state_value};
 use std::alloc::{AllocError, Global};
 use ticket_tree::{Id, Refusal};
 use worker_core::{Order, Worker};
@@ -9,7 +9,7 @@ use worker_core::{Order, Worker};
 impl Controller for Worker {
     ghost use Rattle.worker_core.specs.Messages as messages;
     ghost use Rattle.worker_core.specs.Orders as orders;
-    ghost use Rattle.state_form.specs.WorkerForm as form;
+    ghost use Rattle.controller_form.specs.States.WorkerForm as form;
 
     type Order = Order;
 

@@ -3,7 +3,7 @@ use crate::id::Id;
 use crate::name::Name;
 
 /// A node above the root of a part, as the part's AncestorPool tells it (JDF 1.5, 4.4).
-#[derive(Clone, Debug, Drop)]
+#[derive(Clone, Drop)]
 pub struct Ancestor {
     pub node_id: Id,
     /// The node's JobPartID.

@@ -8,7 +8,7 @@ use std::marker::Model;
 
 /// Attributes: unique names with texts, in byte order of the names (JDF 1.5, 3.1: the attributes
 /// of a node or a resource that our profile doesn't name itself).
-#[derive(Debug, Drop)]
+#[derive(Drop)]
 pub struct Attrs {
     pairs: BTreeMap<Name, Text>,
 }

@@ -6,7 +6,7 @@ use crate::resource::Resource;
 use crate::text::Text;
 
 /// One change of a ticket. The last three are structural: they add to the tree.
-#[derive(Clone, Debug, Drop)]
+#[derive(Clone, Drop)]
 pub enum Edit {
     /// Gives a node another Status.
     SetStatus {

@@ -10,7 +10,7 @@ use std::marker::Model;
 
 /// The id of a node, a resource or a controller: 1 to 64 characters of `A-Z a-z 0-9 _ . -`, of
 /// which the first is a letter or `_` (JDF 1.5, 3.1 asks for an XML ID; the limits are our own).
-#[derive(Debug, Drop)]
+#[derive(Drop)]
 pub struct Id {
     text: String,
 }

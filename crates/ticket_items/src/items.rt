@@ -31,7 +31,7 @@ pub type SpawnIds = Items<SpawnId>;
 pub type ResMarks = Items<ResMark>;
 
 /// A list, which contracts see as that list alone.
-#[derive(Debug, Drop)]
+#[derive(Drop)]
 pub struct Items<T> {
     pub(crate) items: Vec<T>,
 }

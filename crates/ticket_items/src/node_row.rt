@@ -6,7 +6,7 @@ use crate::name::Name;
 
 /// One node of a ticket (JDF 1.5, 3.2), and how deep it stands: the root at 1, a child one deeper
 /// than its parent, no node deeper than 32.
-#[derive(Clone, Debug, Drop)]
+#[derive(Clone, Drop)]
 pub struct NodeRow {
     pub id: Id,
     pub depth: u32,

@@ -4,7 +4,7 @@ use crate::items::SpawnIds;
 use crate::spawn_status::SpawnStatus;
 
 /// What a resource shows of the spawns that copied it (JDF 1.5, 3.8: its SpawnStatus and SpawnIDs).
-#[derive(Clone, Debug, Drop)]
+#[derive(Clone, Drop)]
 pub struct ResMark {
     /// The resource's id.
     pub id: Id,

@@ -9,7 +9,7 @@ use std::alloc::AllocError;
 
 /// A resource of a node's pool (JDF 1.5, 3.8): what a node needs or makes, such as paper, plates or
 /// printed sheets.
-#[derive(Clone, Debug, Drop)]
+#[derive(Clone, Drop)]
 pub struct Resource {
     pub id: Id,
     /// The name of the resource's element, such as `Media`.

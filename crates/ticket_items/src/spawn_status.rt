@@ -1,5 +1,5 @@
 /// What a resource shows of the spawns that copied it (JDF 1.5, 3.8: its SpawnStatus).
-#[derive(Clone, Copy, Debug, PartialEq, Eq)]
+#[derive(Clone, Copy, PartialEq, Eq)]
 pub enum SpawnStatus {
     /// No copy of it is out.
     NotSpawned,

@@ -6,7 +6,7 @@ use std::marker::Model;
 
 /// A text of our profile: UTF-8 of at most 1,024 bytes, also empty. The value of an attribute, or
 /// what a note says.
-#[derive(Debug, Drop)]
+#[derive(Drop)]
 pub struct Text {
     text: String,
 }

@@ -6,7 +6,7 @@ use ticket_items::{Id, NodeRow};
 
 /// The row at which a node or a resource was last put in, and the place in its pool. It only says
 /// where to begin to look: it may be out of bounds, or have become another's.
-#[derive(Debug, Drop)]
+#[derive(Drop)]
 pub struct LastPlace {
     row: usize,
     in_pool: usize,

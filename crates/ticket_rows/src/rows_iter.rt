@@ -2,7 +2,7 @@ use std::marker::Model;
 use ticket_items::NodeRow;
 
 /// The nodes of a ticket in preorder, one after the other.
-#[derive(Debug, Drop)]
+#[derive(Drop)]
 pub struct Rows<'a> {
     rest: &'a [NodeRow],
 }

@@ -17,7 +17,7 @@ use ticket_rows::{Rows, part_edits, rows};
 /// below it as a ticket of its own, the nodes that it stood under, and copies of the resources that
 /// it links from above, some to be changed and some to be read alone. With the copies in the pool
 /// of its root it is always a valid ticket.
-#[derive(Debug, Drop)]
+#[derive(Drop)]
 pub struct Part {
     job: Name,
     spawn_id: SpawnId,

@@ -8,7 +8,7 @@ use ticket_rows::{LastPlace, Rows, edits, one_row, pools, rows};
 /// A job's ticket (JDF 1.5, 3.1): the job's id, and its nodes in preorder. Its rows are always a
 /// tree, no node's Status is `Spawned`, each id stands once among nodes and resources, no node is
 /// deeper than 32, and each link names a resource in the pool of its node or of one above it.
-#[derive(Debug, Drop)]
+#[derive(Drop)]
 pub struct Ticket {
     job: Name,
     rows: Vec<NodeRow>,

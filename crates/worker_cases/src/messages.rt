@@ -4,7 +4,7 @@ use crate::arguments::{id_in, number_in, said, spawn_in, text_in};
 use crate::printing::{printing, stray};
 use crate::telling::{push_message, reply_words};
 use case_lines::{refusal_line, word_and_text};
-use message_items::{Body, Command, Message, Outcome, QueueStatus};
+use controller::{Body, Command, Message, Outcome, QueueStatus};
 use std::alloc::Global;
 use ticket_tree::{Refusal, SpawnId};
 use worker_core::Worker;

@@ -3,7 +3,7 @@
 use crate::arguments::{id_in, name_in, number_in, said, spawn_in, text_in, value_in};
 use crate::telling::{push_message, reply_words};
 use case_lines::word_and_text;
-use message_items::Done;
+use controller::Done;
 use std::alloc::Global;
 use ticket_tree::{Attrs, Edit, Link, Name, Refusal, Resource, Usage};
 use worker_core::{End, Order, Worker};

@@ -1,6 +1,6 @@
 //! Replies, messages and entries in words.
 
-use message_items::{Body, Command, Message, QueueStatus, Reply};
+use controller::{Body, Command, Message, QueueStatus, Reply};
 use std::alloc::{AllocError, Global};
 use ticket_tree::{Attrs, Audit, NodeRow, Part, Resource, SpawnId};
 use worker_core::{End, Entry, Stage};

@@ -11,9 +11,9 @@ use Rattle.ticket_rows.specs.Copies.{with_copies}
 use Rattle.ticket_rows.specs.Ticket.{IsValid, unless}
 use Rattle.ticket_tree.proofs.PartEdits.{part_edit_is_valid}
 use Rattle.ticket_tree.specs.Part.{Copied, edited_part, is_sound}
-use Rattle.message_items.specs.declared.body.Body.{Body}
-use Rattle.message_items.specs.declared.body.Body.TheVariants.{Submit, Return, Answer}
-use Rattle.message_items.specs.declared.message.Message.{Message}
+use Rattle.controller.specs.declared.body.Body.{Body}
+use Rattle.controller.specs.declared.body.Body.TheVariants.{Submit, Return, Answer}
+use Rattle.controller.specs.declared.message.Message.{Message}
 use Rattle.worker_core.proofs.AtNumber.{All-at_number, any_number, distinct-push, found_holds, numbers_stay}
 use Rattle.worker_core.proofs.EditedPart.{edited_sound, ending_free, root_ended}
 use Rattle.worker_core.proofs.Refusals.{body_free, edit_free, ordered_on}

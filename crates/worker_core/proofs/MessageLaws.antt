@@ -6,12 +6,12 @@ use Rattle.ticket_items.specs.declared.refusal.Refusal.{Refusal}
 use Rattle.ticket_items.specs.declared.refusal.Refusal.TheVariants.{BadPart, WrongMessage, WrongSender}
 use Rattle.ticket_rows.specs.Ticket.{first_of, unless}
 use Rattle.ticket_tree.specs.Part.{Copied, is_sound}
-use Rattle.message_items.specs.Reply.{is_answer, refused_or, spawn_in, told_of}
-use Rattle.message_items.specs.declared.body.Body.{Body}
-use Rattle.message_items.specs.declared.body.Body.TheVariants.{Submit, Return, Answer}
-use Rattle.message_items.specs.declared.message.Message.{Message}
-use Rattle.message_items.specs.declared.queue_status.QueueStatus.TheVariants as queue
-use Rattle.message_items.specs.declared.reply.Reply.TheVariants as reply
+use Rattle.controller.specs.Reply.{is_answer, refused_or, spawn_in, told_of}
+use Rattle.controller.specs.declared.body.Body.{Body}
+use Rattle.controller.specs.declared.body.Body.TheVariants.{Submit, Return, Answer}
+use Rattle.controller.specs.declared.message.Message.{Message}
+use Rattle.controller.specs.declared.queue_status.QueueStatus.TheVariants as queue
+use Rattle.controller.specs.declared.reply.Reply.TheVariants as reply
 use Rattle.worker_core.proofs.AtNumber.{find-behind, find-push}
 use Rattle.worker_core.proofs.Refusals.{for_free, from_free, is_from}
 use Rattle.worker_core.specs.Laws.{AnswerChangesNothing, MessageKeepsEntries, SubmitIsAgain, SubmitIsTaken}

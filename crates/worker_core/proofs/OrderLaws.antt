@@ -22,7 +22,7 @@ use Rattle.ticket_tree.proofs.PartEdits.{part_edit_of_places, part_edit_of_rows}
 use Rattle.ticket_tree.specs.Part.{Copied, edited_part, refusal_of_part}
 use Rattle.ticket_tree.specs.PartView.{part_row}
 use Rattle.ticket_tree.specs.PlainEdit.{plain_changed, touch}
-use Rattle.message_items.specs.declared.message.Message.{Message}
+use Rattle.controller.specs.declared.message.Message.{Message}
 use Rattle.worker_core.proofs.AtNumber.{find-at_number, find-other, found_holds}
 use Rattle.worker_core.proofs.EditedPart.{ending_free, first_known}
 use Rattle.worker_core.proofs.Kept.{number_of}

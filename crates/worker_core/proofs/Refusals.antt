@@ -12,7 +12,7 @@ use Rattle.ticket_rows.specs.EditRefusal.{later_refusal}
 use Rattle.ticket_rows.specs.PartEdit.{part_lookups}
 use Rattle.ticket_rows.specs.Ticket.{first_of, is_reserved, unless}
 use Rattle.ticket_tree.specs.Part.{Copied, refusal_of_part}
-use Rattle.message_items.specs.declared.message.Message.{Message}
+use Rattle.controller.specs.declared.message.Message.{Message}
 use Rattle.worker_core.specs.Messages.{body_refusal, is_for_workers, take_refusal}
 use Rattle.worker_core.specs.Orders.{edit_refusal, entry_refusal, is_here, is_to_read, order_refusal, spawn_of_order}
 use Rattle.worker_core.specs.Worker.{Known, entry_of, is_open}

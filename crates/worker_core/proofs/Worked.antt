@@ -9,12 +9,12 @@ use Rattle.ticket_items.specs.declared.refusal.Refusal.TheVariants.{UnknownEntry
 use Rattle.ticket_items.specs.declared.resource.Resource.{Resource}
 use Rattle.ticket_items.specs.declared.usage.Usage.TheVariants.{Input, Output}
 use Rattle.ticket_tree.specs.Part.{Copied}
-use Rattle.message_items.specs.declared.body.Body.{Body}
-use Rattle.message_items.specs.declared.body.Body.TheVariants.{Submit, Return, Answer}
-use Rattle.message_items.specs.declared.command.Command.TheVariants as command
-use Rattle.message_items.specs.declared.message.Message.{Message}
-use Rattle.message_items.specs.declared.queue_status.QueueStatus.TheVariants.{Running, Completed}
-use Rattle.message_items.specs.declared.reply.Reply.TheVariants.{Again, Acked, Noted, Taken}
+use Rattle.controller.specs.declared.body.Body.{Body}
+use Rattle.controller.specs.declared.body.Body.TheVariants.{Submit, Return, Answer}
+use Rattle.controller.specs.declared.command.Command.TheVariants as command
+use Rattle.controller.specs.declared.message.Message.{Message}
+use Rattle.controller.specs.declared.queue_status.QueueStatus.TheVariants.{Running, Completed}
+use Rattle.controller.specs.declared.reply.Reply.TheVariants.{Again, Acked, Noted, Taken}
 use Rattle.worker_core.specs.Messages.{after_taking, taken_answer, taken_reply}
 use Rattle.worker_core.specs.Orders.{order_message, order_refusal, ordered}
 use Rattle.worker_core.specs.Stored.{is_worker}

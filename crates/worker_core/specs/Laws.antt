@@ -5,10 +5,10 @@ use Rattle.ticket_rows.specs.Edit.{target}
 use Rattle.ticket_rows.specs.Place.{places}
 use Rattle.ticket_tree.specs.Part.{Copied}
 use Rattle.ticket_tree.specs.PartView.{own_rows, part_row}
-use Rattle.message_items.specs.Reply.{is_answer}
-use Rattle.message_items.specs.declared.body.Body.TheVariants.{Submit}
-use Rattle.message_items.specs.declared.message.Message.{Message}
-use Rattle.message_items.specs.declared.reply.Reply.TheVariants as reply
+use Rattle.controller.specs.Reply.{is_answer}
+use Rattle.controller.specs.declared.body.Body.TheVariants.{Submit}
+use Rattle.controller.specs.declared.message.Message.{Message}
+use Rattle.controller.specs.declared.reply.Reply.TheVariants as reply
 use Rattle.worker_core.specs.Messages.{IsValidBody, after_taking, take_refusal, taken_reply}
 use Rattle.worker_core.specs.Messages.{taken_result}
 use Rattle.worker_core.specs.Orders.{after_order, order_message, order_refusal, ordered, return_of}

@@ -11,15 +11,15 @@ use Rattle.ticket_items.specs.declared.refusal.Refusal.TheVariants.{WrongMessage
 use Rattle.ticket_rows.specs.Copies.{with_copies}
 use Rattle.ticket_rows.specs.Ticket.{IsValid, first_of, unless}
 use Rattle.ticket_tree.specs.Part.{Copied, is_sound}
-use Rattle.message_items.specs.Reply.{answer_to, refused_or, spawn_in, told_of}
-use Rattle.message_items.specs.declared.body.Body.{Body}
-use Rattle.message_items.specs.declared.body.Body.TheVariants.{Submit, Return, Answer}
-use Rattle.message_items.specs.declared.command.Command.{Command}
-use Rattle.message_items.specs.declared.command.Command.TheVariants as command
-use Rattle.message_items.specs.declared.message.Message.{Message}
-use Rattle.message_items.specs.declared.queue_status.QueueStatus.{QueueStatus}
-use Rattle.message_items.specs.declared.reply.Reply.{Reply}
-use Rattle.message_items.specs.declared.reply.Reply.TheVariants as reply
+use Rattle.controller.specs.Reply.{answer_to, refused_or, spawn_in, told_of}
+use Rattle.controller.specs.declared.body.Body.{Body}
+use Rattle.controller.specs.declared.body.Body.TheVariants.{Submit, Return, Answer}
+use Rattle.controller.specs.declared.command.Command.{Command}
+use Rattle.controller.specs.declared.command.Command.TheVariants as command
+use Rattle.controller.specs.declared.message.Message.{Message}
+use Rattle.controller.specs.declared.queue_status.QueueStatus.{QueueStatus}
+use Rattle.controller.specs.declared.reply.Reply.{Reply}
+use Rattle.controller.specs.declared.reply.Reply.TheVariants as reply
 use Rattle.worker_core.specs.declared.entry.Entry.{Entry}
 use Rattle.worker_core.specs.Worker.{Known, entry_of, is_open, new_entry, status_in}
 

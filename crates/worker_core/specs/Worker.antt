@@ -9,8 +9,8 @@ use Rattle.ticket_items.specs.Resource.{resource_ids}
 use Rattle.ticket_rows.specs.Copies.{with_copies}
 use Rattle.ticket_rows.specs.Ticket.{IsValid, ids}
 use Rattle.ticket_tree.specs.Part.{Copied, is_sound}
-use Rattle.message_items.specs.declared.queue_status.QueueStatus.{QueueStatus}
-use Rattle.message_items.specs.declared.queue_status.QueueStatus.TheVariants as queue
+use Rattle.controller.specs.declared.queue_status.QueueStatus.{QueueStatus}
+use Rattle.controller.specs.declared.queue_status.QueueStatus.TheVariants as queue
 use Rattle.worker_core.specs.declared.end.End.{End}
 use Rattle.worker_core.specs.declared.end.End.TheVariants.{Completed, Aborted}
 use Rattle.worker_core.specs.declared.entry.Entry.{Entry}

@@ -1,5 +1,5 @@
 /// How the work on a part ended.
-#[derive(Clone, Copy, Debug, PartialEq, Eq)]
+#[derive(Clone, Copy, PartialEq, Eq)]
 pub enum End {
     Completed,
     Aborted,

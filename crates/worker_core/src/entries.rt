@@ -6,7 +6,7 @@ ghost use Rattle.std.specs.Option.{option_copied};
 ghost use Rattle.worker_core.specs.Worker as worker;
 
 use crate::entry::Entry;
-use message_items::QueueStatus;
+use controller::QueueStatus;
 use ticket_rows::pools;
 use ticket_tree::{Id, Part, SpawnId};
 

@@ -2,7 +2,7 @@ use crate::stage::Stage;
 use ticket_tree::{Duplicate, Part};
 
 /// A part that a worker took. It is kept for good.
-#[derive(Clone, Debug, Drop)]
+#[derive(Clone, Drop)]
 pub struct Entry {
     pub phase: Stage,
     pub part: Part,

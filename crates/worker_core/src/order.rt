@@ -2,7 +2,7 @@ use crate::end::End;
 use ticket_tree::{Edit, SpawnId};
 
 /// What a worker is told to do with the part of a spawn.
-#[derive(Debug, Drop)]
+#[derive(Drop)]
 pub enum Order {
     /// To change it.
     Edit(SpawnId, Edit),

@@ -14,7 +14,7 @@ use crate::entries::place_of;
 use crate::entry::Entry;
 use crate::order::Order;
 use crate::stage::Stage;
-use message_items::{Body, Done, Message, Reply};
+use controller::{Body, Done, Message, Reply};
 use std::alloc::Global;
 use ticket_tree::{Duplicate, Edit, Id, Name, Part, Refusal};
 

@@ -1,8 +1,8 @@
 use crate::end::End;
-use message_items::QueueStatus;
+use controller::QueueStatus;
 
 /// How far a worker is with a part.
-#[derive(Clone, Copy, Debug, PartialEq, Eq)]
+#[derive(Clone, Copy, PartialEq, Eq)]
 pub enum Stage {
     /// It may be changed.
     Open,

@@ -4,14 +4,14 @@ ghost use Rattle.std.specs.Prelude.{◌≡◌, true, false, if◌then◌else◌,
 ghost use Rattle.std.specs.Prelude.{OnOk, OnErr, IfOk, IsOk};
 ghost use Rattle.ticket_rows.specs.Copies.{with_copies};
 ghost use Rattle.ticket_rows.specs.Ticket.{IsValid};
-ghost use Rattle.message_items.specs.Reply as replies;
+ghost use Rattle.controller.specs.Reply as replies;
 ghost use Rattle.worker_core.specs.Messages as messages;
 ghost use Rattle.worker_core.specs.Worker as worker;
 
 use crate::entries::{entry_of, status_of};
 use crate::entry::Entry;
-use message_items::answering::{answer_to, spawn_in, told_of};
-use message_items::{Body, Command, Message, Outcome, QueueStatus, Reply};
+use controller::answering::{answer_to, spawn_in, told_of};
+use controller::{Body, Command, Message, Outcome, QueueStatus, Reply};
 use std::alloc::{AllocError, Global};
 use ticket_tree::{Id, Part, Refusal, SpawnId};
 

@@ -4,7 +4,7 @@ use crate::order::Order;
 use crate::ordering::do_order;
 use crate::stored::is_worker;
 use crate::taking::do_take;
-use message_items::{Done, Message, Outcome};
+use controller::{Done, Message, Outcome};
 use std::alloc::{AllocError, Global};
 use std::marker::Model;
 use ticket_items::copies;
@@ -12,7 +12,7 @@ use ticket_tree::{Duplicate, Id, Refusal, SpawnId};
 
 /// A controller that works on parts of another's ticket, which is its master (JDF 1.5, 4.4). It
 /// keeps each part that it takes, in the order in which they come.
-#[derive(Debug, Drop)]
+#[derive(Drop)]
 pub struct Worker {
     name: Id,
     master: Id,
@@ -33,7 +33,7 @@ impl Worker {
     ghost use Rattle.std.specs.Prelude.{◌≡◌, ◌↔◌, ◌⊎◌, true, false, [], Err, OnOk, OnErr};
     ghost use Rattle.std.specs.Prelude.{IfOk, IfErr};
     ghost use Rattle.std.specs.Prelude.{IfNone, IfSome, IsErrOf, IsOk};
-    ghost use Rattle.message_items.specs.Reply.{is_answer};
+    ghost use Rattle.controller.specs.Reply.{is_answer};
     ghost use Rattle.worker_core.specs.Messages as messages;
     ghost use Rattle.worker_core.specs.Orders as orders;
     ghost use Rattle.worker_core.specs.Stored as stored;

@@ -1,7 +1,7 @@
 -- What agrees: a step of the controllers, and the step of the shop that they show.
 use Rattle.std.proofs.Common.{◌≡◌}
 use Rattle.std.specs.Option.{option_map}
-use Rattle.message_items.specs.declared.message.Message.{Message}
+use Rattle.controller.specs.declared.message.Message.{Message}
 use Rattle.world.specs.Controllers.{Controllers}
 use Rattle.world.specs.Shop.{Shop}
 use Rattle.world.specs.ShopSteps.{Tag}

@@ -11,11 +11,11 @@ use Rattle.ticket_items.specs.declared.refusal.Refusal.{Refusal}
 use Rattle.ticket_items.specs.declared.refusal.Refusal.TheVariants.{UnknownWorker}
 use Rattle.ticket_rows.proofs.AtHome.{find-passes}
 use Rattle.ticket_items.proofs.Apart.{bytes_eq-same}
-use Rattle.message_items.specs.Reply.{spawn_in}
-use Rattle.message_items.specs.declared.body.Body.{Body}
-use Rattle.message_items.specs.declared.body.Body.TheVariants.{Submit, Return, Answer}
-use Rattle.message_items.specs.declared.message.Message.{Message}
-use Rattle.message_items.specs.declared.queue_status.QueueStatus.{QueueStatus}
+use Rattle.controller.specs.Reply.{spawn_in}
+use Rattle.controller.specs.declared.body.Body.{Body}
+use Rattle.controller.specs.declared.body.Body.TheVariants.{Submit, Return, Answer}
+use Rattle.controller.specs.declared.message.Message.{Message}
+use Rattle.controller.specs.declared.queue_status.QueueStatus.{QueueStatus}
 use Rattle.spawn.specs.declared.records.spawn_rec.SpawnRec.{SpawnRec}
 use Rattle.master_core.proofs.MessageKept.{message_is_kept}
 use Rattle.master_core.proofs.OrderKept.{ordered_kept}
@@ -42,12 +42,12 @@ use Rattle.world.specs.Happening.{after, after_all, master_takes, receiver_takes
 use Rattle.world.specs.Messages.{AreRecorded, IsInOrder}
 use Rattle.world.specs.State.{IsKept, State, message_at}
 use Rattle.world.specs.Stepping.{Moved, master_moved, ordered_master, ordered_worker, refused, taken_by_master, taken_by_worker, worker_moved}
-use Rattle.world.specs.declared.event.Event.{Event}
-use Rattle.world.specs.declared.stop.Stop.{Stop}
-use Rattle.world.specs.declared.what.What.{What}
-use Rattle.world.specs.declared.what.What.TheVariants.{MasterOrder, WorkerOrder, Deliver, Restart}
-use Rattle.world.specs.declared.word.Word.{Word}
-use Rattle.world.specs.declared.word.Word.TheVariants.{NoMessage, Refused}
+use Rattle.world_items.specs.declared.event.Event.{Event}
+use Rattle.world_items.specs.declared.stop.Stop.{Stop}
+use Rattle.world_items.specs.declared.what.What.{What}
+use Rattle.world_items.specs.declared.what.What.TheVariants.{MasterOrder, WorkerOrder, Deliver, Restart}
+use Rattle.world_items.specs.declared.word.Word.{Word}
+use Rattle.world_items.specs.declared.word.Word.TheVariants.{NoMessage, Refused}
 
 -- ---- the master
 

@@ -3,14 +3,14 @@ use Rattle.std.proofs.Common.{◌≡◌, Option, Some, None, Result, Ok, Err, If
 use Rattle.std.specs.Option.{option_map_or}
 use Rattle.ticket_items.specs.declared.refusal.Refusal.{Refusal}
 use Rattle.ticket_items.specs.declared.refusal.Refusal.TheVariants.{Memory}
-use Rattle.message_items.specs.declared.done.Done.{Done}
-use Rattle.message_items.specs.declared.message.Message.{Message}
-use Rattle.message_items.specs.declared.reply.Reply.{Reply}
+use Rattle.controller.specs.declared.done.Done.{Done}
+use Rattle.controller.specs.declared.message.Message.{Message}
+use Rattle.controller.specs.declared.reply.Reply.{Reply}
 use Rattle.world.specs.Settling.{settled_state}
 use Rattle.world.specs.Stepping.{refused, told_sent, told_word}
-use Rattle.world.specs.declared.stop.Stop.{Stop}
-use Rattle.world.specs.declared.stop.Stop.TheVariants.{Run, BeforeSave, BeforeSend}
-use Rattle.world.specs.declared.word.Word.TheVariants.{Did}
+use Rattle.world_items.specs.declared.stop.Stop.{Stop}
+use Rattle.world_items.specs.declared.stop.Stop.TheVariants.{Run, BeforeSave, BeforeSend}
+use Rattle.world_items.specs.declared.word.Word.TheVariants.{Did}
 
 -- what is known of an order that was answered: of a state that it may change, and of its refusal
 pub record IsAnswered {S : Type 0} (o : Option Refusal) (done : Result Done Refusal) (reply : Reply) (message : Option Message) (old ordered next : S) : Type 0 where

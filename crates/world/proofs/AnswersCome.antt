@@ -1,12 +1,12 @@
 -- An answer that comes to the controller that gave the command changes nothing, and is noted or acknowledged.
 use Rattle.std.proofs.Common.{◌≡◌, ◌∙◌, ℕ, true, cond, List, Some, None, Result, Ok, Err, is_ok, is_some, refl, ap}
-use Rattle.message_items.specs.Reply.{refused_or}
-use Rattle.message_items.specs.declared.body.Body.TheVariants.{Answer}
-use Rattle.message_items.specs.declared.command.Command.{Command}
-use Rattle.message_items.specs.declared.command.Command.TheVariants as command
-use Rattle.message_items.specs.declared.message.Message.{Message}
-use Rattle.message_items.specs.declared.queue_status.QueueStatus.{QueueStatus}
-use Rattle.message_items.specs.declared.reply.Reply.TheVariants as reply
+use Rattle.controller.specs.Reply.{refused_or}
+use Rattle.controller.specs.declared.body.Body.TheVariants.{Answer}
+use Rattle.controller.specs.declared.command.Command.{Command}
+use Rattle.controller.specs.declared.command.Command.TheVariants as command
+use Rattle.controller.specs.declared.message.Message.{Message}
+use Rattle.controller.specs.declared.queue_status.QueueStatus.{QueueStatus}
+use Rattle.controller.specs.declared.reply.Reply.TheVariants as reply
 use Rattle.worker_core.specs.Messages as worker_messages
 use Rattle.worker_core.specs.Worker as worker
 use Rattle.world.proofs.Agreeing.{Agrees}
@@ -18,7 +18,7 @@ use Rattle.world.specs.ShopSteps.{replies}
 use Rattle.world.specs.Showing.{shop_shown}
 use Rattle.world.specs.State.{IsKept, State}
 use Rattle.world.specs.Stepping.{master_moved, taken_by_master, taken_by_worker, word_of, worker_moved}
-use Rattle.world.specs.declared.word.Word.TheVariants.{Did}
+use Rattle.world_items.specs.declared.word.Word.TheVariants.{Did}
 
 -- the answer that tells of a command
 abbrev pub answer : List ℕ → List ℕ → ℕ → Command → ℕ → Result QueueStatus ℕ → Message

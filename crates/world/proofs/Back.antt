@@ -5,10 +5,10 @@ use Rattle.std.proofs.lemmas.List.Elements.{All-map, All-push, All-weaker}
 use Rattle.std.proofs.lemmas.Option.{slice_get-get_or}
 use Rattle.std.specs.List.{All}
 use Rattle.std.specs.Prelude.{⊤}
-use Rattle.message_items.specs.Reply.{spawn_in}
-use Rattle.message_items.specs.declared.body.Body.{Body}
-use Rattle.message_items.specs.declared.body.Body.TheVariants.{Return}
-use Rattle.message_items.specs.declared.message.Message.{Message}
+use Rattle.controller.specs.Reply.{spawn_in}
+use Rattle.controller.specs.declared.body.Body.{Body}
+use Rattle.controller.specs.declared.body.Body.TheVariants.{Return}
+use Rattle.controller.specs.declared.message.Message.{Message}
 use Rattle.ticket_items.proofs.Places.{same_found}
 use Rattle.ticket_tree.specs.Part.{Copied}
 use Rattle.spawn.proofs.Lawful.{placed}

@@ -29,9 +29,9 @@ use Rattle.world.specs.Happening.{after_all, settled, step_of}
 use Rattle.world.specs.Laws.{HoldersMayChange, NoTwoMayChangeOne}
 use Rattle.world.specs.Messages.{AreRecorded, HasComeBack, IsRecorded, entry_for}
 use Rattle.world.specs.State.{IsKept, State}
-use Rattle.world.specs.declared.event.Event.{Event}
-use Rattle.world.specs.declared.stop.Stop.{Stop}
-use Rattle.world.specs.declared.what.What.{What}
+use Rattle.world_items.specs.declared.event.Event.{Event}
+use Rattle.world_items.specs.declared.stop.Stop.{Stop}
+use Rattle.world_items.specs.declared.what.What.{What}
 
 -- ---- an entry that is open, and its record
 

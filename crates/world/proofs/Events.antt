@@ -7,10 +7,10 @@ use Rattle.std.specs.Option.{option_map, option_map_or}
 use Rattle.std.specs.Str.{bytes_eq}
 use Rattle.ticket_items.specs.Ids.{mem}
 use Rattle.ticket_items.specs.declared.refusal.Refusal.TheVariants.{UnknownWorker}
-use Rattle.message_items.specs.declared.body.Body.{Body}
-use Rattle.message_items.specs.declared.body.Body.TheVariants.{Answer, Return, Submit}
-use Rattle.message_items.specs.declared.command.Command.TheVariants as command
-use Rattle.message_items.specs.declared.message.Message.{Message}
+use Rattle.controller.specs.declared.body.Body.{Body}
+use Rattle.controller.specs.declared.body.Body.TheVariants.{Answer, Return, Submit}
+use Rattle.controller.specs.declared.command.Command.TheVariants as command
+use Rattle.controller.specs.declared.message.Message.{Message}
 use Rattle.master_core.specs.declared.order.Order as master_order
 use Rattle.master_core.specs.declared.order.Order.TheVariants as to_master
 use Rattle.worker_core.specs.Worker as worker
@@ -40,8 +40,8 @@ use Rattle.world.specs.ShopSteps as shop
 use Rattle.world.specs.Showing.{shop_shown, tag_in, tag_of}
 use Rattle.world.specs.State.{IsKept, State, message_at}
 use Rattle.world.specs.Stepping.{master_moved, ordered_master, ordered_worker, taken_by_worker, worker_moved}
-use Rattle.world.specs.declared.what.What.TheVariants.{MasterOrder, WorkerOrder, Deliver, Restart}
-use Rattle.world.specs.declared.word.Word.TheVariants.{NoMessage, Refused, Restarted}
+use Rattle.world_items.specs.declared.what.What.TheVariants.{MasterOrder, WorkerOrder, Deliver, Restart}
+use Rattle.world_items.specs.declared.word.Word.TheVariants.{NoMessage, Refused, Restarted}
 
 -- ---- what the acts are owed
 

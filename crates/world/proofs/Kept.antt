@@ -2,7 +2,7 @@
 use Rattle.std.proofs.Common.{◌≡◌, List, Option, Some, None, IfSome, Result, Ok, Err, OnOk, OnErr, sym, ◌∙◌, subst}
 use Rattle.std.proofs.lemmas.List.Elements.{All-weaker}
 use Rattle.std.specs.List.{All}
-use Rattle.message_items.specs.declared.message.Message.{Message}
+use Rattle.controller.specs.declared.message.Message.{Message}
 use Rattle.master_core.specs.Master as master
 use Rattle.worker_core.specs.Worker as worker
 use Rattle.world.proofs.Back.{back_later}
@@ -19,8 +19,8 @@ use Rattle.world.specs.Messages.{AreInOrder, AreRecorded, HasComeBack, IsInOrder
 use Rattle.world.specs.Settling.{settled_messages, settled_state, with_sent}
 use Rattle.world.specs.State.{IsKept, State, state}
 use Rattle.world.specs.Stepping.{Moved, master_moved}
-use Rattle.world.specs.declared.stop.Stop.{Stop}
-use Rattle.world.specs.declared.stop.Stop.TheVariants.{Run, BeforeSave, BeforeSend}
+use Rattle.world_items.specs.declared.stop.Stop.{Stop}
+use Rattle.world_items.specs.declared.stop.Stop.TheVariants.{Run, BeforeSave, BeforeSend}
 
 -- the controllers with these messages
 abbrev pub beside : Controllers → List Message → State

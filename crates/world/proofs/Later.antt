@@ -1,11 +1,11 @@
 -- Controllers as they are later: what stays of what messages say.
 use Rattle.std.proofs.Common.{◌≡◌, ℕ, true, false, cond, List, Some, sym, ap, ◌∙◌, subst}
 use Rattle.std.proofs.lemmas.Bool.{true≢false}
-use Rattle.message_items.specs.Reply.{spawn_in}
-use Rattle.message_items.specs.declared.body.Body.{Body}
-use Rattle.message_items.specs.declared.body.Body.TheVariants.{Submit, Return, Answer}
-use Rattle.message_items.specs.declared.command.Command.TheVariants as command
-use Rattle.message_items.specs.declared.message.Message.{Message}
+use Rattle.controller.specs.Reply.{spawn_in}
+use Rattle.controller.specs.declared.body.Body.{Body}
+use Rattle.controller.specs.declared.body.Body.TheVariants.{Submit, Return, Answer}
+use Rattle.controller.specs.declared.command.Command.TheVariants as command
+use Rattle.controller.specs.declared.message.Message.{Message}
 use Rattle.spawn.proofs.SoundPart.{false_by}
 use Rattle.spawn.specs.Parts.{part_for}
 use Rattle.spawn.specs.Records.{is_out}

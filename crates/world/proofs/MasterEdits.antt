@@ -24,7 +24,7 @@ use Rattle.ticket_tree.proofs.PlainEdits.{edit_of_places}
 use Rattle.ticket_tree.proofs.PlainRefusal.{lookups_alike}
 use Rattle.ticket_tree.proofs.PlainRows.{edit_of_rows}
 use Rattle.ticket_tree.specs.PlainEdit.{plain_changed, plain_lookups, plain_places, plain_rows, touch, with_line, with_link}
-use Rattle.message_items.specs.declared.message.Message.{Message}
+use Rattle.controller.specs.declared.message.Message.{Message}
 use Rattle.spawn.proofs.EditKeeps.{edit_keeps_claims}
 use Rattle.spawn.proofs.Lawful.{held_is_claimed, placed}
 use Rattle.spawn.proofs.Outside.{some_of}
@@ -51,7 +51,7 @@ use Rattle.world.specs.ShopSteps.{Tag, edit_refusal, master_does, unless_refused
 use Rattle.world.specs.Showing.{entry_of_spawn, now_shown, row_at, shop_shown}
 use Rattle.world.specs.State.{IsKept, State}
 use Rattle.world.specs.Stepping.{Moved, master_moved, ordered_master, refused}
-use Rattle.world.specs.declared.word.Word.TheVariants.{Refused}
+use Rattle.world_items.specs.declared.word.Word.TheVariants.{Refused}
 
 -- ---- refusals
 

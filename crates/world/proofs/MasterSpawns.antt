@@ -50,7 +50,7 @@ use Rattle.master_core.specs.Master.{IsNumbered, Known, holder, is_of, record_of
 use Rattle.master_core.specs.Orders as orders
 use Rattle.master_core.specs.Orders.{held_refusal, next_record}
 use Rattle.master_core.specs.declared.order.Order.TheVariants as order
-use Rattle.message_items.specs.declared.reply.Reply.TheVariants as reply
+use Rattle.controller.specs.declared.reply.Reply.TheVariants as reply
 use Rattle.worker_core.specs.declared.entry.Entry.{Entry}
 use Rattle.world.proofs.Agreeing.{Agrees}
 use Rattle.world.proofs.Doors.{entry_recorded}
@@ -67,7 +67,7 @@ use Rattle.world.specs.ShopSteps.{Submit, master_does, spawn_refusal}
 use Rattle.world.specs.Showing.{entry_of_spawn, now_shown, phase_shown, row_at, seen_shown, shop_shown, spawn_shown}
 use Rattle.world.specs.State.{IsKept, State}
 use Rattle.world.specs.Stepping.{master_moved, ordered_master}
-use Rattle.world.specs.declared.word.Word.TheVariants.{Did}
+use Rattle.world_items.specs.declared.word.Word.TheVariants.{Did}
 
 -- ---- refusals
 

@@ -2,7 +2,7 @@
 use Rattle.std.proofs.Common.{◌≡◌, inl, inr, ℕ, true, List, Option, Some, None, IfSome, refl, sym, ap, ◌∙◌, subst}
 use Rattle.std.proofs.lemmas.Bool.{true≢false}
 use Rattle.std.specs.List.{All}
-use Rattle.message_items.specs.declared.message.Message.{Message}
+use Rattle.controller.specs.declared.message.Message.{Message}
 use Rattle.spawn.proofs.Lawful.{placed}
 use Rattle.spawn.proofs.SoundPart.{part_is_sound}
 use Rattle.spawn.specs.Parts.{part_for}

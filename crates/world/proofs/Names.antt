@@ -2,9 +2,9 @@
 use Rattle.std.proofs.Common.{◌≡◌, Bool, true, false, cond, ℕ, Option, Some, None, refl, is_some}
 use Rattle.std.specs.Option.{option_map_or}
 use Rattle.ticket_items.specs.declared.refusal.Refusal.{Refusal}
-use Rattle.message_items.specs.declared.body.Body.{Body}
-use Rattle.message_items.specs.declared.body.Body.TheVariants.{Submit, Return, Answer}
-use Rattle.message_items.specs.declared.message.Message.{Message}
+use Rattle.controller.specs.declared.body.Body.{Body}
+use Rattle.controller.specs.declared.body.Body.TheVariants.{Submit, Return, Answer}
+use Rattle.controller.specs.declared.message.Message.{Message}
 use Rattle.master_core.specs.Master as master
 use Rattle.master_core.specs.Messages as master_messages
 use Rattle.master_core.specs.Orders as master_orders

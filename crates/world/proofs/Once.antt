@@ -7,13 +7,13 @@ use Rattle.std.specs.Option.{option_map_or}
 use Rattle.std.specs.Str.{bytes_eq}
 use Rattle.ticket_items.specs.declared.refusal.Refusal.{Refusal}
 use Rattle.ticket_items.specs.declared.refusal.Refusal.TheVariants.{UnknownWorker}
-use Rattle.message_items.specs.Reply.{refused_or}
-use Rattle.message_items.specs.declared.body.Body.{Body}
-use Rattle.message_items.specs.declared.body.Body.TheVariants.{Submit, Return, Answer as Answered}
-use Rattle.message_items.specs.declared.message.Message.{Message}
-use Rattle.message_items.specs.declared.queue_status.QueueStatus.{QueueStatus}
-use Rattle.message_items.specs.declared.reply.Reply.{Reply}
-use Rattle.message_items.specs.declared.reply.Reply.TheVariants as reply
+use Rattle.controller.specs.Reply.{refused_or}
+use Rattle.controller.specs.declared.body.Body.{Body}
+use Rattle.controller.specs.declared.body.Body.TheVariants.{Submit, Return, Answer as Answered}
+use Rattle.controller.specs.declared.message.Message.{Message}
+use Rattle.controller.specs.declared.queue_status.QueueStatus.{QueueStatus}
+use Rattle.controller.specs.declared.reply.Reply.{Reply}
+use Rattle.controller.specs.declared.reply.Reply.TheVariants as reply
 use Rattle.spawn.specs.Records.{is_out}
 use Rattle.spawn.specs.declared.records.spawn_rec.SpawnRec.{SpawnRec}
 use Rattle.master_core.proofs.Kept.{done_order}
@@ -39,14 +39,14 @@ use Rattle.world.specs.Messages.{IsInOrder}
 use Rattle.world.specs.Once.{AreMergedOnce, TellsMerge}
 use Rattle.world.specs.State.{IsKept, State, message_at}
 use Rattle.world.specs.Stepping.{Moved, master_moved, ordered_master, ordered_worker, refused, taken_by_master, taken_by_worker, word_of, worker_moved}
-use Rattle.world.specs.declared.answer.Answer.{Answer}
-use Rattle.world.specs.declared.event.Event.{Event}
-use Rattle.world.specs.declared.stop.Stop.{Stop}
-use Rattle.world.specs.declared.stop.Stop.TheVariants.{Run, BeforeSave, BeforeSend}
-use Rattle.world.specs.declared.what.What.{What}
-use Rattle.world.specs.declared.what.What.TheVariants.{MasterOrder, WorkerOrder, Deliver, Restart}
-use Rattle.world.specs.declared.word.Word.{Word}
-use Rattle.world.specs.declared.word.Word.TheVariants.{Did, NoMessage, Refused}
+use Rattle.world_items.specs.declared.answer.Answer.{Answer}
+use Rattle.world_items.specs.declared.event.Event.{Event}
+use Rattle.world_items.specs.declared.stop.Stop.{Stop}
+use Rattle.world_items.specs.declared.stop.Stop.TheVariants.{Run, BeforeSave, BeforeSend}
+use Rattle.world_items.specs.declared.what.What.{What}
+use Rattle.world_items.specs.declared.what.What.TheVariants.{MasterOrder, WorkerOrder, Deliver, Restart}
+use Rattle.world_items.specs.declared.word.Word.{Word}
+use Rattle.world_items.specs.declared.word.Word.TheVariants.{Did, NoMessage, Refused}
 
 -- ---- what is in stays in
 

@@ -12,10 +12,10 @@ use Rattle.ticket_rows.specs.Place.{Place, node_places, place_at, places, up}
 use Rattle.ticket_tree.specs.Part.{Copied}
 use Rattle.ticket_tree.specs.PartView.{part_row}
 use Rattle.ticket_tree.specs.PlainEdit.{touch}
-use Rattle.message_items.specs.Reply.{refused_or}
-use Rattle.message_items.specs.declared.body.Body.TheVariants.{Return}
-use Rattle.message_items.specs.declared.message.Message.{Message}
-use Rattle.message_items.specs.declared.reply.Reply.TheVariants as reply
+use Rattle.controller.specs.Reply.{refused_or}
+use Rattle.controller.specs.declared.body.Body.TheVariants.{Return}
+use Rattle.controller.specs.declared.message.Message.{Message}
+use Rattle.controller.specs.declared.reply.Reply.TheVariants as reply
 use Rattle.spawn.proofs.Lawful.{parent_is_masters, placed}
 use Rattle.spawn.proofs.Outside.{some_of}
 use Rattle.spawn.specs.Claim.{is_claimed}
@@ -58,7 +58,7 @@ use Rattle.world.specs.ShopSteps as shop
 use Rattle.world.specs.Showing.{entry_of_spawn, now_shown, phase_shown, row_at, seen_shown, shop_shown, spawn_shown, tag_of}
 use Rattle.world.specs.State.{IsKept, State}
 use Rattle.world.specs.Stepping.{Moved, master_moved, taken_by_master, word_of}
-use Rattle.world.specs.declared.word.Word.TheVariants.{Did, NoMessage}
+use Rattle.world_items.specs.declared.word.Word.TheVariants.{Did, NoMessage}
 
 -- ---- what is put in
 

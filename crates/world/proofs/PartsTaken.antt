@@ -9,10 +9,10 @@ use Rattle.ticket_items.specs.declared.refusal.Refusal.{Refusal}
 use Rattle.ticket_rows.specs.Place.{Place, place_at, places}
 use Rattle.ticket_tree.specs.Part.{Copied}
 use Rattle.ticket_tree.specs.PartView.{part_row}
-use Rattle.message_items.specs.Reply.{refused_or}
-use Rattle.message_items.specs.declared.body.Body.TheVariants.{Submit}
-use Rattle.message_items.specs.declared.message.Message.{Message}
-use Rattle.message_items.specs.declared.reply.Reply.TheVariants as reply
+use Rattle.controller.specs.Reply.{refused_or}
+use Rattle.controller.specs.declared.body.Body.TheVariants.{Submit}
+use Rattle.controller.specs.declared.message.Message.{Message}
+use Rattle.controller.specs.declared.reply.Reply.TheVariants as reply
 use Rattle.spawn.proofs.Lawful.{held_is_claimed, placed}
 use Rattle.spawn.proofs.PartShows.{part_shows_claim}
 use Rattle.spawn.specs.Claim.{is_claimed}
@@ -46,7 +46,7 @@ use Rattle.world.specs.ShopSteps as shop
 use Rattle.world.specs.Showing.{entry_of_spawn, phase_shown, row_at, seen_shown, shop_shown, spawn_shown, tag_of}
 use Rattle.world.specs.State.{IsKept, State}
 use Rattle.world.specs.Stepping.{Moved, taken_by_worker, word_of, worker_moved}
-use Rattle.world.specs.declared.word.Word.TheVariants.{Did, NoMessage}
+use Rattle.world_items.specs.declared.word.Word.TheVariants.{Did, NoMessage}
 
 -- the message that brings a part to a worker
 abbrev part_sent : List ℕ → worker.Known → ℕ → Copied → Message

@@ -5,9 +5,9 @@ use Rattle.world.specs.Happening as world
 use Rattle.world.specs.Replay as replay
 use Rattle.world.specs.Showing.{shows}
 use Rattle.world.specs.State.{IsKept, State}
-use Rattle.world.specs.declared.answer.Answer.{Answer}
-use Rattle.world.specs.declared.event.Event.{Event}
-use Rattle.world.specs.declared.what.What.{What}
+use Rattle.world_items.specs.declared.answer.Answer.{Answer}
+use Rattle.world_items.specs.declared.event.Event.{Event}
+use Rattle.world_items.specs.declared.what.What.{What}
 
 -- ---- one event
 

@@ -5,7 +5,7 @@ use Rattle.std.specs.Option.{option_map}
 use Rattle.ticket_rows.specs.Place.{Place, place_at, places}
 use Rattle.spawn.specs.Table.{holder_at}
 use Rattle.spawn.specs.declared.tables.holder.Holder.TheVariants.{Master}
-use Rattle.message_items.specs.declared.message.Message.{Message}
+use Rattle.controller.specs.declared.message.Message.{Message}
 use Rattle.world.proofs.Agreeing.{Agrees}
 use Rattle.world.proofs.AlwaysKept.{kept_after}
 use Rattle.world.proofs.ShopPaths.{same_shop}
@@ -20,9 +20,9 @@ use Rattle.world.specs.ShopSteps.{Tag}
 use Rattle.world.specs.Showing.{row_at, seen_shown, shop_shown, shows, tag_of}
 use Rattle.world.specs.State.{IsKept, State, opening}
 use Rattle.world.specs.Stepping.{Moved}
-use Rattle.world.specs.declared.stop.Stop.{Stop}
-use Rattle.world.specs.declared.stop.Stop.TheVariants.{Run, BeforeSave, BeforeSend}
-use Rattle.world.specs.declared.what.What.{What}
+use Rattle.world_items.specs.declared.stop.Stop.{Stop}
+use Rattle.world_items.specs.declared.stop.Stop.TheVariants.{Run, BeforeSave, BeforeSend}
+use Rattle.world_items.specs.declared.what.What.{What}
 
 -- ---- one event
 

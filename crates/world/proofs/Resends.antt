@@ -3,7 +3,7 @@ use Rattle.std.proofs.Common.{◌≡◌, ◌∙◌, ℕ, Bool, true, false, cond
 use Rattle.std.specs.Option.{option_map, option_map_or}
 use Rattle.ticket_items.specs.declared.refusal.Refusal.TheVariants.{NotOut}
 use Rattle.ticket_rows.specs.Ticket.{unless}
-use Rattle.message_items.specs.declared.reply.Reply.TheVariants as reply
+use Rattle.controller.specs.declared.reply.Reply.TheVariants as reply
 use Rattle.spawn.specs.Records as records
 use Rattle.spawn.specs.declared.records.spawn_rec.SpawnRec.{SpawnRec}
 use Rattle.master_core.proofs.Recorded.{number_is}
@@ -21,7 +21,7 @@ use Rattle.world.specs.ShopSteps.{Submit, master_does, sends, unless_refused}
 use Rattle.world.specs.Showing.{phase_shown, shop_shown, spawn_shown}
 use Rattle.world.specs.State.{IsKept, State}
 use Rattle.world.specs.Stepping.{master_moved, ordered_master, refused}
-use Rattle.world.specs.declared.word.Word.TheVariants.{Did}
+use Rattle.world_items.specs.declared.word.Word.TheVariants.{Did}
 
 -- ---- by the master
 

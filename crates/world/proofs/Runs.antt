@@ -6,8 +6,8 @@ use Rattle.std.proofs.lemmas.Iterator.{YieldsList}
 use Rattle.std.specs.Iterator.{Yields}
 use Rattle.world.specs.Happening.{after, after_all, answer_to, answers_to}
 use Rattle.world.specs.State.{State}
-use Rattle.world.specs.declared.answer.Answer.{Answer}
-use Rattle.world.specs.declared.event.Event.{Event}
+use Rattle.world_items.specs.declared.answer.Answer.{Answer}
+use Rattle.world_items.specs.declared.event.Event.{Event}
 
 -- ---- one event more
 

@@ -3,9 +3,9 @@ use Rattle.std.proofs.Common.{◌≡◌, ℕ, Bool, true, false, cond, Some, Non
 use Rattle.std.proofs.lemmas.List.Elements.{All-contains}
 use Rattle.std.specs.Option.{option_map_or}
 use Rattle.std.specs.Str.{bytes_eq}
-use Rattle.message_items.specs.Reply.{refused_or}
-use Rattle.message_items.specs.declared.message.Message.{Message}
-use Rattle.message_items.specs.declared.reply.Reply.{Reply}
+use Rattle.controller.specs.Reply.{refused_or}
+use Rattle.controller.specs.declared.message.Message.{Message}
+use Rattle.controller.specs.declared.reply.Reply.{Reply}
 use Rattle.master_core.specs.Messages as master_messages
 use Rattle.worker_core.specs.Messages as worker_messages
 use Rattle.worker_core.specs.Worker as worker
@@ -18,8 +18,8 @@ use Rattle.world.specs.Laws.{SentIsTaken}
 use Rattle.world.specs.Messages.{IsInOrder}
 use Rattle.world.specs.State.{IsKept, State}
 use Rattle.world.specs.Stepping.{taken_by_worker, word_of, worker_moved}
-use Rattle.world.specs.declared.stop.Stop.TheVariants.{Run}
-use Rattle.world.specs.declared.word.Word.TheVariants.{Did, NoMessage}
+use Rattle.world_items.specs.declared.stop.Stop.TheVariants.{Run}
+use Rattle.world_items.specs.declared.word.Word.TheVariants.{Did, NoMessage}
 
 -- what is said to a step that isn't stopped
 abbrev Said : State → Step → Type 0

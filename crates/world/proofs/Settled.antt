@@ -1,16 +1,16 @@
 -- What is answered and stored is what the definitions say: for the master, for a worker that is found, and where none is.
 use Rattle.std.proofs.Common.{◌≡◌, List, Option, Some, None, Ok, Err, sym, ap, ◌∙◌}
 use Rattle.std.specs.Option.{option_map_or}
-use Rattle.message_items.specs.declared.message.Message.{Message}
+use Rattle.controller.specs.declared.message.Message.{Message}
 use Rattle.master_core.specs.Master as master
 use Rattle.worker_core.specs.Worker as worker
 use Rattle.world.specs.Happening.{Step, settled, settled_word}
 use Rattle.world.specs.Settling.{answer_without_step, settled_answer, settled_messages, settled_state}
 use Rattle.world.specs.State.{State, state}
 use Rattle.world.specs.Stepping.{Moved, master_moved, worker_moved}
-use Rattle.world.specs.declared.stop.Stop.{Stop}
-use Rattle.world.specs.declared.stop.Stop.TheVariants.{Run, BeforeSave, BeforeSend}
-use Rattle.world.specs.declared.word.Word.{Word}
+use Rattle.world_items.specs.declared.stop.Stop.{Stop}
+use Rattle.world_items.specs.declared.stop.Stop.TheVariants.{Run, BeforeSave, BeforeSend}
+use Rattle.world_items.specs.declared.word.Word.{Word}
 
 pub master_settled : (stop : Stop) (m stored : master.Known) (workers : List worker.Known) (old new : List Message) (moved : Moved master.Known Message) → stored ≡ settled_state stop m moved.next → new ≡ settled_messages stop old moved.sent
     → state stored workers new ≡ settled stop (state m workers old) (Ok (master_moved (record { master = m; workers = workers }) moved))

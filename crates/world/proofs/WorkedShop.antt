@@ -13,7 +13,7 @@ use Rattle.ticket_items.specs.declared.spawn_status.SpawnStatus.{SpawnStatus}
 use Rattle.ticket_items.specs.declared.spawn_status.SpawnStatus.TheVariants.{SpawnedRO, SpawnedRW}
 use Rattle.ticket_rows.specs.Homes.{resource_of}
 use Rattle.ticket_rows.specs.Ticket.{row_of}
-use Rattle.message_items.specs.declared.reply.Reply.TheVariants as reply
+use Rattle.controller.specs.declared.reply.Reply.TheVariants as reply
 use Rattle.spawn.specs.Marking.{marks}
 use Rattle.spawn.specs.declared.tables.holder.Holder.TheVariants.{Master, Spawn}
 use Rattle.master_core.specs.declared.order.Order.TheVariants as master
@@ -28,10 +28,10 @@ use Rattle.world.specs.ShopMarks.{shop_marks}
 use Rattle.world.specs.Showing.{shows}
 use Rattle.world.specs.ShopSteps.{Return, Submit, ToReturn, ToSubmit}
 use Rattle.world.specs.State.{State}
-use Rattle.world.specs.declared.event.Event.{Event}
-use Rattle.world.specs.declared.stop.Stop.TheVariants.{Run, BeforeSave}
-use Rattle.world.specs.declared.what.What.TheVariants.{MasterOrder, WorkerOrder, Deliver}
-use Rattle.world.specs.declared.word.Word.TheVariants.{Did, NoMessage, Refused, Stopped}
+use Rattle.world_items.specs.declared.event.Event.{Event}
+use Rattle.world_items.specs.declared.stop.Stop.TheVariants.{Run, BeforeSave}
+use Rattle.world_items.specs.declared.what.What.TheVariants.{MasterOrder, WorkerOrder, Deliver}
+use Rattle.world_items.specs.declared.word.Word.TheVariants.{Did, NoMessage, Refused, Stopped}
 
 abbrev first : Shown
 first = opening (codes "mis") (codes "press" ∷ codes "bind" ∷ []) job

@@ -3,7 +3,7 @@ use Rattle.std.proofs.Common.{◌≡◌, ℕ, Option, Some, None, refl, sym, ap,
 use Rattle.std.specs.Option.{option_map_or}
 use Rattle.ticket_items.specs.declared.refusal.Refusal.{Refusal}
 use Rattle.ticket_items.specs.declared.refusal.Refusal.TheVariants.{UnknownEntry}
-use Rattle.message_items.specs.declared.message.Message.{Message}
+use Rattle.controller.specs.declared.message.Message.{Message}
 use Rattle.worker_core.proofs.Refusals.{refused_on}
 use Rattle.worker_core.specs.Orders as orders
 use Rattle.worker_core.specs.Worker as worker
@@ -19,7 +19,7 @@ use Rattle.world.specs.ShopSteps.{Tag, spawn_worked, worker_does}
 use Rattle.world.specs.Showing.{shop_shown, spawn_shown}
 use Rattle.world.specs.State.{IsKept, State}
 use Rattle.world.specs.Stepping.{Moved, ordered_worker, refused, worker_moved}
-use Rattle.world.specs.declared.word.Word.TheVariants.{Did}
+use Rattle.world_items.specs.declared.word.Word.TheVariants.{Did}
 
 -- steps that are the same agree as these do
 pub agrees_as : (c : Controllers) (v : worker.Known) (one two : Moved worker.Known Message) (p q : Moved Shop Tag) → one ≡ two → p ≡ q → Agrees (worker_moved c v two) q → Agrees (worker_moved c v one) p

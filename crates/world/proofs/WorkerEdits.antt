@@ -17,8 +17,8 @@ use Rattle.ticket_tree.proofs.PartEdits.{part_edit_of_rows}
 use Rattle.ticket_tree.specs.Part.{Copied, edited_part, refusal_of_part}
 use Rattle.ticket_tree.specs.PartView.{part_row}
 use Rattle.ticket_tree.specs.PlainEdit.{plain_changed, plain_lookups, plain_rows, stands, touch}
-use Rattle.message_items.specs.declared.message.Message.{Message}
-use Rattle.message_items.specs.declared.reply.Reply.TheVariants as reply
+use Rattle.controller.specs.declared.message.Message.{Message}
+use Rattle.controller.specs.declared.reply.Reply.TheVariants as reply
 use Rattle.spawn.specs.Records.{is_out}
 use Rattle.spawn.specs.declared.tables.holder.Holder.{Holder}
 use Rattle.spawn.specs.declared.tables.holder.Holder.TheVariants as held_by
@@ -47,7 +47,7 @@ use Rattle.world.specs.ShopSteps as steps
 use Rattle.world.specs.Showing.{now_shown, phase_shown, row_at, seen_shown, shop_shown, spawn_shown}
 use Rattle.world.specs.State.{IsKept, State}
 use Rattle.world.specs.Stepping.{Moved, ordered_worker, refused, worker_moved}
-use Rattle.world.specs.declared.word.Word.TheVariants.{Did}
+use Rattle.world_items.specs.declared.word.Word.TheVariants.{Did}
 
 -- ---- an entry that is open
 

@@ -9,7 +9,7 @@ use Rattle.ticket_items.proofs.AtKey.{write_at_key}
 use Rattle.ticket_items.proofs.Places.{below_length, found_at_position, none_at_position, same_found}
 use Rattle.ticket_items.specs.Ids.{are_distinct}
 use Rattle.ticket_rows.proofs.AtHome.{find-passes}
-use Rattle.message_items.specs.declared.message.Message.{Message}
+use Rattle.controller.specs.declared.message.Message.{Message}
 use Rattle.master_core.specs.Master as master
 use Rattle.worker_core.specs.Worker as worker
 use Rattle.world.proofs.Kept.{Keeps, settled_kept}
@@ -17,8 +17,8 @@ use Rattle.world.specs.Happening.{settled}
 use Rattle.world.specs.Settling.{settled_messages, settled_state}
 use Rattle.world.specs.State.{IsKept, is_named, state, with_worker, worker_of}
 use Rattle.world.specs.Stepping.{Moved, worker_moved}
-use Rattle.world.specs.declared.stop.Stop.{Stop}
-use Rattle.world.specs.declared.stop.Stop.TheVariants.{Run, BeforeSave, BeforeSend}
+use Rattle.world_items.specs.declared.stop.Stop.{Stop}
+use Rattle.world_items.specs.declared.stop.Stop.TheVariants.{Run, BeforeSave, BeforeSend}
 
 -- ---- what is found
 

@@ -3,8 +3,8 @@ use Rattle.std.proofs.Common.{◌≡◌, ◌∙◌, ◌&&◌, ℕ, Bool, true, f
 use Rattle.std.specs.Option.{option_map, option_map_or}
 use Rattle.ticket_items.specs.declared.refusal.Refusal.TheVariants.{NotDone, UnknownEntry}
 use Rattle.ticket_rows.specs.Ticket.{unless}
-use Rattle.message_items.specs.declared.message.Message.{Message}
-use Rattle.message_items.specs.declared.reply.Reply.TheVariants as reply
+use Rattle.controller.specs.declared.message.Message.{Message}
+use Rattle.controller.specs.declared.reply.Reply.TheVariants as reply
 use Rattle.spawn.specs.Records as records
 use Rattle.worker_core.specs.Orders.{entry_refusal, return_of}
 use Rattle.worker_core.specs.Worker as worker
@@ -19,7 +19,7 @@ use Rattle.world.specs.ShopSteps.{Return, Tag, sends, spawn_worked, unless_refus
 use Rattle.world.specs.Showing.{phase_shown, shop_shown, spawn_shown}
 use Rattle.world.specs.State.{IsKept, State}
 use Rattle.world.specs.Stepping.{Moved, ordered_worker, refused, worker_moved}
-use Rattle.world.specs.declared.word.Word.TheVariants.{Did}
+use Rattle.world_items.specs.declared.word.Word.TheVariants.{Did}
 
 -- the work on the spawn that is shown is open just if it is on its entry
 open_either : (out here : Bool) → (out ≡ false → here ≡ false) → (out && here) ≡ here

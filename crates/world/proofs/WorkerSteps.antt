@@ -7,9 +7,9 @@ use Rattle.ticket_items.specs.declared.edit.Edit.{Edit}
 use Rattle.ticket_rows.proofs.AtHome.{find-passes}
 use Rattle.ticket_rows.specs.Edit.{is_structural}
 use Rattle.ticket_tree.specs.Part.{Copied}
-use Rattle.message_items.specs.declared.body.Body.{Body}
-use Rattle.message_items.specs.declared.body.Body.TheVariants.{Submit, Return, Answer}
-use Rattle.message_items.specs.declared.message.Message.{Message}
+use Rattle.controller.specs.declared.body.Body.{Body}
+use Rattle.controller.specs.declared.body.Body.TheVariants.{Submit, Return, Answer}
+use Rattle.controller.specs.declared.message.Message.{Message}
 use Rattle.spawn.specs.Parts.{part_for}
 use Rattle.spawn.specs.Records.{is_out}
 use Rattle.merge.proofs.Lawful.{made_part_fits}

@@ -1,8 +1,8 @@
 -- Laws of shops.
 use Rattle.std.specs.Prelude.{◌≡◌, ◌↔◌, ℕ, List, Some, slice_get}
 use Rattle.ticket_rows.specs.Ticket.{Job}
-use Rattle.message_items.specs.declared.message.Message.{Message}
-use Rattle.message_items.specs.declared.reply.Reply.{Reply}
+use Rattle.controller.specs.declared.message.Message.{Message}
+use Rattle.controller.specs.declared.reply.Reply.{Reply}
 use Rattle.spawn.specs.Marking.{marks}
 use Rattle.spawn.specs.declared.tables.holder.Holder.TheVariants.{Master}
 use Rattle.master_core.specs.Master as master
@@ -14,11 +14,11 @@ use Rattle.world.specs.SeenTicket.{ticket_seen}
 use Rattle.world.specs.ShopMarks.{shop_marks}
 use Rattle.world.specs.Showing.{shop_shown, shows}
 use Rattle.world.specs.State.{IsKept, State, message_at, opening}
-use Rattle.world.specs.declared.answer.Answer.{Answer}
-use Rattle.world.specs.declared.event.Event.{Event}
-use Rattle.world.specs.declared.stop.Stop.TheVariants.{Run}
-use Rattle.world.specs.declared.what.What.TheVariants.{Deliver}
-use Rattle.world.specs.declared.word.Word.TheVariants.{Did}
+use Rattle.world_items.specs.declared.answer.Answer.{Answer}
+use Rattle.world_items.specs.declared.event.Event.{Event}
+use Rattle.world_items.specs.declared.stop.Stop.TheVariants.{Run}
+use Rattle.world_items.specs.declared.what.What.TheVariants.{Deliver}
+use Rattle.world_items.specs.declared.word.Word.TheVariants.{Did}
 
 -- the message of a number is handed to its receiver
 abbrev pub delivery : ℕ → ℕ → Event

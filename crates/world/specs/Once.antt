@@ -1,11 +1,11 @@
 -- Which spawns' parts were put in, by the answers and by the records.
 use Rattle.std.specs.Prelude.{◌≡◌, ℕ, false, List, IsSomeAnd, Some, slice_get}
-use Rattle.message_items.specs.declared.reply.Reply.TheVariants.{Merged}
+use Rattle.controller.specs.declared.reply.Reply.TheVariants.{Merged}
 use Rattle.spawn.specs.Records.{is_out}
 use Rattle.master_core.specs.Master.{record_of}
 use Rattle.world.specs.State.{State}
-use Rattle.world.specs.declared.answer.Answer.{Answer}
-use Rattle.world.specs.declared.word.Word.TheVariants.{Did}
+use Rattle.world_items.specs.declared.answer.Answer.{Answer}
+use Rattle.world_items.specs.declared.word.Word.TheVariants.{Did}
 
 -- the answer tells that the part of a spawn was put in
 abbrev pub TellsMerge : ℕ → Answer → Type 0

@@ -13,13 +13,13 @@ use Rattle.world.specs.ShopActs as acts
 use Rattle.world.specs.ShopSteps.{Tag, master_does, message_comes, worker_does}
 use Rattle.world.specs.State.{message_at}
 use Rattle.world.specs.Stepping.{Moved}
-use Rattle.world.specs.declared.answer.Answer.{Answer}
-use Rattle.world.specs.declared.event.Event.{Event}
-use Rattle.world.specs.declared.stop.Stop.{Stop}
-use Rattle.world.specs.declared.what.What.{What}
-use Rattle.world.specs.declared.what.What.TheVariants.{MasterOrder, WorkerOrder, Deliver, Restart}
-use Rattle.world.specs.declared.word.Word.{Word}
-use Rattle.world.specs.declared.word.Word.TheVariants.{NoMessage, Refused, Restarted}
+use Rattle.world_items.specs.declared.answer.Answer.{Answer}
+use Rattle.world_items.specs.declared.event.Event.{Event}
+use Rattle.world_items.specs.declared.stop.Stop.{Stop}
+use Rattle.world_items.specs.declared.what.What.{What}
+use Rattle.world_items.specs.declared.what.What.TheVariants.{MasterOrder, WorkerOrder, Deliver, Restart}
+use Rattle.world_items.specs.declared.word.Word.{Word}
+use Rattle.world_items.specs.declared.word.Word.TheVariants.{NoMessage, Refused, Restarted}
 
 -- a shop, and the tags of the messages that were sent, in the order in which they went out
 pub record Shown : Type 0 where

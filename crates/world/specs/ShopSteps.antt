@@ -20,8 +20,8 @@ use Rattle.ticket_rows.specs.EditRefusal.{later_refusal, unknown_refusal}
 use Rattle.ticket_rows.specs.Place.{nodes_in, resources_in, up}
 use Rattle.ticket_rows.specs.Ticket.{first_of, unless}
 use Rattle.ticket_tree.specs.PlainEdit.{plain_lookups, stands}
-use Rattle.message_items.specs.declared.reply.Reply.{Reply}
-use Rattle.message_items.specs.declared.reply.Reply.TheVariants as reply
+use Rattle.controller.specs.declared.reply.Reply.{Reply}
+use Rattle.controller.specs.declared.reply.Reply.TheVariants as reply
 use Rattle.spawn.specs.Claim.{claim, ids_of, linked_outside, linked_ro}
 use Rattle.master_core.specs.Orders.{held_refusal}
 use Rattle.master_core.specs.declared.order.Order as master_order
@@ -33,8 +33,8 @@ use Rattle.world.specs.Shop.{Shop, SpawnState, has_number, is_away, is_done, is_
 use Rattle.world.specs.Shop.{next_number, spawn_of}
 use Rattle.world.specs.ShopActs.{edited, finished, is_held_by, merged, spawned, taken, worked}
 use Rattle.world.specs.Stepping.{Moved, refused}
-use Rattle.world.specs.declared.word.Word.{Word}
-use Rattle.world.specs.declared.word.Word.TheVariants.{Did, NoMessage}
+use Rattle.world_items.specs.declared.word.Word.{Word}
+use Rattle.world_items.specs.declared.word.Word.TheVariants.{Did, NoMessage}
 
 -- a message that was sent, without what it says: a part goes out, or comes back, or either is
 -- answered

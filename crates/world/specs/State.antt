@@ -2,7 +2,7 @@
 use Rattle.std.specs.Prelude.{◌≡◌, ℕ, zero, suc, List, [], map, slice_get, Option, None}
 use Rattle.std.specs.List.{All}
 use Rattle.ticket_rows.specs.Ticket.{Job}
-use Rattle.message_items.specs.declared.message.Message.{Message}
+use Rattle.controller.specs.declared.message.Message.{Message}
 use Rattle.master_core.specs.Master as master
 use Rattle.worker_core.specs.Worker as worker
 pub use Rattle.world.specs.Controllers.{Controllers, is_controller, is_named, with_worker}

@@ -3,9 +3,9 @@
 use Rattle.std.specs.Prelude.{ℕ, Option, None, Result, Ok, Err}
 use Rattle.std.specs.Option.{option_map_or}
 use Rattle.ticket_items.specs.declared.refusal.Refusal.{Refusal}
-use Rattle.message_items.specs.declared.done.Done.{Done}
-use Rattle.message_items.specs.declared.message.Message.{Message}
-use Rattle.message_items.specs.declared.reply.Reply.{Reply}
+use Rattle.controller.specs.declared.done.Done.{Done}
+use Rattle.controller.specs.declared.message.Message.{Message}
+use Rattle.controller.specs.declared.reply.Reply.{Reply}
 use Rattle.master_core.specs.Master as master
 use Rattle.master_core.specs.Messages as master_messages
 use Rattle.master_core.specs.Orders as master_orders
@@ -15,8 +15,8 @@ use Rattle.worker_core.specs.Messages as worker_messages
 use Rattle.worker_core.specs.Orders as worker_orders
 use Rattle.worker_core.specs.declared.order.Order as worker_order
 use Rattle.world.specs.State.{Controllers, with_worker}
-use Rattle.world.specs.declared.word.Word.{Word}
-use Rattle.world.specs.declared.word.Word.TheVariants.{Did, Refused}
+use Rattle.world_items.specs.declared.word.Word.{Word}
+use Rattle.world_items.specs.declared.word.Word.TheVariants.{Did, Refused}
 
 -- a state after a step, what the step says, and what it sends
 pub record Moved (S M : Type 0) : Type 0 where

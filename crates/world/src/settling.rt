@@ -2,12 +2,11 @@
 
 ghost use Rattle.std.specs.Prelude.{◌≡◌, ◌<◌, vec_capacity, vec_len};
 ghost use Rattle.world.specs.Settling as settling;
-ghost use Rattle.world.specs.declared.stop.Stop.TheVariants.{BeforeSave};
+ghost use Rattle.world_items.specs.declared.stop.Stop.TheVariants.{BeforeSave};
 
-use crate::answer::Answer;
-use crate::stop::Stop;
 use crate::told::Told;
-use message_items::Message;
+use controller::Message;
+use world_items::{Answer, Stop};
 
 /// Sends a message, if there is one, and tells its number. There is room for it.
 fn send(messages: &mut Vec<Message>, sent: Option<Message>) -> Option<u64>

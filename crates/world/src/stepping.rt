@@ -6,16 +6,14 @@ ghost use Rattle.std.specs.Prelude.{◌≡◌, Err, IfOk, OnErr, OnOk};
 ghost use Rattle.world.specs.Settling as settling;
 ghost use Rattle.world.specs.Stepping as stepping;
 
-use crate::answer::Answer;
 use crate::settling::settle;
-use crate::stop::Stop;
 use crate::told::Told;
-use crate::word::Word;
+use controller::{Done, Message, Outcome, Reply};
 use master_core::Master;
-use message_items::{Done, Message, Outcome, Reply};
 use std::alloc::{AllocError, Global};
 use ticket_tree::Refusal;
 use worker_core::Worker;
+use world_items::{Answer, Stop, Word};
 
 /// What is replied, in a word.
 fn word_of(reply: Result<Reply, Refusal>) -> Word

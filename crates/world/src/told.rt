@@ -1,5 +1,5 @@
-use crate::word::Word;
-use message_items::Message;
+use controller::Message;
+use world_items::Word;
 
 /// What a controller says at a step that it made.
 #[derive(Drop)]

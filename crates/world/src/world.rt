@@ -1,20 +1,16 @@
-use crate::answer::Answer;
-use crate::event::Event;
 use crate::stepping;
-use crate::stop::Stop;
-use crate::what::What;
-use crate::word::Word;
 use crate::workers::{new_workers, place_of};
+use controller::Message;
 use master_core::Master;
-use message_items::Message;
 use std::alloc::{AllocError, Global};
 use std::marker::Model;
 use ticket_tree::{Duplicate, Id, Ids, Refusal, Ticket};
 use worker_core::Worker;
+use world_items::{Answer, Event, Stop, What, Word};
 
 /// A master, its workers, and every message that they sent. What is kept of a controller is its
 /// stored state, from which it is started again; between events each controller is as it is stored.
-#[derive(Debug, Drop)]
+#[derive(Drop)]
 pub struct World {
     master: Master,
     workers: Vec<Worker>,

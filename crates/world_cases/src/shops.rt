@@ -1,10 +1,10 @@
 //! The command `world` over the text of a line.
 
 use case_lines::Answers;
-use counted::Counted;
+use streams::Counted;
 use std::alloc::{AllocError, Global};
 use ticket_tree::Refusal;
-use world_command::run_world;
+use jdf_commands::run_world;
 
 /// Answers scripts.
 #[derive(Drop)]

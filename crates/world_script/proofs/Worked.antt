@@ -11,23 +11,23 @@ use Rattle.ticket_items.specs.declared.refusal.Refusal.{Refusal}
 use Rattle.ticket_items.specs.declared.refusal.Refusal.TheVariants.{BadId, BadText, DuplicateId}
 use Rattle.ticket_items.specs.declared.refusal.Refusal.TheVariants.{NotHeld, NotProfile, SameName}
 use Rattle.ticket_items.specs.declared.refusal.Refusal.TheVariants.{ReservedStatus, UnknownWorker}
-use Rattle.json_form.specs.Draft.{own_row, ticket_draft}
-use Rattle.shop_form.specs.ShopForm.{shop_draft}
-use Rattle.json_form.specs.Form.{node_has_names, pools_have_names, row_has_texts}
-use Rattle.json_forms.specs.Edits.{edit_draft, adding_draft, note_draft}
-use Rattle.message_items.specs.declared.reply.Reply.TheVariants as reply
+use Rattle.json_shapes.specs.Draft.{own_row, ticket_draft}
+use Rattle.controller_form.specs.Openings.ShopForm.{shop_draft}
+use Rattle.json_shapes.specs.Form.{node_has_names, pools_have_names, row_has_texts}
+use Rattle.json_items.specs.Edits.{edit_draft, adding_draft, note_draft}
+use Rattle.controller.specs.declared.reply.Reply.TheVariants as reply
 use Rattle.master_core.specs.declared.order.Order.TheVariants as master
 use Rattle.worker_core.specs.declared.order.Order.TheVariants as worker
-use Rattle.order_form.specs.MasterForm as master_form
-use Rattle.order_form.specs.WorkerForm as worker_form
-use Rattle.world.specs.declared.answer.Answer.{Answer}
-use Rattle.world.specs.declared.event.Event.{Event}
-use Rattle.world.specs.declared.stop.Stop.{Stop}
-use Rattle.world.specs.declared.stop.Stop.TheVariants.{Run, BeforeSave, BeforeSend}
-use Rattle.world.specs.declared.what.What.{What}
-use Rattle.world.specs.declared.what.What.TheVariants.{MasterOrder, WorkerOrder, Deliver, Restart}
-use Rattle.world.specs.declared.word.Word.{Word}
-use Rattle.world.specs.declared.word.Word.TheVariants.{Did, Refused, Stopped, Restarted, NoMessage}
+use Rattle.controller_form.specs.Orders.MasterForm as master_form
+use Rattle.controller_form.specs.Orders.WorkerForm as worker_form
+use Rattle.world_items.specs.declared.answer.Answer.{Answer}
+use Rattle.world_items.specs.declared.event.Event.{Event}
+use Rattle.world_items.specs.declared.stop.Stop.{Stop}
+use Rattle.world_items.specs.declared.stop.Stop.TheVariants.{Run, BeforeSave, BeforeSend}
+use Rattle.world_items.specs.declared.what.What.{What}
+use Rattle.world_items.specs.declared.what.What.TheVariants.{MasterOrder, WorkerOrder, Deliver, Restart}
+use Rattle.world_items.specs.declared.word.Word.{Word}
+use Rattle.world_items.specs.declared.word.Word.TheVariants.{Did, Refused, Stopped, Restarted, NoMessage}
 use Rattle.world_script.specs.AnswerText.{answer_text}
 use Rattle.world_script.specs.EventForm.{event_form, what_form, kind_form, order_form}
 use Rattle.world_script.specs.EventForm.{deliver_form, restart_form}

@@ -4,11 +4,11 @@ use Rattle.ticket_items.specs.Refusal.{number_of, name_of}
 use Rattle.ticket_items.specs.SpawnId.{spawn_text}
 use Rattle.ticket_items.specs.declared.refusal.Refusal.{Refusal}
 use Rattle.ticket_items.specs.declared.refusal.Refusal.TheVariants.{NotHeld}
-use Rattle.message_items.specs.Reply as replies
-use Rattle.message_items.specs.declared.reply.Reply.{Reply}
-use Rattle.world.specs.declared.answer.Answer.{Answer}
-use Rattle.world.specs.declared.word.Word.{Word}
-use Rattle.world.specs.declared.word.Word.TheVariants.{Did, Refused, Stopped, Restarted, NoMessage}
+use Rattle.controller.specs.Reply as replies
+use Rattle.controller.specs.declared.reply.Reply.{Reply}
+use Rattle.world_items.specs.declared.answer.Answer.{Answer}
+use Rattle.world_items.specs.declared.word.Word.{Word}
+use Rattle.world_items.specs.declared.word.Word.TheVariants.{Did, Refused, Stopped, Restarted, NoMessage}
 
 -- a space and the id of a spawn, if there is one
 abbrev pub spawn_behind : Option ℕ → List ℕ

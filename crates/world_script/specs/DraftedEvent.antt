@@ -1,10 +1,10 @@
 -- What the draft of an event is as an event.
 use Rattle.std.specs.Prelude.{List, map}
-use Rattle.order_form.specs.DraftedMasterOrder.{drafted_master_order}
-use Rattle.order_form.specs.DraftedWorkerOrder.{drafted_worker_order}
-use Rattle.world.specs.declared.event.Event.{Event}
-use Rattle.world.specs.declared.what.What.{What}
-use Rattle.world.specs.declared.what.What.TheVariants as whats
+use Rattle.controller_form.specs.Orders.DraftedMasterOrder.{drafted_master_order}
+use Rattle.controller_form.specs.Orders.DraftedWorkerOrder.{drafted_worker_order}
+use Rattle.world_items.specs.declared.event.Event.{Event}
+use Rattle.world_items.specs.declared.what.What.{What}
+use Rattle.world_items.specs.declared.what.What.TheVariants as whats
 use Rattle.world_script.specs.declared.event_draft.EventDraft.{EventDraft}
 use Rattle.world_script.specs.declared.what_draft.WhatDraft.{WhatDraft}
 use Rattle.world_script.specs.declared.what_draft.WhatDraft.TheVariants.{MasterOrder, WorkerOrder}

@@ -1,5 +1,5 @@
 -- What the draft of a script is as a value.
-use Rattle.shop_form.specs.DraftedShop.{drafted_shop}
+use Rattle.controller_form.specs.Openings.DraftedShop.{drafted_shop}
 use Rattle.world_script.specs.DraftedEvent.{drafted_events}
 use Rattle.world_script.specs.Script.{RawScript}
 use Rattle.world_script.specs.declared.script_draft.ScriptDraft.{ScriptDraft}

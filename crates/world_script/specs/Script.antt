@@ -6,13 +6,13 @@ use Rattle.serde_json.specs.Data.{Data}
 use Rattle.serde_json.specs.Find.{get}
 use Rattle.ticket_items.specs.declared.refusal.Refusal.{Refusal}
 use Rattle.ticket_items.specs.declared.refusal.Refusal.TheVariants.{NotProfile}
-use Rattle.json_forms.specs.Judged.{checked_fault, sound}
-use Rattle.json_forms.specs.Listed.{list_form}
+use Rattle.json_items.specs.Judged.{checked_fault, sound}
+use Rattle.json_items.specs.Listed.{list_form}
 use Rattle.json_profile.specs.ReadAs as bytes
 use Rattle.json_source.specs.Read.{◌>>=◌, provided, has_only}
-use Rattle.shop_form.specs.ShopForm.{RawShop, shop_draft, shop_fault, shop_has_names}
-use Rattle.shop_form.specs.ShopForm.{shop_has_texts}
-use Rattle.world.specs.declared.event.Event.{Event}
+use Rattle.controller_form.specs.Openings.ShopForm.{RawShop, shop_draft, shop_fault, shop_has_names}
+use Rattle.controller_form.specs.Openings.ShopForm.{shop_has_texts}
+use Rattle.world_items.specs.declared.event.Event.{Event}
 use Rattle.world_script.specs.EventForm.{event_form, event_has_names, event_has_texts}
 use Rattle.world_script.specs.declared.script.Script.{Script}
 

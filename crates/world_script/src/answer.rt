@@ -3,10 +3,10 @@
 ghost use Rattle.std.specs.Prelude.{◌≡◌, ◌++◌, string_bytes, IfOk, OnOk};
 ghost use Rattle.world_script.specs.AnswerText as texts;
 
-use message_items::Reply;
+use controller::Reply;
 use std::alloc::{AllocError, Global};
 use ticket_tree::{Refusal, SpawnId};
-use world::{Answer, Word};
+use world_items::{Answer, Word};
 
 /// A text with the id of a spawn behind it, if there is one.
 fn with_spawn(alloc: Global, text: &str, spawn: Option<SpawnId>) -> Result<String, AllocError>

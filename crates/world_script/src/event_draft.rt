@@ -1,10 +1,10 @@
 use crate::stop_word::stop_under;
 use crate::what_draft::WhatDraft;
-use json_forms::number_under;
+use json_items::number_under;
 use serde_json::Value;
 use std::alloc::Global;
 use ticket_tree::Refusal;
-use world::{Event, Stop};
+use world_items::{Event, Stop};
 
 /// An event by its members and their kinds alone: its ids, names and texts may be any.
 #[derive(Drop)]

@@ -3,7 +3,7 @@
 ghost use Rattle.std.specs.Prelude.{◌≡◌, true, IfOk, IfErr};
 ghost use Rattle.std.specs.List.{list_all};
 ghost use Rattle.serde_json.specs.View.{items_view};
-ghost use Rattle.json_forms.specs.Listed.{each};
+ghost use Rattle.json_items.specs.Listed.{each};
 ghost use Rattle.json_source.specs.Read.{Gives};
 ghost use Rattle.world_script.specs.DraftedEvent.{drafted_event, drafted_events};
 ghost use Rattle.world_script.specs.EventForm.{event_form, event_has_names, event_has_texts};
@@ -12,7 +12,7 @@ use crate::event_draft::EventDraft;
 use serde_json::Value;
 use std::alloc::Global;
 use ticket_tree::{Items, Refusal};
-use world::Event;
+use world_items::Event;
 
 /// The drafts that the items are, in a shop whose master has this name. Refuses `NotProfile`, and
 /// `Memory`.

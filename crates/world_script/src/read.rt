@@ -2,12 +2,12 @@
 
 ghost use Rattle.std.specs.Prelude.{Ok, IfOk, IfErr};
 ghost use Rattle.serde_json.specs.View.{view};
-ghost use Rattle.json_forms.specs.Judged.{Answers};
+ghost use Rattle.json_items.specs.Judged.{Answers};
 ghost use Rattle.world_script.specs.Script.{IsReadAs, IsRefusalOf, script_read};
 
 use crate::script::Script;
 use crate::script_draft::ScriptDraft;
-use json_forms::Checked;
+use json_items::Checked;
 use json_profile::value_of;
 use serde_json::Value;
 use std::alloc::Global;

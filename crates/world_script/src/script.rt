@@ -1,8 +1,8 @@
 use ticket_tree::{Id, Ids, Items, Ticket};
-use world::Event;
+use world_items::Event;
 
 /// A shop, and what happens in it.
-#[derive(Debug, Drop)]
+#[derive(Drop)]
 pub struct Script {
     /// The master's name.
     pub master: Id,

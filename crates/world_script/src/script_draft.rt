@@ -1,9 +1,9 @@
 use crate::event_draft::EventDraft;
 use crate::event_drafts::{build_events, event_drafts, have_names, have_texts};
 use crate::script::Script;
-use json_forms::{Checked, Drafts, only};
+use controller_form::{Shop, ShopDraft};
+use json_items::{Checked, Drafts, only};
 use serde_json::Value;
-use shop_form::{Shop, ShopDraft};
 use std::alloc::Global;
 use ticket_tree::Refusal;
 
@@ -16,7 +16,7 @@ pub struct ScriptDraft<'a> {
 
 impl<'a> ScriptDraft<'a> {
     ghost use Rattle.serde_json.specs.View.{view};
-    ghost use Rattle.json_form.specs.Read.{Gives};
+    ghost use Rattle.json_shapes.specs.Read.{Gives};
     ghost use Rattle.world_script.specs.DraftedEvent.{drafted_events};
     ghost use Rattle.world_script.specs.DraftedScript.{drafted_script};
     ghost use Rattle.world_script.specs.Script as form;
@@ -48,7 +48,7 @@ impl<'a> ScriptDraft<'a> {
 }
 
 impl<'a> Checked for ScriptDraft<'a> {
-    ghost use Rattle.shop_form.specs.ShopForm.{shop_fault};
+    ghost use Rattle.controller_form.specs.Openings.ShopForm.{shop_fault};
     ghost use Rattle.world_script.specs.DraftedScript.{drafted_script};
     ghost use Rattle.world_script.specs.Script as form;
 
@@ -66,7 +66,7 @@ impl<'a> Checked for ScriptDraft<'a> {
         self.shop.has_names() && have_names(self.events.as_slice())
     }
 
-    #[tactic(auto, using(json_forms::proofs::Tests::all_mapped))]
+    #[tactic(auto, using(json_items::proofs::Tests::all_mapped))]
     fn has_texts(&self) -> bool {
         self.shop.has_texts() && have_texts(self.events.as_slice())
     }

@@ -8,7 +8,7 @@ ghost use Rattle.world_script.specs.EventForm as form;
 
 use serde_json::Value;
 use ticket_tree::Refusal;
-use world::Stop;
+use world_items::Stop;
 
 /// The stop that a word names.
 fn stop_named(word: &str) -> Option<Stop>

@@ -6,13 +6,13 @@ ghost use Rattle.json_source.specs.Read.{Gives};
 ghost use Rattle.world_script.specs.DraftedEvent.{drafted_what};
 ghost use Rattle.world_script.specs.EventForm as form;
 
-use json_forms::{Borrowed, Checked, Draft, number_under, text_under};
+use controller_form::{MasterOrderDraft, WorkerOrderDraft};
+use json_items::{Borrowed, Checked, Draft, number_under, text_under};
 use json_source::Source;
-use order_form::{MasterOrderDraft, WorkerOrderDraft};
 use serde_json::Value;
 use std::alloc::Global;
 use ticket_tree::{Id, Refusal};
-use world::What;
+use world_items::What;
 
 /// What happens to a controller by its members and their kinds alone: its ids, names and texts may
 /// be any.

@@ -1,7 +1,7 @@
 //! What `Counted` counts is what its reader or writer was called for and answered.
 
 use super::fakes::{Sink, Source};
-use counted::Counted;
+use streams::Counted;
 use std::alloc::Global;
 use std::io::{ErrorKind, Read, Write};
 

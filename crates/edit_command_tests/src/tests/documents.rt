@@ -1,7 +1,7 @@
 //! Runs of `edit` over texts: what is written for a document, and why one is refused.
 
-use counted::Counted;
-use edit_command::run_edit;
+use streams::Counted;
+use jdf_commands::run_edit;
 use std::alloc::{AllocError, Global};
 use std::test::Fail;
 

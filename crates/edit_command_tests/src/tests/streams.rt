@@ -1,9 +1,8 @@
 //! Runs of `edit` over readers and writers that are slow, cut, interrupted or fail.
 
 use super::fakes::{Sink, Source};
-use command_streams::MAX_INPUT_BYTES;
-use counted::Counted;
-use edit_command::run_edit;
+use streams::{Counted, MAX_INPUT_BYTES};
+use jdf_commands::run_edit;
 use std::alloc::Global;
 use std::io::ErrorKind;
 

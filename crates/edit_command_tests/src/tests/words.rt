@@ -1,7 +1,7 @@
 //! What the words of the command line call for.
 
-use command_line::run_words;
-use counted::Counted;
+use jdf_commands::run_words;
+use streams::Counted;
 use std::alloc::{AllocError, Global};
 use std::test::Fail;
 

@@ -4,7 +4,7 @@ use super::holds;
 use super::lent::Lent;
 use super::texts::{NO_ENTRY, OPEN_ENTRY, SUBMIT};
 use keepers::FailingKeep;
-use message_items::Reply;
+use controller::Reply;
 use std::alloc::Global;
 use std::test::Fail;
 use stored_state::{Kept, Refused};

@@ -1,5 +1,5 @@
 /// How far a spawn is.
-#[derive(Clone, Copy, Debug, PartialEq, Eq)]
+#[derive(Clone, Copy, PartialEq, Eq)]
 pub enum Phase {
     /// Its part is with another controller.
     Out,

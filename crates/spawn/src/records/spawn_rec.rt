@@ -3,7 +3,7 @@ use ticket_tree::{Duplicate, Id, Ids, Resources, SpawnId};
 
 /// What the owner of a ticket remembers of a spawn (JDF 1.5, 4.4). The record of a spawn that was
 /// merged keeps its fields.
-#[derive(Clone, Debug, Drop)]
+#[derive(Clone, Drop)]
 pub struct SpawnRec {
     pub id: SpawnId,
     /// The node that was spawned, with all below it.

@@ -1,7 +1,7 @@
 use ticket_tree::SpawnId;
 
 /// Who may change a node or a resource.
-#[derive(Clone, Copy, Debug, PartialEq, Eq)]
+#[derive(Clone, Copy, PartialEq, Eq)]
 pub enum Holder {
     Master,
     /// The controller to which this spawn went.

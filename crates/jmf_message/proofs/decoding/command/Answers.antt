@@ -1,5 +1,5 @@
 use Rattle.std.proofs.Common.{◌∙◌, Ok, sym, ap}
-use Rattle.json_form.specs.PartForm.{copied}
+use Rattle.json_shapes.specs.PartForm.{copied}
 use Rattle.json_reader.specs.DraftedPart.{drafted_part}
 use Rattle.jmf_message.specs.Said.{body_with, command_body, command_of}
 use Rattle.jmf_message.proofs.Saying.{handed_on, part_good, part_refused, right_command, same_message}

@@ -2,7 +2,7 @@ use Rattle.std.proofs.Common.{◌∙◌, map, ap}
 use Rattle.std.proofs.lemmas.Bool.{and_from}
 use Rattle.std.proofs.lemmas.List.{nil_from_length}
 use Rattle.std.specs.List.{list_all}
-use Rattle.json_form.specs.Form.{row_has_names, row_has_texts}
+use Rattle.json_shapes.specs.Form.{row_has_names, row_has_texts}
 use Rattle.json_profile.proofs.write.job_value.Goals as goal
 
 pub returns-in_default-clause-names : goal.returns-in_default-clause-names

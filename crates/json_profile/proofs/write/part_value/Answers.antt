@@ -3,8 +3,8 @@ use Rattle.std.specs.List.{list_all}
 use Rattle.serde_json.specs.Data.{depth}
 use Rattle.serde_json.specs.Written.{has_float}
 use Rattle.ticket_items.specs.SpawnId.{spawn_text}
-use Rattle.json_form.specs.Form.{row_has_names, row_has_texts}
-use Rattle.json_form.specs.PartForm.{part_read}
+use Rattle.json_shapes.specs.Form.{row_has_names, row_has_texts}
+use Rattle.json_shapes.specs.PartForm.{part_read}
 use Rattle.json_writer.specs.PartWritten.{rows_data}
 use Rattle.json_profile.proofs.PartAgain.{IsKnown, part_again}
 use Rattle.json_profile.proofs.Shape.{part_data_plain, part_data_low, readable}

@@ -1,9 +1,9 @@
 use Rattle.std.proofs.Common.{◌∙◌, ◌≤◌, sym, ap, subst, arith}
 use Rattle.serde_json.specs.Data.{depth}
 use Rattle.serde_json.specs.Written.{has_float}
-use Rattle.json_form.specs.PoolForm.{nothing_shown}
-use Rattle.json_form.specs.PoolWritten.{resource_data}
-use Rattle.json_form.specs.ResourceForm.{resource_read}
+use Rattle.json_shapes.specs.PoolForm.{nothing_shown}
+use Rattle.json_shapes.specs.PoolWritten.{resource_data}
+use Rattle.json_shapes.specs.ResourceForm.{resource_read}
 use Rattle.json_writer.proofs.Plain.{resource_plain}
 use Rattle.json_profile.proofs.PoolShape.{resource_nests}
 use Rattle.json_profile.proofs.ResourceAgain.{resource_again}

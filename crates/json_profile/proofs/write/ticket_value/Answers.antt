@@ -4,7 +4,7 @@ use Rattle.std.specs.List.{list_all}
 use Rattle.serde_json.specs.Data.{depth}
 use Rattle.serde_json.specs.Written.{has_float}
 use Rattle.ticket_items.specs.Names.{is_name}
-use Rattle.json_form.specs.Form.{ticket_read, job_has_names, job_has_texts, row_has_names, row_has_texts}
+use Rattle.json_shapes.specs.Form.{ticket_read, job_has_names, job_has_texts, row_has_names, row_has_texts}
 use Rattle.json_writer.specs.Marked.{no_marks, marked_rows}
 use Rattle.json_writer.specs.Written.{job_data}
 use Rattle.json_profile.proofs.RoundTrip.{ticket_again}

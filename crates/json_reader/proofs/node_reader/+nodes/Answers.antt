@@ -1,8 +1,8 @@
 use Rattle.std.proofs.Common.{◌∙◌, ◌∷◌, [], map, sym, ap, Some, None}
 use Rattle.std.specs.Option.{option_map}
 use Rattle.serde_json.specs.View.{view}
-use Rattle.json_form.specs.Draft.{list_rows}
-use Rattle.json_forms.proofs.ListLemmas.{Fails-weaker}
+use Rattle.json_shapes.specs.Draft.{list_rows}
+use Rattle.json_items.proofs.ListLemmas.{Fails-weaker}
 use Rattle.json_reader.specs.Drafted.{drafted_raw}
 use Rattle.json_reader.proofs.Nodes.{so_far_more, so_far_none, so_far_all, list_rows-array, node_rows-object, found_children, drafted_rows-push, pushed_children}
 use Rattle.json_reader.proofs.node_reader.+nodes.Goals as goal

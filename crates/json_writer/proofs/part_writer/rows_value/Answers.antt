@@ -3,8 +3,8 @@ use Rattle.std.proofs.lemmas.Bool.{and_from}
 use Rattle.std.proofs.lemmas.List.{nil_from_length}
 use Rattle.std.specs.List.{list_all}
 use Rattle.serde_json.specs.Data.{put, string, array}
-use Rattle.json_form.specs.Form.{row_has_names, row_has_texts}
-use Rattle.json_form.specs.Listed.{data_items}
+use Rattle.json_shapes.specs.Form.{row_has_names, row_has_texts}
+use Rattle.json_shapes.specs.Listed.{data_items}
 use Rattle.serde_json.specs.View.{members_view, view}
 use Rattle.serde_json.proofs.Views.{view-Object}
 use Rattle.json_writer.specs.Marked.{no_marks, marked_rows}

@@ -1,8 +1,8 @@
 use Rattle.std.proofs.Common.{◌≡◌, ◌∙◌, ◌++◌, IfOk, map, ap, subst}
 use Rattle.serde_json.specs.Data.{object}
 use Rattle.serde_json.specs.View.{items_of, items_view, members_view, view}
-use Rattle.json_form.specs.PoolForm.{nothing_shown}
-use Rattle.json_form.specs.PoolWritten.{all_showing, raw_data}
+use Rattle.json_shapes.specs.PoolForm.{nothing_shown}
+use Rattle.json_shapes.specs.PoolWritten.{all_showing, raw_data}
 use Rattle.json_writer.specs.Marked.{no_marks, marked_rows}
 use Rattle.json_writer.specs.Written.{children, node_object, trees}
 use Rattle.json_writer.proofs.part_writer.tree_map.Goals as goal

@@ -1,8 +1,8 @@
 use Rattle.std.proofs.Common.{◌≡◌, true, map, take}
 use Rattle.std.specs.List.{list_all}
 use Rattle.serde_json.specs.View.{view}
-use Rattle.json_form.specs.PoolForm.{resource_has_names, resource_has_texts}
-use Rattle.json_form.specs.PoolWritten.{raw_data}
+use Rattle.json_shapes.specs.PoolForm.{resource_has_names, resource_has_texts}
+use Rattle.json_shapes.specs.PoolWritten.{raw_data}
 use Rattle.json_writer.specs.Marked.{marked_pool}
 use Rattle.json_writer.proofs.resource_writer.marked_values.Given as goal
 

@@ -2,9 +2,9 @@ use Rattle.std.proofs.Common.{◌∙◌, map, sym, ap}
 use Rattle.std.proofs.lemmas.List.{take_all}
 use Rattle.std.specs.List.{list_all}
 use Rattle.serde_json.specs.View.{view}
-use Rattle.json_form.specs.PoolForm.{resource_has_names, resource_has_texts}
-use Rattle.json_form.specs.PoolWritten.{all_showing, raw_data}
-use Rattle.json_forms.proofs.Tests.{list_all-more}
+use Rattle.json_shapes.specs.PoolForm.{resource_has_names, resource_has_texts}
+use Rattle.json_shapes.specs.PoolWritten.{all_showing, raw_data}
+use Rattle.json_items.proofs.Tests.{list_all-more}
 use Rattle.json_writer.proofs.Pools.{map-more_made}
 use Rattle.json_writer.proofs.resource_writer.resource_values.Goals as goal
 

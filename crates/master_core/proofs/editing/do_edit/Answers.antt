@@ -1,6 +1,6 @@
 use Rattle.std.proofs.Common.{◌≡◌, ◌∙◌, Err, None, refl, sym}
 use Rattle.ticket_rows.specs.Edit.{refusal_of}
-use Rattle.message_items.specs.declared.done.Done.{Done}
+use Rattle.controller.specs.declared.done.Done.{Done}
 use Rattle.master_core.proofs.Passing.{if_free, if_refused, not_wanted, wants_memory}
 use Rattle.master_core.proofs.Refusals.{edit_free}
 use Rattle.master_core.specs.Master.{known}

@@ -2,7 +2,7 @@ use Rattle.std.proofs.Common.{◌≡◌, ◌∙◌, ℕ, List, true, Some, Resul
 use Rattle.std.proofs.lemmas.List.{set-get_or}
 use Rattle.std.specs.List.{position}
 use Rattle.std.specs.Option.{option_map}
-use Rattle.message_items.specs.declared.done.Done.{Done}
+use Rattle.controller.specs.declared.done.Done.{Done}
 use Rattle.worker_core.proofs.AtNumber.{found_there, write_at_number}
 use Rattle.worker_core.proofs.Kept.{number_of}
 use Rattle.worker_core.proofs.Places.{place_seen, refused_at}

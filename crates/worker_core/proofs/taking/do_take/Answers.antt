@@ -1,6 +1,6 @@
 use Rattle.std.proofs.Common.{◌≡◌, ◌∙◌, Result, Ok, Err, IfOk, sym, ap, subst}
 use Rattle.std.specs.Result.{result_and}
-use Rattle.message_items.specs.Reply.{answer_to, spawn_in, told_of}
+use Rattle.controller.specs.Reply.{answer_to, spawn_in, told_of}
 use Rattle.worker_core.proofs.MessageLaws.{status_stays}
 use Rattle.worker_core.specs.Messages.{after_taking, take_refusal}
 use Rattle.worker_core.specs.Worker.{known, status_in}

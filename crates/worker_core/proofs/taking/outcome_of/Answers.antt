@@ -1,5 +1,5 @@
 use Rattle.std.proofs.Common.{◌∙◌, ap}
-use Rattle.message_items.specs.Reply.{answer_to, told_of}
+use Rattle.controller.specs.Reply.{answer_to, told_of}
 use Rattle.worker_core.specs.Worker.{status_in}
 use Rattle.worker_core.proofs.taking.outcome_of.Goals as goal
 

@@ -3,7 +3,7 @@ use Rattle.master_core.specs.Orders.{order_message, order_refusal, order_reply, 
 use Rattle.world.proofs.Answered.{answered, stored_so}
 use Rattle.world.specs.Settling as settling
 use Rattle.world.specs.Stepping.{ordered_master}
-use Rattle.world.specs.declared.stop.Stop.TheVariants.{BeforeSave}
+use Rattle.world_items.specs.declared.stop.Stop.TheVariants.{BeforeSave}
 use Rattle.world.proofs.stepping.master_is_told.Goals as goal
 
 -- the step is that of the definitions

@@ -1,7 +1,7 @@
 use Rattle.std.proofs.Common.{◌∙◌, sym, ap, map, Some}
 use Rattle.std.proofs.lemmas.List.{take_all}
 use Rattle.serde_json.specs.View.{view}
-use Rattle.json_forms.proofs.ListLemmas.{each-all, Fails-each, Gives-failed, map-more_both}
+use Rattle.json_items.proofs.ListLemmas.{each-all, Fails-each, Gives-failed, map-more_both}
 use Rattle.world_script.specs.DraftedEvent.{drafted_event, drafted_events}
 use Rattle.world_script.specs.EventForm.{event_form}
 use Rattle.world_script.proofs.event_drafts.event_drafts.Goals as goal

@@ -6,11 +6,11 @@ use Rattle.ticket_items.specs.declared.node_row.NodeRow.{NodeRow}
 use Rattle.ticket_items.specs.declared.refusal.Refusal.{Refusal}
 use Rattle.ticket_items.specs.declared.refusal.Refusal.TheVariants.{Memory}
 use Rattle.ticket_rows.specs.Ticket.{IsValid, fault_of}
-use Rattle.json_form.specs.Draft.{resources_of}
-use Rattle.json_form.specs.Form.{row_has_names, row_has_texts}
-use Rattle.json_form.specs.PartForm.{all_rows}
-use Rattle.json_form.specs.PoolForm.{resource_has_names, resource_has_texts}
-use Rattle.json_forms.proofs.Tests.{all_true}
+use Rattle.json_shapes.specs.Draft.{resources_of}
+use Rattle.json_shapes.specs.Form.{row_has_names, row_has_texts}
+use Rattle.json_shapes.specs.PartForm.{all_rows}
+use Rattle.json_shapes.specs.PoolForm.{resource_has_names, resource_has_texts}
+use Rattle.json_items.proofs.Tests.{all_true}
 use Rattle.json_reader.specs.Drafted.{drafted_resources, drafted_row, drafted_rows}
 use Rattle.json_reader.specs.DraftedPart.{drafted_ancestor, drafted_part}
 use Rattle.json_reader.specs.DraftedPool.{drafted_resource}

@@ -1,5 +1,5 @@
 use Rattle.std.proofs.Common.{◌≡◌, ◌∙◌, cond, is_some, sym, ap}
-use Rattle.message_items.specs.Reply.{answer_to, told_of}
+use Rattle.controller.specs.Reply.{answer_to, told_of}
 use Rattle.master_core.proofs.Kept.{kept_told}
 use Rattle.master_core.proofs.Merging.{fit_of}
 use Rattle.master_core.proofs.Passing.{answer_of_both, no_refusal, ok_of_both}

@@ -3,12 +3,12 @@ use Rattle.std.proofs.Common.{◌≡◌, inl, inr, ℕ, List, Bool, Result, Ok, 
 use Rattle.serde_json.specs.Written.{compact_text}
 use Rattle.ticket_items.specs.declared.refusal.Refusal.{Refusal}
 use Rattle.ticket_items.specs.declared.refusal.Refusal.TheVariants.{Memory}
-use Rattle.message_items.specs.declared.message.Message.{Message}
+use Rattle.controller.specs.declared.message.Message.{Message}
 use Rattle.jmf_message.specs.Decoded.{IsDecodedAs, IsRefusalOf as IsUndecoded}
 use Rattle.stored_state.specs.Held.{GivesNothing, Held, StepGivesNothing}
 use Rattle.stored_state.specs.Kept.{IsOfMessage}
-use Rattle.call_refusals.specs.declared.refused.Refused.{Refused}
-use Rattle.call_refusals.specs.declared.refused.Refused.TheVariants as refused
+use Rattle.streams.specs.declared.refused.Refused.{Refused}
+use Rattle.streams.specs.declared.refused.Refused.TheVariants as refused
 use Rattle.stored_state.proofs.kept.Kept.take.Goals as goal
 
 core_memory : (e : Refusal) → refused.Core e ≡ refused.Core Memory → e ≡ Memory

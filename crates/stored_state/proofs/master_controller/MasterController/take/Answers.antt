@@ -1,6 +1,6 @@
 use Rattle.std.proofs.Common.{◌≡◌, true, sym, subst}
 use Rattle.std.specs.Prelude.{IfSome}
-use Rattle.message_items.specs.Words.{may_be_sent}
+use Rattle.controller.specs.Words.{may_be_sent}
 use Rattle.master_core.specs.Messages.{end_of, take_refusal, taken_result}
 use Rattle.stored_state.proofs.Sendable.{answers_sent, if_ok, told}
 use Rattle.stored_state.proofs.master_controller.MasterController.take.Goals as goal

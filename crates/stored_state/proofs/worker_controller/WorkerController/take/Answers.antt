@@ -1,7 +1,7 @@
 use Rattle.std.proofs.Common.{◌≡◌, true, sym, subst}
 use Rattle.std.specs.Prelude.{IfSome}
-use Rattle.message_items.specs.Words.{may_be_sent}
-use Rattle.message_items.specs.Reply.{spawn_in}
+use Rattle.controller.specs.Words.{may_be_sent}
+use Rattle.controller.specs.Reply.{spawn_in}
 use Rattle.worker_core.specs.Messages.{after_taking, take_refusal, taken_result}
 use Rattle.worker_core.specs.Worker.{status_in}
 use Rattle.stored_state.proofs.Sendable.{answers_sent, if_ok, told}

@@ -7,7 +7,7 @@ use Rattle.world.proofs.WorkerPlaces.{StandsAt, found, found_own, kept_there, na
 use Rattle.world.specs.Happening.{settled, settled_word, worker_takes}
 use Rattle.world.specs.State.{State, state, worker_of}
 use Rattle.world.specs.Stepping.{taken_by_worker}
-use Rattle.world.specs.declared.word.Word.TheVariants.{NoMessage}
+use Rattle.world_items.specs.declared.word.Word.TheVariants.{NoMessage}
 use Rattle.world.proofs.world.World.deliver_to_worker.Goals as goal
 
 pub invariant_of-self : goal.invariant_of-self

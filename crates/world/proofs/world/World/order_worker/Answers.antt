@@ -7,7 +7,7 @@ use Rattle.world.proofs.WorkerPlaces.{StandsAt, found, found_own, kept_there, no
 use Rattle.world.specs.Happening.{settled, settled_word, worker_step}
 use Rattle.world.specs.State.{State, state, worker_of}
 use Rattle.world.specs.Stepping.{ordered_worker}
-use Rattle.world.specs.declared.word.Word.TheVariants.{Refused}
+use Rattle.world_items.specs.declared.word.Word.TheVariants.{Refused}
 use Rattle.world.proofs.world.World.order_worker.Goals as goal
 
 pub invariant_of-self : goal.invariant_of-self

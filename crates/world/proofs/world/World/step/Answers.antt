@@ -3,7 +3,7 @@ use Rattle.std.specs.declared.alloc.AllocError.{AllocError}
 use Rattle.world.proofs.Changing.{alone, alone_after}
 use Rattle.world.proofs.Replayed.{said_so, shown_so}
 use Rattle.world.specs.Settling.{answer_without_step}
-use Rattle.world.specs.declared.what.What.TheVariants.{MasterOrder, WorkerOrder, Deliver, Restart}
+use Rattle.world_items.specs.declared.what.What.TheVariants.{MasterOrder, WorkerOrder, Deliver, Restart}
 use Rattle.world.proofs.world.World.step.Goals as goal
 
 -- ---- what is answered, and what is shown then

@@ -1,7 +1,7 @@
 use Rattle.std.proofs.Common.{◌∙◌, sym, ap}
 use Rattle.std.proofs.lemmas.Bool.{and_parts}
 use Rattle.std.specs.List.{list_all}
-use Rattle.json_forms.proofs.Tests.{all_mapped}
+use Rattle.json_items.proofs.Tests.{all_mapped}
 use Rattle.world_script.specs.DraftedEvent.{drafted_event}
 use Rattle.world_script.specs.EventForm.{event_has_names, event_has_texts}
 use Rattle.world_script.proofs.script_draft.ScriptDraftChecked.build_known.Goals as goal

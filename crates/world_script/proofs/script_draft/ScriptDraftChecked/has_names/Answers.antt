@@ -1,6 +1,6 @@
 use Rattle.std.proofs.Common.{◌&&◌, ◌∙◌, sym, ap}
 use Rattle.std.specs.List.{list_all}
-use Rattle.json_forms.proofs.Tests.{all_mapped}
+use Rattle.json_items.proofs.Tests.{all_mapped}
 use Rattle.world_script.specs.DraftedEvent.{drafted_event, drafted_events}
 use Rattle.world_script.specs.EventForm.{event_has_names}
 use Rattle.world_script.proofs.script_draft.ScriptDraftChecked.has_names.Goals as goal

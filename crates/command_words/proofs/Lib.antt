@@ -1,3 +1,0 @@
-pub mod Adding
-pub mod Faults
-pub mod Numbers

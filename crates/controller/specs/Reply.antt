@@ -1,0 +1,67 @@
+-- What a controller replies, and the answer that a command gets.
+use Rattle.std.specs.Prelude.{ℕ, List, codes, Option, Some, None, Result, Ok, Err}
+use Rattle.std.specs.Option.{option_map}
+use Rattle.ticket_items.specs.Refusal.{number_of}
+use Rattle.ticket_items.specs.declared.refusal.Refusal.{Refusal}
+pub use Rattle.controller.specs.Words.{is_answer, spawn_in}
+use Rattle.controller.specs.declared.body.Body.{Body}
+use Rattle.controller.specs.declared.body.Body.TheVariants.{Submit, Return, Answer}
+use Rattle.controller.specs.declared.command.Command.{Command}
+use Rattle.controller.specs.declared.command.Command.TheVariants as command
+use Rattle.controller.specs.declared.message.Message.{Message}
+use Rattle.controller.specs.declared.queue_status.QueueStatus.{QueueStatus}
+use Rattle.controller.specs.declared.reply.Reply.{Reply}
+use Rattle.controller.specs.declared.reply.Reply.TheVariants as replies
+
+-- the command that a message gives
+abbrev pub command_given : Body → Option Command
+command_given (Submit p) = Some command.Submit
+command_given (Return p) = Some command.Return
+command_given (Answer c s told) = None
+
+-- a reply, or the refusal in its place
+abbrev pub refused_or : Option Refusal → Reply → Result Reply Refusal
+refused_or None reply = Ok reply
+refused_or (Some e) reply = Err e
+
+-- what a command is told: the Status of its queue entry, or the number of the refusal
+abbrev pub told_of : Option Refusal → QueueStatus → Result QueueStatus ℕ
+told_of None status = Ok status
+told_of (Some e) status = Err (number_of e)
+
+-- the message by which the controller of a name answers a command, at a time, to the command's
+-- sender
+abbrev pub answer_message : List ℕ → Message → ℕ → Result QueueStatus ℕ → Command → Message
+answer_message name m at told c =
+    record { sender = name; receiver = m.sender; at = at; body = Answer c (spawn_in m.body) told }
+
+-- its answer to a message: to a command that message, and to an answer none
+abbrev pub answer_to : List ℕ → Message → ℕ → Result QueueStatus ℕ → Option Message
+answer_to name m at told = option_map (answer_message name m at told) (command_given m.body)
+
+-- ---- replies in words
+
+abbrev pub word_of : Reply → List ℕ
+word_of replies.Edited = codes "Edited"
+word_of (replies.Spawned s) = codes "Spawned"
+word_of (replies.Sent s) = codes "Sent"
+word_of (replies.Finished s) = codes "Finished"
+word_of (replies.Merged s) = codes "Merged"
+word_of (replies.Already s) = codes "Already"
+word_of (replies.Noted s) = codes "Noted"
+word_of (replies.Taken s) = codes "Taken"
+word_of (replies.Again s) = codes "Again"
+word_of (replies.Acked s) = codes "Acked"
+
+-- the spawn that a reply tells of
+abbrev pub spawn_told : Reply → Option ℕ
+spawn_told replies.Edited = None
+spawn_told (replies.Spawned s) = Some s
+spawn_told (replies.Sent s) = Some s
+spawn_told (replies.Finished s) = Some s
+spawn_told (replies.Merged s) = Some s
+spawn_told (replies.Already s) = Some s
+spawn_told (replies.Noted s) = Some s
+spawn_told (replies.Taken s) = Some s
+spawn_told (replies.Again s) = Some s
+spawn_told (replies.Acked s) = Some s

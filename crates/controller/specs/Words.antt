@@ -1,0 +1,100 @@
+-- Messages between controllers (JMF; JDF 1.5, 5): the words and IDs that they are made of.
+use Rattle.std.specs.Prelude.{ℕ, ◌++◌, ◌&&◌, Bool, true, false, List, codes, if◌then◌else◌, nat_le}
+use Rattle.std.specs.Prelude.{Option, Some, None, Result, Ok, Err}
+use Rattle.std.specs.Str.{bytes_eq}
+use Rattle.ticket_items.specs.SpawnId.{spawn_text}
+use Rattle.controller.specs.declared.body.Body.{Body}
+use Rattle.controller.specs.declared.body.Body.TheVariants.{Submit, Return, Answer}
+use Rattle.controller.specs.declared.command.Command.{Command}
+use Rattle.controller.specs.declared.command.Command.TheVariants as commands
+use Rattle.controller.specs.declared.queue_status.QueueStatus.{QueueStatus}
+use Rattle.controller.specs.declared.queue_status.QueueStatus.TheVariants.{Running, Completed}
+use Rattle.controller.specs.declared.queue_status.QueueStatus.TheVariants.{Aborted}
+
+-- the Version of the standard that messages name
+abbrev pub version : List ℕ
+version = codes "1.5"
+
+-- a URL that names no place: nothing is fetched or written by it
+abbrev pub no_place : List ℕ
+no_place = codes "cid:jdf"
+
+-- where a sender takes messages
+abbrev pub place_of : List ℕ → List ℕ
+place_of sender = codes "jmf:" ++ sender
+
+-- the Type of a command
+abbrev pub type_of : Command → List ℕ
+type_of commands.Submit = codes "SubmitQueueEntry"
+type_of commands.Return = codes "ReturnQueueEntry"
+
+-- what the ID of a command begins with
+abbrev pub mark_of : Command → List ℕ
+mark_of commands.Submit = codes "Q."
+mark_of commands.Return = codes "R."
+
+-- the ID of the command of a spawn
+abbrev pub command_id : Command → ℕ → List ℕ
+command_id asked spawn = mark_of asked ++ spawn_text spawn
+
+-- the ID of the answer to it
+abbrev pub answer_id : Command → ℕ → List ℕ
+answer_id asked spawn = command_id asked spawn ++ codes ".a"
+
+-- the Status of a queue entry
+abbrev pub status_word : QueueStatus → List ℕ
+status_word Running = codes "Running"
+status_word Completed = codes "Completed"
+status_word Aborted = codes "Aborted"
+
+-- the command of a Type
+abbrev pub command_named : List ℕ → Option Command
+command_named kind =
+    if bytes_eq kind (type_of commands.Submit) then Some commands.Submit else
+    (if bytes_eq kind (type_of commands.Return) then Some commands.Return else None)
+
+-- the Status of a word
+abbrev pub status_named : List ℕ → Option QueueStatus
+status_named word =
+    if bytes_eq word (status_word Running) then Some Running else
+    (if bytes_eq word (status_word Completed) then Some Completed else
+    (if bytes_eq word (status_word Aborted) then Some Aborted else None))
+
+-- the ID of a message
+abbrev pub message_id : Body → List ℕ
+message_id (Submit part) = command_id commands.Submit part.spawn_id
+message_id (Return part) = command_id commands.Return part.spawn_id
+message_id (Answer asked spawn result) = answer_id asked spawn
+
+-- the command that a message gives, or that it answers
+abbrev pub command_in : Body → Command
+command_in (Submit part) = commands.Submit
+command_in (Return part) = commands.Return
+command_in (Answer asked spawn result) = asked
+
+-- the spawn that it is about
+abbrev pub spawn_in : Body → ℕ
+spawn_in (Submit part) = part.spawn_id
+spawn_in (Return part) = part.spawn_id
+spawn_in (Answer asked spawn result) = spawn
+
+-- whether it is an answer
+abbrev pub is_answer : Body → Bool
+is_answer (Submit part) = false
+is_answer (Return part) = false
+is_answer (Answer asked spawn result) = true
+
+-- the number of a refusal is 1 to 999
+abbrev pub is_reason : ℕ → Bool
+is_reason n = nat_le 1 n && nat_le n 999
+
+-- whether the number of the refusal that a result tells of, if it does, is one
+abbrev pub is_told : Result QueueStatus ℕ → Bool
+is_told (Ok status) = true
+is_told (Err reason) = is_reason reason
+
+-- whether a message may be sent: the number of a refusal in it is one
+abbrev pub may_be_sent : Body → Bool
+may_be_sent (Submit part) = true
+may_be_sent (Return part) = true
+may_be_sent (Answer asked spawn result) = is_told result

@@ -1,0 +1,72 @@
+//! The answers that commands get.
+
+ghost use Rattle.std.specs.Prelude.{◌≡◌, true, IfOk, IsOk};
+ghost use Rattle.controller.specs.Reply as replies;
+
+use crate::body::Body;
+use crate::command::Command;
+use crate::message::Message;
+use crate::queue_status::QueueStatus;
+use std::alloc::{AllocError, Global};
+use ticket_tree::{Duplicate, Id, Refusal, SpawnId};
+
+/// The spawn that a message tells of.
+pub fn spawn_in(body: &Body) -> SpawnId
+    ensures { result ≡ replies.spawn_in body.now }
+{
+    match body {
+        Body::Submit(part) => part.spawn_id(),
+        Body::Return(part) => part.spawn_id(),
+        Body::Answer { spawn_id, .. } => *spawn_id,
+    }
+}
+
+/// The command that a message gives. An answer gives none.
+pub fn command_in(body: &Body) -> Option<Command>
+    ensures { result ≡ replies.command_given body.now }
+{
+    match body {
+        Body::Submit(_) => Some(Command::Submit),
+        Body::Return(_) => Some(Command::Return),
+        Body::Answer { .. } => None,
+    }
+}
+
+/// What a command is told: the Status of its queue entry, or the number of the refusal.
+pub fn told_of(refusal: Option<Refusal>, status: QueueStatus) -> Result<QueueStatus, u16>
+    ensures { result ≡ replies.told_of refusal status }
+{
+    match refusal {
+        None => Ok(status),
+        Some(refusal) => Err(refusal.number()),
+    }
+}
+
+/// The answer of the controller of a name to a message, at a time in seconds since 1970: to a
+/// command it goes back to the sender and says what is told, and to an answer there is none, which
+/// takes no memory.
+pub fn answer_to(
+    alloc: Global,
+    name: &Id,
+    message: &Message,
+    at: u64,
+    told: Result<QueueStatus, u16>,
+) -> Result<Option<Message>, AllocError>
+    ensures answer { IfOk result (λ answer. answer
+        ≡ replies.answer_to name.now message.now at told) }
+    ensures answers { replies.is_answer message.now.body ≡ true → IsOk result }
+{
+    match command_in(&message.body) {
+        None => Ok(None),
+        Some(command) => Ok(Some(Message {
+            sender: name.copy(alloc)?,
+            receiver: message.sender.copy(alloc)?,
+            at,
+            body: Body::Answer {
+                of: command,
+                spawn_id: spawn_in(&message.body),
+                result: told,
+            },
+        })),
+    }
+}

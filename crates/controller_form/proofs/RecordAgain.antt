@@ -1,0 +1,77 @@
+-- Records that were written are read again.
+use Rattle.std.proofs.Common.{◌≡◌, ◌∙◌, ℕ, true, List, [], ◌∷◌, map, Option, Some, refl, ap}
+use Rattle.std.proofs.lemmas.Bool.{and_parts}
+use Rattle.std.specs.List.{list_all}
+use Rattle.std.specs.Option.{option_map}
+use Rattle.std.specs.Prelude.{unwrap_or}
+use Rattle.serde_json.specs.Data.{array, string}
+use Rattle.serde_json.specs.Find.{as_str}
+use Rattle.ticket_items.proofs.SpawnTexts.{spawn_of-spawn_text}
+use Rattle.ticket_items.specs.SpawnId.{is_spawn_number, spawn_text}
+use Rattle.ticket_items.specs.declared.resource.Resource.{Resource}
+use Rattle.spawn.specs.declared.records.phase.Phase.{Phase}
+use Rattle.spawn.specs.declared.records.phase.Phase.TheVariants.{Out, Merged}
+use Rattle.spawn.specs.declared.records.spawn_rec.SpawnRec.{SpawnRec}
+use Rattle.json_shapes.specs.Draft.{are_bare, resources_of}
+use Rattle.json_items.specs.Again.{list_again, marked_again, text_again}
+use Rattle.json_items.specs.Listed.{data_items, each, list_form, texts_data}
+use Rattle.json_items.specs.Resources.{all_showing, raw_data, resource_draft}
+use Rattle.json_items.specs.Shown.{nothing_shown}
+use Rattle.json_items.specs.declared.resources.marked_form.Marked.{Marked}
+use Rattle.json_source.specs.Read.{◌>>=◌}
+use Rattle.json_profile.proofs.PoolAgain.{resources_of-all_showing}
+use Rattle.controller_form.specs.States.RecordForm.{number_named, phase_named, phase_word, record_data, record_form}
+use Rattle.controller_form.specs.States.RecordForm.{spawn_has_names}
+use Rattle.controller_form.specs.declared.states.record_draft.StoredRecord.{StoredRecord}
+
+-- a record whose copies to read show nothing
+abbrev pub bare : SpawnRec → StoredRecord
+bare r = record { spawn = r; bare = true }
+
+phase_again : (phase : Phase) → phase_named (phase_word phase) ≡ Some phase
+phase_again Out = refl
+phase_again Merged = refl
+
+bare_all : (rs : List Resource) → are_bare (all_showing nothing_shown rs) ≡ true
+bare_all [] = refl
+bare_all (r ∷ rs) = bare_all rs
+
+number_again : (n : ℕ) → is_spawn_number n ≡ true → number_named (spawn_text n) ≡ n
+number_again n number = ap (λ o. unwrap_or o 0) (spawn_of-spawn_text n number)
+
+-- a record with these in the place of its own
+abbrev with_read : SpawnRec → Phase → List Marked → List (List ℕ) → ℕ → StoredRecord
+with_read r phase ro rw n =
+    record {
+      spawn = record { id = n; node = r.node; worker = r.worker; at = r.at; rw = rw; ro = resources_of ro; phase = phase };
+      bare = are_bare ro;
+    }
+
+-- where its spawn has a number
+pub record_again : (r : SpawnRec) → is_spawn_number r.id ≡ true → record_form (record_data r) ≡ Some (bare r)
+unfolding record_form
+record_again r number =
+    let n = number_named (spawn_text r.id) in
+    let copies = all_showing nothing_shown r.ro in
+    let ro_data = array (data_items raw_data copies) in
+    ap (λ o. o >>= λ phase. list_form resource_draft ro_data >>= λ ro. list_form as_str (texts_data r.rw) >>= λ rw. Some (with_read r phase ro rw n)) (phase_again r.phase)
+    ∙ ap (λ o. o >>= λ ro. list_form as_str (texts_data r.rw) >>= λ rw. Some (with_read r r.phase ro rw n)) (list_again resource_draft raw_data marked_again copies)
+    ∙ ap (λ o. o >>= λ rw. Some (with_read r r.phase copies rw n)) (list_again as_str string text_again r.rw)
+    ∙ ap (λ m. Some (with_read r r.phase copies r.rw m)) (number_again r.id number)
+    ∙ ap (λ ro. Some (record { spawn = record r { ro = ro }; bare = are_bare copies })) (resources_of-all_showing nothing_shown r.ro)
+    ∙ ap (λ b. Some (record { spawn = r; bare = b })) (bare_all r.ro)
+
+-- the number is among the names
+pub number_valid : (r : SpawnRec) → spawn_has_names r ≡ true → is_spawn_number r.id ≡ true
+unfolding spawn_has_names
+number_valid r names = (and_parts _ _ (and_parts _ _ (and_parts _ _ (and_parts _ _ names).0).0).0).0
+
+more_at : {X : Type 0} (o : Option X) (x : X) (rest : Option (List X)) (xs : List X) → o ≡ Some x → rest ≡ Some xs → (o >>= λ y. option_map (λ ys. y ∷ ys) rest) ≡ Some (x ∷ xs)
+more_at o x rest xs e f = ap (λ p. p >>= λ y. option_map (λ ys. y ∷ ys) rest) e ∙ ap (option_map (λ ys. x ∷ ys)) f
+
+-- records in turn
+pub records_again : (rs : List SpawnRec) → list_all spawn_has_names rs ≡ true → each record_form (data_items record_data rs) ≡ Some (map bare rs)
+records_again [] names = refl
+records_again (r ∷ rs) names =
+    let parts = and_parts _ _ names in
+    more_at (record_form (record_data r)) (bare r) (each record_form (data_items record_data rs)) (map bare rs) (record_again r (number_valid r parts.0)) (records_again rs parts.1)

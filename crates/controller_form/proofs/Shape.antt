@@ -1,0 +1,57 @@
+-- States that are written have no float, and nest little.
+use Rattle.std.proofs.Common.{◌≡◌, ◌≤◌, ℕ, false, List, [], ◌∷◌, refl, arith}
+use Rattle.std.proofs.lemmas.Bool.{or_from}
+use Rattle.std.proofs.lemmas.List.Elements.{All-head, All-tail}
+use Rattle.std.specs.List.{All}
+use Rattle.serde_json.specs.Data.{depth, items_depth, string}
+use Rattle.serde_json.specs.Written.{has_float, items_have_float}
+use Rattle.spawn.specs.declared.records.spawn_rec.SpawnRec.{SpawnRec}
+use Rattle.json_items.specs.Listed.{data_items}
+use Rattle.json_items.specs.Resources.{all_showing}
+use Rattle.json_items.specs.Shown.{nothing_shown}
+use Rattle.json_profile.proofs.PoolShape.{items_low, pool_low}
+use Rattle.json_writer.proofs.Plain.{items_plain, pool_plain}
+use Rattle.master_core.specs.Master as master
+use Rattle.worker_core.specs.Worker as worker
+use Rattle.worker_core.specs.declared.entry.Entry.{Entry}
+use Rattle.controller_form.specs.States.EntryForm.{entry_data}
+use Rattle.controller_form.specs.States.MasterForm.{master_state_data}
+use Rattle.controller_form.specs.States.RecordForm.{record_data}
+use Rattle.controller_form.specs.States.Writable.{IsWritableEntry, IsWritableMaster, IsWritableWorker}
+use Rattle.controller_form.specs.States.WorkerForm.{worker_state_data}
+
+-- ---- no float
+
+texts_plain : (texts : List (List ℕ)) → items_have_float (data_items string texts) ≡ false
+texts_plain texts = items_plain string (λ s. refl) texts
+
+record_plain : (r : SpawnRec) → has_float (record_data r) ≡ false
+record_plain r = or_from _ _ (pool_plain (all_showing nothing_shown r.ro)) (or_from _ _ (texts_plain r.rw) refl)
+
+pub master_plain : (m : master.Known) → IsWritableMaster m → has_float (master_state_data m) ≡ false
+master_plain m known = or_from _ _ (or_from _ _ (items_plain record_data record_plain m.records) (or_from _ _ known.plain (or_from _ _ (texts_plain m.workers) refl))) refl
+
+entries_plain : (es : List Entry) → All IsWritableEntry es → items_have_float (data_items entry_data es) ≡ false
+entries_plain [] known = refl
+entries_plain (e ∷ es) known = or_from _ _ (or_from _ _ (All-head IsWritableEntry e es known).plain refl) (entries_plain es (All-tail IsWritableEntry e es known))
+
+pub worker_plain : (w : worker.Known) → IsWritableWorker w → has_float (worker_state_data w) ≡ false
+worker_plain w known = or_from _ _ (or_from _ _ (entries_plain w.entries known.entries) refl) refl
+
+-- ---- depth
+
+texts_flat : (texts : List (List ℕ)) → items_depth (data_items string texts) ≤ 0
+texts_flat texts = items_low string 0 (λ s. omega arith) texts
+
+record_low : (r : SpawnRec) → depth (record_data r) ≤ 4
+record_low r = omega (arith, pool_low (all_showing nothing_shown r.ro), texts_flat r.rw)
+
+pub master_nests : (m : master.Known) → IsWritableMaster m → depth (master_state_data m) ≤ 127
+master_nests m known = omega (arith, items_low record_data 4 record_low m.records, texts_flat m.workers, known.low)
+
+entries_low : (es : List Entry) → All IsWritableEntry es → items_depth (data_items entry_data es) ≤ 69
+entries_low [] known = omega arith
+entries_low (e ∷ es) known = omega (arith, (All-head IsWritableEntry e es known).low, entries_low es (All-tail IsWritableEntry e es known))
+
+pub worker_nests : (w : worker.Known) → IsWritableWorker w → depth (worker_state_data w) ≤ 127
+worker_nests w known = omega (arith, entries_low w.entries known.entries)

@@ -1,0 +1,99 @@
+-- The form of a master's state. In a draft the ids, names and texts may be any bytes, its rows no
+-- tree's, and its resources may show spawns.
+use Rattle.std.specs.Prelude.{ℕ, ◌&&◌, Bool, List, [], ◌∷◌, codes, map, Option, Some, Result, Err}
+use Rattle.std.specs.List.{list_all}
+use Rattle.std.specs.Option.{option_and_then, option_map_or}
+use Rattle.serde_json.specs.Data.{Data, no_members, member, string, array, object}
+use Rattle.serde_json.specs.Find.{as_str, get}
+use Rattle.ticket_items.specs.Names.{is_name}
+use Rattle.ticket_items.specs.declared.refusal.Refusal.{Refusal}
+use Rattle.ticket_items.specs.declared.refusal.Refusal.TheVariants.{BadState}
+use Rattle.ticket_items.specs.declared.refusal.Refusal.TheVariants.{NotProfile, ReservedStatus}
+use Rattle.ticket_rows.specs.Ticket.{first_of, unless}
+use Rattle.json_shapes.specs.Draft.{RawTicket, ticket_draft}
+use Rattle.json_shapes.specs.Form as ticket_form
+use Rattle.json_items.specs.Judged.{checked_fault, sound}
+use Rattle.json_items.specs.Listed.{data_items, list_form, texts_data}
+use Rattle.json_source.specs.Read.{◌>>=◌, provided, has_only, text_under}
+use Rattle.json_writer.specs.Written.{ticket_data}
+use Rattle.master_core.specs.Master.{Known, known}
+use Rattle.master_core.specs.Stored.{is_master}
+use Rattle.controller_form.specs.States.RecordForm.{record_data, record_form, record_has_names}
+use Rattle.controller_form.specs.States.RecordForm.{record_has_texts}
+use Rattle.controller_form.specs.States.StateFormat.{controller_under, in_format, state_data}
+use Rattle.controller_form.specs.declared.states.record_draft.StoredRecord.{StoredRecord}
+
+-- ---- read, by members and their kinds alone
+
+-- its name, its workers' names, its ticket and the records of its spawns
+pub record RawMaster : Type 0 where
+  pub name : List ℕ
+  pub workers : List (List ℕ)
+  pub ticket : RawTicket
+  pub records : List StoredRecord
+
+abbrev pub master_members : List (List ℕ)
+master_members = codes "Name" ∷ codes "Spawns" ∷ codes "Ticket" ∷ codes "Workers" ∷ []
+
+unfoldable pub master_draft : Data → Option RawMaster
+master_draft d = do
+  _ ← provided (has_only master_members d)
+  name ← text_under (codes "Name") d
+  records ← option_and_then (list_form record_form) (get (codes "Spawns") d)
+  ticket ← option_and_then ticket_draft (get (codes "Ticket") d)
+  workers ← option_and_then (list_form as_str) (get (codes "Workers") d)
+  Some (record { name = name; workers = workers; ticket = ticket; records = records })
+
+-- the master of a draft
+abbrev pub master_in : RawMaster → Known
+master_in m = known m.name m.workers m.ticket.job (map (λ r. r.spawn) m.records)
+
+-- ---- faults
+
+-- whether all ids and names, and all texts, are valid
+abbrev pub master_has_names : RawMaster → Bool
+master_has_names m = is_name m.name && list_all is_name m.workers && ticket_form.has_names m.ticket
+    && list_all record_has_names m.records
+
+abbrev pub master_has_texts : RawMaster → Bool
+master_has_texts m = ticket_form.has_texts m.ticket && list_all record_has_texts m.records
+
+-- whether its records' copies to read show nothing of spawns
+abbrev pub records_are_bare : List StoredRecord → Bool
+records_are_bare records = list_all (λ r. r.bare) records
+
+-- what is wrong with a draft whose names and texts are valid: a mark of spawns, its ticket, or that
+-- no master can have come to it
+abbrev pub master_built_fault : RawMaster → Option Refusal
+master_built_fault m =
+    first_of
+    (unless (records_are_bare m.records) ReservedStatus ∷ ticket_form.built_fault m.ticket
+    ∷ unless (is_master (master_in m)) BadState ∷ [])
+
+-- what is wrong with a draft: each fault in all of it before the next one
+abbrev pub master_fault : RawMaster → Option Refusal
+master_fault m = checked_fault (master_has_names m) (master_has_texts m) (master_built_fault m)
+
+-- ---- what data is read as
+
+-- the master that a draft is, or its first refusal
+abbrev pub judged_master : Option RawMaster → Result Known Refusal
+judged_master draft =
+    option_map_or (λ m. sound (master_fault m) (master_in m)) draft (Err NotProfile)
+
+-- the master whose state the data is, or its first refusal
+abbrev pub master_state_read : Data → Result Known Refusal
+master_state_read d =
+    in_format d (judged_master (option_and_then master_draft (controller_under (codes "Master") d)))
+
+-- ---- written
+
+abbrev pub master_data : Known → Data
+master_data m =
+    object (member (codes "Name") (string m.name)
+    (member (codes "Spawns") (array (data_items record_data m.records))
+    (member (codes "Ticket") (ticket_data m.ticket)
+    (member (codes "Workers") (texts_data m.workers) no_members))))
+
+abbrev pub master_state_data : Known → Data
+master_state_data m = state_data (codes "Master") (master_data m)

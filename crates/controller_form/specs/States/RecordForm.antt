@@ -1,0 +1,96 @@
+-- The form of a spawn's record as it is stored. In a draft the ids and names may be any bytes, and
+-- the spawn's id any text.
+use Rattle.std.specs.Prelude.{ℕ, ◌&&◌, Bool, List, [], ◌∷◌, codes, if◌then◌else◌, Option}
+use Rattle.std.specs.Prelude.{Some, None, unwrap_or}
+use Rattle.std.specs.List.{list_all}
+use Rattle.std.specs.Option.{option_and_then}
+use Rattle.std.specs.Str.{bytes_eq}
+use Rattle.serde_json.specs.Data.{Data, no_members, member, number, unsigned, string, array, object}
+use Rattle.serde_json.specs.Find.{as_str, get}
+use Rattle.ticket_items.specs.Names.{is_name}
+use Rattle.ticket_items.specs.SpawnId.{is_spawn_number, spawn_of, spawn_text}
+use Rattle.spawn.specs.declared.records.phase.Phase.{Phase}
+use Rattle.spawn.specs.declared.records.phase.Phase.TheVariants.{Out, Merged}
+use Rattle.spawn.specs.declared.records.spawn_rec.SpawnRec.{SpawnRec}
+use Rattle.json_shapes.specs.Draft.{are_bare, resources_of}
+use Rattle.json_items.specs.Listed.{data_items, list_form, texts_data}
+use Rattle.json_items.specs.Resources.{all_showing, raw_data, resource_draft}
+use Rattle.json_items.specs.Resources.{resource_has_names, resource_has_texts}
+use Rattle.json_items.specs.Shown.{nothing_shown}
+use Rattle.json_source.specs.Read.{◌>>=◌, provided, has_only, number_under, text_under}
+use Rattle.controller_form.specs.declared.states.record_draft.StoredRecord.{StoredRecord}
+
+-- ---- read, by members and their kinds alone
+
+-- the number of the spawn that a text names, and 0, which is no spawn's, where it names none
+abbrev pub number_named : List ℕ → ℕ
+number_named text = unwrap_or (spawn_of text) 0
+
+abbrev pub phase_named : List ℕ → Option Phase
+phase_named word =
+    if bytes_eq word (codes "Out") then Some Out
+    else (if bytes_eq word (codes "Merged") then Some Merged else None)
+
+abbrev pub phase_under : Data → Option Phase
+phase_under d = text_under (codes "Phase") d >>= phase_named
+
+abbrev pub record_members : List (List ℕ)
+record_members = codes "At" ∷ codes "ID" ∷ codes "Node" ∷ codes "Phase" ∷ codes "RO" ∷ codes "RW"
+    ∷ codes "Worker" ∷ []
+
+-- a record, and whether its copies to read show nothing of spawns
+unfoldable pub record_form : Data → Option StoredRecord
+record_form d = do
+  _ ← provided (has_only record_members d)
+  at ← number_under (codes "At") d
+  spawn ← text_under (codes "ID") d
+  node ← text_under (codes "Node") d
+  phase ← phase_under d
+  ro ← option_and_then (list_form resource_draft) (get (codes "RO") d)
+  rw ← option_and_then (list_form as_str) (get (codes "RW") d)
+  worker ← text_under (codes "Worker") d
+  Some (record {
+    spawn = record {
+      id = number_named spawn;
+      node = node;
+      worker = worker;
+      at = at;
+      rw = rw;
+      ro = resources_of ro;
+      phase = phase;
+    };
+    bare = are_bare ro;
+  })
+
+-- ---- ids, names and texts
+
+-- whether its id is a spawn's, and all others and the names of its copies are valid
+unfoldable pub spawn_has_names : SpawnRec → Bool
+spawn_has_names r = is_spawn_number r.id && is_name r.node && is_name r.worker
+    && list_all is_name r.rw && list_all resource_has_names r.ro
+
+unfoldable pub spawn_has_texts : SpawnRec → Bool
+spawn_has_texts r = list_all resource_has_texts r.ro
+
+abbrev pub record_has_names : StoredRecord → Bool
+record_has_names r = spawn_has_names r.spawn
+
+abbrev pub record_has_texts : StoredRecord → Bool
+record_has_texts r = spawn_has_texts r.spawn
+
+-- ---- written
+
+abbrev pub phase_word : Phase → List ℕ
+phase_word Out = codes "Out"
+phase_word Merged = codes "Merged"
+
+-- the copies to read show nothing of spawns
+abbrev pub record_data : SpawnRec → Data
+record_data r =
+    object (member (codes "At") (number (unsigned r.at))
+    (member (codes "ID") (string (spawn_text r.id))
+    (member (codes "Node") (string r.node)
+    (member (codes "Phase") (string (phase_word r.phase))
+    (member (codes "RO") (array (data_items raw_data (all_showing nothing_shown r.ro)))
+    (member (codes "RW") (texts_data r.rw)
+    (member (codes "Worker") (string r.worker) no_members)))))))

@@ -1,0 +1,98 @@
+-- The form of a worker's state. In a draft the ids, names and texts may be any bytes, and the rows
+-- of its parts no tree's.
+use Rattle.std.specs.Prelude.{ℕ, ◌&&◌, ◌==◌, Bool, false, List, [], ◌∷◌, codes, map, Option}
+use Rattle.std.specs.Prelude.{Some, Result, Err}
+use Rattle.std.specs.List.{find, list_all, list_any}
+use Rattle.std.specs.Option.{option_and_then, option_map_or}
+use Rattle.serde_json.specs.Data.{Data, no_members, member, string, array, object}
+use Rattle.serde_json.specs.Find.{get}
+use Rattle.ticket_items.specs.Names.{is_name}
+use Rattle.ticket_items.specs.Refusal.{number_of}
+use Rattle.ticket_items.specs.declared.refusal.Refusal.{Refusal}
+use Rattle.ticket_items.specs.declared.refusal.Refusal.TheVariants.{BadState}
+use Rattle.ticket_items.specs.declared.refusal.Refusal.TheVariants.{NotProfile}
+use Rattle.ticket_rows.specs.Ticket.{first_of, unless}
+use Rattle.json_shapes.specs.PartForm as part_form
+use Rattle.json_items.specs.Judged.{checked_fault, sound}
+use Rattle.json_items.specs.Listed.{data_items, list_form}
+use Rattle.json_source.specs.Read.{◌>>=◌, provided, has_only, text_under}
+use Rattle.worker_core.specs.Stored.{is_worker}
+use Rattle.worker_core.specs.Worker.{Known, known}
+use Rattle.controller_form.specs.States.EntryForm.{RawEntry, entry_data, entry_draft, entry_in}
+use Rattle.controller_form.specs.States.PartFaults.{part_faults}
+use Rattle.controller_form.specs.States.StateFormat.{controller_under, in_format, state_data}
+
+-- ---- read, by members and their kinds alone
+
+-- its name, its master's, and its entries
+pub record RawWorker : Type 0 where
+  pub name : List ℕ
+  pub master : List ℕ
+  pub entries : List RawEntry
+
+abbrev pub worker_members : List (List ℕ)
+worker_members = codes "Entries" ∷ codes "Master" ∷ codes "Name" ∷ []
+
+unfoldable pub worker_draft : Data → Option RawWorker
+worker_draft d = do
+  _ ← provided (has_only worker_members d)
+  entries ← option_and_then (list_form entry_draft) (get (codes "Entries") d)
+  master ← text_under (codes "Master") d
+  name ← text_under (codes "Name") d
+  Some (record { name = name; master = master; entries = entries })
+
+-- the worker of a draft
+abbrev pub worker_in : RawWorker → Known
+worker_in w = known w.name w.master (map entry_in w.entries)
+
+-- ---- faults
+
+-- whether all ids and names, and all texts, are valid
+abbrev pub worker_has_names : RawWorker → Bool
+worker_has_names w = is_name w.name && is_name w.master
+    && list_all (λ e. part_form.has_names e.part) w.entries
+
+abbrev pub worker_has_texts : RawWorker → Bool
+worker_has_texts w = list_all (λ e. part_form.has_texts e.part) w.entries
+
+-- whether this is what is wrong with the part of an entry
+abbrev pub is_fault : Refusal → RawEntry → Bool
+is_fault e entry =
+    option_map_or (λ f. number_of f == number_of e) (part_form.built_fault entry.part) false
+
+-- what is wrong with parts whose names and texts are valid: the first fault that one of them has,
+-- looked for in all of them before the next one is
+abbrev pub parts_fault : List RawEntry → Option Refusal
+parts_fault entries = find (λ e. list_any (is_fault e) entries) part_faults
+
+-- what is wrong with a draft whose names and texts are valid: its parts, or that no worker can have
+-- come to it
+abbrev pub worker_built_fault : RawWorker → Option Refusal
+worker_built_fault w =
+    first_of (parts_fault w.entries ∷ unless (is_worker (worker_in w)) BadState ∷ [])
+
+-- what is wrong with a draft: each fault in all of it before the next one
+abbrev pub worker_fault : RawWorker → Option Refusal
+worker_fault w = checked_fault (worker_has_names w) (worker_has_texts w) (worker_built_fault w)
+
+-- ---- what data is read as
+
+-- the worker that a draft is, or its first refusal
+abbrev pub judged_worker : Option RawWorker → Result Known Refusal
+judged_worker draft =
+    option_map_or (λ w. sound (worker_fault w) (worker_in w)) draft (Err NotProfile)
+
+-- the worker whose state the data is, or its first refusal
+abbrev pub worker_state_read : Data → Result Known Refusal
+worker_state_read d =
+    in_format d (judged_worker (option_and_then worker_draft (controller_under (codes "Worker") d)))
+
+-- ---- written
+
+abbrev pub worker_data : Known → Data
+worker_data w =
+    object (member (codes "Entries") (array (data_items entry_data w.entries))
+    (member (codes "Master") (string w.master) (member (codes "Name") (string w.name) no_members)))
+
+abbrev pub worker_state_data : Known → Data
+worker_state_data w = state_data (codes "Worker") (worker_data w)

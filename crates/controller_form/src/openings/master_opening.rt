@@ -1,0 +1,64 @@
+//! What a master is begun of.
+
+use crate::openings::opening::Opening;
+use crate::openings::shop_draft::ShopDraft;
+use json_items::{Checked, Draft, only};
+use master_core::Master;
+use serde_json::Value;
+use std::alloc::Global;
+use ticket_tree::Refusal;
+
+/// The shop of a master, of which nothing is looked at yet.
+#[derive(Drop)]
+pub(crate) struct MasterOpening<'a> {
+    pub shop: ShopDraft<'a>,
+}
+
+impl<'a> MasterOpening<'a> {
+    ghost use Rattle.serde_json.specs.View.{view};
+    ghost use Rattle.json_shapes.specs.Read.{Gives};
+    ghost use Rattle.controller_form.specs.Openings.DraftedOpening.{drafted_master};
+    ghost use Rattle.controller_form.specs.Openings.OpeningForm as form;
+
+    /// The draft that a value is. Refuses `NotProfile`, and `Memory`.
+    pub fn of(alloc: Global, value: &'a Value) -> Result<MasterOpening<'a>, Refusal>
+        ensures { Gives drafted_master result (form.master_draft (view value.now)) }
+    {
+        only(value, &["Master", "Ticket", "Workers"])?;
+        let shop = ShopDraft::of(alloc, value)?;
+        Ok(MasterOpening { shop })
+    }
+}
+
+impl<'a> Checked for MasterOpening<'a> {
+    ghost use Rattle.controller_form.specs.Openings.DraftedOpening.{drafted_master};
+    ghost use Rattle.controller_form.specs.Openings.OpeningForm as form;
+    ghost use Rattle.controller_form.specs.Openings.ShopForm.{shop_fault, shop_has_names, shop_has_texts};
+
+    type Whole = Opening;
+
+    ghost valid_names = { λ d. shop_has_names (drafted_master d) };
+
+    ghost valid_texts = { λ d. shop_has_texts (drafted_master d) };
+
+    ghost late_fault = { λ d. shop_fault (drafted_master d) };
+
+    ghost made = { λ d. form.master_in (drafted_master d) };
+
+    fn has_names(&self) -> bool {
+        self.shop.has_names()
+    }
+
+    fn has_texts(&self) -> bool {
+        self.shop.has_texts()
+    }
+
+    /// Refuses the first fault of its ticket, then `SameName`; `Memory` may come before any but
+    /// what a resource shows of spawns.
+    fn build_known(&self, alloc: Global) -> Result<Opening, Refusal> {
+        let ticket = self.shop.ticket.build_known(alloc)?;
+        let name = self.shop.master.build(alloc)?;
+        let workers = self.shop.workers.build(alloc)?;
+        Ok(Opening::Master(Master::new(alloc, name, workers, ticket)?))
+    }
+}

@@ -1,0 +1,55 @@
+//! From bytes to a controller in its beginning.
+
+ghost use Rattle.std.specs.Prelude.{Ok, IfOk, IfErr};
+ghost use Rattle.serde_json.specs.View.{view};
+ghost use Rattle.json_items.specs.Judged.{Answers};
+ghost use Rattle.json_profile.specs.ReadAs.{IsReadAs, IsRefusalOf};
+ghost use Rattle.controller_form.specs.Openings.OpeningForm as form;
+
+use crate::openings::master_opening::MasterOpening;
+use crate::openings::opening::Opening;
+use crate::openings::worker_opening::WorkerOpening;
+use json_items::Checked;
+use json_profile::value_of;
+use json_source::Source;
+use serde_json::Value;
+use std::alloc::Global;
+use ticket_tree::Refusal;
+
+/// The master that a value begins.
+fn master_opening(alloc: Global, value: &Value) -> Result<Opening, Refusal>
+    ensures { Answers result (form.master_read (view value.now)) }
+{
+    let draft = MasterOpening::of(alloc, value)?;
+    draft.build(alloc)
+}
+
+/// The worker that a value begins.
+fn worker_opening(alloc: Global, value: &Value) -> Result<Opening, Refusal>
+    ensures { Answers result (form.worker_read (view value.now)) }
+{
+    let draft = WorkerOpening::of(alloc, value)?;
+    draft.build(alloc)
+}
+
+/// The controller that a value begins.
+fn opening_in(alloc: Global, value: &Value) -> Result<Opening, Refusal>
+    ensures { Answers result (form.opening_read (view value.now)) }
+{
+    match value.member("Worker") {
+        Some(_) => worker_opening(alloc, value),
+        None => master_opening(alloc, value),
+    }
+}
+
+/// The controller that bytes begin (our own): a worker where they have a member `Worker`, and else
+/// a master. Refuses the first of `NotJson`, `NotProfile`, `BadId`, `BadText`, `ReservedStatus`,
+/// `DuplicateId`, `TooDeep`, `UnresolvedLink` and `SameName` (our own: where two of the names are
+/// equal), each looked for in all of it before the next one is; `Memory` may come before any.
+pub fn opening_of(alloc: Global, bytes: &[u8]) -> Result<Opening, Refusal>
+    ensures ok { IfOk result (λ o. IsReadAs form.opening_read bytes.now (Ok o)) }
+    ensures refused { IfErr result (IsRefusalOf form.opening_read bytes.now) }
+{
+    let value = value_of(alloc, bytes)?;
+    opening_in(alloc, &value)
+}

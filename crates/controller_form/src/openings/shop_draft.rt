@@ -1,0 +1,90 @@
+use crate::openings::shop::Shop;
+use json_items::{Borrowed, Checked, Draft, Drafts, under};
+use json_profile::TicketDraft;
+use json_source::Source;
+use master_core::are_apart;
+use serde_json::Value;
+use std::alloc::Global;
+use ticket_tree::{Id, Refusal};
+
+/// A shop by its members and their kinds alone: its ids, names and texts may be any.
+#[derive(Drop)]
+pub struct ShopDraft<'a> {
+    pub master: Borrowed<'a, Id>,
+    pub workers: Drafts<Borrowed<'a, Id>>,
+    pub ticket: TicketDraft<'a>,
+}
+
+impl<'a> ShopDraft<'a> {
+    ghost use Rattle.serde_json.specs.View.{view};
+    ghost use Rattle.json_shapes.specs.Read.{Gives};
+    ghost use Rattle.json_reader.specs.DraftedTicket.{drafted_ticket};
+    ghost use Rattle.controller_form.specs.Openings.DraftedShop.{drafted_shop};
+    ghost use Rattle.controller_form.specs.Openings.ShopForm as form;
+
+    /// The draft of the shop under the members `Master`, `Ticket` and `Workers` of a value, which
+    /// may have others. Refuses `NotProfile`, and `Memory`.
+    #[tactic(auto, unfolding(crate::specs::Openings::ShopForm::shop_draft))]
+    pub fn of(alloc: Global, value: &'a Value) -> Result<ShopDraft<'a>, Refusal>
+        ensures { Gives drafted_shop result (form.shop_draft (view value.now)) }
+    {
+        let master = under(alloc, value, "Master")?;
+        let workers = under(alloc, value, "Workers")?;
+        let ticket = ShopDraft::ticket(alloc, value)?;
+        Ok(ShopDraft {
+            master,
+            workers,
+            ticket,
+        })
+    }
+
+    /// The draft of the ticket under `Ticket`.
+    fn ticket(alloc: Global, value: &'a Value) -> Result<TicketDraft<'a>, Refusal>
+        ensures { Gives drafted_ticket result (form.ticket_under (view value.now)) }
+    {
+        match value.member("Ticket") {
+            Some(ticket) => TicketDraft::of(alloc, ticket),
+            None => Err(Refusal::NotProfile),
+        }
+    }
+}
+
+impl<'a> Checked for ShopDraft<'a> {
+    ghost use Rattle.controller_form.specs.Openings.DraftedShop.{drafted_shop};
+    ghost use Rattle.controller_form.specs.Openings.ShopForm as form;
+
+    type Whole = Shop;
+
+    ghost valid_names = { λ d. form.shop_has_names (drafted_shop d) };
+
+    ghost valid_texts = { λ d. form.shop_has_texts (drafted_shop d) };
+
+    ghost late_fault = { λ d. form.shop_fault (drafted_shop d) };
+
+    ghost made = { λ d. form.shop_of (drafted_shop d) };
+
+    #[tactic(auto, using(json_items::proofs::Tests::all_mapped))]
+    fn has_names(&self) -> bool {
+        self.master.has_names() && self.workers.has_names() && self.ticket.has_names()
+    }
+
+    fn has_texts(&self) -> bool {
+        self.ticket.has_texts()
+    }
+
+    /// Refuses the first fault of its ticket, then `SameName`; `Memory` may come before any but
+    /// what a resource shows of spawns.
+    fn build_known(&self, alloc: Global) -> Result<Shop, Refusal> {
+        let ticket = self.ticket.build_known(alloc)?;
+        let master = self.master.build(alloc)?;
+        let workers = self.workers.build(alloc)?;
+        if !are_apart(alloc, &master, workers.as_slice())? {
+            return Err(Refusal::SameName);
+        }
+        Ok(Shop {
+            master,
+            workers,
+            ticket,
+        })
+    }
+}

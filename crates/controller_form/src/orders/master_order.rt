@@ -1,0 +1,178 @@
+//! The orders of masters.
+
+ghost use Rattle.std.specs.Prelude.{◌≡◌, true, IfOk, IfErr};
+ghost use Rattle.serde_json.specs.View.{view};
+ghost use Rattle.json_items.specs.Judged.{Answers};
+ghost use Rattle.json_source.specs.Read.{Gives};
+ghost use Rattle.controller_form.specs.Orders.DraftedMasterOrder.{drafted_master_order};
+ghost use Rattle.controller_form.specs.Orders.MasterForm as forms;
+
+use crate::orders::spawn_named::names_spawn;
+use json_items::{AnyText, Borrowed, Checked, Draft, Drafts, EditDraft, text_under, under};
+use json_source::Source;
+use master_core::Order;
+use serde_json::Value;
+use std::alloc::Global;
+use ticket_tree::{Id, Refusal, SpawnId};
+
+/// A master's order by its members and their kinds alone: its ids, names and texts may be any. A
+/// document of several orders is read as drafts first, so that each refusal is looked for in all of
+/// it before the next one is.
+#[derive(Drop)]
+pub enum MasterOrderDraft<'a> {
+    /// To edit the ticket.
+    Edit(EditDraft<'a>),
+    /// To send a node to a worker, with copies of these resources that may be changed.
+    Spawn {
+        node: Borrowed<'a, Id>,
+        worker: Borrowed<'a, Id>,
+        rw: Drafts<Borrowed<'a, Id>>,
+    },
+    /// To send the part of the spawn that this text names once more.
+    Resend(Borrowed<'a, AnyText>),
+}
+
+/// An order to edit the ticket.
+#[tactic(auto, unfolding(crate::specs::Orders::MasterForm::edit_form))]
+fn edit<'a>(alloc: Global, value: &'a Value) -> Result<MasterOrderDraft<'a>, Refusal>
+    ensures { Gives drafted_master_order result (forms.edit_form (view value.now)) }
+{
+    if !value.has_only(&["Edit", "Order"]) {
+        return Err(Refusal::NotProfile);
+    }
+    let edit = under(alloc, value, "Edit")?;
+    Ok(MasterOrderDraft::Edit(edit))
+}
+
+/// An order to send a node to a worker.
+#[tactic(auto, unfolding(crate::specs::Orders::MasterForm::spawn_form))]
+fn spawn<'a>(alloc: Global, value: &'a Value) -> Result<MasterOrderDraft<'a>, Refusal>
+    ensures { Gives drafted_master_order result (forms.spawn_form (view value.now)) }
+{
+    if !value.has_only(&["Node", "Order", "RW", "Worker"]) {
+        return Err(Refusal::NotProfile);
+    }
+    let node = under(alloc, value, "Node")?;
+    let rw = under(alloc, value, "RW")?;
+    let worker = under(alloc, value, "Worker")?;
+    Ok(MasterOrderDraft::Spawn { node, worker, rw })
+}
+
+/// An order to send the part of a spawn once more.
+#[tactic(auto, unfolding(crate::specs::Orders::MasterForm::resend_form))]
+fn resend<'a>(alloc: Global, value: &'a Value) -> Result<MasterOrderDraft<'a>, Refusal>
+    ensures { Gives drafted_master_order result (forms.resend_form (view value.now)) }
+{
+    if !value.has_only(&["Order", "SpawnID"]) {
+        return Err(Refusal::NotProfile);
+    }
+    let spawn = under(alloc, value, "SpawnID")?;
+    Ok(MasterOrderDraft::Resend(spawn))
+}
+
+/// The draft of an order of a kind.
+#[tactic(auto, unfolding(crate::specs::Orders::MasterForm::kind_form))]
+fn draft_of_kind<'a>(
+    alloc: Global,
+    kind: &str,
+    value: &'a Value,
+) -> Result<MasterOrderDraft<'a>, Refusal>
+    ensures { Gives drafted_master_order result (forms.kind_form kind.now (view value.now)) }
+{
+    if kind == "Edit" {
+        edit(alloc, value)
+    } else if kind == "Spawn" {
+        spawn(alloc, value)
+    } else if kind == "Resend" {
+        resend(alloc, value)
+    } else {
+        Err(Refusal::NotProfile)
+    }
+}
+
+impl<'a> MasterOrderDraft<'a> {
+    /// The draft that a value is. Refuses `NotProfile`, and `Memory`.
+    #[tactic(auto, unfolding(crate::specs::Orders::MasterForm::master_order_form))]
+    pub fn of(alloc: Global, value: &'a Value) -> Result<MasterOrderDraft<'a>, Refusal>
+        ensures { Gives drafted_master_order result (forms.master_order_form (view value.now)) }
+    {
+        let kind = text_under(value, "Order").ok_or(Refusal::NotProfile)?;
+        draft_of_kind(alloc, kind, value)
+    }
+}
+
+impl<'a> Checked for MasterOrderDraft<'a> {
+    ghost use Rattle.std.specs.Prelude.{None};
+    ghost use Rattle.controller_form.specs.Orders.DraftedMasterOrder.{drafted_master_order};
+    ghost use Rattle.controller_form.specs.Orders.MasterForm as forms;
+
+    type Whole = Order;
+
+    ghost valid_names = { λ d. forms.order_has_names (drafted_master_order d) };
+
+    ghost valid_texts = { λ d. forms.order_has_texts (drafted_master_order d) };
+
+    ghost late_fault = { λ _. None };
+
+    ghost made = { drafted_master_order };
+
+    /// Whether its ids and names are valid, and its SpawnID names a spawn.
+    fn has_names(&self) -> bool {
+        match self {
+            MasterOrderDraft::Edit(edit) => edit.has_names(),
+            MasterOrderDraft::Spawn { node, worker, rw } => node.has_names()
+                && worker.has_names()
+                && rw.has_names(),
+            MasterOrderDraft::Resend(spawn) => names_spawn(spawn.as_str()),
+        }
+    }
+
+    /// Whether the texts of its edit are valid.
+    fn has_texts(&self) -> bool {
+        match self {
+            MasterOrderDraft::Edit(edit) => edit.has_texts(),
+            MasterOrderDraft::Spawn { .. } => true,
+            MasterOrderDraft::Resend(_) => true,
+        }
+    }
+
+    /// Refuses `Memory` alone.
+    fn build_known(&self, alloc: Global) -> Result<Order, Refusal> {
+        match self {
+            MasterOrderDraft::Edit(edit) => Ok(Order::Edit(edit.build(alloc)?)),
+            MasterOrderDraft::Spawn { node, worker, rw } => build_spawn(alloc, node, worker, rw),
+            MasterOrderDraft::Resend(spawn) => {
+                Ok(Order::Resend(SpawnId::parse(spawn.as_str())?))
+            }
+        }
+    }
+}
+
+/// An order to send a node to a worker, built of its parts. Refuses `Memory` alone.
+fn build_spawn(
+    alloc: Global,
+    node: &Borrowed<Id>,
+    worker: &Borrowed<Id>,
+    rw: &Drafts<Borrowed<Id>>,
+) -> Result<Order, Refusal>
+    requires names { forms.order_has_names (Order.Spawn node.now worker.now rw.now) ≡ true }
+    ensures ok { IfOk result (λ order. order ≡ Order.Spawn node.now worker.now rw.now) }
+    ensures memory { IfErr result (λ e. e ≡ Refusal.Memory) }
+{
+    Ok(Order::Spawn {
+        node: node.build(alloc)?,
+        worker: worker.build(alloc)?,
+        rw: rw.build(alloc)?,
+    })
+}
+
+/// The master's order that a value is: to edit its ticket, to send a node to a worker with copies
+/// of these resources that may be changed, or to send the part of a spawn once more. Refuses the
+/// first of `NotProfile`, `BadId` (also where the SpawnID names no spawn) and `BadText` that stands
+/// in it, and `Memory`.
+pub fn master_order_of(alloc: Global, value: &Value) -> Result<Order, Refusal>
+    ensures { Answers result (forms.master_order_read (view value.now)) }
+{
+    let draft = MasterOrderDraft::of(alloc, value)?;
+    draft.build(alloc)
+}

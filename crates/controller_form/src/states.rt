@@ -1,0 +1,18 @@
+//! The state of a master or a worker as JSON, in our own profile: how it is stored, and how it is
+//! read again.
+
+mod entry_draft;
+mod entry_drafts;
+mod entry_value;
+mod format;
+mod master_draft;
+mod master_state;
+mod phase_word;
+mod record_draft;
+mod record_value;
+mod stage_word;
+mod worker_draft;
+mod worker_state;
+
+pub use master_state::{master_state_of, master_state_value};
+pub use worker_state::{worker_state_of, worker_state_value};

@@ -1,0 +1,130 @@
+//! A master's state, as it is read.
+
+ghost use Rattle.std.specs.Prelude.{◌≡◌, true, map, IfErr, IfOk};
+ghost use Rattle.std.specs.List.{list_all};
+ghost use Rattle.controller_form.specs.States.Drafted.{drafted_record};
+ghost use Rattle.controller_form.specs.States.MasterForm as form;
+ghost use Rattle.controller_form.specs.States.RecordForm.{record_has_names, record_has_texts};
+
+use crate::states::record_draft::RecordDraft;
+use json_items::{Borrowed, Checked, Draft, Drafts, only, under};
+use json_profile::TicketDraft;
+use json_source::Source;
+use master_core::Master;
+use serde_json::Value;
+use spawn::SpawnRec;
+use std::alloc::Global;
+use ticket_tree::{Id, Refusal};
+
+/// A master by its members and their kinds alone: its ids, names and texts may be any.
+#[derive(Drop)]
+pub struct MasterDraft<'a> {
+    pub name: Borrowed<'a, Id>,
+    pub workers: Drafts<Borrowed<'a, Id>>,
+    pub ticket: TicketDraft<'a>,
+    pub records: Drafts<RecordDraft<'a>>,
+}
+
+/// Whether the copies to read of all records show nothing of spawns.
+fn are_bare(records: &[RecordDraft<'_>]) -> bool
+    ensures { result ≡ list_all (λ d. (drafted_record d).bare) records.now }
+{
+    records.iter().all(|record| record.is_bare())
+}
+
+/// The records of drafts whose names and texts are valid. Refuses `Memory` alone.
+fn build_spawns(alloc: Global, records: &[RecordDraft<'_>]) -> Result<Vec<SpawnRec>, Refusal>
+    requires names { list_all (λ d. record_has_names (drafted_record d)) records.now ≡ true }
+    requires texts { list_all (λ d. record_has_texts (drafted_record d)) records.now ≡ true }
+    ensures ok { IfOk result
+        (λ spawns. spawns.items ≡ map (λ d. (drafted_record d).spawn) records.now) }
+    ensures memory { IfErr result (λ e. e ≡ Refusal.Memory) }
+{
+    let mut spawns = Vec::with_capacity(alloc, records.len())?;
+    for record in records {
+        spawns.push(record.build_spawn(alloc)?)?;
+    }
+    Ok(spawns)
+}
+
+impl<'a> MasterDraft<'a> {
+    ghost use Rattle.std.specs.Prelude.{codes};
+    ghost use Rattle.serde_json.specs.View.{view};
+    ghost use Rattle.serde_json.specs.Find.{get};
+    ghost use Rattle.std.specs.Option.{option_and_then};
+    ghost use Rattle.json_shapes.specs.Draft.{ticket_draft};
+    ghost use Rattle.json_shapes.specs.Read.{Gives};
+    ghost use Rattle.json_reader.specs.DraftedTicket.{drafted_ticket};
+    ghost use Rattle.controller_form.specs.States.Drafted.{drafted_master};
+    ghost use Rattle.controller_form.specs.States.MasterForm as form;
+
+    /// The draft that a value is. Refuses `NotProfile`, and `Memory`.
+    #[tactic(auto, unfolding(crate::specs::States::MasterForm::master_draft))]
+    pub fn of(alloc: Global, value: &'a Value) -> Result<MasterDraft<'a>, Refusal>
+        ensures { Gives drafted_master result (form.master_draft (view value.now)) }
+    {
+        only(value, &["Name", "Spawns", "Ticket", "Workers"])?;
+        let name = under(alloc, value, "Name")?;
+        let records = under(alloc, value, "Spawns")?;
+        let ticket = MasterDraft::ticket(alloc, value)?;
+        let workers = under(alloc, value, "Workers")?;
+        Ok(MasterDraft {
+            name,
+            workers,
+            ticket,
+            records,
+        })
+    }
+
+    /// The draft of the ticket under `Ticket`.
+    fn ticket(alloc: Global, value: &'a Value) -> Result<TicketDraft<'a>, Refusal>
+        ensures { Gives drafted_ticket result
+            (option_and_then ticket_draft (get (codes "Ticket") (view value.now))) }
+    {
+        match value.member("Ticket") {
+            Some(ticket) => TicketDraft::of(alloc, ticket),
+            None => Err(Refusal::NotProfile),
+        }
+    }
+}
+
+impl<'a> Checked for MasterDraft<'a> {
+    ghost use Rattle.controller_form.specs.States.Drafted.{drafted_master};
+    ghost use Rattle.controller_form.specs.States.MasterForm as form;
+
+    type Whole = Master;
+
+    ghost valid_names = { λ d. form.master_has_names (drafted_master d) };
+
+    ghost valid_texts = { λ d. form.master_has_texts (drafted_master d) };
+
+    ghost late_fault = { λ d. form.master_built_fault (drafted_master d) };
+
+    ghost made = { λ d. form.master_in (drafted_master d) };
+
+    #[tactic(auto, using(json_items::proofs::Tests::all_mapped))]
+    fn has_names(&self) -> bool {
+        self.name.has_names()
+            && self.workers.has_names()
+            && self.ticket.has_names()
+            && self.records.has_names()
+    }
+
+    #[tactic(auto, using(json_items::proofs::Tests::all_mapped))]
+    fn has_texts(&self) -> bool {
+        self.ticket.has_texts() && self.records.has_texts()
+    }
+
+    /// Refuses the first of `ReservedStatus`, `DuplicateId`, `TooDeep`, `UnresolvedLink` and
+    /// `BadState` that stands in the draft; `Memory` may come before any but what copies show.
+    fn build_known(&self, alloc: Global) -> Result<Master, Refusal> {
+        if !are_bare(self.records.as_slice()) {
+            return Err(Refusal::ReservedStatus);
+        }
+        let ticket = self.ticket.build_known(alloc)?;
+        let spawns = build_spawns(alloc, self.records.as_slice())?;
+        let name = self.name.build(alloc)?;
+        let workers = self.workers.build(alloc)?;
+        Master::of_parts(alloc, name, workers, ticket, spawns)
+    }
+}

@@ -1,4 +1,0 @@
-pub mod Documents
-pub mod Edits
-pub mod Runs
-mod Worked

@@ -1,5 +1,0 @@
-use Rattle.file_commands.proofs.Lines.{IsSoFar}
-use Rattle.file_commands.proofs.shown.push_entries.Given as goal
-
-abbrev pub invariant-loop-entry : goal.invariant-loop-entry
-invariant-loop-entry l = IsSoFar l.entries l.entry-index l.fn.text.items l.text.items

@@ -1,0 +1,8 @@
+pub mod Documents
+pub mod Edits
+pub mod Runs
+mod Worked
+pub mod ScriptLines
+pub mod Names
+pub mod StepLines
+pub mod Steps

@@ -1,0 +1,5 @@
+use Rattle.jdf_commands.proofs.ScriptLines.{IsSoFar}
+use Rattle.jdf_commands.proofs.world_command.world_output.push_lines.Given as goal
+
+abbrev pub invariant-loop-answer : goal.invariant-loop-answer
+invariant-loop-answer l = IsSoFar l.answers l.answer-index l.fn.text.items l.text.items

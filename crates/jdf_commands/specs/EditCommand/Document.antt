@@ -1,0 +1,87 @@
+-- The input of `edit`: a time, edits and a ticket.
+use Rattle.std.specs.Prelude.{◌≡◌, ℕ, ◌⊎◌, ◌&&◌, Bool, List, [], ◌∷◌, codes, Option, Some, None}
+use Rattle.std.specs.Prelude.{Result, Err}
+use Rattle.std.specs.List.{list_all}
+use Rattle.std.specs.Option.{option_map_or, option_and_then}
+use Rattle.std.specs.Str.{IsUtf8}
+use Rattle.serde_json.specs.Data.{Data}
+use Rattle.serde_json.specs.Find.{get}
+use Rattle.serde_json.specs.Read.{read}
+use Rattle.ticket_rows.specs.Ticket.{Job, unless, first_of}
+use Rattle.ticket_items.specs.declared.edit.Edit.{Edit}
+use Rattle.ticket_items.specs.declared.refusal.Refusal.{Refusal}
+use Rattle.ticket_items.specs.declared.refusal.Refusal.TheVariants.{BadId, BadText, NotJson}
+use Rattle.ticket_items.specs.declared.refusal.Refusal.TheVariants.{NotProfile, Memory}
+use Rattle.json_shapes.specs.Draft.{RawTicket, ticket_draft}
+use Rattle.json_shapes.specs.EditDraft.{edit_draft}
+use Rattle.json_items.specs.Listed.{list_form}
+use Rattle.json_shapes.specs.Form.{has_names, has_texts, edit_has_names, edit_has_texts, built_fault}
+use Rattle.json_shapes.specs.Form.{sound}
+use Rattle.json_shapes.specs.Read.{◌>>=◌, provided, has_only, number_under}
+
+-- edits to be done at a time, in seconds since 1970, to a ticket
+pub record Document : Type 0 where
+  pub at : ℕ
+  pub edits : List Edit
+  pub ticket : Job
+
+-- the same by its members and their kinds alone
+pub record RawDocument : Type 0 where
+  pub at : ℕ
+  pub edits : List Edit
+  pub ticket : RawTicket
+
+abbrev pub document_members : List (List ℕ)
+document_members = codes "At" ∷ codes "Edits" ∷ codes "Ticket" ∷ []
+
+-- the drafts of what stands under `Edits` and under `Ticket`
+abbrev pub edits_under : Data → Option (List Edit)
+edits_under d = option_and_then (list_form edit_draft) (get (codes "Edits") d)
+
+abbrev pub ticket_under : Data → Option RawTicket
+ticket_under d = get (codes "Ticket") d >>= ticket_draft
+
+-- what the data is by its members and their kinds
+unfoldable pub document_draft : Data → Option RawDocument
+document_draft d = do
+  _ ← provided (has_only document_members d)
+  at ← number_under (codes "At") d
+  edits ← edits_under d
+  ticket ← ticket_under d
+  Some (record { at = at; edits = edits; ticket = ticket })
+
+-- whether all ids and names, and all texts, of the edits and the ticket are valid
+abbrev pub document_has_names : RawDocument → Bool
+document_has_names doc = list_all edit_has_names doc.edits && has_names doc.ticket
+
+abbrev pub document_has_texts : RawDocument → Bool
+document_has_texts doc = list_all edit_has_texts doc.edits && has_texts doc.ticket
+
+-- what is wrong with a draft: each fault of the edits or the ticket before the next one of either
+abbrev pub document_fault : RawDocument → Option Refusal
+document_fault doc =
+    first_of
+    (unless (document_has_names doc) BadId ∷ unless (document_has_texts doc) BadText
+    ∷ built_fault doc.ticket ∷ [])
+
+-- the document of a draft
+abbrev pub document_of : RawDocument → Document
+document_of doc = record { at = doc.at; edits = doc.edits; ticket = doc.ticket.job }
+
+-- the document that JSON data is, or its first refusal
+abbrev pub document_read : Data → Result Document Refusal
+document_read d =
+    option_map_or (λ doc. sound (document_fault doc) (document_of doc)) (document_draft d)
+    (Err NotProfile)
+
+-- the bytes are JSON that is read so
+pub record IsReadAs (input : List ℕ) (answer : Result Document Refusal) : Type 0 where
+  pub value : Data
+  pub utf8 : IsUtf8 input
+  pub json : read input ≡ Some value
+  pub form : document_read value ≡ answer
+
+-- why an input is refused: no JSON, the first refusal of its data, or memory ran out
+abbrev pub IsRefusalOf : List ℕ → Refusal → Type 0
+IsRefusalOf input e =
+    ((e ≡ NotJson) × (IsUtf8 input → read input ≡ None)) ⊎ (IsReadAs input (Err e) ⊎ (e ≡ Memory))

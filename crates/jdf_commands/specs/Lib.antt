@@ -1,0 +1,4 @@
+pub mod EditCommand
+pub mod WorldCommand
+pub mod FileCommands
+pub mod Words

@@ -1,0 +1,84 @@
+//! What `show` writes of a controller.
+
+ghost use Rattle.std.specs.Prelude.{◌≡◌, ◌++◌, string_bytes, IfOk, IfErr, OnOk};
+ghost use Rattle.serde_json.specs.Written.{compact_text};
+ghost use Rattle.jdf_commands.specs.FileCommands.Shown as shown;
+ghost use Rattle.json_writer.specs.PartWritten.{part_data};
+ghost use Rattle.ticket_items.specs.declared.refusal.Refusal.TheVariants.{Memory};
+
+use json_profile::{part_value, push_shown_text, text_of};
+use master_core::Master;
+use std::alloc::{AllocError, Global};
+use ticket_tree::{Part, Refusal};
+use worker_core::{End, Entry, Stage, Worker};
+
+/// What a master shows: the text of its ticket with the marks of what is out, on a line of its own.
+/// Refuses `Memory` alone.
+pub fn master_text(alloc: Global, master: &Master) -> Result<Vec<u8>, Refusal>
+    ensures ok { IfOk result (λ text. text.items ≡ shown.master_text master.now) }
+    ensures memory { IfErr result (λ e. e ≡ Memory) }
+{
+    let marks = master.shown(alloc)?;
+    let mut text = Vec::new(alloc);
+    push_shown_text(alloc, &mut text, master.ticket(), &marks)?;
+    text.push(b'\n')?;
+    Ok(text)
+}
+
+/// How far the work on a part is, in a word.
+fn stage_word(stage: Stage) -> &'static str
+    ensures { result.now ≡ shown.stage_word stage }
+{
+    match stage {
+        Stage::Open => "Open",
+        Stage::Done(End::Completed) => "Completed",
+        Stage::Done(End::Aborted) => "Aborted",
+    }
+}
+
+/// The id of a spawn and a word, with a space behind each.
+fn entry_head(alloc: Global, spawn: u32, word: &str) -> Result<String, AllocError>
+    ensures { IfOk result (λ head. string_bytes head ≡ shown.entry_head spawn word.now) }
+{
+    format!(in alloc; "S{spawn} {word} ")
+}
+
+/// The text of a part.
+fn part_text(alloc: Global, part: &Part) -> Result<Vec<u8>, AllocError>
+    ensures { IfOk result (λ text. text.items ≡ compact_text (part_data part.now)) }
+{
+    let value = part_value(alloc, part)?;
+    text_of(alloc, &value)
+}
+
+/// The line of an entry.
+fn entry_line(alloc: Global, entry: &Entry) -> Result<Vec<u8>, AllocError>
+    ensures { IfOk result (λ line. line.items ≡ shown.entry_line entry.now) }
+{
+    let spawn = entry.part.spawn_id().number();
+    let mut line = entry_head(alloc, spawn, stage_word(entry.phase))?.into_bytes();
+    line.extend_from_slice(part_text(alloc, &entry.part)?.as_slice())?;
+    line.push(b'\n')?;
+    Ok(line)
+}
+
+/// Appends a line for each entry.
+fn push_entries(alloc: Global, text: &mut Vec<u8>, entries: &[Entry]) -> Result<(), AllocError>
+    ensures { OnOk result (text.new.items ≡ text.old.items ++ shown.entry_lines entries.now) }
+{
+    for entry in entries {
+        text.extend_from_slice(entry_line(alloc, entry)?.as_slice())?;
+    }
+    Ok(())
+}
+
+/// What a worker shows: a line for each of its entries in the order in which their parts were
+/// taken, with the spawn's id, `Open`, `Completed` or `Aborted`, and the part's text, with a space
+/// between. Refuses `Memory` alone.
+pub fn worker_text(alloc: Global, worker: &Worker) -> Result<Vec<u8>, AllocError>
+    ensures { IfOk result (λ text. text.items ≡ shown.worker_text worker.now) }
+{
+    let mut text = Vec::new(alloc);
+    push_entries(alloc, &mut text, worker.entries())?;
+    Ok(text)
+}

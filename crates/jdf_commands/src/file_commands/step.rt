@@ -1,0 +1,82 @@
+//! What is written of a step, and why nothing is.
+
+ghost use Rattle.std.specs.Prelude.{◌≡◌, ◌++◌, not, is_ok, IfErr, IfOk, OnOk};
+ghost use Rattle.streams.specs.declared.refused.Refused.TheVariants.{Core};
+ghost use Rattle.streams.specs.declared.fault.Fault.TheVariants.{Input};
+ghost use Rattle.ticket_items.specs.declared.refusal.Refusal.TheVariants.{Memory};
+ghost use Rattle.std.specs.Option.{option_map};
+ghost use Rattle.jdf_commands.specs.FileCommands.Step as steps;
+
+use controller::Reply;
+use std::alloc::{AllocError, Global};
+use streams::{Fault, Output, Refused};
+use ticket_tree::Refusal;
+use world_items::{Answer, Word};
+use world_script::answer_text;
+
+/// A reply or a refusal in a word.
+fn word_of(reply: Result<Reply, Refusal>) -> Word
+    ensures { result ≡ steps.word_of reply }
+{
+    match reply {
+        Ok(reply) => Word::Did(reply),
+        Err(refusal) => Word::Refused(refusal),
+    }
+}
+
+/// Its line.
+fn reply_line(alloc: Global, reply: Result<Reply, Refusal>) -> Result<Vec<u8>, AllocError>
+    ensures { IfOk result (λ line. line.items ≡ steps.reply_line reply) }
+{
+    let answer = Answer {
+        word: word_of(reply),
+        number: None,
+    };
+    let mut line = answer_text(alloc, &answer)?.into_bytes();
+    line.push(b'\n')?;
+    Ok(line)
+}
+
+/// Appends a text on a line of its own, if there is one.
+fn push_text(lines: &mut Vec<u8>, text: &Option<Vec<u8>>) -> Result<(), AllocError>
+    ensures { OnOk result (lines.new.items
+        ≡ lines.old.items ++ steps.text_line (option_map (λ b. b.items) text.now)) }
+{
+    match text {
+        None => Ok(()),
+        Some(text) => {
+            lines.extend_from_slice(text.as_slice())?;
+            lines.push(b'\n')?;
+            Ok(())
+        }
+    }
+}
+
+/// The line of a reply, and the text that goes out on a line of its own. Refuses `Memory` alone.
+pub(crate) fn step_output(
+    alloc: Global,
+    reply: Result<Reply, Refusal>,
+    message: &Option<Vec<u8>>,
+) -> Result<Output, Fault>
+    ensures lines { IfOk result (λ output. output.text.items
+        ≡ steps.reply_line reply ++ steps.text_line (option_map (λ b. b.items) message.now)) }
+    ensures status { IfOk result (λ output. output.refused ≡ not (is_ok reply)) }
+    ensures memory { IfErr result (λ f. f ≡ Input (Core Memory)) }
+{
+    let mut text = reply_line(alloc, reply)?;
+    push_text(&mut text, message)?;
+    Ok(Output {
+        text,
+        refused: reply.is_err(),
+    })
+}
+
+/// The fault that a refusal of a step is.
+pub(crate) fn fault_of(refused: Refused) -> Fault
+    ensures { result ≡ steps.fault_of refused }
+{
+    match refused {
+        Refused::Core(refusal) => Fault::Input(Refused::Core(refusal)),
+        other => Fault::Device(other),
+    }
+}

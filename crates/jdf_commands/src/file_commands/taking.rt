@@ -1,0 +1,42 @@
+//! A message for a controller beside its keeper.
+
+ghost use Rattle.std.specs.Prelude.{◌≡◌, ◌≤◌, true, IfOk, IfErr, IsErr};
+ghost use Rattle.serde_json.specs.Written.{compact_text};
+ghost use Rattle.jdf_commands.specs.FileCommands.Step as steps;
+ghost use Rattle.jmf_message.specs.Decoded.{IsRefusalOf};
+
+use crate::file_commands::step::{fault_of, step_output};
+use keepers::Keep;
+use std::alloc::Global;
+use stored_state::{Controller, Kept};
+use streams::{Fault, Output};
+
+/// Gives a controller the message that the input is, at a time in seconds since 1970, and saves its
+/// state, also where the controller refuses the message. What is written is the line of what it was
+/// taken as or why it was refused, and the text of the answer on a line of its own. Refuses as
+/// `Input` what the input is refused for, which changes nothing; as `Device` `Stale` while it is
+/// stale, and `SaveFailed`, from which on it is stale; and `Memory`: then nothing is changed, or it
+/// is stale from then on, or the step was saved, and only its lines could not be made.
+pub fn take_output<C: Controller, K: Keep>(
+    alloc: Global,
+    kept: &mut Kept<C, K>,
+    input: &[u8],
+    at: u64,
+) -> Result<Output, Fault>
+    ensures ok { IfOk result (λ output. steps.GivesOut K.is_honest K.held
+        (λ c. compact_text (C.state_data c))
+        (steps.IsTaken input.now (λ m. steps.take_step C.taken_reply C.taken_answer C.taken m at
+        kept.old.controller)) kept.new output.text.items output.refused) }
+    ensures stale { kept.old.stale ≡ true → IsErr result }
+    ensures honest { K.is_honest kept.new.keep ≡ K.is_honest kept.old.keep }
+    ensures counted { K.count kept.old.keep ≤ K.count kept.new.keep }
+    ensures refused { IfErr result (steps.GivesNoOutput K.is_honest K.held K.count
+        (λ c. compact_text (C.state_data c)) (IsRefusalOf input.now)
+        (steps.IsTaken input.now (λ m. steps.take_step C.taken_reply C.taken_answer C.taken m at
+        kept.old.controller)) kept.old kept.new) }
+{
+    match kept.take(alloc, input, at) {
+        Ok(given) => step_output(alloc, given.reply, &given.answer),
+        Err(refused) => Err(fault_of(refused)),
+    }
+}

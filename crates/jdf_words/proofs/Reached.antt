@@ -1,0 +1,184 @@
+-- Words without fault name one of the commands, with what it wants.
+use Rattle.std.proofs.Common.{◌≡◌, ◌∙◌, ◌&&◌, ◌||◌, Bool, true, false, cond, not, List, [], ◌∷◌, Option, Some, None, IfSome, IsSomeAnd, All, find, codes, is_some, refl, sym, ap, subst, inl, inr, bytes_eq, option_and_then, option_map, slice_get, true≢false}
+use Rattle.std.specs.Option.{option_map_or}
+use Rattle.std.proofs.lemmas.Bool.{or_cases, or_parts}
+use Rattle.std.proofs.lemmas.Slice.Eq.{bytes_eq-Decides}
+use Rattle.std.proofs.lemmas.List.Elements.{All-head, All-tail}
+use Rattle.clap.specs.Facts.{explicit_source}
+use Rattle.clap.specs.Faults.{fault_of, level_fault, entered_fault}
+use Rattle.clap.specs.Kinds.{check_kinds}
+use Rattle.clap.specs.Simple.{Shape, built, built_leaf, entered, inherited, label_of, names_of, rows_at, subcommand_of}
+use Rattle.clap.specs.Takes.{is_given, value_passes}
+use Rattle.clap.specs.Walk.{Row, Rule, Text, answers_to, nothing_held, row_text, rows_after, stop_after}
+use Rattle.clap.specs.Values.{IsUnsignedIn}
+use Rattle.clap.specs.declared.builder.value_parser.ValueParser.TheVariants as parser
+use Rattle.clap.proofs.ValueTestLemmas.{accepts-Accepts}
+use Rattle.jdf_words.specs.Calls.{HasAt, HasFile, IsCall}
+use Rattle.jdf_words.specs.Commands.{at_rule, bare, command, file_rule, jdf}
+use Rattle.jdf_words.proofs.Walks.{AsksNoHelp, IsIn, IsMade, IsPlainRule, found_in, level_passed, made}
+
+-- an element that is found has what each has
+found_holds : {X : Type 0} (P : X → Type 0) (p : X → Bool) (xs : List X) (x : X) → find p xs ≡ Some x → All P xs → P x
+found_holds P p [] x e h = cc
+found_holds P p (y ∷ ys) x e h = go (p y) e (λ rest. found_holds P p ys x rest (All-tail P y ys h))
+  where
+    go : (b : Bool) → cond b (Some y) (find p ys) ≡ Some x → (find p ys ≡ Some x → P x) → P x
+    go true same rest = subst (λ o. IfSome o P) same (All-head P y ys h)
+    go false same rest = rest same
+
+-- the row of an argument that was given
+pub record Given (c : List Rule) (id : Text) (rows : List Row) : Type 0 where
+  pub rule : Rule
+  pub text : Text
+  pub among : IsIn rule c
+  pub passes : value_passes rule text ≡ true
+  pub named : bytes_eq rule.id id ≡ true
+  pub found : find (λ r. bytes_eq r.id id) rows ≡ Some (made rule text)
+
+given_row : (c : List Rule) (id : Text) (rows : List Row) → All (IsMade c) rows → is_given id rows ≡ true → Given c id rows
+given_row c id rows all given = go (find (λ r. bytes_eq r.id id) rows) refl given
+  where
+    go : (o : Option Row) → find (λ r. bytes_eq r.id id) rows ≡ o → option_map_or (λ r. explicit_source r.source) o false ≡ true → Given c id rows
+    go None e none = absurd (true≢false (sym none))
+    go (Some r) e some =
+        let made_row = found_holds (IsMade c) (λ r. bytes_eq r.id id) rows r e all in
+        let here = (found_in (λ r. bytes_eq r.id id) rows r e).1 in
+        record {
+          rule = made_row.0;
+          text = made_row.1;
+          among = made_row.2;
+          passes = made_row.3;
+          named = subst (λ (x : Row). bytes_eq x.id id ≡ true) made_row.4 here;
+          found = e ∙ ap Some made_row.4;
+        }
+
+-- a command of the program, as it is built
+abbrev leaf : Text → List Rule → Shape
+leaf name arguments = built_leaf (inherited bare.top (command name arguments))
+
+abbrev filed : Text → Shape
+filed name = leaf name (file_rule ∷ [])
+
+abbrev timed : Text → Shape
+timed name = leaf name (file_rule ∷ at_rule ∷ [])
+
+help_plain : (name : Text) (a : Rule) → IsIn a (leaf name []).rules → IsPlainRule a
+help_plain name a (inl is) = rw is (inr refl, refl)
+help_plain name a (inr none) = absurd none
+
+filed_plain : (name : Text) (a : Rule) → IsIn a (filed name).rules → IsPlainRule a
+filed_plain name a (inl is) = rw is (inl (refl, refl, refl), refl)
+filed_plain name a (inr is) = help_plain name a is
+
+timed_plain : (name : Text) (a : Rule) → IsIn a (timed name).rules → IsPlainRule a
+timed_plain name a (inl is) = rw is (inl (refl, refl, refl), refl)
+timed_plain name a (inr (inl is)) = rw is (inl (refl, refl, refl), refl)
+timed_plain name a (inr (inr is)) = help_plain name a is
+
+none_missing : (missing : Bool) → check_kinds false false missing ≡ [] → missing ≡ false
+none_missing true e = cc
+none_missing false e = refl
+
+there : (given : Bool) → not given ≡ false → given ≡ true
+there true e = refl
+there false e = cc
+
+file_given : (c : List Rule) (rows : List Row) → All (IsMade c) rows → is_given (codes "FILE") rows ≡ true → HasFile rows
+file_given c rows all given =
+    let row = given_row c (codes "FILE") rows all given in
+    ap (λ o. is_some (option_and_then (λ (r : Row). slice_get r.values 0) o)) row.found
+
+-- only the rule of N is called so, and what passes it is a time
+at_passes : (name : Text) (a : Rule) (text : Text) → IsIn a (timed name).rules → bytes_eq a.id (codes "at") ≡ true → value_passes a text ≡ true
+    → IsSomeAnd (row_text (made a text)) (IsUnsignedIn 0 9999999999)
+at_passes name a text (inl is) named passes = let bad : false ≡ true = rw is at named in cc
+at_passes name a text (inr (inl is)) named passes = rw is (accepts-Accepts false (parser.Unsigned 0 9999999999) text (rw is at passes))
+at_passes name a text (inr (inr (inl is))) named passes = let bad : false ≡ true = rw is at named in cc
+at_passes name a text (inr (inr (inr none))) named passes = absurd none
+
+at_given : (name : Text) (rows : List Row) → All (IsMade (timed name).rules) rows → is_given (codes "at") rows ≡ true → HasAt rows
+at_given name rows all given =
+    let row = given_row (timed name).rules (codes "at") rows all given in
+    subst (λ o. IsSomeAnd (option_and_then row_text o) (IsUnsignedIn 0 9999999999)) (sym row.found) (at_passes name row.rule row.text row.among row.named row.passes)
+
+-- a command on a FILE has it, and a timed one its N too
+filed_has : (name : Text) (words : List Text) → level_fault (filed name) [] nothing_held words false [] ≡ [] → HasFile (rows_after (filed name).rules [] words)
+filed_has name words e =
+    let passed = level_passed (filed name) (filed_plain name) refl [] words false [] e in
+    file_given (filed name).rules _ passed.rows (there _ (or_parts _ false (none_missing _ passed.checks)).0)
+
+timed_has : (name : Text) (words : List Text) → level_fault (timed name) [] nothing_held words false [] ≡ []
+    → HasFile (rows_after (timed name).rules [] words) × HasAt (rows_after (timed name).rules [] words)
+timed_has name words e =
+    let passed = level_passed (timed name) (timed_plain name) refl [] words false [] e in
+    let file = or_parts (not (is_given (codes "FILE") (rows_after (timed name).rules [] words))) _ (none_missing _ passed.checks) in
+    let time = or_parts (not (is_given (codes "at") (rows_after (timed name).rules [] words))) false file.1 in (
+      file_given (timed name).rules _ passed.rows (there _ file.0),
+      at_given name _ passed.rows (there _ time.0),
+    )
+
+-- ---- the program
+
+top_plain : (a : Rule) → IsIn a (built jdf).top.rules → IsPlainRule a
+unfolding jdf
+top_plain a (inl is) = rw is (inr refl, refl)
+top_plain a (inr none) = absurd none
+
+not_help : (name : Text) → (bytes_eq (codes "help") name || false) ≡ true → AsksNoHelp (built jdf).top name → ⊥
+unfolding jdf
+not_help name same no_help = elim (or_cases (bytes_eq (codes "help") name) false same) [
+  | inl is ↦
+      let help : codes "help" ≡ name = (bytes_eq-Decides _ _).0 is in
+      let bad : true ≡ false = rw (← help) at no_help in
+      cc
+  | inr none ↦ cc
+]
+
+-- a command that is one of the program's, where it takes the words after it and isn't `help`
+command_has : (s : Shape) (name : Text) (words : List Text) → IsIn s (built jdf).subs → answers_to name (label_of s) ≡ true → AsksNoHelp (built jdf).top name
+    → level_fault s [] nothing_held words false [] ≡ [] → IsCall (rows_at s words)
+unfolding jdf
+command_has s name words (inl is) answers no_help e = rw is (record { command = refl; file = λ bad. cc; at = λ bad. cc })
+command_has s name words (inr (inl is)) answers no_help e = rw is (record { command = refl; file = λ bad. cc; at = λ bad. cc })
+command_has s name words (inr (inr (inl is))) answers no_help e =
+    let has = filed_has (codes "new") words (rw is at e) in
+    rw is (record { command = refl; file = λ _. has; at = λ bad. cc })
+command_has s name words (inr (inr (inr (inl is)))) answers no_help e =
+    let has = timed_has (codes "order") words (rw is at e) in
+    rw is (record { command = refl; file = λ _. has.0; at = λ _. has.1 })
+command_has s name words (inr (inr (inr (inr (inl is))))) answers no_help e =
+    let has = timed_has (codes "take") words (rw is at e) in
+    rw is (record { command = refl; file = λ _. has.0; at = λ _. has.1 })
+command_has s name words (inr (inr (inr (inr (inr (inl is)))))) answers no_help e =
+    let has = filed_has (codes "show") words (rw is at e) in
+    rw is (record { command = refl; file = λ _. has; at = λ bad. cc })
+command_has s name words (inr (inr (inr (inr (inr (inr (inl is))))))) answers no_help e =
+    let same : (bytes_eq (codes "help") name || false) ≡ true = rw is at answers in
+    absurd (not_help name same no_help)
+command_has s name words (inr (inr (inr (inr (inr (inr (inr none))))))) answers no_help e = absurd none
+
+has_command : (has : Bool) → check_kinds (not has && false) (not has && true) false ≡ [] → has ≡ true
+has_command true e = refl
+has_command false e = cc
+
+-- where the words have no fault, a call was found
+pub reached : (words : List Text) → fault_of jdf words ≡ [] → IsSomeAnd (subcommand_of jdf words) IsCall
+unfolding jdf
+reached words e =
+    let app = built jdf in
+    let stop = stop_after app.top.rules (names_of app) words in
+    let passed = level_passed app.top top_plain refl (names_of app) words (is_some (entered app stop)) (entered_fault app stop) e in
+    go stop passed.stop passed.below (has_command _ passed.checks)
+  where
+    by_shape : (p : Text × List Text) (o : Option Shape) → find (λ s. answers_to p.0 (label_of s)) (built jdf).subs ≡ o → AsksNoHelp (built jdf).top p.0
+        → option_map_or (λ s. level_fault s [] nothing_held p.1 false []) o [] ≡ [] → is_some (option_map (λ s. rows_at s p.1) o) ≡ true
+        → IsSomeAnd (option_map (λ s. rows_at s p.1) o) IsCall
+    by_shape p None is no_help fault has = cc
+    by_shape p (Some s) is no_help fault has =
+        let found = found_in (λ x. answers_to p.0 (label_of x)) (built jdf).subs s is in
+        command_has s p.0 p.1 found.0 found.1 no_help fault
+
+    go : (stop : Option (Text × List Text)) → IfSome stop (λ p. AsksNoHelp (built jdf).top p.0) → entered_fault (built jdf) stop ≡ []
+        → is_some (entered (built jdf) stop) ≡ true → IsSomeAnd (entered (built jdf) stop) IsCall
+    go None no_help fault has = cc
+    go (Some p) no_help fault has = by_shape p (find (λ s. answers_to p.0 (label_of s)) (built jdf).subs) refl no_help fault has

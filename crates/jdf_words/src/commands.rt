@@ -1,0 +1,83 @@
+//! The commands of the program and their arguments, as `clap` is told of them.
+
+ghost use Rattle.std.specs.Prelude.{◌≡◌, [], ◌∷◌, IfOk, false};
+ghost use Rattle.clap.specs.Words.{app_of, rule_of};
+ghost use Rattle.jdf_words.specs.Commands.{alone, at_rule, bare, command, file_rule, jdf};
+
+use crate::help::{self, Help};
+use clap::{Arg, Command};
+use std::alloc::{AllocError, Global};
+
+/// FILE, which has to be there.
+fn file_argument<'a>(alloc: Global) -> Arg<'a>
+    ensures rule { rule_of result ≡ file_rule }
+    ensures local { result.global ≡ false }
+{
+    Arg::new(alloc, "FILE")
+        .required(true)
+        .help("The file that the controller is kept in")
+}
+
+/// `--at N`, which has to be there.
+fn at_argument<'a>(alloc: Global) -> Arg<'a>
+    ensures rule { rule_of result ≡ at_rule }
+    ensures local { result.global ≡ false }
+{
+    Arg::new(alloc, "at")
+        .long("at")
+        .required(true)
+        .value_name("N")
+        .value_parser(clap::value_parser!(u64).range(0..=9_999_999_999))
+        .help("The time, in whole seconds since the beginning of 1970")
+}
+
+/// A command with no argument.
+fn plain_command<'a>(alloc: Global, name: &'a str, help: Help) -> Command<'a>
+    ensures { app_of result ≡ alone (command name.entry.now []) }
+{
+    Command::new(alloc, name)
+        .about(help.about)
+        .long_about(help.long_about)
+        .after_help(help.example)
+}
+
+/// A command on a FILE.
+fn file_command<'a>(alloc: Global, name: &'a str, help: Help) -> Result<Command<'a>, AllocError>
+    ensures { IfOk result (λ made. app_of made
+        ≡ alone (command name.entry.now (file_rule ∷ []))) }
+{
+    plain_command(alloc, name, help).arg(file_argument(alloc))
+}
+
+/// A command on a FILE at a time.
+fn timed_command<'a>(alloc: Global, name: &'a str, help: Help) -> Result<Command<'a>, AllocError>
+    ensures { IfOk result (λ made. app_of made
+        ≡ alone (command name.entry.now (file_rule ∷ at_rule ∷ []))) }
+{
+    file_command(alloc, name, help)?.arg(at_argument(alloc))
+}
+
+/// The program before it has commands: its words come without its name, and name a command.
+fn bare<'a>(alloc: Global) -> Result<Command<'a>, AllocError>
+    ensures { IfOk result (λ made. app_of made ≡ bare) }
+{
+    Command::new(alloc, "jdf_cli")
+        .about(help::PROGRAM)
+        .after_help(help::EXAMPLES)
+        .no_binary_name(true)
+        .subcommand_required(true)
+        .bin_name("jdf_cli")
+}
+
+/// The program, its commands and their arguments.
+pub(crate) fn jdf<'a>(alloc: Global) -> Result<Command<'a>, AllocError>
+    ensures { IfOk result (λ made. app_of made ≡ jdf) }
+{
+    bare(alloc)?
+        .subcommand(plain_command(alloc, "edit", help::EDIT))?
+        .subcommand(plain_command(alloc, "world", help::WORLD))?
+        .subcommand(file_command(alloc, "new", help::NEW)?)?
+        .subcommand(timed_command(alloc, "order", help::ORDER)?)?
+        .subcommand(timed_command(alloc, "take", help::TAKE)?)?
+        .subcommand(file_command(alloc, "show", help::SHOW)?)
+}

@@ -1,0 +1,385 @@
+//! Edits: their drafts, and how they are written.
+
+ghost use Rattle.std.specs.Prelude.{◌≡◌, true, IfOk, IfErr, OnOk};
+ghost use Rattle.serde_json.specs.Data.{no_members};
+ghost use Rattle.serde_json.specs.View.{members_view};
+ghost use Rattle.ticket_items.specs.Names.{is_name};
+ghost use Rattle.json_items.specs.Again.{edit_again};
+ghost use Rattle.json_items.specs.DraftedEdits.{drafted_edit};
+ghost use Rattle.json_items.specs.Edits as edits;
+ghost use Rattle.json_source.specs.Read.{Gives};
+
+use crate::resources::resource_form::put_resource;
+use crate::{
+    Borrowed, Draft, Form, LinkDraft, ResourceDraft, Written, only, put, put_text, text_under,
+    under,
+};
+use json_source::Source;
+use serde_json::{Map, Value};
+use std::alloc::{AllocError, Global};
+use ticket_items::{Edit, Id, Name, Refusal, Text};
+
+/// An edit by its members and their kinds alone: its ids, names and texts may be any.
+#[derive(Drop)]
+pub enum EditDraft<'a> {
+    SetStatus {
+        node: Borrowed<'a, Id>,
+        status: Borrowed<'a, Name>,
+    },
+    SetAttr {
+        node: Borrowed<'a, Id>,
+        name: Borrowed<'a, Name>,
+        value: Borrowed<'a, Text>,
+    },
+    SetResStatus {
+        resource: Borrowed<'a, Id>,
+        status: Borrowed<'a, Name>,
+    },
+    SetResAttr {
+        resource: Borrowed<'a, Id>,
+        name: Borrowed<'a, Name>,
+        value: Borrowed<'a, Text>,
+    },
+    Note {
+        node: Borrowed<'a, Id>,
+        text: Borrowed<'a, Text>,
+    },
+    AddNode {
+        node: Borrowed<'a, Id>,
+        id: Borrowed<'a, Id>,
+        kind: Borrowed<'a, Name>,
+        job_part: Borrowed<'a, Name>,
+        status: Borrowed<'a, Name>,
+    },
+    AddResource {
+        node: Borrowed<'a, Id>,
+        resource: ResourceDraft<'a>,
+    },
+    AddLink {
+        node: Borrowed<'a, Id>,
+        link: LinkDraft<'a>,
+    },
+}
+
+/// A `SetStatus`.
+#[tactic(auto, unfolding(crate::specs::Edits::set_status_draft))]
+fn set_status<'a, S: Source>(alloc: Global, value: &'a S) -> Result<EditDraft<'a>, Refusal>
+    ensures { Gives drafted_edit result (edits.set_status_draft (S.content value.now)) }
+{
+    only(value, &["Edit", "Node", "Status"])?;
+    let node = under(alloc, value, "Node")?;
+    let status = under(alloc, value, "Status")?;
+    Ok(EditDraft::SetStatus { node, status })
+}
+
+/// A `SetAttr`.
+#[tactic(auto, unfolding(crate::specs::Edits::set_attr_draft))]
+fn set_attr<'a, S: Source>(alloc: Global, value: &'a S) -> Result<EditDraft<'a>, Refusal>
+    ensures { Gives drafted_edit result (edits.set_attr_draft (S.content value.now)) }
+{
+    only(value, &["Edit", "Name", "Node", "Value"])?;
+    Ok(EditDraft::SetAttr {
+        name: under(alloc, value, "Name")?,
+        node: under(alloc, value, "Node")?,
+        value: under(alloc, value, "Value")?,
+    })
+}
+
+/// A `SetResStatus`.
+#[tactic(auto, unfolding(crate::specs::Edits::set_resource_status_draft))]
+fn set_resource_status<'a, S: Source>(alloc: Global, value: &'a S) -> Result<EditDraft<'a>, Refusal>
+    ensures { Gives drafted_edit result (edits.set_resource_status_draft (S.content value.now)) }
+{
+    only(value, &["Edit", "Resource", "Status"])?;
+    let resource = under(alloc, value, "Resource")?;
+    let status = under(alloc, value, "Status")?;
+    Ok(EditDraft::SetResStatus { resource, status })
+}
+
+/// A `SetResAttr`.
+#[tactic(auto, unfolding(crate::specs::Edits::set_resource_attr_draft))]
+fn set_resource_attr<'a, S: Source>(alloc: Global, value: &'a S) -> Result<EditDraft<'a>, Refusal>
+    ensures { Gives drafted_edit result (edits.set_resource_attr_draft (S.content value.now)) }
+{
+    only(value, &["Edit", "Name", "Resource", "Value"])?;
+    Ok(EditDraft::SetResAttr {
+        name: under(alloc, value, "Name")?,
+        resource: under(alloc, value, "Resource")?,
+        value: under(alloc, value, "Value")?,
+    })
+}
+
+/// A `Note`.
+#[tactic(auto, unfolding(crate::specs::Edits::note_draft))]
+fn note<'a, S: Source>(alloc: Global, value: &'a S) -> Result<EditDraft<'a>, Refusal>
+    ensures { Gives drafted_edit result (edits.note_draft (S.content value.now)) }
+{
+    only(value, &["Edit", "Node", "Text"])?;
+    let node = under(alloc, value, "Node")?;
+    let text = under(alloc, value, "Text")?;
+    Ok(EditDraft::Note { node, text })
+}
+
+/// An `AddNode`.
+#[tactic(auto, unfolding(crate::specs::Edits::add_node_draft))]
+fn add_node<'a, S: Source>(alloc: Global, value: &'a S) -> Result<EditDraft<'a>, Refusal>
+    ensures { Gives drafted_edit result (edits.add_node_draft (S.content value.now)) }
+{
+    let names = ["Edit", "ID", "JobPartID", "Node", "Status", "Type"];
+    only(value, &names)?;
+    Ok(EditDraft::AddNode {
+        id: under(alloc, value, "ID")?,
+        job_part: under(alloc, value, "JobPartID")?,
+        node: under(alloc, value, "Node")?,
+        status: under(alloc, value, "Status")?,
+        kind: under(alloc, value, "Type")?,
+    })
+}
+
+/// An `AddResource`. The new resource shows nothing of spawns.
+#[tactic(auto, unfolding(crate::specs::Edits::add_resource_draft))]
+fn add_resource<'a, S: Source>(alloc: Global, value: &'a S) -> Result<EditDraft<'a>, Refusal>
+    ensures { Gives drafted_edit result (edits.add_resource_draft (S.content value.now)) }
+{
+    let names = ["Attr", "Class", "Edit", "ID", "Name", "Node", "Status"];
+    only(value, &names)?;
+    let node = under(alloc, value, "Node")?;
+    let resource = ResourceDraft::of(alloc, value)?;
+    Ok(EditDraft::AddResource { node, resource })
+}
+
+/// An `AddLink`.
+#[tactic(auto, unfolding(crate::specs::Edits::add_link_draft))]
+fn add_link<'a, S: Source>(alloc: Global, value: &'a S) -> Result<EditDraft<'a>, Refusal>
+    ensures { Gives drafted_edit result (edits.add_link_draft (S.content value.now)) }
+{
+    only(value, &["Edit", "Node", "Usage", "rRef"])?;
+    let node = under(alloc, value, "Node")?;
+    let usage = under(alloc, value, "Usage")?;
+    let rref = under(alloc, value, "rRef")?;
+    let link = LinkDraft { rref, usage };
+    Ok(EditDraft::AddLink { node, link })
+}
+
+/// The edit of a draft that sets something. Refuses `Memory` alone.
+fn build_setting(alloc: Global, draft: &EditDraft<'_>) -> Result<Edit, Refusal>
+    requires setting { edits.is_setting (drafted_edit draft.now) ≡ true }
+    requires names { edits.edit_has_names (drafted_edit draft.now) ≡ true }
+    requires texts { edits.edit_has_texts (drafted_edit draft.now) ≡ true }
+    ensures ok { IfOk result (λ edit. edit ≡ drafted_edit draft.now) }
+    ensures memory { IfErr result (λ e. e ≡ Refusal.Memory) }
+{
+    match draft {
+        EditDraft::SetStatus { node, status } => Ok(Edit::SetStatus {
+            node: node.build(alloc)?,
+            status: status.build(alloc)?,
+        }),
+        EditDraft::SetAttr { node, name, value } => Ok(Edit::SetAttr {
+            node: node.build(alloc)?,
+            name: name.build(alloc)?,
+            value: value.build(alloc)?,
+        }),
+        EditDraft::SetResStatus { resource, status } => Ok(Edit::SetResStatus {
+            resource: resource.build(alloc)?,
+            status: status.build(alloc)?,
+        }),
+        EditDraft::SetResAttr {
+            resource,
+            name,
+            value,
+        } => Ok(Edit::SetResAttr {
+            resource: resource.build(alloc)?,
+            name: name.build(alloc)?,
+            value: value.build(alloc)?,
+        }),
+        _ => unreachable!(),
+    }
+}
+
+impl Form for Edit {
+    ghost form = { edits.edit_draft };
+
+    ghost has_names = { edits.edit_has_names };
+
+    ghost has_texts = { edits.edit_has_texts };
+}
+
+impl<'a> Draft<'a> for EditDraft<'a> {
+    type Whole = Edit;
+
+    ghost drafted = { drafted_edit };
+
+    #[tactic(auto, unfolding(crate::specs::Edits::edit_draft, crate::specs::Edits::adding_draft, crate::specs::Edits::setting_draft))]
+    fn of<S: Source>(alloc: Global, value: &'a S) -> Result<EditDraft<'a>, Refusal> {
+        match text_under(value, "Edit").ok_or(Refusal::NotProfile)? {
+            "Note" => note(alloc, value),
+            "AddNode" => add_node(alloc, value),
+            "AddResource" => add_resource(alloc, value),
+            "AddLink" => add_link(alloc, value),
+            "SetStatus" => set_status(alloc, value),
+            "SetAttr" => set_attr(alloc, value),
+            "SetResStatus" => set_resource_status(alloc, value),
+            "SetResAttr" => set_resource_attr(alloc, value),
+            _ => Err(Refusal::NotProfile),
+        }
+    }
+
+    fn has_names(&self) -> bool {
+        match self {
+            EditDraft::SetStatus { node, status } => node.has_names() && status.has_names(),
+            EditDraft::SetAttr { node, name, .. } => node.has_names() && name.has_names(),
+            EditDraft::SetResStatus { resource, status } => resource.has_names()
+                && status.has_names(),
+            EditDraft::SetResAttr { resource, name, .. } => resource.has_names()
+                && name.has_names(),
+            EditDraft::Note { node, .. } => node.has_names(),
+            EditDraft::AddNode {
+                node,
+                id,
+                kind,
+                job_part,
+                status,
+            } => {
+                node.has_names()
+                    && id.has_names()
+                    && kind.has_names()
+                    && job_part.has_names()
+                    && status.has_names()
+            }
+            EditDraft::AddResource { node, resource } => node.has_names() && resource.has_names(),
+            EditDraft::AddLink { node, link } => node.has_names() && link.has_names(),
+        }
+    }
+
+    fn has_texts(&self) -> bool {
+        match self {
+            EditDraft::SetAttr { value, .. } => value.has_texts(),
+            EditDraft::SetResAttr { value, .. } => value.has_texts(),
+            EditDraft::Note { text, .. } => text.has_texts(),
+            EditDraft::AddResource { resource, .. } => resource.has_texts(),
+            EditDraft::SetStatus { .. }
+            | EditDraft::SetResStatus { .. }
+            | EditDraft::AddNode { .. }
+            | EditDraft::AddLink { .. } => true,
+        }
+    }
+
+    fn build(&self, alloc: Global) -> Result<Edit, Refusal> {
+        match self {
+            EditDraft::Note { node, text } => Ok(Edit::Note {
+                node: node.build(alloc)?,
+                text: text.build(alloc)?,
+            }),
+            EditDraft::AddNode {
+                node,
+                id,
+                kind,
+                job_part,
+                status,
+            } => Ok(Edit::AddNode {
+                node: node.build(alloc)?,
+                id: id.build(alloc)?,
+                kind: kind.build(alloc)?,
+                job_part: job_part.build(alloc)?,
+                status: status.build(alloc)?,
+            }),
+            EditDraft::AddResource { node, resource } => Ok(Edit::AddResource {
+                node: node.build(alloc)?,
+                resource: resource.build(alloc)?,
+            }),
+            EditDraft::AddLink { node, link } => Ok(Edit::AddLink {
+                node: node.build(alloc)?,
+                link: link.build(alloc)?,
+            }),
+            _ => build_setting(alloc, self),
+        }
+    }
+}
+
+/// The word for the kind of an edit.
+fn kind_word(edit: &Edit) -> &'static str
+    ensures { result.now ≡ edits.edit_kind edit.now }
+{
+    match edit {
+        Edit::SetStatus { .. } => "SetStatus",
+        Edit::SetAttr { .. } => "SetAttr",
+        Edit::SetResStatus { .. } => "SetResStatus",
+        Edit::SetResAttr { .. } => "SetResAttr",
+        Edit::Note { .. } => "Note",
+        Edit::AddNode { .. } => "AddNode",
+        Edit::AddResource { .. } => "AddResource",
+        Edit::AddLink { .. } => "AddLink",
+    }
+}
+
+/// What an edit is about, under the name of its member: a node or a resource.
+fn target(edit: &Edit) -> (&'static str, &Id)
+    ensures name { result.0.now ≡ edits.target_name edit.now }
+    ensures id { result.1.now ≡ edits.target_id edit.now }
+{
+    match edit {
+        Edit::SetStatus { node, .. }
+        | Edit::SetAttr { node, .. }
+        | Edit::Note { node, .. }
+        | Edit::AddNode { node, .. }
+        | Edit::AddResource { node, .. }
+        | Edit::AddLink { node, .. } => ("Node", node),
+        Edit::SetResStatus { resource, .. } | Edit::SetResAttr { resource, .. } => {
+            ("Resource", resource)
+        }
+    }
+}
+
+/// Puts the members of an edit besides its kind and what it is about into an empty object. Their
+/// names and texts are valid.
+fn put_rest(alloc: Global, members: &mut Map<String, Value>, edit: &Edit) -> Result<(), AllocError>
+    requires { members_view members.old.entries ≡ no_members }
+    ensures members { OnOk result (members_view members.new.entries ≡ edits.edit_rest edit.now) }
+    ensures names { OnOk result
+        (is_name (edits.target_id edit.now) ≡ true → edits.edit_has_names edit.now ≡ true) }
+    ensures texts { OnOk result (edits.edit_has_texts edit.now ≡ true) }
+{
+    match edit {
+        Edit::SetStatus { status, .. } | Edit::SetResStatus { status, .. } => {
+            put(alloc, members, "Status", status)
+        }
+        Edit::SetAttr { name, value, .. } | Edit::SetResAttr { name, value, .. } => {
+            put(alloc, members, "Name", name)?;
+            put(alloc, members, "Value", value)
+        }
+        Edit::Note { text, .. } => put(alloc, members, "Text", text),
+        Edit::AddNode {
+            id,
+            kind,
+            job_part,
+            status,
+            ..
+        } => {
+            put(alloc, members, "ID", id)?;
+            put(alloc, members, "JobPartID", job_part)?;
+            put(alloc, members, "Status", status)?;
+            put(alloc, members, "Type", kind)
+        }
+        Edit::AddResource { resource, .. } => put_resource(alloc, members, resource),
+        Edit::AddLink { link, .. } => {
+            put(alloc, members, "Usage", &link.usage)?;
+            put(alloc, members, "rRef", &link.rref)
+        }
+    }
+}
+
+impl Written for Edit {
+    ghost written = { edits.edit_data };
+
+    #[tactic(auto, using(crate::proofs::EditParts::edit_of_parts))]
+    fn value(&self, alloc: Global) -> Result<Value, AllocError> {
+        let (name, id) = target(self);
+        let mut members = Map::new(alloc);
+        put_rest(alloc, &mut members, self)?;
+        put_text(alloc, &mut members, "Edit", kind_word(self))?;
+        put(alloc, &mut members, name, id)?;
+        Ok(Value::Object(members))
+    }
+
+    ghost again = { edit_again };
+}

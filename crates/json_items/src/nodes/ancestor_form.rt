@@ -1,0 +1,70 @@
+ghost use Rattle.std.specs.Prelude.{true};
+ghost use Rattle.json_items.specs.Again.{ancestor_again};
+ghost use Rattle.json_items.specs.Ancestors as ancestors;
+
+use crate::{Borrowed, Draft, Form, Written, only, put, under};
+use json_source::Source;
+use serde_json::{Map, Value};
+use std::alloc::{AllocError, Global};
+use ticket_items::{Ancestor, Id, Name, Refusal};
+
+/// A node above the root of a part (JDF 1.5, 4.4) by its members and their kinds alone: any texts
+/// for its id and its part in the job.
+#[derive(Drop)]
+pub struct AncestorDraft<'a> {
+    pub node_id: Borrowed<'a, Id>,
+    pub job_part: Borrowed<'a, Name>,
+}
+
+impl Form for Ancestor {
+    ghost form = { ancestors.ancestor_draft };
+
+    ghost has_names = { ancestors.ancestor_has_names };
+
+    ghost has_texts = { λ _. true };
+}
+
+impl<'a> Draft<'a> for AncestorDraft<'a> {
+    type Whole = Ancestor;
+
+    ghost drafted = { λ d. record { node_id = d.node_id; job_part = d.job_part } };
+
+    #[tactic(auto, unfolding(crate::specs::Ancestors::ancestor_draft))]
+    fn of<S: Source>(alloc: Global, value: &'a S) -> Result<AncestorDraft<'a>, Refusal> {
+        only(value, &["JobPartID", "NodeID"])?;
+        let job_part = under(alloc, value, "JobPartID")?;
+        let node_id = under(alloc, value, "NodeID")?;
+        Ok(AncestorDraft { node_id, job_part })
+    }
+
+    #[tactic(auto, unfolding(crate::specs::Ancestors::ancestor_has_names))]
+    fn has_names(&self) -> bool {
+        self.node_id.has_names() && self.job_part.has_names()
+    }
+
+    fn has_texts(&self) -> bool {
+        true
+    }
+
+    #[tactic(auto, unfolding(crate::specs::Ancestors::ancestor_has_names))]
+    fn build(&self, alloc: Global) -> Result<Ancestor, Refusal> {
+        Ok(Ancestor {
+            node_id: self.node_id.build(alloc)?,
+            job_part: self.job_part.build(alloc)?,
+        })
+    }
+}
+
+impl Written for Ancestor {
+    ghost written = { ancestors.ancestor_data };
+
+    #[tactic(auto, unfolding(crate::specs::Ancestors::ancestor_has_names))]
+    fn value(&self, alloc: Global) -> Result<Value, AllocError> {
+        let mut members = Map::new(alloc);
+        put(alloc, &mut members, "JobPartID", &self.job_part)?;
+        put(alloc, &mut members, "NodeID", &self.node_id)?;
+        Ok(Value::Object(members))
+    }
+
+    ghost again = { ancestor_again };
+}

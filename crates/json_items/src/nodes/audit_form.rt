@@ -1,0 +1,253 @@
+//! Audits: their drafts, and how they are written.
+
+ghost use Rattle.std.specs.Prelude.{◌≡◌, true, OnOk};
+ghost use Rattle.serde_json.specs.Data.{no_members, object};
+ghost use Rattle.serde_json.specs.View.{members_view};
+ghost use Rattle.json_items.specs.Again.{audit_again};
+ghost use Rattle.json_items.specs.Audits as audits;
+
+use crate::{Borrowed, Draft, Drafts, Form, Written, only, put, put_text, text_under, under};
+use json_source::Source;
+use serde_json::{Map, Value};
+use std::alloc::{AllocError, Global};
+use ticket_items::{Audit, Id, Name, Refusal, Text};
+
+/// The members of an audit of a spawn.
+const SPAWNED_MEMBERS: &[&str] = &[
+    "Name",
+    "NewSpawnID",
+    "Status",
+    "TimeStamp",
+    "jRef",
+    "rRefsROCopied",
+    "rRefsRWCopied",
+];
+
+/// The members of an audit of a merge.
+const MERGED_MEMBERS: &[&str] = &["MergeID", "Name", "TimeStamp", "jRef", "rRefsOverwritten"];
+
+/// An audit (JDF 1.5, 3.11) by its members and their kinds alone: any texts for its ids, its Status
+/// and its text.
+#[derive(Drop)]
+pub enum AuditDraft<'a> {
+    Notification {
+        at: u64,
+        text: Borrowed<'a, Text>,
+    },
+    Spawned {
+        at: u64,
+        jref: Borrowed<'a, Id>,
+        spawn_id: Borrowed<'a, Id>,
+        ro: Drafts<Borrowed<'a, Id>>,
+        rw: Drafts<Borrowed<'a, Id>>,
+        status: Borrowed<'a, Name>,
+    },
+    Merged {
+        at: u64,
+        jref: Borrowed<'a, Id>,
+        merge_id: Borrowed<'a, Id>,
+        overwritten: Drafts<Borrowed<'a, Id>>,
+    },
+}
+
+impl<'a> AuditDraft<'a> {
+    ghost use Rattle.json_items.specs.DraftedAudits.{drafted_audit};
+    ghost use Rattle.json_source.specs.Read.{Gives};
+
+    #[tactic(auto, unfolding(crate::specs::Audits::notification_draft))]
+    fn notification<S: Source>(alloc: Global, value: &'a S) -> Result<AuditDraft<'a>, Refusal>
+        ensures { Gives drafted_audit result (audits.notification_draft (S.content value.now)) }
+    {
+        only(value, &["Name", "Text", "TimeStamp"])?;
+        let text = under(alloc, value, "Text")?;
+        let at = under(alloc, value, "TimeStamp")?;
+        Ok(AuditDraft::Notification { at, text })
+    }
+
+    #[tactic(auto, unfolding(crate::specs::Audits::spawned_draft))]
+    fn spawned<S: Source>(alloc: Global, value: &'a S) -> Result<AuditDraft<'a>, Refusal>
+        ensures { Gives drafted_audit result (audits.spawned_draft (S.content value.now)) }
+    {
+        only(value, SPAWNED_MEMBERS)?;
+        Ok(AuditDraft::Spawned {
+            spawn_id: under(alloc, value, "NewSpawnID")?,
+            status: under(alloc, value, "Status")?,
+            at: under(alloc, value, "TimeStamp")?,
+            jref: under(alloc, value, "jRef")?,
+            ro: under(alloc, value, "rRefsROCopied")?,
+            rw: under(alloc, value, "rRefsRWCopied")?,
+        })
+    }
+
+    #[tactic(auto, unfolding(crate::specs::Audits::merged_draft))]
+    fn merged<S: Source>(alloc: Global, value: &'a S) -> Result<AuditDraft<'a>, Refusal>
+        ensures { Gives drafted_audit result (audits.merged_draft (S.content value.now)) }
+    {
+        only(value, MERGED_MEMBERS)?;
+        Ok(AuditDraft::Merged {
+            merge_id: under(alloc, value, "MergeID")?,
+            at: under(alloc, value, "TimeStamp")?,
+            jref: under(alloc, value, "jRef")?,
+            overwritten: under(alloc, value, "rRefsOverwritten")?,
+        })
+    }
+}
+
+impl Form for Audit {
+    ghost form = { audits.audit_draft };
+
+    ghost has_names = { audits.audit_has_names };
+
+    ghost has_texts = { audits.audit_has_texts };
+}
+
+impl<'a> Draft<'a> for AuditDraft<'a> {
+    ghost use Rattle.json_items.specs.DraftedAudits.{drafted_audit};
+
+    type Whole = Audit;
+
+    ghost drafted = { drafted_audit };
+
+    #[tactic(auto, unfolding(crate::specs::Audits::audit_draft))]
+    fn of<S: Source>(alloc: Global, value: &'a S) -> Result<AuditDraft<'a>, Refusal> {
+        match text_under(value, "Name").ok_or(Refusal::NotProfile)? {
+            "Notification" => AuditDraft::notification(alloc, value),
+            "Spawned" => AuditDraft::spawned(alloc, value),
+            "Merged" => AuditDraft::merged(alloc, value),
+            _ => Err(Refusal::NotProfile),
+        }
+    }
+
+    #[tactic(auto, unfolding(crate::specs::Audits::audit_has_names))]
+    fn has_names(&self) -> bool {
+        match self {
+            AuditDraft::Notification { .. } => true,
+            AuditDraft::Spawned {
+                jref,
+                spawn_id,
+                ro,
+                rw,
+                status,
+                ..
+            } => {
+                jref.has_names()
+                    && spawn_id.has_names()
+                    && ro.has_names()
+                    && rw.has_names()
+                    && status.has_names()
+            }
+            AuditDraft::Merged {
+                jref,
+                merge_id,
+                overwritten,
+                ..
+            } => jref.has_names() && merge_id.has_names() && overwritten.has_names(),
+        }
+    }
+
+    #[tactic(auto, unfolding(crate::specs::Audits::audit_has_texts))]
+    fn has_texts(&self) -> bool {
+        match self {
+            AuditDraft::Notification { text, .. } => text.has_texts(),
+            AuditDraft::Spawned { .. } | AuditDraft::Merged { .. } => true,
+        }
+    }
+
+    #[tactic(auto, unfolding(crate::specs::Audits::audit_has_texts), using(crate::proofs::Tests::all_true))]
+    fn build(&self, alloc: Global) -> Result<Audit, Refusal> {
+        match self {
+            AuditDraft::Notification { at, text } => Ok(Audit::Notification {
+                at: *at,
+                text: text.build(alloc)?,
+            }),
+            AuditDraft::Spawned {
+                at,
+                jref,
+                spawn_id,
+                ro,
+                rw,
+                status,
+            } => Ok(Audit::Spawned {
+                at: *at,
+                jref: jref.build(alloc)?,
+                spawn_id: spawn_id.build(alloc)?,
+                ro: ro.build(alloc)?,
+                rw: rw.build(alloc)?,
+                status: status.build(alloc)?,
+            }),
+            AuditDraft::Merged {
+                at,
+                jref,
+                merge_id,
+                overwritten,
+            } => Ok(Audit::Merged {
+                at: *at,
+                jref: jref.build(alloc)?,
+                merge_id: merge_id.build(alloc)?,
+                overwritten: overwritten.build(alloc)?,
+            }),
+        }
+    }
+}
+
+/// Puts the members of an audit into an empty object. Its names and texts are valid.
+#[tactic(auto, unfolding(crate::specs::Audits::audit_has_names, crate::specs::Audits::audit_has_texts))]
+fn put_audit(
+    alloc: Global,
+    members: &mut Map<String, Value>,
+    audit: &Audit,
+) -> Result<(), AllocError>
+    requires { members_view members.old.entries ≡ no_members }
+    ensures members { OnOk result
+        (object (members_view members.new.entries) ≡ audits.audit_data audit.now) }
+    ensures names { OnOk result (audits.audit_has_names audit.now ≡ true) }
+    ensures texts { OnOk result (audits.audit_has_texts audit.now ≡ true) }
+{
+    match audit {
+        Audit::Notification { at, text } => {
+            put_text(alloc, members, "Name", "Notification")?;
+            put(alloc, members, "Text", text)?;
+            put(alloc, members, "TimeStamp", at)
+        }
+        Audit::Spawned {
+            at,
+            jref,
+            spawn_id,
+            ro,
+            rw,
+            status,
+        } => {
+            put_text(alloc, members, "Name", "Spawned")?;
+            put(alloc, members, "NewSpawnID", spawn_id)?;
+            put(alloc, members, "Status", status)?;
+            put(alloc, members, "TimeStamp", at)?;
+            put(alloc, members, "jRef", jref)?;
+            put(alloc, members, "rRefsROCopied", ro)?;
+            put(alloc, members, "rRefsRWCopied", rw)
+        }
+        Audit::Merged {
+            at,
+            jref,
+            merge_id,
+            overwritten,
+        } => {
+            put(alloc, members, "MergeID", merge_id)?;
+            put_text(alloc, members, "Name", "Merged")?;
+            put(alloc, members, "TimeStamp", at)?;
+            put(alloc, members, "jRef", jref)?;
+            put(alloc, members, "rRefsOverwritten", overwritten)
+        }
+    }
+}
+
+impl Written for Audit {
+    ghost written = { audits.audit_data };
+
+    fn value(&self, alloc: Global) -> Result<Value, AllocError> {
+        let mut members = Map::new(alloc);
+        put_audit(alloc, &mut members, self)?;
+        Ok(Value::Object(members))
+    }
+
+    ghost again = { audit_again };
+}

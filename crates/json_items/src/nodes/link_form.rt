@@ -1,0 +1,67 @@
+ghost use Rattle.std.specs.Prelude.{true};
+ghost use Rattle.json_items.specs.Again.{link_again};
+ghost use Rattle.json_items.specs.Links as links;
+
+use crate::{Borrowed, Draft, Form, Written, only, put, under};
+use json_source::Source;
+use serde_json::{Map, Value};
+use std::alloc::{AllocError, Global};
+use ticket_items::{Id, Link, Refusal, Usage};
+
+/// A link to a resource (JDF 1.5, 3.9) by its members and their kinds alone: any text for the
+/// resource's id.
+#[derive(Drop)]
+pub struct LinkDraft<'a> {
+    pub rref: Borrowed<'a, Id>,
+    pub usage: Usage,
+}
+
+impl Form for Link {
+    ghost form = { links.link_draft };
+
+    ghost has_names = { links.link_has_names };
+
+    ghost has_texts = { λ _. true };
+}
+
+impl<'a> Draft<'a> for LinkDraft<'a> {
+    type Whole = Link;
+
+    ghost drafted = { λ d. record { rref = d.rref; usage = d.usage } };
+
+    #[tactic(auto, unfolding(crate::specs::Links::link_draft))]
+    fn of<S: Source>(alloc: Global, value: &'a S) -> Result<LinkDraft<'a>, Refusal> {
+        only(value, &["Usage", "rRef"])?;
+        let usage = under(alloc, value, "Usage")?;
+        let rref = under(alloc, value, "rRef")?;
+        Ok(LinkDraft { rref, usage })
+    }
+
+    fn has_names(&self) -> bool {
+        self.rref.has_names()
+    }
+
+    fn has_texts(&self) -> bool {
+        true
+    }
+
+    fn build(&self, alloc: Global) -> Result<Link, Refusal> {
+        Ok(Link {
+            rref: self.rref.build(alloc)?,
+            usage: self.usage,
+        })
+    }
+}
+
+impl Written for Link {
+    ghost written = { links.link_data };
+
+    fn value(&self, alloc: Global) -> Result<Value, AllocError> {
+        let mut members = Map::new(alloc);
+        put(alloc, &mut members, "Usage", &self.usage)?;
+        put(alloc, &mut members, "rRef", &self.rref)?;
+        Ok(Value::Object(members))
+    }
+
+    ghost again = { link_again };
+}

@@ -1,0 +1,147 @@
+//! Attributes: texts by their names.
+
+ghost use Rattle.std.specs.Prelude.{◌≡◌, [], true, IfOk, IfErr, OnOk};
+ghost use Rattle.std.specs.List.{list_all};
+ghost use Rattle.serde_json.specs.View.{members_view};
+ghost use Rattle.ticket_items.specs.Attrs.{IsInOrder, with_attr};
+ghost use Rattle.ticket_items.specs.Names as names;
+ghost use Rattle.json_items.specs.Again.{attrs_again};
+ghost use Rattle.json_items.specs.Attributes as attributes;
+ghost use Rattle.json_source.specs.Read.{attrs_draft, lent_pairs};
+
+use crate::{Draft, Form, Word, Written, put_text};
+use json_source::Source;
+use serde_json::{Map, Value};
+use std::alloc::{AllocError, Global};
+use std::marker::Model;
+use ticket_items::{Attrs, Name, Refusal, Text, is_name, is_text};
+
+/// Attributes by their kinds alone, in the byte order of their names: any texts with any texts.
+#[derive(Drop)]
+pub struct AttrsDraft<'a> {
+    pairs: Vec<(&'a str, &'a str)>,
+}
+
+impl<'a> Model for AttrsDraft<'a> {
+    ghost use Rattle.json_source.specs.Read.{lent_pairs};
+    ghost use Rattle.ticket_items.specs.Attrs.{IsInOrder, Pairs};
+
+    ghost Value = { Pairs };
+
+    ghost view = { λ a. lent_pairs a.pairs.items };
+
+    ghost invariant = { λ a. IsInOrder (lent_pairs a.pairs.items) };
+}
+
+impl<'a> AttrsDraft<'a> {
+    /// No attribute.
+    pub fn none(alloc: Global) -> AttrsDraft<'a>
+        ensures { result ≡ [] }
+    {
+        AttrsDraft {
+            pairs: Vec::new(alloc),
+        }
+    }
+}
+
+/// Whether each first part is a name.
+fn are_names(pairs: &[(&str, &str)]) -> bool
+    ensures { result ≡ list_all (λ p. names.is_name p.0.now) pairs.now }
+{
+    pairs.iter().all(|(name, _)| is_name(name))
+}
+
+/// Whether each second part is a text of our profile.
+fn are_texts(pairs: &[(&str, &str)]) -> bool
+    ensures { result ≡ list_all (λ p. names.is_text p.1.now) pairs.now }
+{
+    pairs.iter().all(|(_, text)| is_text(text))
+}
+
+/// Sets the text of a name. Refuses `Memory` alone.
+fn set_attr(alloc: Global, attrs: &mut Attrs, name: &str, text: &str) -> Result<(), Refusal>
+    requires name { names.is_name name.now ≡ true }
+    requires text { names.is_text text.now ≡ true }
+    ensures ok { OnOk result (attrs.new ≡ with_attr name.now text.now attrs.old) }
+    ensures memory { IfErr result (λ e. e ≡ Refusal.Memory) }
+{
+    let name = Name::known(alloc, name)?;
+    let text = Text::known(alloc, text)?;
+    attrs.set(name, text)?;
+    Ok(())
+}
+
+/// The attributes that the pairs are, which stand in the byte order of their names. Refuses
+/// `Memory` alone.
+fn build_attrs(alloc: Global, pairs: &[(&str, &str)]) -> Result<Attrs, Refusal>
+    requires ordered { IsInOrder (lent_pairs pairs.now) }
+    requires names { list_all (λ p. names.is_name p.0.now) pairs.now ≡ true }
+    requires texts { list_all (λ p. names.is_text p.1.now) pairs.now ≡ true }
+    ensures ok { IfOk result (λ attrs. attrs ≡ lent_pairs pairs.now) }
+    ensures memory { IfErr result (λ e. e ≡ Refusal.Memory) }
+{
+    let mut attrs = Attrs::new(alloc);
+    for (name, text) in pairs {
+        set_attr(alloc, &mut attrs, name, text)?;
+    }
+    Ok(attrs)
+}
+
+impl Form for Attrs {
+    ghost form = { attrs_draft };
+
+    ghost has_names = { attributes.attrs_have_names };
+
+    ghost has_texts = { attributes.attrs_have_texts };
+}
+
+impl<'a> Draft<'a> for AttrsDraft<'a> {
+    type Whole = Attrs;
+
+    ghost drafted = { λ attrs. attrs };
+
+    fn of<S: Source>(alloc: Global, value: &'a S) -> Result<AttrsDraft<'a>, Refusal> {
+        let pairs = value.texts(alloc)?;
+        Ok(AttrsDraft { pairs })
+    }
+
+    #[tactic(auto, using(crate::proofs::Tests::all_mapped))]
+    fn has_names(&self) -> bool {
+        are_names(self.pairs.as_slice())
+    }
+
+    #[tactic(auto, using(crate::proofs::Tests::all_mapped))]
+    fn has_texts(&self) -> bool {
+        are_texts(self.pairs.as_slice())
+    }
+
+    #[tactic(auto, using(crate::proofs::Tests::all_mapped))]
+    fn build(&self, alloc: Global) -> Result<Attrs, Refusal> {
+        build_attrs(alloc, self.pairs.as_slice())
+    }
+}
+
+/// Attributes as members of an object. Their names and texts are valid.
+fn attr_map(alloc: Global, attrs: &Attrs) -> Result<Map<String, Value>, AllocError>
+    ensures members { IfOk result (λ m. members_view m.entries
+        ≡ attributes.attr_members attrs.now) }
+    ensures names { OnOk result (attributes.attrs_have_names attrs.now ≡ true) }
+    ensures texts { OnOk result (attributes.attrs_have_texts attrs.now ≡ true) }
+{
+    let mut members = Map::new(alloc);
+    for (name, text) in attrs.iter() {
+        put_text(alloc, &mut members, name.as_str(), text.as_str())?;
+    }
+    Ok(members)
+}
+
+impl Written for Attrs {
+    ghost written = { attributes.attrs_data };
+
+    fn value(&self, alloc: Global) -> Result<Value, AllocError> {
+        let members = attr_map(alloc, self)?;
+        Ok(Value::Object(members))
+    }
+
+    ghost again = { attrs_again };
+}

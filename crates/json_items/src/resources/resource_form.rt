@@ -1,0 +1,96 @@
+//! Resources by themselves, without what they show of spawns: members of an object that may have
+//! more.
+
+ghost use Rattle.std.specs.Prelude.{◌≡◌, true, OnOk};
+ghost use Rattle.serde_json.specs.Data.{no_members};
+ghost use Rattle.serde_json.specs.View.{members_view};
+ghost use Rattle.json_items.specs.DraftedResources.{drafted_resource};
+ghost use Rattle.json_items.specs.Resources as resources;
+
+use crate::{AttrsDraft, Borrowed, Draft, Form, put, under, under_or};
+use json_source::Source;
+use serde_json::{Map, Value};
+use std::alloc::{AllocError, Global};
+use ticket_items::{Id, Name, Refusal, Resource};
+
+/// A resource (JDF 1.5, 3.8) by its members and their kinds alone: any texts for its id and its
+/// names.
+#[derive(Drop)]
+pub struct ResourceDraft<'a> {
+    pub id: Borrowed<'a, Id>,
+    pub name: Borrowed<'a, Name>,
+    pub class: Borrowed<'a, Name>,
+    pub status: Borrowed<'a, Name>,
+    pub attrs: AttrsDraft<'a>,
+}
+
+impl Form for Resource {
+    ghost form = { resources.own_resource };
+
+    ghost has_names = { resources.resource_has_names };
+
+    ghost has_texts = { resources.resource_has_texts };
+}
+
+impl<'a> Draft<'a> for ResourceDraft<'a> {
+    type Whole = Resource;
+
+    ghost drafted = { drafted_resource };
+
+    #[tactic(auto, unfolding(crate::specs::Resources::own_resource))]
+    fn of<S: Source>(alloc: Global, value: &'a S) -> Result<ResourceDraft<'a>, Refusal> {
+        Ok(ResourceDraft {
+            class: under(alloc, value, "Class")?,
+            id: under(alloc, value, "ID")?,
+            name: under(alloc, value, "Name")?,
+            status: under(alloc, value, "Status")?,
+            attrs: under_or(alloc, value, "Attr", AttrsDraft::none(alloc))?,
+        })
+    }
+
+    #[tactic(auto, unfolding(crate::specs::Resources::resource_has_names))]
+    fn has_names(&self) -> bool {
+        self.id.has_names()
+            && self.name.has_names()
+            && self.class.has_names()
+            && self.status.has_names()
+            && self.attrs.has_names()
+    }
+
+    #[tactic(auto, unfolding(crate::specs::Resources::resource_has_texts))]
+    fn has_texts(&self) -> bool {
+        self.attrs.has_texts()
+    }
+
+    #[tactic(auto, unfolding(crate::specs::Resources::resource_has_names, crate::specs::Resources::resource_has_texts))]
+    fn build(&self, alloc: Global) -> Result<Resource, Refusal> {
+        Ok(Resource {
+            id: self.id.build(alloc)?,
+            name: self.name.build(alloc)?,
+            class: self.class.build(alloc)?,
+            status: self.status.build(alloc)?,
+            attrs: self.attrs.build(alloc)?,
+        })
+    }
+}
+
+/// Puts the members of a resource, without what it shows of spawns, into an empty object. Its names
+/// and texts are valid.
+#[tactic(auto, unfolding(crate::specs::Resources::resource_has_names, crate::specs::Resources::resource_has_texts))]
+pub fn put_resource(
+    alloc: Global,
+    members: &mut Map<String, Value>,
+    resource: &Resource,
+) -> Result<(), AllocError>
+    requires { members_view members.old.entries ≡ no_members }
+    ensures members { OnOk result
+        (members_view members.new.entries ≡ resources.own_members resource.now) }
+    ensures names { OnOk result (resources.resource_has_names resource.now ≡ true) }
+    ensures texts { OnOk result (resources.resource_has_texts resource.now ≡ true) }
+{
+    put(alloc, members, "Attr", &resource.attrs)?;
+    put(alloc, members, "Class", &resource.class)?;
+    put(alloc, members, "ID", &resource.id)?;
+    put(alloc, members, "Name", &resource.name)?;
+    put(alloc, members, "Status", &resource.status)
+}

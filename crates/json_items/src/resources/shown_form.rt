@@ -1,0 +1,147 @@
+//! What resources show of the spawns that copied them.
+
+ghost use Rattle.std.specs.Prelude.{◌≡◌, ◌∷◌, [], true, IfOk};
+ghost use Rattle.json_items.specs.DraftedResources.{drafted_shown};
+ghost use Rattle.json_items.specs.Shown as shown;
+
+use crate::{AnyText, Borrowed, Draft, Drafts, Form, under_or};
+use json_source::Source;
+use std::alloc::{AllocError, Global};
+use ticket_items::{Items, Refusal, SpawnStatus};
+
+/// What a resource shows of the spawns that copied it (JDF 1.5, 3.8).
+#[derive(Drop)]
+pub struct Shown {
+    /// Whether the resource may not be changed.
+    pub locked: bool,
+    /// The ids of the spawns.
+    pub spawn_ids: Items<AnyText>,
+    pub spawn_status: SpawnStatus,
+}
+
+/// What a resource shows by the kinds of its members alone, which are texts for the ids of spawns.
+#[derive(Drop)]
+pub struct ShownDraft<'a> {
+    pub locked: bool,
+    pub spawn_ids: Drafts<Borrowed<'a, AnyText>>,
+    pub spawn_status: SpawnStatus,
+}
+
+/// This text alone.
+fn one_text(alloc: Global, text: &str) -> Result<Items<AnyText>, AllocError>
+    ensures { IfOk result (λ texts. texts ≡ text.now ∷ []) }
+{
+    let texts = vec![in alloc; AnyText::new(alloc, text)?]?;
+    Ok(Items::new(texts))
+}
+
+impl Shown {
+    /// Nothing, which absent members mean too.
+    pub fn nothing(alloc: Global) -> Shown
+        ensures { result ≡ shown.nothing_shown }
+    {
+        Shown {
+            locked: false,
+            spawn_ids: Items::new(Vec::new(alloc)),
+            spawn_status: SpawnStatus::NotSpawned,
+        }
+    }
+
+    /// What a copy shows that may be changed, of the spawn of this text.
+    pub fn rw(alloc: Global, spawn: &str) -> Result<Shown, AllocError>
+        ensures { IfOk result (λ s. s ≡ shown.shown_rw spawn.now) }
+    {
+        Ok(Shown {
+            locked: false,
+            spawn_ids: one_text(alloc, spawn)?,
+            spawn_status: SpawnStatus::SpawnedRW,
+        })
+    }
+
+    /// What a copy shows that may be read alone, of the spawn of this text.
+    pub fn ro(alloc: Global, spawn: &str) -> Result<Shown, AllocError>
+        ensures { IfOk result (λ s. s ≡ shown.shown_ro spawn.now) }
+    {
+        Ok(Shown {
+            locked: true,
+            spawn_ids: one_text(alloc, spawn)?,
+            spawn_status: SpawnStatus::SpawnedRO,
+        })
+    }
+}
+
+/// Whether they are this text once, and nothing else.
+fn are_only(texts: &[Borrowed<'_, AnyText>], text: &str) -> bool
+    ensures { result ≡ shown.are_only text.now texts.now }
+{
+    texts.len() == 1 && texts.iter().all(|other| other.as_str() == text)
+}
+
+impl<'a> ShownDraft<'a> {
+    /// Whether it is nothing.
+    pub fn shows_nothing(&self) -> bool
+        ensures { result ≡ shown.shows_nothing (drafted_shown self.now) }
+    {
+        !self.locked
+            && self.spawn_ids.as_slice().is_empty()
+            && matches!(self.spawn_status, SpawnStatus::NotSpawned)
+    }
+
+    /// Whether it is what a copy shows that may be changed, of the spawn of this text.
+    pub fn is_change(&self, spawn: &str) -> bool
+        ensures { result ≡ shown.shows_change spawn.now (drafted_shown self.now) }
+    {
+        !self.locked
+            && are_only(self.spawn_ids.as_slice(), spawn)
+            && matches!(self.spawn_status, SpawnStatus::SpawnedRW)
+    }
+
+    /// Whether it is what a copy shows that may be read alone, of the spawn of this text.
+    pub fn is_read(&self, spawn: &str) -> bool
+        ensures { result ≡ shown.shows_read spawn.now (drafted_shown self.now) }
+    {
+        self.locked
+            && are_only(self.spawn_ids.as_slice(), spawn)
+            && matches!(self.spawn_status, SpawnStatus::SpawnedRO)
+    }
+}
+
+impl Form for Shown {
+    ghost form = { shown.shown_draft };
+
+    ghost has_names = { λ _. true };
+
+    ghost has_texts = { λ _. true };
+}
+
+impl<'a> Draft<'a> for ShownDraft<'a> {
+    type Whole = Shown;
+
+    ghost drafted = { drafted_shown };
+
+    #[tactic(auto, unfolding(crate::specs::Shown::shown_draft), using(crate::proofs::Tests::themselves))]
+    fn of<S: Source>(alloc: Global, value: &'a S) -> Result<ShownDraft<'a>, Refusal> {
+        Ok(ShownDraft {
+            locked: under_or(alloc, value, "Locked", false)?,
+            spawn_ids: Drafts::under(alloc, value, "SpawnIDs")?,
+            spawn_status: under_or(alloc, value, "SpawnStatus", SpawnStatus::NotSpawned)?,
+        })
+    }
+
+    fn has_names(&self) -> bool {
+        true
+    }
+
+    fn has_texts(&self) -> bool {
+        true
+    }
+
+    #[tactic(auto, using(crate::proofs::Tests::all_true, crate::proofs::Tests::themselves))]
+    fn build(&self, alloc: Global) -> Result<Shown, Refusal> {
+        Ok(Shown {
+            locked: self.locked,
+            spawn_ids: self.spawn_ids.build(alloc)?,
+            spawn_status: self.spawn_status,
+        })
+    }
+}

@@ -1,0 +1,46 @@
+ghost use Rattle.std.specs.Prelude.{true};
+ghost use Rattle.serde_json.specs.Data.{string};
+ghost use Rattle.serde_json.specs.Find.{as_str};
+ghost use Rattle.ticket_items.specs.Names as names;
+ghost use Rattle.json_items.specs.Again.{text_again, text_itself};
+
+use crate::{Form, Word, Written, text_value};
+use serde_json::Value;
+use std::alloc::{AllocError, Global};
+use ticket_items::{Id, Refusal, is_name};
+
+impl Form for Id {
+    ghost form = { as_str };
+
+    ghost has_names = { names.is_name };
+
+    ghost has_texts = { λ _. true };
+}
+
+impl Word for Id {
+    ghost word = { λ text. text };
+
+    fn are_names(text: &str) -> bool {
+        is_name(text)
+    }
+
+    fn are_texts(_text: &str) -> bool {
+        true
+    }
+
+    fn known(alloc: Global, text: &str) -> Result<Id, Refusal> {
+        Ok(Id::known(alloc, text)?)
+    }
+
+    ghost read = { text_itself };
+}
+
+impl Written for Id {
+    ghost written = { string };
+
+    fn value(&self, alloc: Global) -> Result<Value, AllocError> {
+        text_value(alloc, self.as_str())
+    }
+
+    ghost again = { text_again };
+}

@@ -1,0 +1,43 @@
+//! Reading and writing a value as a whole.
+
+ghost use Rattle.std.specs.Prelude.{◌≡◌, true, Some, Ok, IfOk, OnOk};
+ghost use Rattle.serde_json.specs.View.{view};
+ghost use Rattle.json_items.specs.Judged.{Answers, first_fault, judged, sound};
+
+use crate::{Draft, Written};
+use json_source::Source;
+use serde_json::Value;
+use std::alloc::{AllocError, Global};
+use ticket_items::Refusal;
+
+/// The whole that a value is. Refuses the first of `NotProfile`, `BadId` and `BadText` that stands
+/// in it, and `Memory`.
+pub fn whole_of<'a, D: Draft<'a>, S: Source>(
+    alloc: Global,
+    value: &'a S,
+) -> Result<D::Whole, Refusal>
+    ensures { Answers result
+        (judged (first_fault D.Whole.has_names D.Whole.has_texts) (D.Whole.form (S.content value.now))) }
+{
+    let draft = D::of(alloc, value)?;
+    if !draft.has_names() {
+        return Err(Refusal::BadId);
+    }
+    if !draft.has_texts() {
+        return Err(Refusal::BadText);
+    }
+    draft.build(alloc)
+}
+
+/// It as a value, which is read again.
+pub fn written_value<T: Written>(alloc: Global, item: &T) -> Result<Value, AllocError>
+    ensures value { IfOk result (λ v. view v ≡ T.written item.now) }
+    ensures again { IfOk result (λ v. T.form (view v) ≡ Some item.now) }
+    ensures whole { IfOk result (λ v.
+        judged (first_fault T.has_names T.has_texts) (T.form (view v)) ≡ Ok item.now) }
+    ensures names { OnOk result (T.has_names item.now ≡ true) }
+    ensures texts { OnOk result (T.has_texts item.now ≡ true) }
+{
+    let value = item.value(alloc)?;
+    Ok(value)
+}

@@ -1,0 +1,48 @@
+//! The SpawnStatus of a resource (JDF 1.5, 3.8), by its word.
+
+ghost use Rattle.std.specs.Prelude.{◌≡◌, true, refl};
+ghost use Rattle.json_items.specs.Again.{spawn_status_again};
+ghost use Rattle.json_items.specs.Shown as shown;
+
+use crate::{Form, Plain, Written, text_value};
+use json_source::Source;
+use serde_json::Value;
+use std::alloc::{AllocError, Global};
+use ticket_items::SpawnStatus;
+
+impl Form for SpawnStatus {
+    ghost form = { shown.spawn_status_form };
+
+    ghost has_names = { λ _. true };
+
+    ghost has_texts = { λ _. true };
+}
+
+impl Plain for SpawnStatus {
+    fn read<S: Source>(value: &S) -> Option<SpawnStatus> {
+        match value.text()? {
+            "NotSpawned" => Some(SpawnStatus::NotSpawned),
+            "SpawnedRO" => Some(SpawnStatus::SpawnedRO),
+            "SpawnedRW" => Some(SpawnStatus::SpawnedRW),
+            _ => None,
+        }
+    }
+
+    ghost no_names = { λ _. refl };
+
+    ghost no_texts = { λ _. refl };
+}
+
+impl Written for SpawnStatus {
+    ghost written = { shown.spawn_status_data };
+
+    fn value(&self, alloc: Global) -> Result<Value, AllocError> {
+        match self {
+            SpawnStatus::NotSpawned => text_value(alloc, "NotSpawned"),
+            SpawnStatus::SpawnedRO => text_value(alloc, "SpawnedRO"),
+            SpawnStatus::SpawnedRW => text_value(alloc, "SpawnedRW"),
+        }
+    }
+
+    ghost again = { spawn_status_again };
+}

@@ -1,0 +1,113 @@
+-- The form of parts: from JSON data to a draft, which is a part by its members and their kinds
+-- alone, and by what its resources
+-- show. Its ids, names and texts may be any bytes, and its rows no tree's.
+use Rattle.std.specs.Prelude.{ℕ, Bool, List, [], ◌∷◌, map, drop, codes, take_while, Option, Some}
+use Rattle.std.specs.Prelude.{None}
+use Rattle.std.specs.List.{list_all, prefix_len}
+use Rattle.serde_json.specs.Data.{Data}
+use Rattle.ticket_items.specs.declared.ancestor.Ancestor.{Ancestor}
+use Rattle.ticket_items.specs.declared.node_row.NodeRow.{NodeRow}
+use Rattle.ticket_items.specs.declared.resource.Resource.{Resource}
+use Rattle.json_shapes.specs.Draft.{RawRow, root_members, node_rows, resources_of, are_bare}
+use Rattle.json_shapes.specs.Listed.{each, items_under}
+use Rattle.json_shapes.specs.PoolDraft.{Marked}
+use Rattle.json_shapes.specs.PoolForm.{shows_nothing}
+use Rattle.json_shapes.specs.Read.{◌>>=◌, provided, has_only, text_under}
+unfoldable pub use Rattle.json_items.specs.Ancestors.{ancestor_draft}
+pub use Rattle.json_items.specs.Shown.{shown_rw, shown_ro, shows_change, shows_read}
+
+-- ---- the three groups of the resources of a part's root
+
+pub record Groups : Type 0 where
+  pub own : List Marked
+  pub rw : List Marked
+  pub ro : List Marked
+
+-- what stands behind the resources in front that pass a test
+abbrev pub behind : (Marked → Bool) → List Marked → List Marked
+behind p raws = drop (prefix_len p raws) raws
+
+abbrev pub is_own : Marked → Bool
+is_own r = shows_nothing r.shown
+
+abbrev pub is_change : List ℕ → Marked → Bool
+is_change spawn r = shows_change spawn r.shown
+
+abbrev pub is_read : List ℕ → Marked → Bool
+is_read spawn r = shows_read spawn r.shown
+
+-- the root's own resources in front, then the copies to change, and all others are copies to read
+abbrev pub grouped : List ℕ → List Marked → Option Groups
+grouped spawn pool =
+    let copies = behind is_own pool in
+    let last = behind (is_change spawn) copies in
+    provided (list_all (is_read spawn) last) >>=
+    λ _. Some (record {
+      own = take_while is_own pool;
+      rw = take_while (is_change spawn) copies;
+      ro = last;
+    })
+
+-- ---- rows and copies
+
+-- rows without the copies that stood in the root's pool, and these copies
+pub record Taken : Type 0 where
+  pub rows : List NodeRow
+  pub rw : List Resource
+  pub ro : List Resource
+
+abbrev pub taken_groups : NodeRow → List RawRow → Groups → Taken
+taken_groups root raws g =
+    record {
+      rows = record root { resources = resources_of g.own } ∷ map (λ r. r.row) raws;
+      rw = resources_of g.rw;
+      ro = resources_of g.ro;
+    }
+
+-- the copies taken out of the root's pool. The resources of the other nodes show nothing
+abbrev pub taken : List ℕ → List RawRow → Option Taken
+taken spawn [] = None
+taken spawn (root ∷ raws) = provided (list_all (λ r. are_bare r.pool) raws) >>=
+    λ _. grouped spawn root.pool >>= λ g. Some (taken_groups root.row raws g)
+
+-- ---- ancestors
+
+-- those of the list under a name, which may not be absent
+abbrev pub ancestors_under : List ℕ → Data → Option (List Ancestor)
+ancestors_under name d = items_under name d >>= each ancestor_draft
+
+-- ---- parts
+
+-- a part, with the text of its spawn's id
+pub record RawPart : Type 0 where
+  pub job_id : List ℕ
+  pub spawn : List ℕ
+  pub ancestors : List Ancestor
+  pub rows : List NodeRow
+  pub rw : List Resource
+  pub ro : List Resource
+
+-- what may stand in a part's root
+abbrev pub part_members : List (List ℕ)
+part_members = codes "AncestorPool" ∷ codes "SpawnID" ∷ root_members
+
+-- the part of these rows and copies
+abbrev pub raw_part : List ℕ → List ℕ → List Ancestor → Taken → RawPart
+raw_part job spawn ancestors t =
+    record {
+      job_id = job;
+      spawn = spawn;
+      ancestors = ancestors;
+      rows = t.rows;
+      rw = t.rw;
+      ro = t.ro;
+    }
+
+unfoldable pub part_draft : Data → Option RawPart
+part_draft d = do
+  job ← text_under (codes "JobID") d
+  spawn ← text_under (codes "SpawnID") d
+  ancestors ← ancestors_under (codes "AncestorPool") d
+  raws ← node_rows part_members 1 d
+  t ← taken spawn raws
+  Some (raw_part job spawn ancestors t)

@@ -1,0 +1,24 @@
+//! Bytes that come in and go out: readers and writers whose calls are counted, so that a contract
+//! can say that a call failed; whole inputs and whole outputs; the refusals of calls over bytes,
+//! files or connections; and commands that read, write, and tell why they gave up.
+#![tactic(auto)]
+
+mod command;
+mod counted;
+mod fault;
+mod input;
+mod line;
+mod output;
+mod reading;
+mod refused;
+mod told;
+mod writing;
+
+pub use command::{Command, Output, run_command};
+pub use counted::Counted;
+pub use fault::Fault;
+pub use input::{MAX_INPUT_BYTES, MAX_INTERRUPTIONS, read_input};
+pub use line::{refusal_line, refused_line};
+pub use output::write_bytes;
+pub use refused::Refused;
+pub use told::tell;

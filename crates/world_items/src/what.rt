@@ -1,0 +1,14 @@
+use ticket_tree::Id;
+
+/// What happens to a controller.
+#[derive(Drop)]
+pub enum What {
+    /// The master is told to do something.
+    MasterOrder(master_core::Order),
+    /// The worker of a name is.
+    WorkerOrder(Id, worker_core::Order),
+    /// The message of a number is handed to its receiver. The first that was sent has the number 1.
+    Deliver(u64),
+    /// The controller of a name stops, and is started again from its stored state.
+    Restart(Id),
+}

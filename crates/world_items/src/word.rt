@@ -1,0 +1,17 @@
+use controller::Reply;
+use ticket_tree::Refusal;
+
+/// What came of an event, in a word.
+#[derive(Clone, Copy, PartialEq, Eq)]
+pub enum Word {
+    /// A controller did what it was told, or took what came, and replied so.
+    Did(Reply),
+    /// A controller refused it, or none has the name.
+    Refused(Refusal),
+    /// The controller stopped before its state was stored, and was started again.
+    Stopped,
+    /// The controller was started again.
+    Restarted,
+    /// No message has the number.
+    NoMessage,
+}
