@@ -38,16 +38,22 @@ pub(crate) fn lock_file<R: Locks>(rt: &R, path: &str) -> io::Result<R::File> {
             return Err(ErrorKind::InvalidInput.into());
         }
         let file = fs::open(rt, path)?;
-        rt.lock(&file)?;
-        if leads_to(rt, path, &file)? {
+        if lock_named(rt, path, &file)? {
             return Ok(file);
         }
     }
     Err(ErrorKind::ResourceBusy.into())
 }
 
+/// Locks a file. Answers whether the path leads to it then, since another may have removed it or put
+/// another in its place before it was locked.
+pub(crate) fn lock_named<R: Locks>(rt: &R, path: &str, file: &R::File) -> io::Result<bool> {
+    rt.lock(file)?;
+    leads_to(rt, path, file)
+}
+
 /// Whether the path leads to this file, and through no link.
-pub(crate) fn leads_to<R: Files>(rt: &R, path: &str, file: &R::File) -> io::Result<bool> {
+fn leads_to<R: Files>(rt: &R, path: &str, file: &R::File) -> io::Result<bool> {
     match fs::symlink_metadata(rt, path) {
         Ok(there) => Ok(is_same_file(&there, &file.metadata()?)),
         Err(error) if error.kind() == ErrorKind::NotFound => Ok(false),

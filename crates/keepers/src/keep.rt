@@ -18,10 +18,10 @@ pub trait Keep: Drop {
     /// How many calls failed.
     ghost count: { Self → ℕ };
 
-    /// That a load which fails leads from the first to the second.
+    /// A load that failed, from the keeper before it to the one after it.
     ghost load_fails: { Self → Self → Type 0 };
 
-    /// That a save of these bytes which fails leads from the first to the second.
+    /// A save of these bytes that failed, from the keeper before it to the one after it.
     ghost save_fails: { Self → List ℕ → Self → Type 0 };
 
     /// The value. Refuses `Failed` where it could not be read, and then counts a failure, and

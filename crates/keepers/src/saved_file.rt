@@ -1,6 +1,6 @@
 //! Files that are saved as wholes, so that they outlast the program and the system.
 
-use crate::file_lock::{MAX_TRIES, is_same_file, leads_to, lock_file};
+use crate::file_lock::{MAX_TRIES, is_same_file, lock_file, lock_named};
 use crate::files::write_whole;
 use crate::keep_fault::KeepFault;
 use crate::locks::Locks;
@@ -44,6 +44,9 @@ pub(crate) fn make_file<R: Locks>(
     path: &str,
     bytes: &[u8],
 ) -> Result<(), KeepFault> {
+    if fs::symlink_metadata(rt, path).is_ok() {
+        return Err(KeepFault::Failed);
+    }
     let folder = open_folder(rt, path)?;
     let new_path = format!(in alloc; "{path}.new")?;
     let mut file = make_beside(rt, path, new_path.as_str(), 0o666)?;
@@ -110,7 +113,7 @@ fn make_beside<R: Locks>(rt: &R, path: &str, new_path: &str, mode: u32) -> io::R
     for _ in 0..MAX_TRIES {
         match create_new(rt, new_path, mode) {
             Ok(file) => {
-                if is_locked(rt, new_path, &file)? {
+                if lock_made(rt, new_path, &file)? {
                     return Ok(file);
                 }
             }
@@ -132,16 +135,14 @@ fn create_new<R: Files>(rt: &R, path: &str, mode: u32) -> io::Result<R::File> {
         .open(rt, path)
 }
 
-/// Locks a file that was made under this path. Answers whether the path still leads to it, since
-/// another may have removed it before it was locked.
-fn is_locked<R: Locks>(rt: &R, path: &str, file: &R::File) -> io::Result<bool> {
-    match rt.lock(file) {
-        Ok(()) => leads_to(rt, path, file),
-        Err(error) => {
-            let _ = fs::remove_file(rt, path);
-            Err(error)
-        }
+/// Locks a file that was made under this path, and removes it where that fails. Answers whether the
+/// path leads to it then.
+fn lock_made<R: Locks>(rt: &R, path: &str, file: &R::File) -> io::Result<bool> {
+    let answer = lock_named(rt, path, file);
+    if answer.is_err() {
+        let _ = fs::remove_file(rt, path);
     }
+    answer
 }
 
 /// Removes what is under `new_path`, unless that is gone meanwhile.
