@@ -4,7 +4,7 @@
 
 use jdf_commands::{NO_CALL, run_words};
 use std::alloc::AllocError;
-use std::io::{ErrorKind, Result};
+use std::io::{ErrorKind, Result, Write};
 use std::process::ExitCode;
 use std::{env, io};
 use streams::{Counted, Fault, finish};
@@ -33,8 +33,10 @@ fn main(rt: HostRuntime) -> ExitCode {
         Err(error) if error.kind() == ErrorKind::OutOfMemory => {
             finish(Err(Fault::from(AllocError)), &mut writer, &mut faults)
         }
-        // A word that isn't text.
-        Err(_) => NO_CALL,
+        Err(_) => {
+            let _ = faults.write_all(b"error: a word of the command line isn't UTF-8\n");
+            NO_CALL
+        }
     };
     ExitCode::from(status)
 }
