@@ -8,25 +8,9 @@ use Rattle.streams.specs.declared.refused.Refused.TheVariants as refused
 use Rattle.streams.specs.declared.command.Output.{Output}
 use Rattle.streams.specs.declared.fault.Fault.{Fault}
 use Rattle.stored_state.specs.Held.{GivesNothing, Held}
-use Rattle.stored_state.specs.Opened.{AnyController, controller_in, keep_in, is_stale_in}
-use Rattle.stored_state.specs.declared.opened.Opened.{Opened}
-use Rattle.stored_state.specs.declared.opened.Opened.TheVariants as opened
-use Rattle.jdf_commands.specs.FileCommands.AnyStep.{any_step, held_as, held_in}
+use Rattle.stored_state.specs.Opened.{AnyController}
+use Rattle.jdf_commands.specs.FileCommands.AnyStep.{any_step, held_as}
 use Rattle.jdf_commands.specs.FileCommands.Step.{GivesNoOutput, GivesOut, IsLeft, IsOfOrder, IsSaved, IsTaken, IsUntold, Step}
-
--- ---- what was opened
-
-pub controller_held : {K : Type 0} (o : Opened K) → controller_in o ≡ (held_in o).controller
-controller_held (opened.Master kept) = refl
-controller_held (opened.Worker kept) = refl
-
-pub keep_held : {K : Type 0} (o : Opened K) → keep_in o ≡ (held_in o).keep
-keep_held (opened.Master kept) = refl
-keep_held (opened.Worker kept) = refl
-
-pub stale_held : {K : Type 0} (o : Opened K) → is_stale_in o ≡ (held_in o).stale
-stale_held (opened.Master kept) = refl
-stale_held (opened.Worker kept) = refl
 
 -- ---- the step that bytes are
 

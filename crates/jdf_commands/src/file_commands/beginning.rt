@@ -63,6 +63,6 @@ pub fn new_output<K: Keep, I: Read>(
         return Err(Fault::Device(Refused::SaveFailed));
     }
     let input = read_input(alloc, reader)?;
-    let _begun = begin(alloc, keep, input.as_slice())?;
+    begin(alloc, keep, input.as_slice())?;
     Ok(unrefused(Vec::new(alloc)))
 }

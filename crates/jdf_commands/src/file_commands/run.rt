@@ -35,10 +35,10 @@ fn call_output<R: Locks, I: Read>(
     call: Call<'_>,
     reader: &mut Counted<I>,
 ) -> Result<Output, Fault>
-    ensures ok { IfOk result (λ output. IsOutputOfCall call
+    ensures ok { IfOk result (λ output. IsOutputOfCall call.entry
         (used I.remaining reader.old reader.new) output.text.items output.refused) }
     ensures refused { IfErr result
-        (IsFaultOfCall call (used I.remaining reader.old reader.new)) }
+        (IsFaultOfCall call.entry (used I.remaining reader.old reader.new)) }
 {
     match call {
         Call::Edit => output_of::<Edit, I>(alloc, reader),

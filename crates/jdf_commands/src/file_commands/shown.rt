@@ -95,7 +95,7 @@ fn controller_text<K: Keep>(alloc: Global, opened: &Opened<K>) -> Result<Vec<u8>
     ensures memory { IfErr result (λ e. e ≡ Memory) }
 {
     match opened {
-        Opened::Master(kept) => master_text(alloc, kept.controller()),
+        Opened::Master(kept) => Ok(master_text(alloc, kept.controller())?),
         Opened::Worker(kept) => Ok(worker_text(alloc, kept.controller())?),
     }
 }
