@@ -1,0 +1,46 @@
+//! Words that the program doesn't have: files as they are, and calls that it never makes by itself.
+
+use crate::case::Case;
+use crate::{files, forms, holders, places, trees};
+use std::alloc::{AllocError, Global};
+use std::rt::Files;
+use streams::{Refused, refused_line};
+
+/// What comes of a case whose first word the program doesn't have: a line, or the refusal's. None
+/// of any other case.
+pub fn other_answer<R: Files>(
+    rt: &R,
+    alloc: Global,
+    case: &Case,
+) -> Result<Option<Vec<u8>>, AllocError> {
+    let Some((word, words)) = case.words.as_slice().split_first() else {
+        return Ok(None);
+    };
+    match called(rt, alloc, word.as_str(), words, case.input.as_slice()) {
+        Ok(answer) => Ok(answer),
+        Err(refused) => Ok(Some(Vec::from_slice(alloc, refused_line(refused).as_bytes())?)),
+    }
+}
+
+/// What comes of a word that the program doesn't have.
+fn called<R: Files>(
+    rt: &R,
+    alloc: Global,
+    word: &str,
+    words: &[String],
+    input: &[u8],
+) -> Result<Option<Vec<u8>>, Refused> {
+    let answer = match (word, words) {
+        ("file", [file]) => files::put(rt, alloc, file.as_str(), input)?,
+        ("text", [file]) => files::text(rt, alloc, file.as_str())?,
+        ("holders", [file, ids @ ..]) => holders::holders(rt, alloc, file.as_str(), ids)?,
+        ("value", []) => forms::value(alloc, input)?,
+        ("part", []) => forms::part(alloc, input)?,
+        ("message", []) => forms::message(alloc, input)?,
+        ("tree", rows) => trees::tree(alloc, rows)?,
+        ("part_tree", rows) => trees::part_tree(alloc, rows)?,
+        ("below" | "subtree" | "home", ids) => places::place(alloc, word, ids, input)?,
+        _ => return Ok(None),
+    };
+    Ok(Some(answer))
+}
