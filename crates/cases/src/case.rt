@@ -15,7 +15,7 @@ impl Case {
         let mut parts = line.splitn(3, |byte| *byte == b'\t');
         let words = words_in(alloc, parts.next().unwrap_or(&[]))?;
         let mut input = bytes_in(alloc, parts.next().unwrap_or(&[]))?;
-        push_spaces(&mut input, number_in(parts.next().unwrap_or(&[])))?;
+        push_spaces(alloc, &mut input, number_in(parts.next().unwrap_or(&[])))?;
         Ok(Case { words, input })
     }
 }
@@ -38,13 +38,12 @@ fn word_in(alloc: Global, word: &[u8]) -> Result<String, AllocError> {
 }
 
 /// The number that a text is, or 0.
-fn number_in(text: &[u8]) -> u32 {
-    from_utf8(text).unwrap_or("").parse::<u32>().unwrap_or(0)
+fn number_in(text: &[u8]) -> usize {
+    from_utf8(text).unwrap_or("").parse::<usize>().unwrap_or(0)
 }
 
-fn push_spaces(input: &mut Vec<u8>, count: u32) -> Result<(), AllocError> {
-    for _ in 0..count {
-        input.push(b' ')?;
-    }
-    Ok(())
+/// Appends spaces.
+fn push_spaces(alloc: Global, input: &mut Vec<u8>, count: usize) -> Result<(), AllocError> {
+    let spaces = vec![in alloc; b' '; count]?;
+    input.extend_from_slice(spaces.as_slice())
 }
