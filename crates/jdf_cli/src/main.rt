@@ -1,29 +1,42 @@
-//! `jdf_cli edit` reads a job ticket and edits of it from standard input, does the edits, and
-//! prints a line for each and the ticket that they leave. `jdf_cli world` reads a script, lets its
-//! events happen, and prints a line for each and the ticket that the master is left with.
+//! `jdf_cli edit` and `jdf_cli world` work on what comes on standard input; `jdf_cli new`, `order`,
+//! `take` and `show` keep a controller in a file. `jdf_cli --help` shows each.
 #![tactic(auto)]
 
-use jdf_commands::run_words;
+use jdf_commands::{NO_CALL, run_words};
 use std::alloc::AllocError;
+use std::io::{ErrorKind, Result, Write};
 use std::process::ExitCode;
 use std::{env, io};
-use streams::Counted;
+use streams::{Counted, Fault, finish};
 
-/// The words of the command line, the program's name first; none where one isn't text or there is
-/// no memory for them.
-fn words_of(rt: &HostRuntime) -> Option<Vec<String>> {
-    let args = env::args(rt).ok()?;
-    let words: Result<Vec<String>, AllocError> = args.collect(rt.alloc());
-    words.ok()
+/// The words of the command line, without the program's name.
+fn words_of(rt: &HostRuntime) -> Result<Vec<String>> {
+    let mut words = Vec::new(rt.alloc());
+    for word in env::args(rt)?.skip(1) {
+        words.push(word)?;
+    }
+    Ok(words)
 }
 
 fn main(rt: HostRuntime) -> ExitCode {
-    let words = words_of(&rt);
-    run_words(
-        rt.alloc(),
-        words.as_deref(),
-        &mut Counted::new(rt.reader()),
-        &mut Counted::new(io::writer(&rt)),
-        &mut Counted::new(rt.stderr()),
-    )
+    let mut writer = Counted::new(io::writer(&rt));
+    let mut faults = Counted::new(rt.stderr());
+    let status = match words_of(&rt) {
+        Ok(words) => run_words(
+            &rt,
+            rt.alloc(),
+            words.as_slice(),
+            &mut Counted::new(rt.reader()),
+            &mut writer,
+            &mut faults,
+        ),
+        Err(error) if error.kind() == ErrorKind::OutOfMemory => {
+            finish(Err(Fault::from(AllocError)), &mut writer, &mut faults)
+        }
+        Err(_) => {
+            let _ = faults.write_all(b"error: a word of the command line isn't UTF-8\n");
+            NO_CALL
+        }
+    };
+    ExitCode::from(status)
 }

@@ -6,3 +6,4 @@ pub mod ScriptLines
 pub mod Names
 pub mod StepLines
 pub mod Steps
+pub mod AnySteps

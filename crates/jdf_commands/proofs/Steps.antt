@@ -25,19 +25,19 @@ given_out h l t IsStep step new reply message (Ok o) is_step saves says goes lin
 given_out h l t IsStep step new reply message (Err e) is_step saves says goes lines status = tt
 
 -- no output of a step that was saved
-pub not_given_out : {C K A : Type 0} (is_honest : K → Bool) (held : K → List ℕ) (count : K → ℕ) (state_text : C → List ℕ) (Refuses : Refusal → Type 0) (IsStep : Step C → Type 0) (step : Step C) (old new : Held C K) (r : Result A Fault) → IsStep step → IsSaved is_honest held state_text step new → IfErr r (λ f. f ≡ Input (refused.Core Memory)) → IfErr r (GivesNoOutput is_honest held count state_text Refuses IsStep old new)
-not_given_out h l n t Refuses IsStep step old new (Ok a) is_step saves memory = tt
-not_given_out h l n t Refuses IsStep step old new (Err f) is_step saves memory =
+pub not_given_out : {C K A : Type 0} (is_honest : K → Bool) (held : K → List ℕ) (count : K → ℕ) (save_fails : K → List ℕ → K → Type 0) (state_text : C → List ℕ) (Refuses : Refusal → Type 0) (IsStep : Step C → Type 0) (step : Step C) (old new : Held C K) (r : Result A Fault) → IsStep step → IsSaved is_honest held state_text step new → IfErr r (λ f. f ≡ Input (refused.Core Memory)) → IfErr r (GivesNoOutput is_honest held count save_fails state_text Refuses IsStep old new)
+not_given_out h l n sf t Refuses IsStep step old new (Ok a) is_step saves memory = tt
+not_given_out h l n sf t Refuses IsStep step old new (Err f) is_step saves memory =
     inr (memory, record { step = step; is_step = is_step; saved = saves })
 
 -- what gives nothing out, told by other words
-pub nothing_of : {C K : Type 0} (is_honest : K → Bool) (held : K → List ℕ) (count : K → ℕ) (R S : Refusal → Type 0) (T U : List ℕ → Type 0) (old new : Held C K) (e : Refused) → ((x : Refusal) → R x → S x) → ((t : List ℕ) → T t → U t) → GivesNothing is_honest held count R T old new e → GivesNothing is_honest held count S U old new e
-nothing_of h l n R S T U old new (refused.Core x) f g (inl why) = inl (f x why.0, why.1)
-nothing_of h l n R S T U old new (refused.Core x) f g (inr why) =
+pub nothing_of : {C K : Type 0} (is_honest : K → Bool) (held : K → List ℕ) (count : K → ℕ) (save_fails : K → List ℕ → K → Type 0) (R S : Refusal → Type 0) (T U : List ℕ → Type 0) (old new : Held C K) (e : Refused) → ((x : Refusal) → R x → S x) → ((t : List ℕ) → T t → U t) → GivesNothing is_honest held count save_fails R T old new e → GivesNothing is_honest held count save_fails S U old new e
+nothing_of h l n sf R S T U old new (refused.Core x) f g (inl why) = inl (f x why.0, why.1)
+nothing_of h l n sf R S T U old new (refused.Core x) f g (inr why) =
     inr (why.0, why.1, (why.2.0, g why.2.0 why.2.1), why.3)
-nothing_of h l n R S T U old new refused.SaveFailed f g why = (why.0, (why.1.0, g why.1.0 why.1.1, why.1.2))
-nothing_of h l n R S T U old new refused.Stale f g why = why
-nothing_of h l n R S T U old new e f g why = why
+nothing_of h l n sf R S T U old new refused.SaveFailed f g why = (why.0, (why.1.0, g why.1.0 why.1.1, why.1.2))
+nothing_of h l n sf R S T U old new refused.Stale f g why = why
+nothing_of h l n sf R S T U old new e f g why = why
 
 -- the same of outputs, by a step that is one by other words
 pub out_of : {C K : Type 0} (is_honest : K → Bool) (held : K → List ℕ) (state_text : C → List ℕ) (P Q : Step C → Type 0) (new : Held C K) (r : Result Output Fault) → ((s : Step C) → P s → Q s) → IfOk r (λ o. GivesOut is_honest held state_text P new o.text.items o.refused) → IfOk r (λ o. GivesOut is_honest held state_text Q new o.text.items o.refused)
@@ -48,9 +48,9 @@ out_of h l t P Q new (Err e) f given = tt
 left_of : {C : Type 0} (state_text : C → List ℕ) (P Q : Step C → Type 0) → ((s : Step C) → P s → Q s) → (text : List ℕ) → IsLeft state_text P text → IsLeft state_text Q text
 left_of t P Q f text left = record { step = left.step; is_step = f left.step left.is_step; state = left.state }
 
-pub no_output_of : {C K A : Type 0} (is_honest : K → Bool) (held : K → List ℕ) (count : K → ℕ) (state_text : C → List ℕ) (R S : Refusal → Type 0) (P Q : Step C → Type 0) (old new : Held C K) (r : Result A Fault) → ((x : Refusal) → R x → S x) → ((s : Step C) → P s → Q s) → IfErr r (GivesNoOutput is_honest held count state_text R P old new) → IfErr r (GivesNoOutput is_honest held count state_text S Q old new)
-no_output_of h l n t R S P Q old new (Ok a) f g why = tt
-no_output_of h l n t R S P Q old new (Err e) f g (inl why) =
-    inl (why.0, why.1, nothing_of h l n R S (IsLeft t P) (IsLeft t Q) old new why.0 f (left_of t P Q g) why.2)
-no_output_of h l n t R S P Q old new (Err e) f g (inr why) =
+pub no_output_of : {C K A : Type 0} (is_honest : K → Bool) (held : K → List ℕ) (count : K → ℕ) (save_fails : K → List ℕ → K → Type 0) (state_text : C → List ℕ) (R S : Refusal → Type 0) (P Q : Step C → Type 0) (old new : Held C K) (r : Result A Fault) → ((x : Refusal) → R x → S x) → ((s : Step C) → P s → Q s) → IfErr r (GivesNoOutput is_honest held count save_fails state_text R P old new) → IfErr r (GivesNoOutput is_honest held count save_fails state_text S Q old new)
+no_output_of h l n sf t R S P Q old new (Ok a) f g why = tt
+no_output_of h l n sf t R S P Q old new (Err e) f g (inl why) =
+    inl (why.0, why.1, nothing_of h l n sf R S (IsLeft t P) (IsLeft t Q) old new why.0 f (left_of t P Q g) why.2)
+no_output_of h l n sf t R S P Q old new (Err e) f g (inr why) =
     inr (why.0, record { step = why.1.step; is_step = g why.1.step why.1.is_step; saved = why.1.saved })

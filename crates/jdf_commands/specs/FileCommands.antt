@@ -1,4 +1,6 @@
 pub mod Step
+pub mod AnyStep
 pub mod Shown
+pub mod Opening
 pub mod Beginning
-pub mod Ends
+pub mod Commands

@@ -1,4 +1,5 @@
 pub mod EditCommand
 pub mod WorldCommand
 pub mod FileCommands
+pub mod Calls
 pub mod Words

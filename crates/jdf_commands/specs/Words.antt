@@ -1,26 +1,34 @@
--- What the words of the command line call for.
-use Rattle.std.specs.Prelude.{List, ℕ, [], ◌∷◌, Option, Some, None, codes, String, string_bytes}
-use Rattle.std.specs.Prelude.{if◌then◌else◌}
-use Rattle.std.specs.Option.{option_and_then}
-use Rattle.std.specs.Str.{bytes_eq}
+-- How the words of the command line end.
+use Rattle.std.specs.Prelude.{◌≡◌, ◌≢◌, ◌⊎◌, ℕ, Bool, false, List, [], map, String, string_bytes}
 use Rattle.std.specs.declared.alloc.Global.{Global}
-use Rattle.jdf_commands.specs.declared.command_name.CommandName.{CommandName}
-use Rattle.jdf_commands.specs.declared.command_name.CommandName.TheVariants.{Edit, World}
+use Rattle.clap.specs.Words.{subcommand_of, takes}
+use Rattle.ticket_items.specs.declared.refusal.Refusal.TheVariants.{Memory}
+use Rattle.streams.specs.declared.refused.Refused.TheVariants.{Core}
+use Rattle.streams.specs.declared.fault.Fault.TheVariants.{Input}
+use Rattle.streams.specs.Ends.{GivesUp}
+use Rattle.streams.specs.Streams.{IsUntouched, Use}
+use Rattle.jdf_words.specs.Calls.{Means}
+use Rattle.jdf_words.specs.Commands.{jdf}
+use Rattle.jdf_words.specs.declared.call.Call.{Call}
+use Rattle.jdf_words.specs.declared.call.Call.TheVariants.{Edit}
+use Rattle.jdf_commands.specs.Calls.{EndsCall}
+use Rattle.jdf_commands.specs.declared.words.TheConstants.{NO_CALL}
 
--- the command of a word
-abbrev pub command_named : List ℕ → Option CommandName
-command_named word =
-    if bytes_eq word (codes "edit") then Some Edit
-    else (if bytes_eq word (codes "world") then Some World else None)
+-- the call that words stand for: `edit` where there is none
+pub record IsCallOf (words : List (String Global)) (call : Call) : Type 0 where
+  pub edit : words ≡ [] → call ≡ Edit
+  pub named : words ≢ [] → Means call (subcommand_of jdf (map string_bytes words))
 
--- the command that the words call for: `edit` where no word stands behind the program's name, else
--- the one that the only word there names
-abbrev pub command_in : List (String Global) → Option CommandName
-command_in [] = Some Edit
-command_in (program ∷ []) = Some Edit
-command_in (program ∷ word ∷ []) = command_named (string_bytes word)
-command_in (program ∷ word ∷ more ∷ words) = None
+-- the words stand for no call: clap's text is told, of which nothing is said here
+pub record TellsHelp (words : List (String Global)) (input output : Use) (status : ℕ) : Type 0 where
+  pub wrong : takes jdf (map string_bytes words) ≡ false
+  pub unread : IsUntouched input
+  pub unwritten : IsUntouched output
+  pub no_call : status ≡ NO_CALL
 
--- the command that is called for, where the words were read
-abbrev pub called : Option (List (String Global)) → Option CommandName
-called words = option_and_then command_in words
+-- the call of the words is run; or they stand for none; or memory ran out for reading them
+abbrev pub EndsWords : List (String Global) → Use → Use → Use → ℕ → Type 0
+EndsWords words input output told status =
+    ((call : Call) × IsCallOf words call × EndsCall call input output told status)
+    ⊎ (TellsHelp words input output status
+    ⊎ (IsUntouched input × GivesUp (Input (Core Memory)) output told status))

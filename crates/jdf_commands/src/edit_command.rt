@@ -9,4 +9,4 @@ pub mod laws;
 mod owned_document;
 mod run;
 
-pub use command::run_edit;
+pub use command::{Edit, run_edit};

@@ -1,8 +1,8 @@
 //! The commands that keep a controller's state in a file: to make it, to give it an order, to hand
-//! it a message, and to show it.
+//! it a message, and to show it; and the calls of the program, these and the others.
 
 mod beginning;
-mod file_command;
+mod opening;
 mod ordered;
 mod ordering;
 mod run;
@@ -10,10 +10,9 @@ mod shown;
 mod step;
 mod taking;
 
-pub use beginning::begin;
-pub use file_command::FileCommand;
+pub use beginning::{begin, new_output};
 pub use ordered::Ordered;
-pub use ordering::order_output;
+pub use ordering::{order_kept, order_output};
 pub use run::run_file;
-pub use shown::{master_text, worker_text};
-pub use taking::take_output;
+pub use shown::{show_output, worker_text};
+pub use taking::{take_kept, take_output};

@@ -4,4 +4,4 @@
 mod command;
 mod world_output;
 
-pub use command::run_world;
+pub use command::{WorldCommand, run_world};

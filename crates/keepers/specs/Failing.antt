@@ -30,16 +30,24 @@ after_failure f = record f { calls = f.calls + 1; count = f.count + 1 }
 abbrev pub left_by_failure : Failing → List ℕ → List ℕ
 left_by_failure f bytes = if f.leaves_new then bytes else f.held
 
+-- a load that fails: it was due
+abbrev pub LoadFails : Failing → Failing → Type 0
+LoadFails old new = (is_due old ≡ true) × (new ≡ after_failure old)
+
+-- a save of bytes that fails: it was due
+abbrev pub SaveFails : Failing → List ℕ → Failing → Type 0
+SaveFails old bytes new =
+    (is_due old ≡ true) × (new ≡ record (after_failure old) { held = left_by_failure old bytes })
+
 -- a load: only the call that is due fails, and one that is refused memory changes nothing
 abbrev pub LoadsOrFails : Failing → Failing → Result (Vec ℕ) KeepFault → Type 0
 LoadsOrFails old new (Ok v) = (is_due old ≡ false) × (v.items ≡ old.held) × (new ≡ after_call old)
-LoadsOrFails old new (Err Failed) = (is_due old ≡ true) × (new ≡ after_failure old)
+LoadsOrFails old new (Err Failed) = LoadFails old new
 LoadsOrFails old new (Err Memory) = (is_due old ≡ false) × (new ≡ old)
 
 -- a save of bytes: only the call that is due fails, and one that is refused memory changes nothing
 abbrev pub SavesOrFails : Failing → List ℕ → Failing → Result ⊤ KeepFault → Type 0
 SavesOrFails old bytes new (Ok done) =
     (is_due old ≡ false) × (new ≡ record (after_call old) { held = bytes })
-SavesOrFails old bytes new (Err Failed) =
-    (is_due old ≡ true) × (new ≡ record (after_failure old) { held = left_by_failure old bytes })
+SavesOrFails old bytes new (Err Failed) = SaveFails old bytes new
 SavesOrFails old bytes new (Err Memory) = new ≡ old

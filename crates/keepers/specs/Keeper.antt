@@ -20,9 +20,13 @@ Saves old bytes new (Err Memory) = new ≡ old
 abbrev pub most_failures : ℕ
 most_failures = 2 ^ 64 - 1
 
+-- the number of failures rose, unless it was the greatest
+abbrev pub CountRose : ℕ → ℕ → Type 0
+CountRose old new = (old < new) ⊎ (old ≡ most_failures)
+
 -- the number of failures before and after a call: it doesn't fall; a call that fails raises it,
 -- unless it is the greatest; once it is the greatest, each call fails
 pub record CountsFailure {A : Type 0} (old new : ℕ) (result : Result A KeepFault) : Type 0 where
   pub kept : old ≤ new
-  pub raised : IsErrOf result Failed → (old < new) ⊎ (old ≡ most_failures)
+  pub raised : IsErrOf result Failed → CountRose old new
   pub full : old ≡ most_failures → IsErrOf result Failed

@@ -77,7 +77,7 @@ impl FailingKeep {
 
 impl Keep for FailingKeep {
     ghost use Rattle.std.specs.Prelude.{◌≡◌, ◌&&◌, not, true, IsErrOf};
-    ghost use Rattle.keepers.specs.Failing.{LoadsOrFails, SavesOrFails, is_due};
+    ghost use Rattle.keepers.specs.Failing.{LoadFails, LoadsOrFails, SaveFails, SavesOrFails, is_due};
     ghost use Rattle.keepers.specs.Keeper.{CountsFailure, Loads, Saves};
 
     ghost held = { λ keep. keep.held };
@@ -85,6 +85,10 @@ impl Keep for FailingKeep {
     ghost is_honest = { λ _. true };
 
     ghost count = { λ keep. keep.count };
+
+    ghost load_fails = { LoadFails };
+
+    ghost save_fails = { SaveFails };
 
     fn load(&mut self) -> Result<Vec<u8>, KeepFault>
         ensures loads { LoadsOrFails self.old self.new result }

@@ -1,11 +1,11 @@
-//! Files as wholes.
+//! Files read and written as wholes.
 
 ghost use Rattle.std.specs.Prelude.{◌≡◌, OnOk, IfOk, vec_len};
 ghost use Rattle.std.specs.Io.KnownBytes.{Appends, Consumes, IsAtEnd};
 
 use crate::keep_fault::KeepFault;
 use std::alloc::{AllocError, Global};
-use std::fs::{self, OpenFile};
+use std::fs;
 use std::io::{ErrorKind, Read, Write};
 use std::rt::Files;
 
@@ -19,29 +19,6 @@ const READ_SIZE: usize = 65_536;
 pub(crate) fn read_file<R: Files>(rt: &R, alloc: Global, path: &str) -> Result<Vec<u8>, KeepFault> {
     let mut file = fs::open(rt, path)?;
     read_to_end(alloc, &mut file)
-}
-
-/// Puts a file of these bytes in the place of one: it is written beside that, with `.new` behind
-/// its name, and then renamed. Refuses `Failed` where the system does, or interrupts a write or
-/// takes no byte of it, and `Memory`.
-pub(crate) fn replace_file<R: Files>(
-    rt: &R,
-    alloc: Global,
-    path: &str,
-    bytes: &[u8],
-) -> Result<(), KeepFault> {
-    let new_path = format!(in alloc; "{path}.new")?;
-    write_file(rt, new_path.as_str(), bytes)?;
-    fs::rename(rt, new_path.as_str(), path)?;
-    Ok(())
-}
-
-/// Makes a file of these bytes, and waits until the system has stored it.
-fn write_file<R: Files>(rt: &R, path: &str, bytes: &[u8]) -> Result<(), KeepFault> {
-    let mut file = fs::create(rt, path)?;
-    write_whole(&mut file, bytes)?;
-    file.sync_all()?;
-    Ok(())
 }
 
 // A buffer. The proof of its caller then knows its length alone, and no list of that many zeros.
@@ -70,8 +47,9 @@ fn read_to_end<R: Read>(alloc: Global, reader: &mut R) -> Result<Vec<u8>, KeepFa
     Err(KeepFault::Failed)
 }
 
-/// Writes all of the bytes.
-fn write_whole<W: Write>(writer: &mut W, bytes: &[u8]) -> Result<(), KeepFault>
+/// Writes all of the bytes. Refuses `Failed` where the system does, or interrupts a write or takes
+/// no byte of it.
+pub(crate) fn write_whole<W: Write>(writer: &mut W, bytes: &[u8]) -> Result<(), KeepFault>
     ensures { OnOk result (Appends (W.contents writer.old) (W.contents writer.new) bytes.now) }
 {
     let mut done = 0;

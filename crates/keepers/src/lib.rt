@@ -3,13 +3,18 @@
 
 mod failing_keep;
 mod file_keep;
+mod file_lock;
 mod files;
 mod keep;
 mod keep_fault;
+mod locks;
 mod memory_keep;
+mod saved_file;
 
 pub use failing_keep::FailingKeep;
 pub use file_keep::FileKeep;
+pub use file_lock::FileLock;
 pub use keep::Keep;
 pub use keep_fault::KeepFault;
+pub use locks::Locks;
 pub use memory_keep::MemoryKeep;

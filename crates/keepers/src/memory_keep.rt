@@ -36,6 +36,10 @@ impl Keep for MemoryKeep {
 
     ghost count = { λ _. 0 };
 
+    ghost load_fails = { λ _ _. ⊥ };
+
+    ghost save_fails = { λ _ _ _. ⊥ };
+
     fn load(&mut self) -> Result<Vec<u8>, KeepFault>
         ensures ok { IfOk result (λ v. v.items ≡ self.old) }
         ensures stays { self.new ≡ self.old }

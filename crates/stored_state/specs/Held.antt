@@ -1,11 +1,11 @@
 -- A controller beside the keeper of its state: what is shown, what is held, and what a call that
 -- gives nothing out leaves.
-use Rattle.std.specs.Prelude.{◌≡◌, ◌<◌, ◌⊎◌, ℕ, Bool, true, List, Some, None, Result}
+use Rattle.std.specs.Prelude.{◌≡◌, ◌⊎◌, ℕ, Bool, true, List, Some, None, Result}
 use Rattle.std.specs.Prelude.{⊤}
 use Rattle.std.specs.Str.{IsUtf8}
 use Rattle.serde_json.specs.Data.{Data}
 use Rattle.serde_json.specs.Read.{read}
-use Rattle.keepers.specs.Keeper.{most_failures}
+use Rattle.keepers.specs.Keeper.{CountRose}
 pub use Rattle.json_profile.specs.ReadAs.{IsReadAs, IsRefusalOf}
 use Rattle.ticket_items.specs.declared.refusal.Refusal.{Refusal}
 use Rattle.ticket_items.specs.declared.refusal.Refusal.TheVariants.{Memory, NotJson}
@@ -43,49 +43,51 @@ IsNotLoaded reads honest held other = ⊥
 
 -- ---- what a save leaves
 
--- the number of failures rose, unless it was the greatest
-abbrev pub CountRose : ℕ → ℕ → Type 0
-CountRose old new = (old < new) ⊎ (old ≡ most_failures)
-
 -- an honest keeper holds what it held
 abbrev pub HoldsSame : {K : Type 0} → (K → Bool) → (K → List ℕ) → K → K → Type 0
 HoldsSame is_honest held old new = is_honest old ≡ true → held new ≡ held old
 
--- a save of a text failed: an honest keeper holds what it held, or the text
+-- a save of a text failed, in a way in which the keeper may: an honest one holds what it held, or
+-- the text
 pub record FailsToSave {K : Type 0} (is_honest : K → Bool) (held : K → List ℕ) (count : K → ℕ)
-    (text : List ℕ) (old new : K) : Type 0 where
+    (save_fails : K → List ℕ → K → Type 0) (text : List ℕ) (old new : K) : Type 0 where
   pub either : is_honest old ≡ true → (held new ≡ held old) ⊎ (held new ≡ text)
+  pub fails : save_fails old text new
   pub failures : CountRose (count old) (count new)
 
 -- why a text is not saved, and what that leaves: memory ran out, or a save failed
-abbrev pub IsNotSaved : {K : Type 0} → (K → Bool) → (K → List ℕ) → (K → ℕ) → List ℕ → K → K
-    → Refused → Type 0
-IsNotSaved is_honest held count text old new (Core e) =
+abbrev pub IsNotSaved : {K : Type 0} → (K → Bool) → (K → List ℕ) → (K → ℕ)
+    → (K → List ℕ → K → Type 0) → List ℕ → K → K → Refused → Type 0
+IsNotSaved is_honest held count save_fails text old new (Core e) =
     (e ≡ Memory) × HoldsSame is_honest held old new
-IsNotSaved is_honest held count text old new SaveFailed =
-    FailsToSave is_honest held count text old new
-IsNotSaved is_honest held count text old new other = ⊥
+IsNotSaved is_honest held count save_fails text old new SaveFailed =
+    FailsToSave is_honest held count save_fails text old new
+IsNotSaved is_honest held count save_fails text old new other = ⊥
 
 -- why a step of a controller gives nothing out, by the text of the state that was to be saved:
 -- memory ran out in the step, which changes nothing; or once it was done, or the save failed, and
 -- then it is stale from then on
-abbrev pub StepGivesNothing : {C K : Type 0} → (K → Bool) → (K → List ℕ) → (K → ℕ) → List ℕ
-    → Held C K → Held C K → Refused → Type 0
-StepGivesNothing is_honest held count text old new e =
+abbrev pub StepGivesNothing : {C K : Type 0} → (K → Bool) → (K → List ℕ) → (K → ℕ)
+    → (K → List ℕ → K → Type 0) → List ℕ → Held C K → Held C K → Refused → Type 0
+StepGivesNothing is_honest held count save_fails text old new e =
     ((e ≡ Core Memory) × (new ≡ old))
-    ⊎ ((new.stale ≡ true) × IsNotSaved is_honest held count text old.keep new.keep e)
+    ⊎ ((new.stale ≡ true)
+    × IsNotSaved is_honest held count save_fails text old.keep new.keep e)
 
 -- why a step gives nothing out, and what that leaves. `Refuses` tells the refusals that change
 -- nothing, `IsText` the text of the state that was to be saved. Where memory ran out once the step
 -- was done, or the save failed, it is stale from then on
 abbrev pub GivesNothing : {C K : Type 0} → (K → Bool) → (K → List ℕ) → (K → ℕ)
-    → (Refusal → Type 0) → (List ℕ → Type 0) → Held C K → Held C K → Refused → Type 0
-GivesNothing is_honest held count Refuses IsText old new (Core e) =
+    → (K → List ℕ → K → Type 0) → (Refusal → Type 0) → (List ℕ → Type 0)
+    → Held C K → Held C K → Refused → Type 0
+GivesNothing is_honest held count save_fails Refuses IsText old new (Core e) =
     (Refuses e × (new ≡ old))
     ⊎ ((e ≡ Memory) × (new.stale ≡ true) × ((text : List ℕ) × IsText text)
     × HoldsSame is_honest held old.keep new.keep)
-GivesNothing is_honest held count Refuses IsText old new SaveFailed =
+GivesNothing is_honest held count save_fails Refuses IsText old new SaveFailed =
     (new.stale ≡ true)
-    × ((text : List ℕ) × IsText text × FailsToSave is_honest held count text old.keep new.keep)
-GivesNothing is_honest held count Refuses IsText old new Stale = (old.stale ≡ true) × (new ≡ old)
-GivesNothing is_honest held count Refuses IsText old new other = ⊥
+    × ((text : List ℕ) × IsText text
+    × FailsToSave is_honest held count save_fails text old.keep new.keep)
+GivesNothing is_honest held count save_fails Refuses IsText old new Stale =
+    (old.stale ≡ true) × (new ≡ old)
+GivesNothing is_honest held count save_fails Refuses IsText old new other = ⊥

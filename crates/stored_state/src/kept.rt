@@ -6,7 +6,8 @@ ghost use Rattle.ticket_items.specs.declared.refusal.Refusal.TheVariants.{Memory
 ghost use Rattle.jmf_message.specs.Decoded.{IsRefusalOf as IsUndecoded};
 ghost use Rattle.controller.specs.Reply.{refused_or};
 ghost use Rattle.controller.specs.Words.{may_be_sent};
-ghost use Rattle.stored_state.specs.Held.{CountRose, GivesNothing, HoldsSame, IsNotLoaded};
+ghost use Rattle.keepers.specs.Keeper.{CountRose};
+ghost use Rattle.stored_state.specs.Held.{GivesNothing, HoldsSame, IsNotLoaded};
 ghost use Rattle.stored_state.specs.Held.{IsNotSaved, IsReadAs, StepGivesNothing};
 ghost use Rattle.stored_state.specs.Kept.{IsOfMessage, message_text, unless_refused};
 ghost use Rattle.streams.specs.declared.refused.Refused.TheVariants.{Core, LoadFailed};
@@ -70,6 +71,7 @@ impl<C: Controller, K: Keep> Kept<C, K> {
         ensures fresh { IfOk result (λ kept. kept.stale ≡ false) }
         ensures only { IfErr result (λ e. (e ≡ SaveFailed) ⊎ (e ≡ Core Memory)) }
         ensures failures { IsErrOf result SaveFailed → (after : K)
+            × K.save_fails keep (compact_text (C.state_data controller)) after
             × CountRose (K.count keep) (K.count after) }
     {
         let text = state_text(alloc, &controller)?;
@@ -89,7 +91,7 @@ impl<C: Controller, K: Keep> Kept<C, K> {
         ensures refused { IfErr result
             (IsNotLoaded C.state_read (K.is_honest keep) (K.held keep)) }
         ensures failures { IsErrOf result LoadFailed → (after : K)
-            × CountRose (K.count keep) (K.count after) }
+            × K.load_fails keep after × CountRose (K.count keep) (K.count after) }
     {
         let controller = load(alloc, &mut keep)?;
         Ok(Kept::fresh(controller, keep))
@@ -114,7 +116,7 @@ impl<C: Controller, K: Keep> Kept<C, K> {
             IsReadAs C.state_read (K.held self.new.keep) (Ok self.old.controller)) }
         ensures honest { K.is_honest self.new.keep ≡ K.is_honest self.old.keep }
         ensures counted { K.count self.old.keep ≤ K.count self.new.keep }
-        ensures refused { IfErr result (IsNotSaved K.is_honest K.held K.count
+        ensures refused { IfErr result (IsNotSaved K.is_honest K.held K.count K.save_fails
             (compact_text (C.state_data self.old.controller)) self.old.keep self.new.keep) }
     {
         let given = save_step(alloc, &self.controller, &mut self.keep, &message);
@@ -147,8 +149,8 @@ impl<C: Controller, K: Keep> Kept<C, K> {
         ensures stale { (self.old.stale ≡ true) ↔ IsErrOf result Stale }
         ensures honest { K.is_honest self.new.keep ≡ K.is_honest self.old.keep }
         ensures counted { K.count self.old.keep ≤ K.count self.new.keep }
-        ensures refused { IfErr result (GivesNothing K.is_honest K.held K.count (λ e. e ≡ Memory)
-            (λ text. text ≡ compact_text (C.state_data
+        ensures refused { IfErr result (GivesNothing K.is_honest K.held K.count K.save_fails
+            (λ e. e ≡ Memory) (λ text. text ≡ compact_text (C.state_data
             (unless_refused (C.order_refusal order self.old.controller) self.old.controller
             (C.ordered order at self.old.controller)))) self.old self.new) }
     {
@@ -178,7 +180,7 @@ impl<C: Controller, K: Keep> Kept<C, K> {
             IsReadAs C.state_read (K.held self.new.keep) (Ok self.old.controller)) }
         ensures honest { K.is_honest self.new.keep ≡ K.is_honest self.old.keep }
         ensures counted { K.count self.old.keep ≤ K.count self.new.keep }
-        ensures refused { IfErr result (IsNotSaved K.is_honest K.held K.count
+        ensures refused { IfErr result (IsNotSaved K.is_honest K.held K.count K.save_fails
             (compact_text (C.state_data self.old.controller)) self.old.keep self.new.keep) }
     {
         let Done { reply, message } = done;
@@ -202,7 +204,7 @@ impl<C: Controller, K: Keep> Kept<C, K> {
             IsReadAs C.state_read (K.held self.new.keep) (Ok self.old.controller)) }
         ensures honest { K.is_honest self.new.keep ≡ K.is_honest self.old.keep }
         ensures counted { K.count self.old.keep ≤ K.count self.new.keep }
-        ensures refused { IfErr result (IsNotSaved K.is_honest K.held K.count
+        ensures refused { IfErr result (IsNotSaved K.is_honest K.held K.count K.save_fails
             (compact_text (C.state_data self.old.controller)) self.old.keep self.new.keep) }
     {
         let message = self.give_out(alloc, None)?;
@@ -232,7 +234,7 @@ impl<C: Controller, K: Keep> Kept<C, K> {
         ensures stale { (self.old.stale ≡ true) ↔ IsErrOf result Stale }
         ensures honest { K.is_honest self.new.keep ≡ K.is_honest self.old.keep }
         ensures counted { K.count self.old.keep ≤ K.count self.new.keep }
-        ensures refused { IfErr result (GivesNothing K.is_honest K.held K.count
+        ensures refused { IfErr result (GivesNothing K.is_honest K.held K.count K.save_fails
             (IsUndecoded bytes.now) (λ text. IsOfMessage bytes.now (λ m. text
             ≡ compact_text (C.state_data (C.taken m at self.old.controller))))
             self.old self.new) }
@@ -263,7 +265,7 @@ impl<C: Controller, K: Keep> Kept<C, K> {
             IsReadAs C.state_read (K.held self.new.keep) (Ok self.new.controller)) }
         ensures honest { K.is_honest self.new.keep ≡ K.is_honest self.old.keep }
         ensures counted { K.count self.old.keep ≤ K.count self.new.keep }
-        ensures refused { IfErr result (StepGivesNothing K.is_honest K.held K.count
+        ensures refused { IfErr result (StepGivesNothing K.is_honest K.held K.count K.save_fails
             (compact_text (C.state_data (C.taken message at self.old.controller)))
             self.old self.new) }
     {
@@ -286,6 +288,8 @@ impl<C: Controller, K: Keep> Kept<C, K> {
             (IsNotLoaded C.state_read (K.is_honest self.old.keep) (K.held self.old.keep)) }
         ensures shown { OnErr result (self.new.controller ≡ self.old.controller) }
         ensures stale { OnErr result (self.new.stale ≡ self.old.stale) }
+        ensures fails { IsErrOf result LoadFailed →
+            K.load_fails self.old.keep self.new.keep }
         ensures failures { IsErrOf result LoadFailed →
             CountRose (K.count self.old.keep) (K.count self.new.keep) }
     {

@@ -1,6 +1,7 @@
 ghost use Rattle.std.specs.Prelude.{◌≡◌, Ok, false, true, IfOk, IfErr, IsErrOf};
 ghost use Rattle.streams.specs.declared.refused.Refused.TheVariants.{LoadFailed};
-ghost use Rattle.stored_state.specs.Held.{CountRose, HoldsSame, IsNotLoaded, IsReadAs};
+ghost use Rattle.keepers.specs.Keeper.{CountRose};
+ghost use Rattle.stored_state.specs.Held.{HoldsSame, IsNotLoaded, IsReadAs};
 ghost use Rattle.stored_state.specs.Opened.{any_state_read, controller_in, is_stale_in, keep_in};
 
 use crate::kept::Kept;
@@ -36,7 +37,7 @@ pub fn open_any<K: Keep>(alloc: Global, mut keep: K) -> Result<Opened<K>, Refuse
     ensures refused { IfErr result
         (IsNotLoaded any_state_read (K.is_honest keep) (K.held keep)) }
     ensures failures { IsErrOf result LoadFailed → (after : K)
-        × CountRose (K.count keep) (K.count after) }
+        × K.load_fails keep after × CountRose (K.count keep) (K.count after) }
 {
     let value = load_value(alloc, &mut keep)?;
     match kind_of(&value)? {

@@ -6,7 +6,8 @@ ghost use Rattle.serde_json.specs.View.{view};
 ghost use Rattle.serde_json.specs.Written.{compact_text};
 ghost use Rattle.ticket_items.specs.declared.refusal.Refusal.TheVariants.{Memory};
 ghost use Rattle.controller.specs.Words.{may_be_sent};
-ghost use Rattle.stored_state.specs.Held.{CountRose, HoldsSame, IsNoValue, IsNotLoaded, IsNotSaved};
+ghost use Rattle.keepers.specs.Keeper.{CountRose};
+ghost use Rattle.stored_state.specs.Held.{HoldsSame, IsNoValue, IsNotLoaded, IsNotSaved};
 ghost use Rattle.stored_state.specs.Held.{IsReadAs, IsTextOf};
 ghost use Rattle.stored_state.specs.Kept.{message_text as text_sent};
 ghost use Rattle.streams.specs.declared.refused.Refused.TheVariants.{LoadFailed};
@@ -61,7 +62,7 @@ pub(crate) fn save_step<C: Controller, K: Keep>(
         IsReadAs C.state_read (K.held keep.new) (Ok controller.now)) }
     ensures honest { K.is_honest keep.new ≡ K.is_honest keep.old }
     ensures counted { K.count keep.old ≤ K.count keep.new }
-    ensures refused { IfErr result (IsNotSaved K.is_honest K.held K.count
+    ensures refused { IfErr result (IsNotSaved K.is_honest K.held K.count K.save_fails
         (compact_text (C.state_data controller.now)) keep.old keep.new) }
 {
     let given = message_text(alloc, message)?;
@@ -76,7 +77,7 @@ pub(crate) fn save<K: Keep>(keep: &mut K, text: &[u8]) -> Result<(), Refused>
     ensures honest { K.is_honest keep.new ≡ K.is_honest keep.old }
     ensures counted { K.count keep.old ≤ K.count keep.new }
     ensures refused { IfErr result
-        (IsNotSaved K.is_honest K.held K.count text.now keep.old keep.new) }
+        (IsNotSaved K.is_honest K.held K.count K.save_fails text.now keep.old keep.new) }
 {
     match keep.save(text) {
         Ok(()) => Ok(()),
@@ -91,6 +92,7 @@ fn load_bytes<K: Keep>(keep: &mut K) -> Result<Vec<u8>, Refused>
     ensures held { HoldsSame K.is_honest K.held keep.old keep.new }
     ensures honest { K.is_honest keep.new ≡ K.is_honest keep.old }
     ensures counted { K.count keep.old ≤ K.count keep.new }
+    ensures fails { IsErrOf result LoadFailed → K.load_fails keep.old keep.new }
     ensures failures { IsErrOf result LoadFailed → CountRose (K.count keep.old) (K.count keep.new) }
     ensures only { IfErr result (λ e. (e ≡ LoadFailed) ⊎ (e ≡ Refused.Core Memory)) }
 {
@@ -108,6 +110,7 @@ pub(crate) fn load_value<K: Keep>(alloc: Global, keep: &mut K) -> Result<Value, 
     ensures held { HoldsSame K.is_honest K.held keep.old keep.new }
     ensures honest { K.is_honest keep.new ≡ K.is_honest keep.old }
     ensures counted { K.count keep.old ≤ K.count keep.new }
+    ensures fails { IsErrOf result LoadFailed → K.load_fails keep.old keep.new }
     ensures failures { IsErrOf result LoadFailed → CountRose (K.count keep.old) (K.count keep.new) }
     ensures refused { IfErr result (IsNoValue (K.is_honest keep.old) (K.held keep.old)) }
 {
@@ -122,6 +125,7 @@ pub(crate) fn load<C: Controller, K: Keep>(alloc: Global, keep: &mut K) -> Resul
     ensures held { HoldsSame K.is_honest K.held keep.old keep.new }
     ensures honest { K.is_honest keep.new ≡ K.is_honest keep.old }
     ensures counted { K.count keep.old ≤ K.count keep.new }
+    ensures fails { IsErrOf result LoadFailed → K.load_fails keep.old keep.new }
     ensures failures { IsErrOf result LoadFailed → CountRose (K.count keep.old) (K.count keep.new) }
     ensures refused { IfErr result
         (IsNotLoaded C.state_read (K.is_honest keep.old) (K.held keep.old)) }

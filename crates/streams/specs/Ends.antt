@@ -24,14 +24,6 @@ Refusals = List ℕ → Refusal → Type 0
 abbrev pub done_status : Bool → ℕ
 done_status refused = if refused then 1 else 0
 
--- the output of the input was written, which tells whether something was refused
-pub record Does (IsOutput : Outputs) (input output : Use) (refused : Bool) : Type 0 where
-  pub bytes : List ℕ
-  pub text : List ℕ
-  pub is_input : IsInput input bytes
-  pub is_output : IsOutput bytes text refused
-  pub written : Writes output text
-
 -- more was read than may be
 abbrev pub IsTooLarge : Use → Type 0
 IsTooLarge input = (bytes : List ℕ) × Reads input bytes × (MAX_INPUT_BYTES < length bytes)
@@ -52,27 +44,43 @@ abbrev pub IsRefused : Refusals → Use → Refusal → Type 0
 IsRefused IsRefusalOf input e =
     IsOutOfMemory input e ⊎ ((bytes : List ℕ) × IsInput input bytes × IsRefusalOf bytes e)
 
--- why a command gives up with a fault, and what it has written then: nothing, or a front of the
--- output
-abbrev pub GivesUp : Outputs → Refusals → Fault → Use → Use → Type 0
-GivesUp IsOutput IsRefusalOf (Input (Core e)) input output =
-    IsRefused IsRefusalOf input e × IsUntouched output
-GivesUp IsOutput IsRefusalOf (Input TooLarge) input output = IsTooLarge input × IsUntouched output
-GivesUp IsOutput IsRefusalOf (Device ReadFailed) input output =
-    HasFailedReading input × IsUntouched output
-GivesUp IsOutput IsRefusalOf (Device WriteFailed) input output =
-    (bytes : List ℕ) × (text : List ℕ) × (refused : Bool) × IsInput input bytes
-    × IsOutput bytes text refused × WritesFront output text
-GivesUp IsOutput IsRefusalOf _ input output = ⊥
+-- what is written for the input that was read, and whether something was refused
+abbrev pub IsOutputOf : Outputs → Use → List ℕ → Bool → Type 0
+IsOutputOf IsOutput input text refused =
+    (bytes : List ℕ) × IsInput input bytes × IsOutput bytes text refused
+
+-- why nothing is written for an input: it isn't read, or it is refused
+abbrev pub IsFaultOf : Refusals → Use → Fault → Type 0
+IsFaultOf IsRefusalOf input (Input (Core e)) = IsRefused IsRefusalOf input e
+IsFaultOf IsRefusalOf input (Input TooLarge) = IsTooLarge input
+IsFaultOf IsRefusalOf input (Device ReadFailed) = HasFailedReading input
+IsFaultOf IsRefusalOf input _ = ⊥
 
 -- the fault's line was told, or a front of it where a write failed
 abbrev pub Tells : Fault → Use → Type 0
 Tells fault told = Writes told (fault_line fault) ⊎ WritesFront told (fault_line fault)
 
--- the output was written and nothing told; or it was given up, and the fault told
+-- nothing is written, the fault is told, and the status is the fault's
+abbrev pub GivesUp : Fault → Use → Use → ℕ → Type 0
+GivesUp fault output told status =
+    IsUntouched output × Tells fault told × (status ≡ fault_status fault)
+
+-- the text is written and nothing told; or a write failed behind a front of it, and that is told
+abbrev pub GivesOut : List ℕ → Bool → Use → Use → ℕ → Type 0
+GivesOut text refused output told status =
+    (Writes output text × IsUntouched told × (status ≡ done_status refused))
+    ⊎ (WritesFront output text × Tells (Device WriteFailed) told
+    × (status ≡ fault_status (Device WriteFailed)))
+
+-- such an output is given out, or it is given up for such a fault
+abbrev pub EndsWith : (List ℕ → Bool → Type 0) → (Fault → Type 0) → Use → Use → ℕ → Type 0
+EndsWith IsOutput IsFault output told status =
+    ((text : List ℕ) × (refused : Bool) × IsOutput text refused
+    × GivesOut text refused output told status)
+    ⊎ ((fault : Fault) × IsFault fault × GivesUp fault output told status)
+
+-- a command that makes its output of its whole input ends with that output, or with why there is
+-- none
 abbrev pub Ends : Outputs → Refusals → Use → Use → Use → ℕ → Type 0
 Ends IsOutput IsRefusalOf input output told status =
-    ((refused : Bool) × Does IsOutput input output refused × IsUntouched told
-    × (status ≡ done_status refused))
-    ⊎ ((fault : Fault) × GivesUp IsOutput IsRefusalOf fault input output × Tells fault told
-    × (status ≡ fault_status fault))
+    EndsWith (IsOutputOf IsOutput input) (IsFaultOf IsRefusalOf input) output told status

@@ -1,8 +1,9 @@
 //! A command, from its input to its exit status.
 
-ghost use Rattle.std.specs.Prelude.{ℕ, Bool, List, IfOk, IfErr};
+ghost use Rattle.std.specs.Prelude.{◌≡◌, ℕ, Bool, List, IfOk, IfErr};
 ghost use Rattle.ticket_items.specs.declared.refusal.Refusal.{Refusal as RefusalSeen};
-ghost use Rattle.streams.specs.Ends.{Does, Ends, GivesUp};
+ghost use Rattle.streams.specs.Ends.{Ends, GivesOut, GivesUp, IsFaultOf, IsOutputOf, Tells};
+ghost use Rattle.streams.specs.Fault.{fault_status};
 ghost use Rattle.streams.specs.Streams.{used};
 
 use crate::counted::Counted;
@@ -36,6 +37,66 @@ pub trait Command {
         ensures refused { IfErr result (is_refusal input.items) };
 }
 
+/// Tells a fault, as far as `faults` takes it. Answers the fault's exit status.
+fn give_up<F: Write>(fault: Fault, faults: &mut Counted<F>) -> u8
+    ensures told { Tells fault (used F.contents faults.old faults.new) }
+    ensures status { result ≡ fault_status fault }
+{
+    tell(faults, &fault);
+    fault.status()
+}
+
+/// Writes an output. Answers the exit status: 0, or 1 where something that was asked for was
+/// refused. Where a write fails, which it tells in `faults`, that of the fault.
+fn give_out<W: Write, F: Write>(
+    output: Output,
+    writer: &mut Counted<W>,
+    faults: &mut Counted<F>,
+) -> u8
+    ensures { GivesOut output.text.items output.refused (used W.contents writer.old writer.new)
+        (used F.contents faults.old faults.new) result }
+{
+    match write_bytes(writer, output.text.as_slice()) {
+        Ok(()) => u8::from(output.refused),
+        Err(fault) => give_up(fault, faults),
+    }
+}
+
+/// Writes an output that was made, or tells why there is none, as far as `faults` takes it. Answers
+/// the exit status: 0, or 1 where something that was asked for was refused; of a fault, a write
+/// that failed among them, its own.
+pub fn finish<W: Write, F: Write>(
+    made: Result<Output, Fault>,
+    writer: &mut Counted<W>,
+    faults: &mut Counted<F>,
+) -> u8
+    ensures done { IfOk made (λ output. GivesOut output.text.items output.refused
+        (used W.contents writer.old writer.new) (used F.contents faults.old faults.new) result) }
+    ensures gives_up { IfErr made (λ fault. GivesUp fault
+        (used W.contents writer.old writer.new) (used F.contents faults.old faults.new) result) }
+{
+    match made {
+        Ok(output) => give_out(output, writer, faults),
+        Err(fault) => give_up(fault, faults),
+    }
+}
+
+/// Reads the input of a command to its end, and makes its output. Refuses as `Input` what the
+/// command refuses, `TooLarge` more bytes than `MAX_INPUT_BYTES`, and `Memory`; as `Device`
+/// `ReadFailed`.
+pub fn output_of<C: Command, R: Read>(
+    alloc: Global,
+    reader: &mut Counted<R>,
+) -> Result<Output, Fault>
+    ensures done { IfOk result (λ o. IsOutputOf C.is_output (used R.remaining reader.old reader.new)
+        o.text.items o.refused) }
+    ensures refused { IfErr result
+        (IsFaultOf C.is_refusal (used R.remaining reader.old reader.new)) }
+{
+    let input = read_input(alloc, reader)?;
+    Ok(C::output(alloc, input)?)
+}
+
 /// Reads the input of a command to its end and writes what the command makes of it. Answers the
 /// exit status: 0, or 1 where something that was asked for was refused. Where it gives up, it
 /// writes nothing, but for a front of that output where a write fails; it tells why in `faults`, as
@@ -50,28 +111,5 @@ pub fn run_command<C: Command, R: Read, W: Write, F: Write>(
     ensures { Ends C.is_output C.is_refusal (used R.remaining reader.old reader.new)
         (used W.contents writer.old writer.new) (used F.contents faults.old faults.new) result }
 {
-    match run::<C, R, W>(alloc, reader, writer) {
-        Ok(refused) => u8::from(refused),
-        Err(fault) => {
-            tell(faults, &fault);
-            fault.status()
-        }
-    }
-}
-
-/// The command, up to telling why it gave up. Answers whether something was refused.
-fn run<C: Command, R: Read, W: Write>(
-    alloc: Global,
-    reader: &mut Counted<R>,
-    writer: &mut Counted<W>,
-) -> Result<bool, Fault>
-    ensures done { IfOk result (Does C.is_output (used R.remaining reader.old reader.new)
-        (used W.contents writer.old writer.new)) }
-    ensures gives_up { IfErr result (λ fault. GivesUp C.is_output C.is_refusal fault
-        (used R.remaining reader.old reader.new) (used W.contents writer.old writer.new)) }
-{
-    let input = read_input(alloc, reader)?;
-    let output = C::output(alloc, input)?;
-    write_bytes(writer, output.text.as_slice())?;
-    Ok(output.refused)
+    finish(output_of::<C, R>(alloc, reader), writer, faults)
 }

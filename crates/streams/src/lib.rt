@@ -14,7 +14,7 @@ mod refused;
 mod told;
 mod writing;
 
-pub use command::{Command, Output, run_command};
+pub use command::{Command, Output, finish, output_of, run_command};
 pub use counted::Counted;
 pub use fault::Fault;
 pub use input::{MAX_INPUT_BYTES, MAX_INTERRUPTIONS, read_input};

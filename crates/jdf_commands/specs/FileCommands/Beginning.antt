@@ -1,49 +1,46 @@
 -- A controller in its beginning, beside the keeper that holds its state.
-use Rattle.std.specs.Prelude.{◌≡◌, ℕ, Bool, false, true, List, Ok, ⊤}
-use Rattle.serde_json.specs.Written.{compact_text}
+use Rattle.std.specs.Prelude.{◌≡◌, ℕ, Bool, false, true, List, Ok}
 use Rattle.json_profile.specs.ReadAs.{IsReadAs, IsRefusalOf}
 use Rattle.streams.specs.declared.refused.Refused.TheVariants.{Core, SaveFailed}
+use Rattle.ticket_items.specs.declared.refusal.Refusal.TheVariants.{Memory}
 use Rattle.streams.specs.declared.fault.Fault.{Fault}
 use Rattle.streams.specs.declared.fault.Fault.TheVariants.{Input, Device}
 use Rattle.controller_form.specs.Openings.OpeningForm.{opening_read}
 use Rattle.controller_form.specs.declared.openings.opening.Opening.{Opening}
 use Rattle.controller_form.specs.declared.openings.opening.Opening.TheVariants as opening
-use Rattle.controller_form.specs.States.MasterForm.{master_state_data}
-use Rattle.controller_form.specs.States.WorkerForm.{worker_state_data}
 use Rattle.stored_state.specs.Held.{Held}
 use Rattle.stored_state.specs.Opened.{AnyController, of_master, of_worker}
-use Rattle.stored_state.specs.Opened.{controller_in, is_stale_in, keep_in}
-use Rattle.stored_state.specs.declared.opened.Opened.{Opened}
-
--- the controller stands beside a keeper that holds its state, if it is honest
-pub record IsBegun {C K : Type 0} (is_honest : K → Bool) (held : K → List ℕ)
-    (state_text : C → List ℕ) (controller : C) (kept : Held C K) : Type 0 where
-  pub shown : kept.controller ≡ controller
-  pub holds : is_honest kept.keep ≡ true → held kept.keep ≡ state_text controller
-  pub fresh : kept.stale ≡ false
+use Rattle.jdf_commands.specs.FileCommands.AnyStep.{text_of}
 
 -- the controller of an opening
 abbrev pub controller_of : Opening → AnyController
 controller_of (opening.Master m) = of_master m
 controller_of (opening.Worker w) = of_worker w
 
--- the text of a controller's state
-abbrev pub text_of : AnyController → List ℕ
-text_of (of_master m) = compact_text (master_state_data m)
-text_of (of_worker w) = compact_text (worker_state_data w)
+-- a new controller stands beside its keeper, which holds its state if it is honest
+pub record IsBegun {C K : Type 0} (is_honest : K → Bool) (held : K → List ℕ)
+    (state_text : C → List ℕ) (keep : K) (controller : C) (kept : Held C K) : Type 0 where
+  pub shown : kept.controller ≡ controller
+  pub holds : is_honest kept.keep ≡ true → held kept.keep ≡ state_text controller
+  pub honest : is_honest kept.keep ≡ is_honest keep
+  pub fresh : kept.stale ≡ false
 
 -- the controller that the bytes begin, so
-pub record IsBegunAs {K : Type 0} (is_honest : K → Bool) (held : K → List ℕ) (bytes : List ℕ)
-    (opened : Opened K) : Type 0 where
+pub record IsBegunAs {K : Type 0} (is_honest : K → Bool) (held : K → List ℕ) (keep : K)
+    (bytes : List ℕ) (kept : Held AnyController K) : Type 0 where
   pub opening : Opening
   pub read : IsReadAs opening_read bytes (Ok opening)
-  pub shown : controller_in opened ≡ controller_of opening
-  pub holds : is_honest (keep_in opened) ≡ true
-      → held (keep_in opened) ≡ text_of (controller_of opening)
-  pub fresh : is_stale_in opened ≡ false
+  pub begun : IsBegun is_honest held text_of keep (controller_of opening) kept
 
--- why no controller is begun: what the bytes are refused for, or the save failed
-abbrev pub IsNotBegun : List ℕ → Fault → Type 0
-IsNotBegun bytes (Input (Core e)) = IsRefusalOf opening_read bytes e
-IsNotBegun bytes (Device SaveFailed) = ⊤
-IsNotBegun bytes _ = ⊥
+-- why a new controller isn't kept, by the text of its state: memory ran out, or the save failed
+abbrev pub IsNotKept : {K : Type 0} → (K → List ℕ → K → Type 0) → K → List ℕ → Fault → Type 0
+IsNotKept {K = K} save_fails keep text (Device SaveFailed) =
+    (after : K) × save_fails keep text after
+IsNotKept save_fails keep text fault = fault ≡ Input (Core Memory)
+
+-- why no controller is begun: what the bytes are refused for, or it isn't kept
+abbrev pub IsNotBegun : {K : Type 0} → (K → List ℕ → K → Type 0) → K → List ℕ → Fault → Type 0
+IsNotBegun save_fails keep bytes (Input (Core e)) = IsRefusalOf opening_read bytes e
+IsNotBegun save_fails keep bytes fault =
+    (opening : Opening) × IsReadAs opening_read bytes (Ok opening)
+    × IsNotKept save_fails keep (text_of (controller_of opening)) fault

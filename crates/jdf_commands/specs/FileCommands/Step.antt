@@ -120,9 +120,11 @@ pub record IsUntold {C K : Type 0} (is_honest : K → Bool) (held : K → List �
 -- why nothing is given out of such a step, and what that leaves: what is given is refused, which
 -- changes nothing; or memory ran out, or the keeper failed, in the step; or memory ran out once it
 -- was saved
-abbrev pub GivesNoOutput : {C K : Type 0} → (K → Bool) → (K → List ℕ) → (K → ℕ) → (C → List ℕ)
-    → (Refusal → Type 0) → (Step C → Type 0) → Held C K → Held C K → Fault → Type 0
-GivesNoOutput is_honest held count state_text Refuses IsStep old new fault =
+abbrev pub GivesNoOutput : {C K : Type 0} → (K → Bool) → (K → List ℕ) → (K → ℕ)
+    → (K → List ℕ → K → Type 0) → (C → List ℕ) → (Refusal → Type 0) → (Step C → Type 0)
+    → Held C K → Held C K → Fault → Type 0
+GivesNoOutput is_honest held count save_fails state_text Refuses IsStep old new fault =
     ((refused : CallRefused) × (fault ≡ fault_of refused)
-    × GivesNothing is_honest held count Refuses (IsLeft state_text IsStep) old new refused)
+    × GivesNothing is_honest held count save_fails Refuses (IsLeft state_text IsStep)
+    old new refused)
     ⊎ ((fault ≡ Input (Core Memory)) × IsUntold is_honest held state_text IsStep new)

@@ -12,7 +12,7 @@ use streams::{Command, Counted, Output, run_command};
 use ticket_tree::Refusal;
 
 /// The command `edit`.
-struct Edit;
+pub struct Edit;
 
 impl Command for Edit {
     ghost is_output = { IsOutput };

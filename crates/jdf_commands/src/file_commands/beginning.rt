@@ -1,29 +1,31 @@
-//! A new controller beside its keeper.
+//! New controllers beside their keeper.
 
-ghost use Rattle.std.specs.Prelude.{◌≡◌, ◌⊎◌, IfOk, IfErr};
+ghost use Rattle.std.specs.Prelude.{IfOk, IfErr};
 ghost use Rattle.serde_json.specs.Written.{compact_text};
-ghost use Rattle.streams.specs.declared.refused.Refused.TheVariants.{Core, SaveFailed};
-ghost use Rattle.streams.specs.declared.fault.Fault.TheVariants.{Input, Device};
+ghost use Rattle.jdf_commands.specs.FileCommands.AnyStep.{held_in};
 ghost use Rattle.jdf_commands.specs.FileCommands.Beginning as begins;
-ghost use Rattle.ticket_items.specs.declared.refusal.Refusal.TheVariants.{Memory};
+ghost use Rattle.jdf_commands.specs.FileCommands.Commands.{Begins, BeginsNone};
+ghost use Rattle.streams.specs.Streams.{used};
 
-use crate::file_commands::step::fault_of;
+use crate::file_commands::step::{fault_of, unrefused};
 use controller_form::{Opening, opening_of};
 use keepers::Keep;
 use std::alloc::Global;
+use std::io::Read;
 use stored_state::{Controller, Kept, Opened};
-use streams::Fault;
+use streams::{Counted, Fault, Output, Refused, read_input};
 
-/// A controller beside its keeper, which holds its state from then on.
+/// A controller beside its keeper, which holds its state from then on. Refuses as `Device`
+/// `SaveFailed`, and `Memory`.
 fn kept_of<C: Controller, K: Keep>(
     alloc: Global,
     controller: C,
     keep: K,
 ) -> Result<Kept<C, K>, Fault>
     ensures ok { IfOk result (begins.IsBegun K.is_honest K.held
-        (λ c. compact_text (C.state_data c)) controller) }
-    ensures refused { IfErr result
-        (λ f. (f ≡ Device SaveFailed) ⊎ (f ≡ Input (Core Memory))) }
+        (λ c. compact_text (C.state_data c)) keep controller) }
+    ensures refused { IfErr result (begins.IsNotKept K.save_fails keep
+        (compact_text (C.state_data controller))) }
 {
     match Kept::create(alloc, controller, keep) {
         Ok(kept) => Ok(kept),
@@ -34,11 +36,33 @@ fn kept_of<C: Controller, K: Keep>(
 /// The controller that the input begins, beside its keeper, which holds its state from then on.
 /// Refuses as `Input` what the input is refused for, and `Memory`; and as `Device` `SaveFailed`.
 pub fn begin<K: Keep>(alloc: Global, keep: K, input: &[u8]) -> Result<Opened<K>, Fault>
-    ensures ok { IfOk result (begins.IsBegunAs K.is_honest K.held input.now) }
-    ensures refused { IfErr result (begins.IsNotBegun input.now) }
+    ensures ok { IfOk result (λ opened. begins.IsBegunAs K.is_honest K.held keep input.now
+        (held_in opened)) }
+    ensures refused { IfErr result (begins.IsNotBegun K.save_fails keep input.now) }
 {
     match opening_of(alloc, input)? {
         Opening::Master(master) => Ok(Opened::Master(kept_of(alloc, master, keep)?)),
         Opening::Worker(worker) => Ok(Opened::Worker(kept_of(alloc, worker, keep)?)),
     }
+}
+
+/// What `new` writes once its keeper holds what the input begins: nothing. Where there is a
+/// controller already, it refuses `SaveFailed` as `Device`, and the input isn't read.
+pub fn new_output<K: Keep, I: Read>(
+    alloc: Global,
+    keep: K,
+    is_there: bool,
+    reader: &mut Counted<I>,
+) -> Result<Output, Fault>
+    ensures ok { IfOk result (λ output. Begins K.is_honest K.held is_there keep
+        (used I.remaining reader.old reader.new) output.text.items output.refused) }
+    ensures refused { IfErr result (BeginsNone K.save_fails is_there keep
+        (used I.remaining reader.old reader.new)) }
+{
+    if is_there {
+        return Err(Fault::Device(Refused::SaveFailed));
+    }
+    let input = read_input(alloc, reader)?;
+    let _begun = begin(alloc, keep, input.as_slice())?;
+    Ok(unrefused(Vec::new(alloc)))
 }

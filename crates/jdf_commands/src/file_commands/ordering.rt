@@ -1,17 +1,22 @@
-//! An order to a controller beside its keeper.
+//! Orders to a controller beside its keeper.
 
 ghost use Rattle.std.specs.Prelude.{◌≡◌, ◌≤◌, true, IfOk, IfErr, IsErr};
 ghost use Rattle.serde_json.specs.Written.{compact_text};
+ghost use Rattle.jdf_commands.specs.FileCommands.AnyStep.{IsNoOrder, IsOrdered, held_in, text_of};
+ghost use Rattle.jdf_commands.specs.FileCommands.Commands.{DoesNoStep, DoesStep};
 ghost use Rattle.jdf_commands.specs.FileCommands.Step as steps;
 ghost use Rattle.json_profile.specs.ReadAs.{IsRefusalOf};
+ghost use Rattle.streams.specs.Streams.{used};
 ghost use Rattle.ticket_items.specs.declared.refusal.Refusal.TheVariants.{Memory};
 
+use crate::file_commands::opening::opened;
 use crate::file_commands::ordered::{Ordered, order_in};
 use crate::file_commands::step::{fault_of, step_output};
 use keepers::Keep;
 use std::alloc::Global;
-use stored_state::Kept;
-use streams::{Fault, Output};
+use std::io::Read;
+use stored_state::{Kept, Opened};
+use streams::{Counted, Fault, Output, read_input};
 
 /// Tells a controller an order, and what is written of that.
 fn do_order<C: Ordered, K: Keep>(
@@ -27,7 +32,7 @@ fn do_order<C: Ordered, K: Keep>(
     ensures stale { kept.old.stale ≡ true → IsErr result }
     ensures honest { K.is_honest kept.new.keep ≡ K.is_honest kept.old.keep }
     ensures counted { K.count kept.old.keep ≤ K.count kept.new.keep }
-    ensures refused { IfErr result (steps.GivesNoOutput K.is_honest K.held K.count
+    ensures refused { IfErr result (steps.GivesNoOutput K.is_honest K.held K.count K.save_fails
         (λ c. compact_text (C.state_data c)) (λ e. e ≡ Memory)
         (λ step. step ≡ steps.order_step C.order_refusal C.order_reply C.order_message C.ordered
         order at kept.old.controller) kept.old kept.new) }
@@ -44,7 +49,7 @@ fn do_order<C: Ordered, K: Keep>(
 /// the input is refused for, which changes nothing; as `Device` `Stale` while it is stale, and
 /// `SaveFailed`, from which on it is stale; and `Memory`: then nothing is changed, or it is stale
 /// from then on, or the step was saved, and only its lines could not be made.
-pub fn order_output<C: Ordered, K: Keep>(
+pub fn order_kept<C: Ordered, K: Keep>(
     alloc: Global,
     kept: &mut Kept<C, K>,
     input: &[u8],
@@ -58,7 +63,7 @@ pub fn order_output<C: Ordered, K: Keep>(
     ensures stale { kept.old.stale ≡ true → IsErr result }
     ensures honest { K.is_honest kept.new.keep ≡ K.is_honest kept.old.keep }
     ensures counted { K.count kept.old.keep ≤ K.count kept.new.keep }
-    ensures refused { IfErr result (steps.GivesNoOutput K.is_honest K.held K.count
+    ensures refused { IfErr result (steps.GivesNoOutput K.is_honest K.held K.count K.save_fails
         (λ c. compact_text (C.state_data c)) (IsRefusalOf C.order_read input.now)
         (steps.IsOfOrder C.order_read input.now (λ order. steps.order_step C.order_refusal
         C.order_reply C.order_message C.ordered order at kept.old.controller))
@@ -68,4 +73,44 @@ pub fn order_output<C: Ordered, K: Keep>(
         Ok(order) => do_order(alloc, kept, order, at),
         Err(refusal) => Err(Fault::from(refusal)),
     }
+}
+
+/// `order_kept` for a controller of any kind.
+fn order_opened<K: Keep>(
+    alloc: Global,
+    opened: &mut Opened<K>,
+    input: &[u8],
+    at: u64,
+) -> Result<Output, Fault>
+    ensures ok { IfOk result (λ output. steps.GivesOut K.is_honest K.held text_of
+        (IsOrdered at input.now (held_in opened.old).controller) (held_in opened.new)
+        output.text.items output.refused) }
+    ensures honest { K.is_honest (held_in opened.new).keep ≡ K.is_honest (held_in opened.old).keep }
+    ensures refused { IfErr result (steps.GivesNoOutput K.is_honest K.held K.count K.save_fails
+        text_of (IsNoOrder input.now (held_in opened.old).controller)
+        (IsOrdered at input.now (held_in opened.old).controller) (held_in opened.old)
+        (held_in opened.new)) }
+{
+    match opened {
+        Opened::Master(kept) => order_kept(alloc, kept, input, at),
+        Opened::Worker(kept) => order_kept(alloc, kept, input, at),
+    }
+}
+
+/// What `order` writes, once the step is saved. Where no controller is loaded, the input isn't
+/// read.
+pub fn order_output<K: Keep, I: Read>(
+    alloc: Global,
+    keep: K,
+    reader: &mut Counted<I>,
+    at: u64,
+) -> Result<Output, Fault>
+    ensures ok { IfOk result (λ output. DoesStep K.is_honest K.held (IsOrdered at) keep
+        (used I.remaining reader.old reader.new) output.text.items output.refused) }
+    ensures refused { IfErr result (DoesNoStep K.is_honest K.held K.count K.load_fails
+        K.save_fails IsNoOrder (IsOrdered at) keep (used I.remaining reader.old reader.new)) }
+{
+    let mut opened = opened(alloc, keep)?;
+    let input = read_input(alloc, reader)?;
+    order_opened(alloc, &mut opened, input.as_slice(), at)
 }

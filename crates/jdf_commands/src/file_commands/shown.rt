@@ -2,19 +2,26 @@
 
 ghost use Rattle.std.specs.Prelude.{◌≡◌, ◌++◌, string_bytes, IfOk, IfErr, OnOk};
 ghost use Rattle.serde_json.specs.Written.{compact_text};
+ghost use Rattle.jdf_commands.specs.FileCommands.AnyStep.{held_in};
+ghost use Rattle.jdf_commands.specs.FileCommands.Commands.{Shows, ShowsNone, shown_text};
 ghost use Rattle.jdf_commands.specs.FileCommands.Shown as shown;
 ghost use Rattle.json_writer.specs.PartWritten.{part_data};
 ghost use Rattle.ticket_items.specs.declared.refusal.Refusal.TheVariants.{Memory};
 
+use crate::file_commands::opening::opened;
+use crate::file_commands::step::unrefused;
 use json_profile::{part_value, push_shown_text, text_of};
+use keepers::Keep;
 use master_core::Master;
 use std::alloc::{AllocError, Global};
+use stored_state::Opened;
+use streams::{Fault, Output};
 use ticket_tree::{Part, Refusal};
 use worker_core::{End, Entry, Stage, Worker};
 
 /// What a master shows: the text of its ticket with the marks of what is out, on a line of its own.
 /// Refuses `Memory` alone.
-pub fn master_text(alloc: Global, master: &Master) -> Result<Vec<u8>, Refusal>
+fn master_text(alloc: Global, master: &Master) -> Result<Vec<u8>, Refusal>
     ensures ok { IfOk result (λ text. text.items ≡ shown.master_text master.now) }
     ensures memory { IfErr result (λ e. e ≡ Memory) }
 {
@@ -81,4 +88,25 @@ pub fn worker_text(alloc: Global, worker: &Worker) -> Result<Vec<u8>, AllocError
     let mut text = Vec::new(alloc);
     push_entries(alloc, &mut text, worker.entries())?;
     Ok(text)
+}
+
+/// What a controller shows. Refuses `Memory` alone.
+fn controller_text<K: Keep>(alloc: Global, opened: &Opened<K>) -> Result<Vec<u8>, Refusal>
+    ensures ok { IfOk result (λ text. text.items ≡ shown_text (held_in opened.now).controller) }
+    ensures memory { IfErr result (λ e. e ≡ Memory) }
+{
+    match opened {
+        Opened::Master(kept) => master_text(alloc, kept.controller()),
+        Opened::Worker(kept) => Ok(worker_text(alloc, kept.controller())?),
+    }
+}
+
+/// What `show` writes.
+pub fn show_output<K: Keep>(alloc: Global, keep: K) -> Result<Output, Fault>
+    ensures ok { IfOk result (λ output. Shows K.is_honest K.held keep output.text.items
+        output.refused) }
+    ensures refused { IfErr result (ShowsNone K.is_honest K.held K.load_fails keep) }
+{
+    let opened = opened(alloc, keep)?;
+    Ok(unrefused(controller_text(alloc, &opened)?))
 }

@@ -1,6 +1,6 @@
 //! What is written of a step, and why nothing is.
 
-ghost use Rattle.std.specs.Prelude.{◌≡◌, ◌++◌, not, is_ok, IfErr, IfOk, OnOk};
+ghost use Rattle.std.specs.Prelude.{◌≡◌, ◌++◌, false, not, is_ok, IfErr, IfOk, OnOk};
 ghost use Rattle.streams.specs.declared.refused.Refused.TheVariants.{Core};
 ghost use Rattle.streams.specs.declared.fault.Fault.TheVariants.{Input};
 ghost use Rattle.ticket_items.specs.declared.refusal.Refusal.TheVariants.{Memory};
@@ -69,6 +69,17 @@ pub(crate) fn step_output(
         text,
         refused: reply.is_err(),
     })
+}
+
+/// An output by which nothing was refused.
+pub(crate) fn unrefused(text: Vec<u8>) -> Output
+    ensures text { result.text.items ≡ text.items }
+    ensures accepted { result.refused ≡ false }
+{
+    Output {
+        text,
+        refused: false,
+    }
 }
 
 /// The fault that a refusal of a step is.

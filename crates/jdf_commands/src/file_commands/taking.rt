@@ -1,15 +1,20 @@
-//! A message for a controller beside its keeper.
+//! Messages for a controller beside its keeper.
 
 ghost use Rattle.std.specs.Prelude.{◌≡◌, ◌≤◌, true, IfOk, IfErr, IsErr};
 ghost use Rattle.serde_json.specs.Written.{compact_text};
+ghost use Rattle.jdf_commands.specs.FileCommands.AnyStep.{IsHanded, held_in, text_of};
+ghost use Rattle.jdf_commands.specs.FileCommands.Commands.{DoesNoStep, DoesStep};
 ghost use Rattle.jdf_commands.specs.FileCommands.Step as steps;
 ghost use Rattle.jmf_message.specs.Decoded.{IsRefusalOf};
+ghost use Rattle.streams.specs.Streams.{used};
 
+use crate::file_commands::opening::opened;
 use crate::file_commands::step::{fault_of, step_output};
 use keepers::Keep;
 use std::alloc::Global;
-use stored_state::{Controller, Kept};
-use streams::{Fault, Output};
+use std::io::Read;
+use stored_state::{Controller, Kept, Opened};
+use streams::{Counted, Fault, Output, read_input};
 
 /// Gives a controller the message that the input is, at a time in seconds since 1970, and saves its
 /// state, also where the controller refuses the message. What is written is the line of what it was
@@ -17,7 +22,7 @@ use streams::{Fault, Output};
 /// `Input` what the input is refused for, which changes nothing; as `Device` `Stale` while it is
 /// stale, and `SaveFailed`, from which on it is stale; and `Memory`: then nothing is changed, or it
 /// is stale from then on, or the step was saved, and only its lines could not be made.
-pub fn take_output<C: Controller, K: Keep>(
+pub fn take_kept<C: Controller, K: Keep>(
     alloc: Global,
     kept: &mut Kept<C, K>,
     input: &[u8],
@@ -30,7 +35,7 @@ pub fn take_output<C: Controller, K: Keep>(
     ensures stale { kept.old.stale ≡ true → IsErr result }
     ensures honest { K.is_honest kept.new.keep ≡ K.is_honest kept.old.keep }
     ensures counted { K.count kept.old.keep ≤ K.count kept.new.keep }
-    ensures refused { IfErr result (steps.GivesNoOutput K.is_honest K.held K.count
+    ensures refused { IfErr result (steps.GivesNoOutput K.is_honest K.held K.count K.save_fails
         (λ c. compact_text (C.state_data c)) (IsRefusalOf input.now)
         (steps.IsTaken input.now (λ m. steps.take_step C.taken_reply C.taken_answer C.taken m at
         kept.old.controller)) kept.old kept.new) }
@@ -39,4 +44,43 @@ pub fn take_output<C: Controller, K: Keep>(
         Ok(given) => step_output(alloc, given.reply, &given.answer),
         Err(refused) => Err(fault_of(refused)),
     }
+}
+
+/// `take_kept` for a controller of any kind.
+fn take_opened<K: Keep>(
+    alloc: Global,
+    opened: &mut Opened<K>,
+    input: &[u8],
+    at: u64,
+) -> Result<Output, Fault>
+    ensures ok { IfOk result (λ output. steps.GivesOut K.is_honest K.held text_of
+        (IsHanded at input.now (held_in opened.old).controller) (held_in opened.new)
+        output.text.items output.refused) }
+    ensures honest { K.is_honest (held_in opened.new).keep ≡ K.is_honest (held_in opened.old).keep }
+    ensures refused { IfErr result (steps.GivesNoOutput K.is_honest K.held K.count K.save_fails
+        text_of (IsRefusalOf input.now) (IsHanded at input.now (held_in opened.old).controller)
+        (held_in opened.old) (held_in opened.new)) }
+{
+    match opened {
+        Opened::Master(kept) => take_kept(alloc, kept, input, at),
+        Opened::Worker(kept) => take_kept(alloc, kept, input, at),
+    }
+}
+
+/// What `take` writes, once the step is saved. Where no controller is loaded, the input isn't read.
+pub fn take_output<K: Keep, I: Read>(
+    alloc: Global,
+    keep: K,
+    reader: &mut Counted<I>,
+    at: u64,
+) -> Result<Output, Fault>
+    ensures ok { IfOk result (λ output. DoesStep K.is_honest K.held (IsHanded at) keep
+        (used I.remaining reader.old reader.new) output.text.items output.refused) }
+    ensures refused { IfErr result (DoesNoStep K.is_honest K.held K.count K.load_fails
+        K.save_fails (λ bytes _. IsRefusalOf bytes) (IsHanded at) keep
+        (used I.remaining reader.old reader.new)) }
+{
+    let mut opened = opened(alloc, keep)?;
+    let input = read_input(alloc, reader)?;
+    take_opened(alloc, &mut opened, input.as_slice(), at)
 }

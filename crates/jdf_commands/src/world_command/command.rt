@@ -12,7 +12,7 @@ use streams::{Command, Counted, Output, run_command};
 use ticket_tree::Refusal;
 
 /// The command `world`.
-struct WorldCommand;
+pub struct WorldCommand;
 
 impl Command for WorldCommand {
     ghost is_output = { IsOutput };

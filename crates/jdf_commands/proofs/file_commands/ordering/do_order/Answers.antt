@@ -15,7 +15,7 @@ returns-in-Ok-clause-ok g c =
 pub returns-in-Ok-clause-refused : goal.returns-in-Ok-clause-refused
 returns-in-Ok-clause-refused g c =
     let step = order_step g.C.Controller.order_refusal g.C.Controller.order_reply g.C.Controller.order_message g.C.Controller.ordered c.args.order c.args.at c.args.kept.now.controller in
-    not_given_out g.K.Keep.is_honest g.K.Keep.held g.K.Keep.count (λ x. compact_text (g.C.Controller.state_data x)) (λ e. e ≡ Memory) (λ s. s ≡ step) step c.args.kept.now c.order.new.self c.step_output.result refl
+    not_given_out g.K.Keep.is_honest g.K.Keep.held g.K.Keep.count g.K.Keep.save_fails (λ x. compact_text (g.C.Controller.state_data x)) (λ e. e ≡ Memory) (λ s. s ≡ step) step c.args.kept.now c.order.new.self c.step_output.result refl
     (saved g.K.Keep.is_honest g.K.Keep.held (λ x. compact_text (g.C.Controller.state_data x)) step c.args.kept.now c.order.new.self c.in-Ok.ensures.state c.in-Ok.ensures.fresh c.in-Ok.ensures.honest c.in-Ok.ensures.held)
     c.step_output.ensures.memory
 
@@ -25,6 +25,6 @@ returns-in-Err-clause-refused g c =
     inl (
       c.in-Err.refused,
       c.fault_of.ensures,
-      nothing_of g.K.Keep.is_honest g.K.Keep.held g.K.Keep.count (λ e. e ≡ Memory) (λ e. e ≡ Memory) _ (IsLeft (λ x. compact_text (g.C.Controller.state_data x)) (λ s. s ≡ step)) c.args.kept.now c.order.new.self c.in-Err.refused (λ x is. is)
+      nothing_of g.K.Keep.is_honest g.K.Keep.held g.K.Keep.count g.K.Keep.save_fails (λ e. e ≡ Memory) (λ e. e ≡ Memory) _ (IsLeft (λ x. compact_text (g.C.Controller.state_data x)) (λ s. s ≡ step)) c.args.kept.now c.order.new.self c.in-Err.refused (λ x is. is)
           (λ t is. record { step = step; is_step = refl; state = is }) c.in-Err.ensures.refused,
     )

@@ -7,8 +7,9 @@ load-tells g x c = record {
   value = λ honest. cc;
   held = λ honest. cc;
   honest = refl;
+  fails = c.ensures.fails;
   failures = c.ensures.failures;
 }
 
 pub save-tells : goal.save-tells
-save-tells g x c = record { held = λ honest. cc; honest = refl; failures = c.ensures.failures }
+save-tells g x c = record { held = λ honest. cc; honest = refl; fails = c.ensures.fails; failures = c.ensures.failures }

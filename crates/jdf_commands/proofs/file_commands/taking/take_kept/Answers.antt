@@ -3,7 +3,7 @@ use Rattle.serde_json.specs.Written.{compact_text}
 use Rattle.jmf_message.specs.Decoded.{IsRefusalOf}
 use Rattle.jdf_commands.specs.FileCommands.Step.{IsLeft, IsTaken, take_step}
 use Rattle.jdf_commands.proofs.Steps.{given_out, not_given_out, nothing_of, saved}
-use Rattle.jdf_commands.proofs.file_commands.taking.take_output.Goals as goal
+use Rattle.jdf_commands.proofs.file_commands.taking.take_kept.Goals as goal
 
 pub returns-in-Ok-clause-ok : goal.returns-in-Ok-clause-ok
 returns-in-Ok-clause-ok g c =
@@ -19,7 +19,7 @@ pub returns-in-Ok-clause-refused : goal.returns-in-Ok-clause-refused
 returns-in-Ok-clause-refused g c =
     let of = c.in-Ok.ensures.ok in
     let step = take_step g.C.Controller.taken_reply g.C.Controller.taken_answer g.C.Controller.taken of.message c.args.at c.args.kept.now.controller in
-    not_given_out g.K.Keep.is_honest g.K.Keep.held g.K.Keep.count (λ x. compact_text (g.C.Controller.state_data x)) (IsRefusalOf c.args.input.now)
+    not_given_out g.K.Keep.is_honest g.K.Keep.held g.K.Keep.count g.K.Keep.save_fails (λ x. compact_text (g.C.Controller.state_data x)) (IsRefusalOf c.args.input.now)
     (IsTaken c.args.input.now (λ m. take_step g.C.Controller.taken_reply g.C.Controller.taken_answer g.C.Controller.taken m c.args.at c.args.kept.now.controller)) step c.args.kept.now c.take.new.self c.step_output.result
     (record { message = of.message; decoded = of.decoded; holds = refl })
     (saved g.K.Keep.is_honest g.K.Keep.held (λ x. compact_text (g.C.Controller.state_data x)) step c.args.kept.now c.take.new.self of.holds.0 c.in-Ok.ensures.fresh c.in-Ok.ensures.honest c.in-Ok.ensures.held)
@@ -30,7 +30,7 @@ returns-in-Err-clause-refused g c =
     inl (
       c.in-Err.refused,
       c.fault_of.ensures,
-      nothing_of g.K.Keep.is_honest g.K.Keep.held g.K.Keep.count (IsRefusalOf c.args.input.now) (IsRefusalOf c.args.input.now) _
+      nothing_of g.K.Keep.is_honest g.K.Keep.held g.K.Keep.count g.K.Keep.save_fails (IsRefusalOf c.args.input.now) (IsRefusalOf c.args.input.now) _
           (IsLeft (λ x. compact_text (g.C.Controller.state_data x)) (IsTaken c.args.input.now (λ m. take_step g.C.Controller.taken_reply g.C.Controller.taken_answer g.C.Controller.taken m c.args.at c.args.kept.now.controller)))
           c.args.kept.now c.take.new.self c.in-Err.refused (λ x is. is)
           (λ t is. record { step = take_step g.C.Controller.taken_reply g.C.Controller.taken_answer g.C.Controller.taken is.message c.args.at c.args.kept.now.controller; is_step = record { message = is.message; decoded = is.decoded; holds = refl }; state = is.holds }) c.in-Err.ensures.refused,

@@ -1,0 +1,97 @@
+-- What a command on a controller that a keeper holds writes for its input, and why it gives up.
+use Rattle.std.specs.Prelude.{◌≡◌, ◌⊎◌, ℕ, Bool, false, true, List, []}
+use Rattle.ticket_items.specs.declared.refusal.Refusal.{Refusal}
+use Rattle.ticket_items.specs.declared.refusal.Refusal.TheVariants.{Memory}
+use Rattle.streams.specs.declared.refused.Refused.TheVariants.{Core, SaveFailed}
+use Rattle.streams.specs.declared.fault.Fault.{Fault}
+use Rattle.streams.specs.declared.fault.Fault.TheVariants.{Input, Device}
+use Rattle.streams.specs.Ends.{IsUnread}
+use Rattle.streams.specs.Streams.{IsInput, IsUntouched, Use}
+use Rattle.stored_state.specs.Held.{Held}
+use Rattle.stored_state.specs.Opened.{AnyController, of_master, of_worker}
+use Rattle.jdf_commands.specs.FileCommands.AnyStep.{text_of}
+use Rattle.jdf_commands.specs.FileCommands.Beginning.{IsBegunAs, IsNotBegun}
+use Rattle.jdf_commands.specs.FileCommands.Opening.{IsLoaded, IsNotLoaded}
+use Rattle.jdf_commands.specs.FileCommands.Shown.{master_text, worker_text}
+use Rattle.jdf_commands.specs.FileCommands.Step.{GivesNoOutput, GivesOut, Step}
+
+-- which step the bytes are for a controller
+abbrev pub Steps : Type 1
+Steps = List ℕ → AnyController → Step AnyController → Type 0
+
+-- ---- a new controller
+
+-- `new` where there is no controller yet: what the input begins is held, and nothing is written
+pub record Begins {K : Type 0} (is_honest : K → Bool) (held : K → List ℕ) (is_there : Bool)
+    (keep : K) (input : Use) (text : List ℕ) (refused : Bool) : Type 0 where
+  pub absent : is_there ≡ false
+  pub bytes : List ℕ
+  pub is_input : IsInput input bytes
+  pub after : Held AnyController K
+  pub begun : IsBegunAs is_honest held keep bytes after
+  pub written : text ≡ []
+  pub accepted : refused ≡ false
+
+-- why `new` gives up: there is a controller already, and the input isn't read; or the input isn't,
+-- or it begins none
+abbrev pub BeginsNone : {K : Type 0} → (K → List ℕ → K → Type 0) → Bool → K → Use → Fault → Type 0
+BeginsNone save_fails true keep input fault = IsUntouched input × (fault ≡ Device SaveFailed)
+BeginsNone save_fails false keep input fault =
+    IsUnread input fault
+    ⊎ ((bytes : List ℕ) × IsInput input bytes × IsNotBegun save_fails keep bytes fault)
+
+-- ---- a step of the controller that is held
+
+-- `order` and `take`: the step that the input is, of the controller that was held, is saved, and
+-- its lines are written
+pub record DoesStep {K : Type 0} (is_honest : K → Bool) (held : K → List ℕ) (IsStep : Steps)
+    (keep : K) (input : Use) (text : List ℕ) (refused : Bool) : Type 0 where
+  pub before : Held AnyController K
+  pub loaded : IsLoaded is_honest held keep before
+  pub bytes : List ℕ
+  pub is_input : IsInput input bytes
+  pub after : Held AnyController K
+  pub gives : GivesOut is_honest held text_of (IsStep bytes before.controller) after text refused
+  pub honest : is_honest after.keep ≡ is_honest keep
+
+-- why no step is done of a controller that was loaded: the input isn't read, or nothing is given
+-- out
+abbrev pub LoadedDoesNone : {K : Type 0} → (K → Bool) → (K → List ℕ) → (K → ℕ)
+    → (K → List ℕ → K → Type 0) → (List ℕ → AnyController → Refusal → Type 0) → Steps → Use
+    → Held AnyController K → Fault → Type 0
+LoadedDoesNone {K = K} is_honest held count save_fails Refuses IsStep input before fault =
+    IsUnread input fault
+    ⊎ ((bytes : List ℕ) × IsInput input bytes × (after : Held AnyController K)
+    × GivesNoOutput is_honest held count save_fails text_of (Refuses bytes before.controller)
+    (IsStep bytes before.controller) before after fault)
+
+-- why `order` and `take` give up: no controller is loaded, and the input isn't read; or no step is
+-- done of the one that is
+abbrev pub DoesNoStep : {K : Type 0} → (K → Bool) → (K → List ℕ) → (K → ℕ) → (K → K → Type 0)
+    → (K → List ℕ → K → Type 0) → (List ℕ → AnyController → Refusal → Type 0) → Steps → K → Use
+    → Fault → Type 0
+DoesNoStep {K = K} is_honest held count load_fails save_fails Refuses IsStep keep input fault =
+    (IsUntouched input × IsNotLoaded is_honest held load_fails keep fault)
+    ⊎ ((before : Held AnyController K) × IsLoaded is_honest held keep before
+    × LoadedDoesNone is_honest held count save_fails Refuses IsStep input before fault)
+
+-- ---- a look at the controller that is held
+
+-- what a controller shows
+abbrev pub shown_text : AnyController → List ℕ
+shown_text (of_master m) = master_text m
+shown_text (of_worker w) = worker_text w
+
+-- `show`: what the controller that was held shows
+pub record Shows {K : Type 0} (is_honest : K → Bool) (held : K → List ℕ) (keep : K)
+    (text : List ℕ) (refused : Bool) : Type 0 where
+  pub opened : Held AnyController K
+  pub loaded : IsLoaded is_honest held keep opened
+  pub shown : text ≡ shown_text opened.controller
+  pub accepted : refused ≡ false
+
+-- why `show` gives up: no controller is loaded, or memory ran out
+abbrev pub ShowsNone : {K : Type 0} → (K → Bool) → (K → List ℕ) → (K → K → Type 0) → K → Fault
+    → Type 0
+ShowsNone is_honest held load_fails keep fault =
+    IsNotLoaded is_honest held load_fails keep fault ⊎ (fault ≡ Input (Core Memory))
