@@ -3,8 +3,8 @@
 use super::holds;
 use super::lent::Lent;
 use super::texts::{NO_ENTRY, OPEN_ENTRY, SUBMIT, TAKEN};
-use keepers::{Keep, MemoryKeep};
 use controller::Reply;
+use keepers::{Keep, MemoryKeep};
 use std::alloc::Global;
 use std::test::Fail;
 use stored_state::{Kept, Refused, TakenBytes};
@@ -26,7 +26,7 @@ fn holds_each_step(rt: HostRuntime) -> Result<(), Fail> {
     assert!(rt; holds(&mut keep, NO_ENTRY));
     let spawn = SpawnId::new(1)?;
     let first = take_part(rt.alloc(), &mut keep, 110)?;
-    assert_eq!(rt; first.reply, Ok(Reply::Taken(spawn)));
+    assert!(rt; first.reply == Ok(Reply::Taken(spawn)));
     assert!(rt;
         first
             .answer
@@ -34,7 +34,7 @@ fn holds_each_step(rt: HostRuntime) -> Result<(), Fail> {
     );
     assert!(rt; holds(&mut keep, OPEN_ENTRY));
     let second = take_part(rt.alloc(), &mut keep, 111)?;
-    assert_eq!(rt; second.reply, Ok(Reply::Again(spawn)));
+    assert!(rt; second.reply == Ok(Reply::Again(spawn)));
     assert!(rt; holds(&mut keep, OPEN_ENTRY));
     Ok(())
 }

@@ -22,6 +22,10 @@ impl<'a, K: Keep> Keep for Lent<'a, K> {
 
     ghost count = { λ lent. K.count lent.keep.now };
 
+    ghost load_fails = { λ old new. K.load_fails old.keep.now new.keep.now };
+
+    ghost save_fails = { λ old bytes new. K.save_fails old.keep.now bytes new.keep.now };
+
     fn load(&mut self) -> Result<Vec<u8>, KeepFault> {
         self.keep.load()
     }

@@ -3,8 +3,8 @@
 use super::holds;
 use super::lent::Lent;
 use super::texts::{NO_ENTRY, OPEN_ENTRY, SUBMIT};
-use keepers::FailingKeep;
 use controller::Reply;
+use keepers::FailingKeep;
 use std::alloc::Global;
 use std::test::Fail;
 use stored_state::{Kept, Refused};
@@ -13,7 +13,7 @@ use worker_core::Worker;
 
 /// How many entries there are once a step that takes the part of S1 wasn't saved, and what the part
 /// is taken as then.
-#[derive(Clone, Copy, Debug, PartialEq, Eq)]
+#[derive(Clone, Copy, PartialEq, Eq)]
 struct Repeated {
     entries: usize,
     reply: Result<Reply, Refusal>,
@@ -47,9 +47,8 @@ fn repeats_a_step_that_was_not_saved(rt: HostRuntime) -> Result<(), Fail> {
         let bytes = Vec::from_slice(rt.alloc(), NO_ENTRY.as_bytes())?;
         let mut keep = FailingKeep::new(bytes, 2, leaves_new);
         let reply = Ok(reply);
-        assert_eq!(rt;
-            repeat(rt.alloc(), &mut keep)?,
-            Repeated { entries, reply },
+        assert!(rt;
+            repeat(rt.alloc(), &mut keep)? == Repeated { entries, reply },
             "{leaves_new}"
         );
         assert!(rt; holds(&mut keep, OPEN_ENTRY), "{leaves_new}");
