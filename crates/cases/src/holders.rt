@@ -1,16 +1,15 @@
 //! Who holds what of a master's ticket.
 
-use keepers::FileKeep;
+use keepers::{FileKeep, Locks};
 use master_core::Master;
 use spawn::Holder;
 use std::alloc::{AllocError, Global};
-use std::rt::Files;
 use stored_state::{Opened, open_any};
 use streams::Refused;
 use ticket_tree::{Id, Refusal};
 
 /// `holders FILE ID ..`: who holds each id, and whether the master may change it.
-pub fn holders<R: Files>(
+pub fn holders<R: Locks>(
     rt: &R,
     alloc: Global,
     file: &str,

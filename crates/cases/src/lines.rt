@@ -3,12 +3,12 @@
 use crate::case::Case;
 use crate::other::other_answer;
 use crate::program::program_answer;
+use keepers::Locks;
 use std::alloc::{AllocError, Global};
 use std::io::{self, Read, Write};
-use std::rt::Files;
 
 /// Writes what comes of each line of the input, after the whole input was read.
-pub fn write_answers<R: Files, I: Read, W: Write>(
+pub fn write_answers<R: Locks, I: Read, W: Write>(
     rt: &R,
     alloc: Global,
     reader: &mut I,
@@ -29,7 +29,7 @@ fn without_end(lines: &[u8]) -> &[u8] {
 }
 
 /// Appends what comes of a line.
-fn push_answer<R: Files>(
+fn push_answer<R: Locks>(
     rt: &R,
     alloc: Global,
     output: &mut Vec<u8>,
@@ -44,7 +44,7 @@ fn push_answer<R: Files>(
 }
 
 /// What comes of a case.
-fn answer<R: Files>(rt: &R, alloc: Global, case: &Case) -> Result<Vec<u8>, AllocError> {
+fn answer<R: Locks>(rt: &R, alloc: Global, case: &Case) -> Result<Vec<u8>, AllocError> {
     match other_answer(rt, alloc, case)? {
         Some(answer) => Ok(answer),
         None => program_answer(rt, alloc, case),

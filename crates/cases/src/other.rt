@@ -2,13 +2,13 @@
 
 use crate::case::Case;
 use crate::{files, forms, holders, places, trees};
+use keepers::Locks;
 use std::alloc::{AllocError, Global};
-use std::rt::Files;
 use streams::{Refused, refused_line};
 
 /// What comes of a case whose first word the program doesn't have: a line, or the refusal's. None
 /// of any other case.
-pub fn other_answer<R: Files>(
+pub fn other_answer<R: Locks>(
     rt: &R,
     alloc: Global,
     case: &Case,
@@ -23,7 +23,7 @@ pub fn other_answer<R: Files>(
 }
 
 /// What comes of a word that the program doesn't have.
-fn called<R: Files>(
+fn called<R: Locks>(
     rt: &R,
     alloc: Global,
     word: &str,
