@@ -1,7 +1,7 @@
 //! Words that the program doesn't have: files as they are, and calls that it never makes by itself.
 
 use crate::case::Case;
-use crate::{files, forms, holders, places, trees};
+use crate::{files, forms, masters, places, trees};
 use keepers::Locks;
 use std::alloc::{AllocError, Global};
 use streams::{Refused, refused_line};
@@ -33,13 +33,26 @@ fn called<R: Locks>(
     let answer = match (word, words) {
         ("file", [file]) => files::put(rt, alloc, file.as_str(), input)?,
         ("text", [file]) => files::text(rt, alloc, file.as_str())?,
-        ("holders", [file, ids @ ..]) => holders::holders(rt, alloc, file.as_str(), ids)?,
-        ("value", []) => forms::value(alloc, input)?,
-        ("part", []) => forms::part(alloc, input)?,
-        ("message", []) => forms::message(alloc, input)?,
+        ("holders", [file, ids @ ..]) => masters::holders(rt, alloc, file.as_str(), ids)?,
+        ("marked", [file]) => masters::marked(rt, alloc, file.as_str())?,
+        ("below" | "subtree" | "home", ids) => places::place(alloc, word, ids, input)?,
         ("tree", rows) => trees::tree(alloc, rows)?,
         ("part_tree", rows) => trees::part_tree(alloc, rows)?,
-        ("below" | "subtree" | "home", ids) => places::place(alloc, word, ids, input)?,
+        (_, []) => return form_again(alloc, word, input),
+        _ => return Ok(None),
+    };
+    Ok(Some(answer))
+}
+
+/// What is written of a form for a word that stands alone; none for any other word.
+fn form_again(alloc: Global, word: &str, input: &[u8]) -> Result<Option<Vec<u8>>, Refused> {
+    let answer = match word {
+        "value" => forms::value(alloc, input)?,
+        "ticket" => forms::ticket(alloc, input)?,
+        "change" => forms::change(alloc, input)?,
+        "part" => forms::part(alloc, input)?,
+        "message" => forms::message(alloc, input)?,
+        "id" => forms::id(alloc, input)?,
         _ => return Ok(None),
     };
     Ok(Some(answer))

@@ -1,12 +1,14 @@
-//! Who holds what of a master's ticket.
+//! A master's ticket: who holds what of it, and what it shows.
 
+use crate::forms::line_of;
+use json_profile::shown_value;
 use keepers::{FileKeep, Locks};
 use master_core::Master;
 use spawn::Holder;
 use std::alloc::{AllocError, Global};
 use stored_state::{Opened, open_any};
 use streams::Refused;
-use ticket_tree::{Id, Refusal};
+use ticket_tree::{Duplicate, Id, Refusal};
 
 /// `holders FILE ID ..`: who holds each id, and whether the master may change it.
 pub fn holders<R: Locks>(
@@ -19,6 +21,21 @@ pub fn holders<R: Locks>(
         Opened::Master(kept) => Ok(holders_line(alloc, kept.controller(), ids)?),
         Opened::Worker(_) => Err(Refused::Core(Refusal::NotProfile)),
     }
+}
+
+/// `marked FILE`: the ticket with a copy of its marks, as a value.
+pub fn marked<R: Locks>(rt: &R, alloc: Global, file: &str) -> Result<Vec<u8>, Refused> {
+    match open_any(alloc, FileKeep::new(rt, alloc, file))? {
+        Opened::Master(kept) => Ok(marked_line(alloc, kept.controller())?),
+        Opened::Worker(_) => Err(Refused::Core(Refusal::NotProfile)),
+    }
+}
+
+/// The line of the ticket with its marks.
+fn marked_line(alloc: Global, master: &Master) -> Result<Vec<u8>, Refusal> {
+    let marks = master.shown(alloc)?;
+    let copy = marks.copy(alloc)?;
+    Ok(line_of(alloc, &shown_value(alloc, master.ticket(), &copy)?)?)
 }
 
 /// The line for ids.
