@@ -4,6 +4,7 @@
 
 mod edit_command;
 mod file_commands;
+mod shown_master;
 mod words;
 mod world_command;
 

@@ -10,7 +10,8 @@ ghost use Rattle.ticket_items.specs.declared.refusal.Refusal.TheVariants.{Memory
 
 use crate::file_commands::opening::opened;
 use crate::file_commands::step::unrefused;
-use json_profile::{part_value, push_shown_text, text_of};
+use crate::shown_master::push_shown;
+use json_profile::{part_value, text_of};
 use keepers::Keep;
 use master_core::Master;
 use std::alloc::{AllocError, Global};
@@ -25,10 +26,8 @@ fn master_text(alloc: Global, master: &Master) -> Result<Vec<u8>, Refusal>
     ensures ok { IfOk result (λ text. text.items ≡ shown.master_text master.now) }
     ensures memory { IfErr result (λ e. e ≡ Memory) }
 {
-    let marks = master.shown(alloc)?;
     let mut text = Vec::new(alloc);
-    push_shown_text(alloc, &mut text, master.ticket(), &marks)?;
-    text.push(b'\n')?;
+    push_shown(alloc, &mut text, master)?;
     Ok(text)
 }
 

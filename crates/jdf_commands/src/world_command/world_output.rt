@@ -1,18 +1,13 @@
 //! From the bytes of a script to the bytes of the output.
 
-ghost use Rattle.std.specs.Prelude.{◌≡◌, ◌++◌, [], ◌∷◌, false, true, IfErr, IfOk, OnOk};
-ghost use Rattle.serde_json.specs.Written.{compact_text};
-ghost use Rattle.json_writer.specs.Written.{shown_data};
-ghost use Rattle.spawn.specs.Marking.{marks};
+ghost use Rattle.std.specs.Prelude.{◌≡◌, ◌++◌, ◌∷◌, false, true, IfErr, IfOk, OnOk};
 ghost use Rattle.ticket_items.specs.Ids.{are_distinct};
 ghost use Rattle.ticket_items.specs.declared.refusal.Refusal.TheVariants.{Memory};
 ghost use Rattle.world.specs.Showing.{shows};
 ghost use Rattle.jdf_commands.specs.WorldCommand.Run as run;
 ghost use Rattle.world_script.specs.Script.{IsRefusalOf};
 
-use json_profile::push_shown_text;
-use master_core::Master;
-use spawn::marked;
+use crate::shown_master::push_shown;
 use std::alloc::{AllocError, Global};
 use ticket_tree::Refusal;
 use world::World;
@@ -36,20 +31,6 @@ fn push_lines(alloc: Global, text: &mut Vec<u8>, answers: &[Answer]) -> Result<(
     for answer in answers {
         push_line(alloc, text, answer)?;
     }
-    Ok(())
-}
-
-/// Appends the text of the ticket that a master shows, and the end of its line. Refuses `Memory`
-/// alone.
-fn push_shown(alloc: Global, text: &mut Vec<u8>, master: &Master) -> Result<(), Refusal>
-    ensures ok { OnOk result (text.new.items ≡ text.old.items
-        ++ (compact_text (shown_data (marks master.now.ticket.rows master.now.records)
-        master.now.ticket) ++ 10 ∷ [])) }
-    ensures memory { IfErr result (λ e. e ≡ Memory) }
-{
-    let marks = marked(alloc, master.ticket(), master.records())?;
-    push_shown_text(alloc, text, master.ticket(), &marks)?;
-    text.push(b'\n')?;
     Ok(())
 }
 
