@@ -1,0 +1,28 @@
+//! Files as they are.
+
+use std::alloc::Global;
+use std::fs;
+use std::io::Read;
+use std::rt::Files;
+use streams::Refused;
+
+/// `file FILE`: puts what is read into a file.
+pub fn put<R: Files>(rt: &R, alloc: Global, file: &str, bytes: &[u8]) -> Result<Vec<u8>, Refused> {
+    match fs::write(rt, file, bytes) {
+        Ok(()) => Ok(Vec::new(alloc)),
+        Err(_) => Err(Refused::SaveFailed),
+    }
+}
+
+/// `text FILE`: what a file has, on a line.
+pub fn text<R: Files>(rt: &R, alloc: Global, file: &str) -> Result<Vec<u8>, Refused> {
+    let mut bytes = Vec::new(alloc);
+    let Ok(mut opened) = fs::open(rt, file) else {
+        return Err(Refused::LoadFailed);
+    };
+    if opened.read_to_end(&mut bytes).is_err() {
+        return Err(Refused::LoadFailed);
+    }
+    bytes.extend_from_slice(b"\n")?;
+    Ok(bytes)
+}

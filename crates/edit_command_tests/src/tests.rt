@@ -1,5 +1,0 @@
-mod counts;
-mod documents;
-mod fakes;
-mod streams;
-mod words;

@@ -1,0 +1,20 @@
+mod commands;
+mod counts;
+mod failing_keep;
+mod fakes;
+mod file_keep;
+mod lent;
+mod memory_keep;
+mod steps;
+mod streams;
+mod texts;
+
+use keepers::Keep;
+
+/// Whether a keeper is found to hold this.
+fn loads<K: Keep>(keep: &mut K, expected: &[u8]) -> bool {
+    match keep.load() {
+        Ok(bytes) => bytes.as_slice() == expected,
+        Err(_) => false,
+    }
+}

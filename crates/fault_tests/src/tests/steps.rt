@@ -1,0 +1,137 @@
+//! A worker's work on a part, from its start to the answer that the part came back, on a keeper of
+//! which one call fails: the call says so, nothing is taken until the state is loaded again, and
+//! the step that is repeated then comes to the same end.
+
+use super::lent::Lent;
+use super::loads;
+use super::texts::{DONE_ENTRY, NO_ENTRY, RETURN_TAKEN, SUBMIT};
+use jdf_commands::{order_kept, take_kept};
+use keepers::{FailingKeep, Keep};
+use std::alloc::Global;
+use std::test::Fail;
+use stored_state::{Kept, Refused};
+use streams::{Fault, Output};
+use worker_core::Worker;
+
+/// A step of the worker: an order, or else a message, and what is written of it; and what is where
+/// the step was saved already.
+struct Step {
+    is_order: bool,
+    text: &'static str,
+    at: u64,
+    line: &'static str,
+    again: &'static str,
+}
+
+/// The steps. Each is one call of the keeper, and the first comes behind the load.
+static STEPS: [Step; 4] = [
+    Step {
+        is_order: false,
+        text: SUBMIT,
+        at: 110,
+        line: "Taken S1\n",
+        again: "Again S1\n",
+    },
+    Step {
+        is_order: true,
+        text: r#"{"Edit":{"Edit":"SetStatus","Node":"n1","Status":"InProgress"},"Order":"Edit","SpawnID":"S1"}"#,
+        at: 120,
+        line: "Edited\n",
+        again: "Edited\n",
+    },
+    Step {
+        is_order: true,
+        text: r#"{"Order":"Finish","SpawnID":"S1","Status":"Completed"}"#,
+        at: 130,
+        line: "Finished S1\n",
+        again: "Refused 31 NotOpen\n",
+    },
+    Step {
+        is_order: false,
+        text: RETURN_TAKEN,
+        at: 140,
+        line: "Acked S1\n",
+        again: "Acked S1\n",
+    },
+];
+
+/// The worker beside a keeper that is lent.
+type Lending<'a> = Kept<Worker, Lent<'a, FailingKeep>>;
+
+fn do_step(alloc: Global, kept: &mut Lending<'_>, step: &Step) -> Result<Output, Fault> {
+    if step.is_order {
+        order_kept(alloc, kept, step.text.as_bytes(), step.at)
+    } else {
+        take_kept(alloc, kept, step.text.as_bytes(), step.at)
+    }
+}
+
+/// Whether a step comes to this line.
+fn comes_to(alloc: Global, kept: &mut Lending<'_>, step: &Step, line: &str) -> bool {
+    match do_step(alloc, kept, step) {
+        Ok(output) => output.text.as_slice().starts_with(line.as_bytes()),
+        Err(_) => false,
+    }
+}
+
+/// Whether a step is refused so.
+fn is_refused(alloc: Global, kept: &mut Lending<'_>, step: &Step, refused: Refused) -> bool {
+    match do_step(alloc, kept, step) {
+        Ok(_) => false,
+        Err(fault) => fault == Fault::Device(refused),
+    }
+}
+
+/// Whether a step of which the save fails is told so, and once more until the state is loaded, and
+/// comes then to the line of a step that was saved, or wasn't.
+fn comes_again(alloc: Global, kept: &mut Lending<'_>, step: &Step, was_saved: bool) -> bool {
+    let line = if was_saved { step.again } else { step.line };
+    is_refused(alloc, kept, step, Refused::SaveFailed)
+        && is_refused(alloc, kept, step, Refused::Stale)
+        && kept.is_stale()
+        && kept.reload(alloc).is_ok()
+        && comes_to(alloc, kept, step, line)
+}
+
+/// Whether all steps are done beside a keeper of which the k-th call fails, a save that leaves the
+/// new value or the old.
+fn does_all(alloc: Global, keep: &mut FailingKeep, k: usize, leaves_new: bool) -> bool {
+    let Ok(mut kept) = Kept::open(alloc, Lent::new(keep)) else {
+        return false;
+    };
+    for (index, step) in STEPS.iter().enumerate() {
+        let done = if index + 2 == k {
+            comes_again(alloc, &mut kept, step, leaves_new)
+        } else {
+            comes_to(alloc, &mut kept, step, step.line)
+        };
+        if !done {
+            return false;
+        }
+    }
+    true
+}
+
+/// Why nothing is opened beside a keeper of which the load fails.
+fn not_opened(alloc: Global, keep: &mut FailingKeep) -> Option<Refused> {
+    let opened: Result<Lending<'_>, Refused> = Kept::open(alloc, Lent::new(keep));
+    opened.err()
+}
+
+#[test]
+fn comes_to_the_same_end(rt: HostRuntime) -> Result<(), Fail> {
+    for k in 0..=5u8 {
+        for leaves_new in [false, true] {
+            let bytes = Vec::from_slice(rt.alloc(), NO_ENTRY.as_bytes())?;
+            let mut keep = FailingKeep::new(bytes, u64::from(k), leaves_new);
+            if k == 1 {
+                let refused = not_opened(rt.alloc(), &mut keep);
+                assert_eq!(rt; refused, Some(Refused::LoadFailed));
+            }
+            let done = does_all(rt.alloc(), &mut keep, usize::from(k), leaves_new);
+            assert!(rt; done, "{k} {leaves_new}");
+            assert!(rt; loads(&mut keep, DONE_ENTRY.as_bytes()), "{k} {leaves_new}");
+        }
+    }
+    Ok(())
+}
