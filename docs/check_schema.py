@@ -16,41 +16,65 @@ SCHEMA = json.loads((ROOT / "docs/profile.schema.json").read_text(encoding="utf-
 # The refusals of a form alone: a bad id, members that aren't those of the form, another version.
 OF_FORM = {1, 41, 46}
 
+# The members that may be absent, in some object.
+MAY_BE_ABSENT = {"Attr", "AuditPool", "JDF", "Locked", "ResourceLinkPool", "ResourcePool",
+                 "SpawnIDs", "SpawnStatus", "Stop"}
+
 # What may be written beside the documents of the schema.
 WRITTEN = SCHEMA["anyOf"] + [{"$ref": "#/$defs/" + kind} for kind in ("part", "edit", "resource")]
 
-# What the input of a case is by the folder of the case and its first word, and how many words stand
-# in front of the input.
-INPUTS = {
-    "form_cases": {"ticket": ("ticket", 1), "part": ("part", 1), "edit": ("edit", 1)},
-    "ticket_cases": {"ticket": ("ticket", 1), "sound": ("part", 1), "fits": ("part", 2)},
-    "message_cases": {"message": ("message", 1), "told": ("message", 1), "id": ("message", 1)},
-    "state_cases": {"master": ("masterState", 1), "worker": ("workerState", 1)},
-    "master_cases": {"take": ("message", 2), "worker_order": ("workerOrder", 1)},
-    "world_cases": {"world": ("script", 1)},
-}
+# What the input of a case is, by its first word; of `order` and `show` the file tells.
+INPUTS = {"": "editInput", "edit": "editInput", "world": "script", "new": "opening",
+          "take": "message", "message": "message", "part": "part",
+          "below": "ticket", "home": "ticket", "subtree": "ticket"}
+
+# Words of the driver alone, with the number of lines of their answers. The answer to any other is
+# what the program prints and tells, and its status on a line.
+LINES = {"file": 0, "text": 1, "holders": 1, "value": 1, "part": 1, "message": 1, "tree": 1,
+         "part_tree": 1, "below": 1, "home": 1, "subtree": 1}
 
 
 def cases():
     """Each case: where it stands, what its input is, the input, and the lines of its answer."""
-    for crate, kinds in INPUTS.items():
-        folder = ROOT / "crates" / crate
-        if not folder.exists():
+    folder, held = ROOT / "crates/cases", {}
+    answers = iter(read(folder / "stdout").split("\n"))
+    for number, line in enumerate(read(folder / "stdin").split("\n"), 1):
+        if line == "" or line.startswith("#"):
+            assert next(answers, "") == line, f"stdin:{number}: the answers are out of step"
             continue
-        answers = iter(lines_of(folder / "stdout"))
-        for number, line in enumerate(lines_of(folder / "stdin"), 1):
-            answer = [next(answers, "")]
-            while crate == "world_cases" and line[:1] not in ("", "#") and (
-                    not answer[-1].startswith("status ")):
-                answer.append(next(answers))
-            word = line.split(" ", 1)[0]
-            if word in kinds:
-                kind, words = kinds[word]
-                yield f"{crate}/stdin:{number}", kind, line.split(" ", words)[-1], answer
+        words, text = (line.split("\t") + [""])[:2]
+        word, *others = words.split(" ")
+        answer = answer_to(word, answers)
+        text = re.sub("%[0-9A-F]{2}", lambda byte: chr(int(byte.group()[1:], 16)), text)
+        if word in ("file", "new") and not refusal_in(answer):
+            held[others[0]] = text
+        kind, text = input_of(word, text, held.get(others[0], "") if others else "")
+        is_unread = word != "show" and answer[-1:] in (["status 2"], ["status 4"])
+        if kind and not is_unread:
+            yield f"stdin:{number}", kind, text, answer
 
 
-def lines_of(path):
-    return path.read_bytes().decode("utf-8", "surrogateescape").split("\n")
+def answer_to(word, answers):
+    """The lines of the answer to a case of this first word."""
+    answer = [next(answers) for _ in range(LINES.get(word, 1))]
+    while word not in LINES and not answer[-1].startswith("status "):
+        answer.append(next(answers))
+    return answer
+
+
+def input_of(word, text, held):
+    """What the input of a case is, and the input: of `show`, the state that the file was given."""
+    whose = "master" if '"Workers"' in held else "worker"
+    if word == "show" and '"Format"' in held:
+        return whose + "State", held
+    if word == "order" and held:
+        return whose + "Order", text
+    return INPUTS.get(word), text
+
+
+def read(path):
+    """What a file holds, a character for each byte."""
+    return path.read_bytes().decode("latin-1")
 
 
 class Schema:
@@ -134,8 +158,9 @@ class Schema:
 
 
 def parsed(text):
-    """The value of a JSON text as the program reads it, to which `-0` is no whole number."""
-    return json.loads(text, parse_int=lambda digits: -0.0 if digits == "-0" else int(digits))
+    """The value of the bytes of a JSON text, to which `-0` is no whole number."""
+    return json.loads(text.encode("latin-1"),
+                      parse_int=lambda digits: -0.0 if digits == "-0" else int(digits))
 
 
 def is_grouped(part):
@@ -171,11 +196,12 @@ def is_valid(value, kind):
 
 
 def refusal_in(answer):
-    """The number of the refusal that an answer tells of its input, or 0. A world's lines tell of
-    events; what it tells of its input stands last, before the status."""
-    told = answer[-2] if len(answer) > 1 else answer[0]
-    found = re.match(r"Refused (\d+) ", told)
-    return int(found.group(1)) if found else 0
+    """The number of the refusal that an answer tells of its input, or 0."""
+    status = re.match(r"status (\d)", answer[-1]) if answer else None
+    if status and status.group(1) not in "34":
+        return 0
+    told = re.match(r"Refused (\d+) ", answer[-2 if status else -1]) if answer else None
+    return int(told.group(1)) if told else 0
 
 
 def fault_of(kind, text, answer):
@@ -195,26 +221,54 @@ def fault_of(kind, text, answer):
     return None
 
 
-def shown_in(path):
-    """The texts that a document shows, each with what it is: `json KIND` stands behind the fence."""
-    return re.findall(r"^```json (\w+)\n(.*?)^```", path.read_text(encoding="utf-8"), re.M | re.S)
+def spoiled(value):
+    """A value with one member more, or without one that has to be there, at each place in turn."""
+    if isinstance(value, list):
+        for place, item in enumerate(value):
+            yield from (value[:place] + [bad] + value[place + 1:] for bad in spoiled(item))
+    if isinstance(value, dict):
+        yield {**value, "Foo": 1}
+        for name, item in value.items():
+            if name not in MAY_BE_ABSENT:
+                yield {other: x for other, x in value.items() if other != name}
+            if name != "Attr":
+                yield from ({**value, name: bad} for bad in spoiled(item))
+
+
+def fault_of_example(kind, text):
+    """What is wrong with the schema, by an example, which is valid until it is spoiled."""
+    value = parsed(text)
+    if not is_valid(value, kind):
+        return "not valid"
+    for bad in spoiled(value):
+        if is_valid(bad, kind):
+            return f"valid, and spoiled: {json.dumps(bad)[:200]}"
+    return None
+
+
+def examples():
+    """Each example: where it stands, what it is, and its text. In FORMATS.md the kind stands behind
+    the fence; the examples of commands tell it by a member."""
+    fence = re.compile(r"^```json (\w+)\n(.*?)^```", re.M | re.S)
+    for kind, text in fence.findall(read(ROOT / "docs/FORMATS.md")):
+        yield "docs/FORMATS.md", kind, text
+    for path in sorted((ROOT / "examples").rglob("*.json")):
+        text = read(path)
+        kind = "script" if '"Events"' in text else "editInput" if '"Edits"' in text else None
+        yield path.relative_to(ROOT), kind, text
 
 
 def main():
     faults, counts = [], {True: 0, False: 0}
     for where, kind, text, answer in cases():
         counts[refusal_in(answer) == 0] += 1
-        fault = fault_of(kind, text, answer)
-        faults += [f"{where}: {fault}"] if fault else []
-    for kind, text in shown_in(ROOT / "docs/FORMATS.md"):
-        if not is_valid(parsed(text), kind):
-            faults.append(f"docs/FORMATS.md: not valid as {kind}: {text[:60]}")
-    for path in sorted((ROOT / "examples").rglob("*.json")):
-        if not is_valid(parsed(path.read_text(encoding="utf-8")), None):
-            faults.append(f"{path.relative_to(ROOT)}: not valid")
-    print("\n".join(faults + [f"{counts[True]} accepted, {counts[False]} refused: "
-                              f"{len(faults)} faults"]))
-    return 1 if faults or not all(counts.values()) else 0
+        faults.append((where, fault_of(kind, text, answer)))
+    for where, kind, text in examples():
+        faults.append((where, fault_of_example(kind, text)))
+    told = [f"{where}: {fault}" for where, fault in faults if fault]
+    print("\n".join(told + [f"schema: {counts[True]} cases accepted, {counts[False]} refused, "
+                            f"{len(told)} faults"]))
+    return 1 if told or not all(counts.values()) else 0
 
 
 if __name__ == "__main__":
