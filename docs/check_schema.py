@@ -44,19 +44,22 @@ def cases():
             continue
         words, text = (line.split("\t") + [""])[:2]
         word, *others = words.split(" ")
-        answer = answer_to(word, answers)
+        before = held.get(others[0], "") if others else ""
+        answer = answer_to(word, before, answers)
         text = re.sub("%[0-9A-F]{2}", lambda byte: chr(int(byte.group()[1:], 16)), text)
-        if word in ("file", "new") and not refusal_in(answer):
+        if word == "file" or (word == "new" and answer[-1] == "status 0"):
             held[others[0]] = text
-        kind, text = input_of(word, text, held.get(others[0], "") if others else "")
+        kind, text = input_of(word, text, before)
         is_unread = word != "show" and answer[-1:] in (["status 2"], ["status 4"])
         if kind and not is_unread:
             yield f"stdin:{number}", kind, text, answer
 
 
-def answer_to(word, answers):
-    """The lines of the answer to a case of this first word."""
+def answer_to(word, held, answers):
+    """The lines of the answer to a case of this first word, on a file that was given this text."""
     answer = [next(answers) for _ in range(LINES.get(word, 1))]
+    if word == "text" and answer[0] == held.split("\n")[0]:
+        answer += [next(answers) for _ in range(held.count("\n"))]
     while word not in LINES and not answer[-1].startswith("status "):
         answer.append(next(answers))
     return answer
