@@ -1,3 +1,4 @@
+use crate::apart::are_names_apart;
 use crate::stepping;
 use crate::workers::{new_workers, place_of};
 use controller::Message;
@@ -28,7 +29,7 @@ impl Model for World {
 }
 
 impl World {
-    ghost use Rattle.std.specs.Prelude.{◌≡◌, ◌⊎◌, ◌∷◌, true, false, OnOk, OnErr, IfOk, IfErr};
+    ghost use Rattle.std.specs.Prelude.{◌≡◌, ◌↔◌, ◌⊎◌, ◌∷◌, true, false, OnOk, OnErr, IfOk, IfErr};
     ghost use Rattle.std.specs.Prelude.{◌<◌, ℕ, List, length, take, IsErrOf};
     ghost use Rattle.std.specs.List.{Contains};
     ghost use Rattle.std.specs.Option.{option_copied};
@@ -45,15 +46,20 @@ impl World {
 
     /// A master of this name with this ticket, of which nothing is out, and workers of these names.
     /// Nothing was sent. It shows one ticket with one table of holders, in which the master holds
-    /// all. Refuses `SameName` where two of the names are equal (our own), and else `Memory`.
+    /// all. Refuses `SameName` where two of the names are equal (our own), whatever memory there
+    /// is, and else `Memory`.
     pub fn new(alloc: Global, name: Id, workers: Ids, ticket: Ticket) -> Result<World, Refusal>
         ensures ok { IfOk result (λ w. w ≡ state.opening name workers ticket) }
         ensures shown { IfOk result (λ w. shows w ≡ replay.opening name workers ticket) }
-        ensures refused { IsErrOf result Refusal.SameName → are_distinct (name ∷ workers) ≡ false }
+        ensures refused { IsErrOf result Refusal.SameName
+            ↔ (are_distinct (name ∷ workers) ≡ false) }
         ensures memory { are_distinct (name ∷ workers) ≡ true
             → IfErr result (λ e. e ≡ Refusal.Memory) }
         ensures only { IfErr result (λ e. (e ≡ Refusal.SameName) ⊎ (e ≡ Refusal.Memory)) }
     {
+        if !are_names_apart(alloc, &name, workers.as_slice()) {
+            return Err(Refusal::SameName);
+        }
         let master = Master::new(alloc, name, workers, ticket)?;
         let workers = new_workers(alloc, master.name(), master.workers())?;
         Ok(World {
