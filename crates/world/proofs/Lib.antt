@@ -28,6 +28,7 @@ pub mod TicketSeen
 pub mod MarksShown
 pub mod SameWorkers
 pub mod Receivers
+pub mod Unmade
 pub mod AnswersCome
 pub mod Cases
 pub mod TakenSpawns

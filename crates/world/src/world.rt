@@ -30,7 +30,7 @@ impl Model for World {
 
 impl World {
     ghost use Rattle.std.specs.Prelude.{◌≡◌, ◌↔◌, ◌⊎◌, ◌∷◌, true, false, OnOk, OnErr, IfOk, IfErr};
-    ghost use Rattle.std.specs.Prelude.{◌<◌, ℕ, List, length, take, IsErrOf};
+    ghost use Rattle.std.specs.Prelude.{◌<◌, ℕ, List, length, take, IsErrOf, IsOk};
     ghost use Rattle.std.specs.List.{Contains};
     ghost use Rattle.std.specs.Option.{option_copied};
     ghost use Rattle.ticket_items.specs.Ids.{are_distinct};
@@ -123,6 +123,8 @@ impl World {
         ensures state { OnOk result (self.new
             ≡ happening.settled stop self.old (happening.master_step order at self.old)) }
         ensures err { OnErr result (self.new ≡ self.old) }
+        ensures unmade { happening.is_made stop (happening.master_step order at self.old) ≡ false
+            → IsOk result }
     {
         stepping::master_is_told(alloc, &mut self.master, &mut self.messages, order, at, stop)
     }
@@ -142,6 +144,8 @@ impl World {
         ensures state { OnOk result (self.new
             ≡ happening.settled stop self.old (happening.worker_step name.now order at self.old)) }
         ensures err { OnErr result (self.new ≡ self.old) }
+        ensures unmade { happening.is_made stop (happening.worker_step name.now order at self.old)
+            ≡ false → IsOk result }
     {
         match place_of(self.workers.as_slice(), name) {
             None => {
@@ -221,10 +225,15 @@ impl World {
         ensures state { OnOk result (self.new
             ≡ happening.settled stop self.old (happening.delivery_step number at self.old)) }
         ensures err { OnErr result (self.new ≡ self.old) }
+        ensures unmade { happening.is_made stop (happening.delivery_step number at self.old)
+            ≡ false → IsOk result }
     {
         let Some(message) = self.message_at(number) else {
             return Ok(Answer::without_step(Word::NoMessage));
         };
+        if stop == Stop::BeforeSave {
+            return Ok(Answer::without_step(Word::Stopped));
+        }
         let copy = message.copy(alloc)?;
         if copy.receiver == *self.master.name() {
             self.deliver_to_master(alloc, copy, at, stop)
@@ -248,14 +257,16 @@ impl World {
     /// its message is sent, as far as the stop lets it. Where there is no such controller it is
     /// `Refused` as `UnknownWorker`, and where there is no such message it is `NoMessage`, at any
     /// stop. The answer, and what is shown then, are those of one ticket with one table of holders,
-    /// to which the event happens. Where memory runs out nothing is changed. Whatever comes of it,
-    /// then no two may change one node or resource.
+    /// to which the event happens. Where memory runs out nothing is changed; an event at which no
+    /// step is made, or one that is lost, needs none. Whatever comes of it, then no two may
+    /// change one node or resource.
     pub fn step(&mut self, alloc: Global, event: Event) -> Result<Answer, AllocError>
         ensures said { IfOk result (λ a. a ≡ replay.answer_to event (shows self.old)) }
         ensures shown { OnOk result (shows self.new ≡ replay.after event (shows self.old)) }
         ensures answer { IfOk result (λ a. a ≡ happening.answer_to event self.old) }
         ensures state { OnOk result (self.new ≡ happening.after event self.old) }
         ensures err { OnErr result (self.new ≡ self.old) }
+        ensures unmade { happening.makes_step event self.old ≡ false → IsOk result }
         ensures alone { (c d : Changer) (x : List ℕ)
             → MayChange self.new c x → MayChange self.new d x → c ≡ d }
     {
