@@ -2,10 +2,10 @@ pub mod Settling
 pub mod Controllers
 pub mod Messages
 pub mod State
-pub mod Changing
 pub mod Stepping
 pub mod Happening
 pub mod Shop
+pub mod Changing
 pub mod SeenTicket
 pub mod ShopMarks
 pub mod ShopActs

@@ -15,8 +15,8 @@ pub fn no_two_may_change_one()
     ensures { law.NoTwoMayChangeOne }
 {}
 
-/// The master may change exactly what it holds, and a worker through one of its entries exactly
-/// what the entry's spawn holds, while the entry is open.
+/// In the shop that is shown the master may change exactly what it holds, and a worker through one
+/// of its entries exactly what that entry's spawn holds, while it is open.
 pub fn holders_may_change()
     ensures { law.HoldersMayChange }
 {}

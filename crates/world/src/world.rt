@@ -35,7 +35,7 @@ impl World {
     ghost use Rattle.std.specs.Option.{option_copied};
     ghost use Rattle.ticket_items.specs.Ids.{are_distinct};
     ghost use Rattle.spawn.specs.Marking.{marks};
-    ghost use Rattle.world.specs.Changing.{Changer, MayChange};
+    ghost use Rattle.world.specs.Changing.{Changer, Holds, MayChange};
     ghost use Rattle.world.specs.Happening as happening;
     ghost use Rattle.world.specs.Once.{AreMergedOnce};
     ghost use Rattle.world.specs.Replay as replay;
@@ -258,8 +258,9 @@ impl World {
     /// `Refused` as `UnknownWorker`, and where there is no such message it is `NoMessage`, at any
     /// stop. The answer, and what is shown then, are those of one ticket with one table of holders,
     /// to which the event happens. Where memory runs out nothing is changed; an event at which no
-    /// step is made, or one that is lost, needs none. Whatever comes of it, then no two may
-    /// change one node or resource.
+    /// step is made, or one that is lost, needs none. Whatever comes of it, the master may change
+    /// then just what it holds in the shop that is shown, and a worker just what an open spawn to
+    /// it holds; so no two may change one node or resource.
     pub fn step(&mut self, alloc: Global, event: Event) -> Result<Answer, AllocError>
         ensures said { IfOk result (λ a. a ≡ replay.answer_to event (shows self.old)) }
         ensures shown { OnOk result (shows self.new ≡ replay.after event (shows self.old)) }
@@ -269,6 +270,8 @@ impl World {
         ensures unmade { happening.makes_step event self.old ≡ false → IsOk result }
         ensures alone { (c d : Changer) (x : List ℕ)
             → MayChange self.new c x → MayChange self.new d x → c ≡ d }
+        ensures held { (c : Changer) (x : List ℕ)
+            → MayChange self.new c x ↔ Holds (shows self.new).shop c x }
     {
         // A world is kept in order.
         let _sent = self.messages();
@@ -284,8 +287,8 @@ impl World {
     /// Events in turn, and what comes of each. The answers, and what is shown then, are those of
     /// one ticket with one table of holders, to which the events happen in turn. Where memory runs
     /// out the world stands, and shows, as after the events before the one at which it did.
-    /// Whatever comes of them, then no two may change one node or resource; and the part of each
-    /// spawn is put in at most once.
+    /// Whatever comes of them, each may change then just what it holds, as after `step`; and the
+    /// part of each spawn is put in at most once.
     pub fn run(&mut self, alloc: Global, events: Vec<Event>) -> Result<Vec<Answer>, AllocError>
         ensures said { IfOk result
             (λ answers. answers.items ≡ replay.answers_to events.items (shows self.old)) }
@@ -301,6 +304,8 @@ impl World {
         ensures once { IfOk result (λ answers. AreMergedOnce answers.items) }
         ensures alone { (c d : Changer) (x : List ℕ)
             → MayChange self.new c x → MayChange self.new d x → c ≡ d }
+        ensures held { (c : Changer) (x : List ℕ)
+            → MayChange self.new c x ↔ Holds (shows self.new).shop c x }
     {
         // A world is kept in order.
         let _sent = self.messages();
