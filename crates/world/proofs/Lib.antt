@@ -44,6 +44,7 @@ pub mod MasterSpawns
 pub mod Resends
 pub mod WorkerResends
 pub mod PartsTaken
+pub mod Telling
 pub mod PartsPutIn
 pub mod Events
 pub mod Replayed

@@ -12,5 +12,6 @@ pub mod ShopActs
 pub mod ShopSteps
 pub mod Replay
 pub mod Showing
+pub mod Telling
 pub mod Once
 pub mod Laws

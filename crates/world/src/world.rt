@@ -43,6 +43,7 @@ impl World {
     ghost use Rattle.world.specs.ShopMarks.{shop_marks};
     ghost use Rattle.world.specs.Showing.{shows};
     ghost use Rattle.world.specs.State as state;
+    ghost use Rattle.world.specs.Telling.{AreTold};
 
     /// A master of this name with this ticket, of which nothing is out, and workers of these names.
     /// Nothing was sent. It shows one ticket with one table of holders, in which the master holds
@@ -92,10 +93,12 @@ impl World {
     /// controller is in order. So are the messages: of one spawn one part goes out and one comes
     /// back, however often, and each is the one that the master makes of its record while it is
     /// out, or the worker of its entry once that is finished. Where a part was put in, the work on
-    /// its entry has ended.
+    /// its entry has ended. While a spawn is out, the part that goes out with it has what it holds
+    /// as it is seen, and the one that comes back as it is now.
     pub fn messages(&self) -> &[Message]
         ensures messages { result.now ≡ self.now.messages }
         ensures kept { state.IsKept self.now }
+        ensures told { AreTold self.now }
     {
         self.messages.as_slice()
     }
