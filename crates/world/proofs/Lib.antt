@@ -48,3 +48,8 @@ pub mod Telling
 pub mod PartsPutIn
 pub mod Events
 pub mod Replayed
+pub mod GoingOn
+pub mod ShopTells
+pub mod OrdersTell
+pub mod MergesTell
+pub mod MergesTold

@@ -6,6 +6,7 @@ use Rattle.controller.specs.declared.reply.Reply.{Reply}
 use Rattle.spawn.specs.Marking.{marks}
 use Rattle.world.specs.Changing.{Changer, Holds, MayChange}
 use Rattle.world.specs.Happening.{after, after_all, answer_to, answers_to}
+use Rattle.world.specs.MergeAudits.{AreToldAbove}
 use Rattle.world.specs.Once.{AreMergedOnce, IsIn, TellsMerge}
 use Rattle.world.specs.Replay as replay
 use Rattle.world.specs.SeenTicket.{ticket_seen}
@@ -53,6 +54,14 @@ EachIsMergedOnce =
     × ((s i : ℕ) (a : Answer) → IsIn w s → slice_get (answers_to events w) i ≡ Some a
     → TellsMerge s a → ⊥)
     × ((s : ℕ) → IsIn w s → IsIn (after_all events w) s)
+
+-- past the audits of the ticket in the beginning, those above a spawned node tell once of its merge
+-- if one of the answers does, and else never, whatever events happen in turn
+abbrev pub MergesAreTold : Type 0
+MergesAreTold =
+    (name : List ℕ) (workers : List (List ℕ)) (ticket : Job) (events : List Event)
+    → IsKept (opening name workers ticket) → let first = replay.opening name workers ticket in
+    AreToldAbove ticket (replay.answers_to events first) (replay.after_all events first).shop
 
 -- ---- one ticket with one table of holders
 

@@ -14,4 +14,5 @@ pub mod Replay
 pub mod Showing
 pub mod Telling
 pub mod Once
+pub mod MergeAudits
 pub mod Laws

@@ -27,6 +27,13 @@ pub fn each_spawn_is_merged_once()
     ensures { law.EachIsMergedOnce }
 {}
 
+/// From the beginning of a shop on, the audits of the node above a spawned one tell that its part
+/// was put in just as the answers do: once, past those of the ticket in the beginning, if one
+/// answer does, and else never.
+pub fn merges_are_told()
+    ensures { law.MergesAreTold }
+{}
+
 /// The ticket that is seen in what the controllers show is the master's.
 pub fn ticket_is_seen()
     ensures { law.TicketIsSeen }

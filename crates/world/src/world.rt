@@ -34,9 +34,11 @@ impl World {
     ghost use Rattle.std.specs.List.{Contains};
     ghost use Rattle.std.specs.Option.{option_copied};
     ghost use Rattle.ticket_items.specs.Ids.{are_distinct};
+    ghost use Rattle.ticket_rows.specs.Ticket.{Job};
     ghost use Rattle.spawn.specs.Marking.{marks};
     ghost use Rattle.world.specs.Changing.{Changer, Holds, MayChange};
     ghost use Rattle.world.specs.Happening as happening;
+    ghost use Rattle.world.specs.MergeAudits.{AreToldAbove};
     ghost use Rattle.world.specs.Once.{AreMergedOnce};
     ghost use Rattle.world.specs.Replay as replay;
     ghost use Rattle.world.specs.SeenTicket.{ticket_seen};
@@ -291,7 +293,8 @@ impl World {
     /// one ticket with one table of holders, to which the events happen in turn. Where memory runs
     /// out the world stands, and shows, as after the events before the one at which it did.
     /// Whatever comes of them, each may change then just what it holds, as after `step`; and the
-    /// part of each spawn is put in at most once.
+    /// part of each spawn is put in at most once, of which the audits of the node above tell, where
+    /// the world was in its beginning, just as the answers do.
     pub fn run(&mut self, alloc: Global, events: Vec<Event>) -> Result<Vec<Answer>, AllocError>
         ensures said { IfOk result
             (λ answers. answers.items ≡ replay.answers_to events.items (shows self.old)) }
@@ -305,6 +308,9 @@ impl World {
         ensures err { OnErr result ((k : ℕ) × (k < length events.items)
             × (self.new ≡ happening.after_all (take k events.items) self.old)) }
         ensures once { IfOk result (λ answers. AreMergedOnce answers.items) }
+        ensures merges { IfOk result (λ answers. (name : List ℕ) (workers : List (List ℕ))
+            (ticket : Job) → self.old ≡ state.opening name workers ticket
+            → AreToldAbove ticket answers.items (shows self.new).shop) }
         ensures alone { (c d : Changer) (x : List ℕ)
             → MayChange self.new c x → MayChange self.new d x → c ≡ d }
         ensures held { (c : Changer) (x : List ℕ)
