@@ -1,5 +1,5 @@
 -- The laws of who may change what.
-use Rattle.std.proofs.Common.{◌≡◌, ◌&&◌, ◌∙◌, Bool, true, false, List, ℕ, Option, Some, None, Result, Ok, Err, OnOk, OnErr, refl, slice_get, sym, ap, subst}
+use Rattle.std.proofs.Common.{◌≡◌, ◌↔◌, ◌&&◌, ◌∙◌, cond, IsSomeAnd, Bool, true, false, List, ℕ, Option, Some, None, Result, Ok, Err, OnOk, OnErr, refl, slice_get, sym, ap, subst}
 use Rattle.std.proofs.lemmas.Bool.{and_from, and_parts, eqb-true, true≢false}
 use Rattle.std.proofs.lemmas.Slice.Eq.{bytes_eq-Decides}
 use Rattle.std.specs.Option.{option_and_then, option_map, option_map_or}
@@ -21,13 +21,17 @@ use Rattle.worker_core.specs.declared.entry.Entry.{Entry}
 use Rattle.world.proofs.AlwaysKept.{kept_after, kept_after_all}
 use Rattle.world.proofs.Back.{one_record}
 use Rattle.world.proofs.Doors.{found_through}
+use Rattle.world.proofs.Cases.{when_true}
 use Rattle.world.proofs.InPart.{fits_has, part_has}
+use Rattle.world.proofs.Resends.{spawn_found}
 use Rattle.world.proofs.Stored.{and_found, found_and}
-use Rattle.world.specs.Changing.{Changer, HoldsThere, MayChange, by_entry, by_master}
+use Rattle.world.specs.Changing.{Changer, Holds, MayChange, by_entry, by_master}
 use Rattle.world.specs.Controllers.{entry_at, is_named, worker_of}
 use Rattle.world.specs.Happening.{after_all, settled, step_of}
 use Rattle.world.specs.Laws.{HoldersMayChange, NoTwoMayChangeOne}
 use Rattle.world.specs.Messages.{AreRecorded, HasComeBack, IsRecorded, entry_for}
+use Rattle.world.specs.Shop.{Done, Open, SpawnState, spawn_of}
+use Rattle.world.specs.Showing.{phase_shown, shop_shown, shows, spawn_shown}
 use Rattle.world.specs.State.{IsKept, State}
 use Rattle.world_items.specs.declared.event.Event.{Event}
 use Rattle.world_items.specs.declared.stop.Stop.{Stop}
@@ -155,23 +159,62 @@ may_through w name s x by =
 held_through : (w : State) (name : List ℕ) (s : ℕ) (x : List ℕ) → IsKept w → Through w name s x → master.holder w.controllers.master x ≡ Some (Spawn s)
 held_through w name s x ok by = held_so w name s by.entry x ok (open_there w name s by.entry ok by.found by.is_open) by.has_it
 
+-- ---- what is shown
+
+-- a spawn that is shown as open is out, and has an entry that is open
+open_shown : (out : Bool) (o : Option Entry) → phase_shown out o ≡ Open → (out ≡ true) × IsSomeAnd o (λ e. worker.is_open e ≡ true)
+open_shown false o e = cc
+open_shown true None e = cc
+open_shown true (Some entry) e = (refl, entry_open (worker.is_open entry) e)
+  where
+    entry_open : (b : Bool) → cond b Open Done ≡ Open → b ≡ true
+    entry_open true e = refl
+    entry_open false e = cc
+
+-- the spawn of an open entry is shown as open, at its worker
+shown_open : (w : State) (name : List ℕ) (s : ℕ) (e : Entry) → IsKept w → entry_at w.controllers.workers name s ≡ Some e → worker.is_open e ≡ true → IsSomeAnd (spawn_of s (shop_shown w.controllers)) (λ a. (a.worker ≡ name) × (a.phase ≡ Open))
+shown_open w name s e ok found is_open' =
+    let c = w.controllers in
+    let at = open_there w name s e ok found is_open' in
+    let r = at.spawn in
+    let entered : entry_for c r ≡ Some e = ap (λ n. entry_at c.workers n r.id) at.named ∙ ap (entry_at c.workers name) at.number ∙ found in
+    let phase : phase_shown (is_out r) (entry_for c r) ≡ Open = ap (λ b. phase_shown b (entry_for c r)) at.out ∙ ap (phase_shown true) entered ∙ when_true (worker.is_open e) Open Done is_open' in
+    found_and _ (spawn_of s (shop_shown c)) (spawn_shown c r) (spawn_found c s ∙ ap (option_map (spawn_shown c)) at.recorded) (at.named, phase)
+
+pub made_of : {X Y : Type 0} (f : X → Y) (o : Option X) (y : Y) → option_map f o ≡ Some y → (x : X) × (o ≡ Some x) × (f x ≡ y)
+made_of f None y e = cc
+made_of f (Some x) y e = (x, refl, same_found (f x) y (Some (f x)) refl e)
+
+-- a spawn that is shown as open has an open entry, at its worker
+open_entry : (w : State) (name : List ℕ) (s : ℕ) → IsSomeAnd (spawn_of s (shop_shown w.controllers)) (λ a. (a.worker ≡ name) × (a.phase ≡ Open)) → IsSomeAnd (entry_at w.controllers.workers name s) (λ e. worker.is_open e ≡ true)
+open_entry w name s shown =
+    let c = w.controllers in
+    let a = and_found _ (spawn_of s (shop_shown c)) shown in
+    let made = made_of (spawn_shown c) (master.record_of c.master.records s) a.0 (sym (spawn_found c s) ∙ a.1) in
+    let r = made.0 in
+    let named : r.worker ≡ name = ap (λ (b : SpawnState). b.worker) made.2 ∙ a.2.0 in
+    let phase : phase_shown (is_out r) (entry_for c r) ≡ Open = ap (λ (b : SpawnState). b.phase) made.2 ∙ a.2.1 in
+    let entered : entry_for c r ≡ entry_at c.workers name s = ap (λ n. entry_at c.workers n r.id) named ∙ ap (entry_at c.workers name) (number_is c.master.records s r made.1) in
+    subst (λ o. IsSomeAnd o (λ e. worker.is_open e ≡ true)) entered (open_shown (is_out r) (entry_for c r) phase).1
+
 -- ---- the laws
 
-to_holds : (w : State) (name : List ℕ) (s : ℕ) (x : List ℕ) → IsKept w → MayChange w (by_entry name s) x → HoldsThere w name s x
+to_holds : (w : State) (name : List ℕ) (s : ℕ) (x : List ℕ) → IsKept w → MayChange w (by_entry name s) x → Holds (shop_shown w.controllers) (by_entry name s) x
 to_holds w name s x ok may =
     let by = through w name s x may in
-    (found_and _ (entry_at w.controllers.workers name s) by.entry by.found by.is_open, held_through w name s x ok by)
+    (held_through w name s x ok by, shown_open w name s by.entry ok by.found by.is_open)
 
-from_holds : (w : State) (name : List ℕ) (s : ℕ) (x : List ℕ) → IsKept w → HoldsThere w name s x → MayChange w (by_entry name s) x
+from_holds : (w : State) (name : List ℕ) (s : ℕ) (x : List ℕ) → IsKept w → Holds (shop_shown w.controllers) (by_entry name s) x → MayChange w (by_entry name s) x
 from_holds w name s x ok holds =
-    let at = and_found _ (entry_at w.controllers.workers name s) holds.0 in
+    let at = and_found _ (entry_at w.controllers.workers name s) (open_entry w name s holds.1) in
     let e : Entry = at.0 in
-    may_through w name s x (record { entry = e; found = at.1; is_open = at.2; has_it = has_so w name s e x ok (open_there w name s e ok at.1 at.2) holds.1 })
+    may_through w name s x (record { entry = e; found = at.1; is_open = at.2; has_it = has_so w name s e x ok (open_there w name s e ok at.1 at.2) holds.0 })
 
 pub holders_may_change : HoldersMayChange
-holders_may_change w ok x =
+holders_may_change w by_master x ok =
     let o = master.holder w.controllers.master x in
-    ((masters o, λ held. ap (λ h. option_map_or master.is_masters h false) held), λ name s. (to_holds w name s x ok, from_holds w name s x ok))
+    (masters o, λ held. ap (λ h. option_map_or master.is_masters h false) held)
+holders_may_change w (by_entry name s) x ok = (to_holds w name s x ok, from_holds w name s x ok)
 
 not_both : (o : Option Holder) (s : ℕ) → o ≡ Some Master → o ≡ Some (Spawn s) → ⊥
 not_both o s a b = cc
@@ -208,10 +251,17 @@ Alone w = (c d : Changer) (x : List ℕ) → MayChange w c x → MayChange w d x
 pub alone : (w : State) → IsKept w → Alone w
 alone w ok c d x a b = no_two_may_change_one w c d x ok a b
 
--- where memory runs out nothing changes
-pub alone_after : {A E : Type 0} (r : Result A E) (what : What) (at : ℕ) (stop : Stop) (w now : State) → IsKept w → OnOk r (now ≡ settled stop w (step_of what at w)) → OnErr r (now ≡ w) → Alone now
-alone_after (Ok a) what at stop w now ok is same = alone now (subst IsKept (sym is) (kept_after (record { what = what; at = at; stop = stop }) w ok))
-alone_after (Err e) what at stop w now ok is same = alone now (subst IsKept (sym same) ok)
+-- each may change of this exactly what it holds
+abbrev pub ByHolders : State → Type 0
+ByHolders w = (c : Changer) (x : List ℕ) → MayChange w c x ↔ Holds (shows w).shop c x
 
-pub alone_after_all : (events : List Event) (w now : State) → IsKept w → now ≡ after_all events w → Alone now
-alone_after_all events w now ok is = alone now (subst IsKept (sym is) (kept_after_all events w ok))
+pub by_holders : (w : State) → IsKept w → ByHolders w
+by_holders w ok c x = holders_may_change w c x ok
+
+-- where memory runs out nothing changes
+pub kept_then : {A E : Type 0} (r : Result A E) (what : What) (at : ℕ) (stop : Stop) (w now : State) → IsKept w → OnOk r (now ≡ settled stop w (step_of what at w)) → OnErr r (now ≡ w) → IsKept now
+kept_then (Ok a) what at stop w now ok is same = subst IsKept (sym is) (kept_after (record { what = what; at = at; stop = stop }) w ok)
+kept_then (Err e) what at stop w now ok is same = subst IsKept (sym same) ok
+
+pub kept_then_all : (events : List Event) (w now : State) → IsKept w → now ≡ after_all events w → IsKept now
+kept_then_all events w now ok is = subst IsKept (sym is) (kept_after_all events w ok)

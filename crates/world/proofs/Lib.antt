@@ -28,6 +28,7 @@ pub mod TicketSeen
 pub mod MarksShown
 pub mod SameWorkers
 pub mod Receivers
+pub mod Unmade
 pub mod AnswersCome
 pub mod Cases
 pub mod TakenSpawns
@@ -43,6 +44,12 @@ pub mod MasterSpawns
 pub mod Resends
 pub mod WorkerResends
 pub mod PartsTaken
+pub mod Telling
 pub mod PartsPutIn
 pub mod Events
 pub mod Replayed
+pub mod GoingOn
+pub mod ShopTells
+pub mod OrdersTell
+pub mod MergesTell
+pub mod MergesTold

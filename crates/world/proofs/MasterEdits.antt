@@ -65,7 +65,7 @@ order_agrees c done plain (Some e) (Some f) same go =
     let one : e ≡ f = cc in
     record { word = ap Refused one; next = refl; sent = refl }
 
-edit_refused : (e : Edit) (c : Controllers) → IsValid c.master.ticket.rows → orders.edit_refusal e c.master ≡ edit_refusal e (shop_shown c)
+pub edit_refused : (e : Edit) (c : Controllers) → IsValid c.master.ticket.rows → orders.edit_refusal e c.master ≡ edit_refusal e (shop_shown c)
 edit_refused e c valid =
     let rows = c.master.ticket.rows in
     let alike = lookups_alike rows valid in
@@ -195,7 +195,7 @@ some_same : (i j : List ℕ) → Some i ≡ Some j → i ≡ j
 some_same i j e = ap (λ o. option_map_or (λ x. x) o i) e
 
 -- the id that is added stood nowhere
-new_nowhere : (e : Edit) (rows : List NodeRow) (i : List ℕ) → refusal_of e rows ≡ None → added_id e ≡ Some i → mem i (ids rows) ≡ false
+pub new_nowhere : (e : Edit) (rows : List NodeRow) (i : List ℕ) → refusal_of e rows ≡ None → added_id e ≡ Some i → mem i (ids rows) ≡ false
 new_nowhere (SetStatus n status) rows i free added = cc
 new_nowhere (SetAttr n name value) rows i free added = cc
 new_nowhere (SetResStatus x status) rows i free added = cc

@@ -6,7 +6,7 @@ use Rattle.std.proofs.lemmas.List.Folds.{find-append}
 use Rattle.std.specs.List.{Contains}
 use Rattle.std.specs.Option.{option_and_then, option_map, option_map_or, option_or}
 use Rattle.ticket_items.specs.declared.refusal.Refusal.{Refusal}
-use Rattle.ticket_rows.specs.Place.{Place, place_at, places}
+use Rattle.ticket_rows.specs.Place.{Place, place_at, places, row_in}
 use Rattle.ticket_tree.specs.Part.{Copied}
 use Rattle.ticket_tree.specs.PartView.{part_row}
 use Rattle.controller.specs.Reply.{refused_or}
@@ -126,16 +126,20 @@ out_still c r back missing =
     none_there : {X P : Type 0} (x : X) (o : Option X) → o ≡ Some x → o ≡ None → P
     none_there x o a b = cc
 
--- the rows that the spawn holds are in its part as the master sees them
+-- what a spawn holds is in the part that is made for it as the master sees it
+pub claim_as_seen : (m : master.Known) (s : ℕ) (r : SpawnRec) (x : List ℕ) → master.IsKept m → master.record_of m.records s ≡ Some r → is_out r ≡ true → master.holder m x ≡ Some (Spawn s)
+    → part_row (part_for m.ticket r) x ≡ row_in m.ticket.rows x
+claim_as_seen m s r x ok found out held =
+    let place = placed (master.is_of s) m.records r found in
+    let claimed = held_claimed m s r x ok found held in
+    (part_shows_claim m.ticket r ok.valid (ok.apart.good place.place r place.there out) x claimed.0 claimed.1 claimed.2).0
+
 part_as_seen : (c : Controllers) (p : Copied) (r : SpawnRec) (x : List ℕ) → master.IsKept c.master → master.record_of c.master.records p.spawn_id ≡ Some r → is_out r ≡ true → p ≡ part_for c.master.ticket r → entry_for c r ≡ None → master.holder c.master x ≡ Some (Spawn p.spawn_id)
     → part_row p x ≡ row_at c x (master.holder c.master x)
 part_as_seen c p r x ok found out made missing held =
-    let t = c.master.ticket in
-    let place = placed (master.is_of p.spawn_id) c.master.records r found in
-    let claimed = held_claimed c.master p.spawn_id r x ok found held in
     let none : entry_of_spawn c p.spawn_id ≡ None = ap (option_and_then (entry_for c)) found ∙ missing in
     ap (λ (q : Copied). part_row q x) made
-    ∙ (part_shows_claim t r ok.valid (ok.apart.good place.place r place.there out) x claimed.0 claimed.1 claimed.2).0
+    ∙ claim_as_seen c.master p.spawn_id r x ok found out held
     ∙ sym (ap (row_at c x) held ∙ ap (λ o. option_map_or (λ (e : Entry). part_row e.part x) o (seen_shown c x)) none)
 
 newly_taken : (w : State) (v : worker.Known) (m : Message) (p : Copied) (at : ℕ) (r : SpawnRec) → IsKept w → worker_of w.controllers.workers v.name ≡ Some v → master.record_of w.controllers.master.records p.spawn_id ≡ Some r → r.worker ≡ v.name

@@ -1,5 +1,6 @@
 -- What happens at an event: which step is made, and what is left of it.
-use Rattle.std.specs.Prelude.{ℕ, List, [], ◌∷◌, if◌then◌else◌, Result, Ok, Err}
+use Rattle.std.specs.Prelude.{ℕ, Bool, false, List, [], ◌∷◌, if◌then◌else◌, is_ok, Result, Ok}
+use Rattle.std.specs.Prelude.{Err}
 use Rattle.std.specs.Option.{option_map_or}
 use Rattle.std.specs.Str.{bytes_eq}
 use Rattle.ticket_items.specs.declared.refusal.Refusal.TheVariants.{UnknownWorker}
@@ -14,6 +15,7 @@ use Rattle.world.specs.Stepping.{taken_by_master, taken_by_worker, worker_moved}
 use Rattle.world_items.specs.declared.answer.Answer.{Answer}
 use Rattle.world_items.specs.declared.event.Event.{Event}
 use Rattle.world_items.specs.declared.stop.Stop.{Stop}
+use Rattle.world_items.specs.declared.stop.Stop.TheVariants.{Run, BeforeSave, BeforeSend}
 use Rattle.world_items.specs.declared.what.What.{What}
 use Rattle.world_items.specs.declared.what.What.TheVariants.{MasterOrder, WorkerOrder, Deliver, Restart}
 use Rattle.world_items.specs.declared.word.Word.{Word}
@@ -66,6 +68,13 @@ step_of (WorkerOrder name o) at w = worker_step name o at w
 step_of (Deliver k) at w = delivery_step k at w
 step_of (Restart name) at w = Err (restart_word name w)
 
+-- whether a step is made that isn't lost: there is one, and its controller doesn't stop before its
+-- state is stored
+abbrev pub is_made : Stop → Step → Bool
+is_made Run step = is_ok step
+is_made BeforeSave step = false
+is_made BeforeSend step = is_ok step
+
 -- what is answered
 abbrev pub settled_word : Stop → State → Step → Answer
 settled_word stop w (Ok moved) = settled_answer stop w.messages moved.word moved.sent
@@ -87,6 +96,9 @@ answer_to e w = settled_word e.stop w (step_of e.what e.at w)
 
 abbrev pub after : Event → State → State
 after e w = settled e.stop w (step_of e.what e.at w)
+
+abbrev pub makes_step : Event → State → Bool
+makes_step e w = is_made e.stop (step_of e.what e.at w)
 
 -- ---- a list of events
 

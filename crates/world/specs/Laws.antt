@@ -4,10 +4,9 @@ use Rattle.ticket_rows.specs.Ticket.{Job}
 use Rattle.controller.specs.declared.message.Message.{Message}
 use Rattle.controller.specs.declared.reply.Reply.{Reply}
 use Rattle.spawn.specs.Marking.{marks}
-use Rattle.spawn.specs.declared.tables.holder.Holder.TheVariants.{Master}
-use Rattle.master_core.specs.Master as master
-use Rattle.world.specs.Changing.{Changer, HoldsThere, MayChange, by_entry, by_master}
+use Rattle.world.specs.Changing.{Changer, Holds, MayChange}
 use Rattle.world.specs.Happening.{after, after_all, answer_to, answers_to}
+use Rattle.world.specs.MergeAudits.{AreToldAbove}
 use Rattle.world.specs.Once.{AreMergedOnce, IsIn, TellsMerge}
 use Rattle.world.specs.Replay as replay
 use Rattle.world.specs.SeenTicket.{ticket_seen}
@@ -37,13 +36,12 @@ abbrev pub NoTwoMayChangeOne : Type 0
 NoTwoMayChangeOne =
     (w : State) (c d : Changer) (x : List ℕ) → IsKept w → MayChange w c x → MayChange w d x → c ≡ d
 
--- the master may change exactly what it holds, and a worker through an entry exactly what its spawn
--- holds, while the entry is open
+-- each may change exactly what it holds in the shop that is shown: the master, and a worker through
+-- a spawn to it that is open
 abbrev pub HoldersMayChange : Type 0
 HoldersMayChange =
-    (w : State) → IsKept w → (x : List ℕ)
-    → (MayChange w by_master x ↔ (master.holder w.controllers.master x ≡ Some Master))
-    × ((name : List ℕ) (s : ℕ) → MayChange w (by_entry name s) x ↔ HoldsThere w name s x)
+    (w : State) (c : Changer) (x : List ℕ) → IsKept w
+    → MayChange w c x ↔ Holds (shop_shown w.controllers) c x
 
 -- ---- merged once
 
@@ -56,6 +54,14 @@ EachIsMergedOnce =
     × ((s i : ℕ) (a : Answer) → IsIn w s → slice_get (answers_to events w) i ≡ Some a
     → TellsMerge s a → ⊥)
     × ((s : ℕ) → IsIn w s → IsIn (after_all events w) s)
+
+-- past the audits of the ticket in the beginning, those above a spawned node tell once of its merge
+-- if one of the answers does, and else never, whatever events happen in turn
+abbrev pub MergesAreTold : Type 0
+MergesAreTold =
+    (name : List ℕ) (workers : List (List ℕ)) (ticket : Job) (events : List Event)
+    → IsKept (opening name workers ticket) → let first = replay.opening name workers ticket in
+    AreToldAbove ticket (replay.answers_to events first) (replay.after_all events first).shop
 
 -- ---- one ticket with one table of holders
 

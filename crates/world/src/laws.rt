@@ -15,8 +15,8 @@ pub fn no_two_may_change_one()
     ensures { law.NoTwoMayChangeOne }
 {}
 
-/// The master may change exactly what it holds, and a worker through one of its entries exactly
-/// what the entry's spawn holds, while the entry is open.
+/// In the shop that is shown the master may change exactly what it holds, and a worker through one
+/// of its entries exactly what that entry's spawn holds, while it is open.
 pub fn holders_may_change()
     ensures { law.HoldersMayChange }
 {}
@@ -25,6 +25,13 @@ pub fn holders_may_change()
 /// never again.
 pub fn each_spawn_is_merged_once()
     ensures { law.EachIsMergedOnce }
+{}
+
+/// From the beginning of a shop on, the audits of the node above a spawned one tell that its part
+/// was put in just as the answers do: once, past those of the ticket in the beginning, if one
+/// answer does, and else never.
+pub fn merges_are_told()
+    ensures { law.MergesAreTold }
 {}
 
 /// The ticket that is seen in what the controllers show is the master's.

@@ -2,6 +2,7 @@
 //! loses, repeats and reorders, with controllers that stop and are started again.
 #![tactic(auto)]
 
+mod apart;
 pub mod laws;
 mod settling;
 mod stepping;

@@ -2,9 +2,10 @@
 //! message is sent as far as the stop lets it. A step that is lost isn't made, and before one that
 //! isn't there is room for its message, so that nothing has to be taken back.
 
-ghost use Rattle.std.specs.Prelude.{◌≡◌, Err, IfOk, OnErr, OnOk};
+ghost use Rattle.std.specs.Prelude.{◌≡◌, Err, IfOk, IsOk, OnErr, OnOk};
 ghost use Rattle.world.specs.Settling as settling;
 ghost use Rattle.world.specs.Stepping as stepping;
+ghost use Rattle.world_items.specs.declared.stop.Stop.TheVariants.{BeforeSave};
 
 use crate::settling::settle;
 use crate::told::Told;
@@ -79,6 +80,7 @@ pub fn master_is_told(
         (stepping.ordered_master order at stored.old).sent) }
     ensures err_stored { OnErr result (stored.new ≡ stored.old) }
     ensures err_messages { OnErr result (messages.new.items ≡ messages.old.items) }
+    ensures lost { stop ≡ BeforeSave → IsOk result }
 {
     if stop == Stop::BeforeSave {
         drop(order);
@@ -137,6 +139,7 @@ pub fn worker_is_told(
         (stepping.ordered_worker order at stored.old).sent) }
     ensures err_stored { OnErr result (stored.new ≡ stored.old) }
     ensures err_messages { OnErr result (messages.new.items ≡ messages.old.items) }
+    ensures lost { stop ≡ BeforeSave → IsOk result }
 {
     if stop == Stop::BeforeSave {
         drop(order);

@@ -1,3 +1,4 @@
+use crate::apart::are_names_apart;
 use crate::stepping;
 use crate::workers::{new_workers, place_of};
 use controller::Message;
@@ -28,32 +29,40 @@ impl Model for World {
 }
 
 impl World {
-    ghost use Rattle.std.specs.Prelude.{◌≡◌, ◌⊎◌, ◌∷◌, true, false, OnOk, OnErr, IfOk, IfErr};
-    ghost use Rattle.std.specs.Prelude.{◌<◌, ℕ, List, length, take, IsErrOf};
+    ghost use Rattle.std.specs.Prelude.{◌≡◌, ◌↔◌, ◌⊎◌, ◌∷◌, true, false, OnOk, OnErr, IfOk, IfErr};
+    ghost use Rattle.std.specs.Prelude.{◌<◌, ℕ, List, length, take, IsErrOf, IsOk};
     ghost use Rattle.std.specs.List.{Contains};
     ghost use Rattle.std.specs.Option.{option_copied};
     ghost use Rattle.ticket_items.specs.Ids.{are_distinct};
+    ghost use Rattle.ticket_rows.specs.Ticket.{Job};
     ghost use Rattle.spawn.specs.Marking.{marks};
-    ghost use Rattle.world.specs.Changing.{Changer, MayChange};
+    ghost use Rattle.world.specs.Changing.{Changer, Holds, MayChange};
     ghost use Rattle.world.specs.Happening as happening;
+    ghost use Rattle.world.specs.MergeAudits.{AreToldAbove};
     ghost use Rattle.world.specs.Once.{AreMergedOnce};
     ghost use Rattle.world.specs.Replay as replay;
     ghost use Rattle.world.specs.SeenTicket.{ticket_seen};
     ghost use Rattle.world.specs.ShopMarks.{shop_marks};
     ghost use Rattle.world.specs.Showing.{shows};
     ghost use Rattle.world.specs.State as state;
+    ghost use Rattle.world.specs.Telling.{AreTold};
 
     /// A master of this name with this ticket, of which nothing is out, and workers of these names.
     /// Nothing was sent. It shows one ticket with one table of holders, in which the master holds
-    /// all. Refuses `SameName` where two of the names are equal (our own), and else `Memory`.
+    /// all. Refuses `SameName` where two of the names are equal (our own), whatever memory there
+    /// is, and else `Memory`.
     pub fn new(alloc: Global, name: Id, workers: Ids, ticket: Ticket) -> Result<World, Refusal>
         ensures ok { IfOk result (λ w. w ≡ state.opening name workers ticket) }
         ensures shown { IfOk result (λ w. shows w ≡ replay.opening name workers ticket) }
-        ensures refused { IsErrOf result Refusal.SameName → are_distinct (name ∷ workers) ≡ false }
+        ensures refused { IsErrOf result Refusal.SameName
+            ↔ (are_distinct (name ∷ workers) ≡ false) }
         ensures memory { are_distinct (name ∷ workers) ≡ true
             → IfErr result (λ e. e ≡ Refusal.Memory) }
         ensures only { IfErr result (λ e. (e ≡ Refusal.SameName) ⊎ (e ≡ Refusal.Memory)) }
     {
+        if !are_names_apart(alloc, &name, workers.as_slice()) {
+            return Err(Refusal::SameName);
+        }
         let master = Master::new(alloc, name, workers, ticket)?;
         let workers = new_workers(alloc, master.name(), master.workers())?;
         Ok(World {
@@ -86,10 +95,12 @@ impl World {
     /// controller is in order. So are the messages: of one spawn one part goes out and one comes
     /// back, however often, and each is the one that the master makes of its record while it is
     /// out, or the worker of its entry once that is finished. Where a part was put in, the work on
-    /// its entry has ended.
+    /// its entry has ended. While a spawn is out, the part that goes out with it has what it holds
+    /// as it is seen, and the one that comes back as it is now.
     pub fn messages(&self) -> &[Message]
         ensures messages { result.now ≡ self.now.messages }
         ensures kept { state.IsKept self.now }
+        ensures told { AreTold self.now }
     {
         self.messages.as_slice()
     }
@@ -117,6 +128,8 @@ impl World {
         ensures state { OnOk result (self.new
             ≡ happening.settled stop self.old (happening.master_step order at self.old)) }
         ensures err { OnErr result (self.new ≡ self.old) }
+        ensures unmade { happening.is_made stop (happening.master_step order at self.old) ≡ false
+            → IsOk result }
     {
         stepping::master_is_told(alloc, &mut self.master, &mut self.messages, order, at, stop)
     }
@@ -136,6 +149,8 @@ impl World {
         ensures state { OnOk result (self.new
             ≡ happening.settled stop self.old (happening.worker_step name.now order at self.old)) }
         ensures err { OnErr result (self.new ≡ self.old) }
+        ensures unmade { happening.is_made stop (happening.worker_step name.now order at self.old)
+            ≡ false → IsOk result }
     {
         match place_of(self.workers.as_slice(), name) {
             None => {
@@ -215,10 +230,15 @@ impl World {
         ensures state { OnOk result (self.new
             ≡ happening.settled stop self.old (happening.delivery_step number at self.old)) }
         ensures err { OnErr result (self.new ≡ self.old) }
+        ensures unmade { happening.is_made stop (happening.delivery_step number at self.old)
+            ≡ false → IsOk result }
     {
         let Some(message) = self.message_at(number) else {
             return Ok(Answer::without_step(Word::NoMessage));
         };
+        if stop == Stop::BeforeSave {
+            return Ok(Answer::without_step(Word::Stopped));
+        }
         let copy = message.copy(alloc)?;
         if copy.receiver == *self.master.name() {
             self.deliver_to_master(alloc, copy, at, stop)
@@ -242,16 +262,21 @@ impl World {
     /// its message is sent, as far as the stop lets it. Where there is no such controller it is
     /// `Refused` as `UnknownWorker`, and where there is no such message it is `NoMessage`, at any
     /// stop. The answer, and what is shown then, are those of one ticket with one table of holders,
-    /// to which the event happens. Where memory runs out nothing is changed. Whatever comes of it,
-    /// then no two may change one node or resource.
+    /// to which the event happens. Where memory runs out nothing is changed; an event at which no
+    /// step is made, or one that is lost, needs none. Whatever comes of it, the master may change
+    /// then just what it holds in the shop that is shown, and a worker just what an open spawn to
+    /// it holds; so no two may change one node or resource.
     pub fn step(&mut self, alloc: Global, event: Event) -> Result<Answer, AllocError>
         ensures said { IfOk result (λ a. a ≡ replay.answer_to event (shows self.old)) }
         ensures shown { OnOk result (shows self.new ≡ replay.after event (shows self.old)) }
         ensures answer { IfOk result (λ a. a ≡ happening.answer_to event self.old) }
         ensures state { OnOk result (self.new ≡ happening.after event self.old) }
         ensures err { OnErr result (self.new ≡ self.old) }
+        ensures unmade { happening.makes_step event self.old ≡ false → IsOk result }
         ensures alone { (c d : Changer) (x : List ℕ)
             → MayChange self.new c x → MayChange self.new d x → c ≡ d }
+        ensures held { (c : Changer) (x : List ℕ)
+            → MayChange self.new c x ↔ Holds (shows self.new).shop c x }
     {
         // A world is kept in order.
         let _sent = self.messages();
@@ -267,8 +292,9 @@ impl World {
     /// Events in turn, and what comes of each. The answers, and what is shown then, are those of
     /// one ticket with one table of holders, to which the events happen in turn. Where memory runs
     /// out the world stands, and shows, as after the events before the one at which it did.
-    /// Whatever comes of them, then no two may change one node or resource; and the part of each
-    /// spawn is put in at most once.
+    /// Whatever comes of them, each may change then just what it holds, as after `step`; and the
+    /// part of each spawn is put in at most once, of which the audits of the node above tell, where
+    /// the world was in its beginning, just as the answers do.
     pub fn run(&mut self, alloc: Global, events: Vec<Event>) -> Result<Vec<Answer>, AllocError>
         ensures said { IfOk result
             (λ answers. answers.items ≡ replay.answers_to events.items (shows self.old)) }
@@ -282,8 +308,13 @@ impl World {
         ensures err { OnErr result ((k : ℕ) × (k < length events.items)
             × (self.new ≡ happening.after_all (take k events.items) self.old)) }
         ensures once { IfOk result (λ answers. AreMergedOnce answers.items) }
+        ensures merges { IfOk result (λ answers. (name : List ℕ) (workers : List (List ℕ))
+            (ticket : Job) → self.old ≡ state.opening name workers ticket
+            → AreToldAbove ticket answers.items (shows self.new).shop) }
         ensures alone { (c d : Changer) (x : List ℕ)
             → MayChange self.new c x → MayChange self.new d x → c ≡ d }
+        ensures held { (c : Changer) (x : List ℕ)
+            → MayChange self.new c x ↔ Holds (shows self.new).shop c x }
     {
         // A world is kept in order.
         let _sent = self.messages();

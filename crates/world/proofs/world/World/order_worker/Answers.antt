@@ -1,12 +1,15 @@
-use Rattle.std.proofs.Common.{◌≡◌, ap, refl, subst, sym, ◌∙◌}
+use Rattle.std.proofs.Common.{◌≡◌, true, Option, Ok, Err, is_ok, ap, refl, subst, sym, ◌∙◌}
+use Rattle.std.specs.Option.{option_map_or}
 use Rattle.ticket_items.specs.declared.refusal.Refusal.TheVariants.{UnknownWorker}
 use Rattle.world.proofs.AlwaysKept.{worker_order_keeps}
 use Rattle.world.proofs.Answered.{if_ok, on_ok}
 use Rattle.world.proofs.Settled.{found_answers, found_settles, none_answers, none_settles}
+use Rattle.worker_core.specs.Worker as worker
+use Rattle.world.proofs.Unmade.{is_lost}
 use Rattle.world.proofs.WorkerPlaces.{StandsAt, found, found_own, kept_there, none_there, settled_there, stands_at}
 use Rattle.world.specs.Happening.{settled, settled_word, worker_step}
 use Rattle.world.specs.State.{State, state, worker_of}
-use Rattle.world.specs.Stepping.{ordered_worker}
+use Rattle.world.specs.Stepping.{ordered_worker, worker_moved}
 use Rattle.world_items.specs.declared.word.Word.TheVariants.{Refused}
 use Rattle.world.proofs.world.World.order_worker.Goals as goal
 
@@ -56,3 +59,14 @@ returns-in-Some-clause-state c =
     settled_there c.args.stop w.controllers.master workers w.messages c.worker_is_told.new.messages.items name c.in-Some.place x c.worker_is_told.new.stored moved c.self.invariant here is sent
     ∙ found_settles c.args.stop w (ordered_worker c.args.order c.args.at) (Refused UnknownWorker) (worker_of workers name) x moved (found workers name c.in-Some.place x here) refl
     ∙ ap (λ (v : State). settled c.args.stop v (worker_step c.args.name.now c.args.order c.args.at v)) c.self.view_is)
+
+pub returns-in-Some-clause-unmade : goal.returns-in-Some-clause-unmade
+returns-in-Some-clause-unmade c =
+    let w : State = state c.self.inside.master c.self.inside.workers.items c.self.inside.messages.items in
+    let workers = w.controllers.workers in
+    let name = c.args.name.now in
+    let x = c.index_mut-stored.result.now in
+    let here : StandsAt workers name c.in-Some.place x = stands_at workers c.as_slice.result.now name c.in-Some.place x c.as_slice.ensures.value (sym c.in-Some.ensures) c.index_mut-stored.ensures.value in
+    let there : is_ok (worker_step name c.args.order c.args.at w) ≡ true =
+    ap (λ (o : Option worker.Known). is_ok (option_map_or (λ v. Ok (worker_moved w.controllers v (ordered_worker c.args.order c.args.at v))) o (Err (Refused UnknownWorker)))) (found workers name c.in-Some.place x here) in
+    λ unmade. c.worker_is_told.ensures.lost (is_lost c.args.stop (worker_step name c.args.order c.args.at c.args.self.now) (subst (λ (v : State). is_ok (worker_step name c.args.order c.args.at v) ≡ true) c.self.view_is there) unmade)

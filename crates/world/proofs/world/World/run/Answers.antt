@@ -1,7 +1,8 @@
 use Rattle.std.proofs.Common.{rules, refl, arith, ap, ◌∙◌}
 use Rattle.std.proofs.lemmas.Iterator.Adapters.{YieldsList-from_vec}
 use Rattle.world.proofs.Answered.{on_err}
-use Rattle.world.proofs.Changing.{alone, alone_after_all}
+use Rattle.world.proofs.Changing.{alone, by_holders, kept_then_all}
+use Rattle.world.proofs.MergesTold.{run_told}
 use Rattle.world.proofs.Once.{run_merges_once}
 use Rattle.world.proofs.Replayed.{all_said, all_shown, cut_before}
 use Rattle.world.proofs.Runs.{all_of, has_room, next_of, one_more, stands_before}
@@ -47,8 +48,14 @@ returns-in_err-extend_from_slice-clause-cut c =
 pub returns-in_err-answers-clause-alone : goal.returns-in_err-answers-clause-alone
 returns-in_err-answers-clause-alone c = alone c.args.self.now c.messages-sent.ensures.kept
 
+pub returns-in_err-answers-clause-held : goal.returns-in_err-answers-clause-held
+returns-in_err-answers-clause-held c = by_holders c.args.self.now c.messages-sent.ensures.kept
+
 pub returns-clause-alone : goal.returns-clause-alone
-returns-clause-alone c = alone_after_all c.loop-event.yielded c.args.self.now c.loop-event.self c.messages-sent.ensures.kept c.loop-event.invariant.state_is
+returns-clause-alone c = alone c.loop-event.self (kept_then_all c.loop-event.yielded c.args.self.now c.loop-event.self c.messages-sent.ensures.kept c.loop-event.invariant.state_is)
+
+pub returns-clause-held : goal.returns-clause-held
+returns-clause-held c = by_holders c.loop-event.self (kept_then_all c.loop-event.yielded c.args.self.now c.loop-event.self c.messages-sent.ensures.kept c.loop-event.invariant.state_is)
 
 pub returns-clause-once : goal.returns-clause-once
 returns-clause-once c = run_merges_once c.loop-event.yielded c.args.self.now c.loop-event.answers.items c.messages-sent.ensures.kept c.loop-event.invariant.answers_are
@@ -64,3 +71,7 @@ returns-clause-shown c =
     let all = YieldsList-from_vec {s = c.into_iter-event-iterator.result} c.args.events.items (search rules) (search rules) in
     let are = all_of all c.loop-event.yielded c.loop-event.event-iterator c.loop-event.yielded_by c.next.result c.next.new.self c.in-None.is c.next.ensures.steps in
     all_shown c.args.events.items c.args.self.now c.loop-event.self c.messages-sent.ensures.kept (c.loop-event.invariant.state_is ∙ ap (λ es. after_all es c.args.self.now) are)
+
+pub returns-clause-merges : goal.returns-clause-merges
+returns-clause-merges c =
+    run_told c.loop-event.yielded c.args.self.now c.loop-event.self c.loop-event.answers.items c.messages-sent.ensures.kept c.loop-event.invariant.answers_are c.loop-event.invariant.state_is

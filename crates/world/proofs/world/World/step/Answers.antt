@@ -1,6 +1,6 @@
 use Rattle.std.proofs.Common.{Ok, refl, ap, ◌∙◌}
 use Rattle.std.specs.declared.alloc.AllocError.{AllocError}
-use Rattle.world.proofs.Changing.{alone, alone_after}
+use Rattle.world.proofs.Changing.{alone, by_holders, kept_then}
 use Rattle.world.proofs.Replayed.{said_so, shown_so}
 use Rattle.world.specs.Settling.{answer_without_step}
 use Rattle.world_items.specs.declared.what.What.TheVariants.{MasterOrder, WorkerOrder, Deliver, Restart}
@@ -32,16 +32,28 @@ returns-in-Restart-clause-said c = said_so {E = AllocError} (Ok c.without_step.r
 pub returns-in-Restart-clause-shown : goal.returns-in-Restart-clause-shown
 returns-in-Restart-clause-shown c = shown_so {E = AllocError} (Ok c.without_step.result) c.args.event (Restart c.in-Restart.name) c.args.self.now c.args.self.now c.messages-sent.ensures.kept c.in-Restart.is refl
 
--- ---- no two may change one
+-- ---- who may change what then
 
 pub returns-in-MasterOrder-clause-alone : goal.returns-in-MasterOrder-clause-alone
-returns-in-MasterOrder-clause-alone c = alone_after c.order_master.result (MasterOrder c.in-MasterOrder.order) c.args.event.at c.args.event.stop c.args.self.now c.order_master.new.self c.messages-sent.ensures.kept c.order_master.ensures.state c.order_master.ensures.err
+returns-in-MasterOrder-clause-alone c = alone c.order_master.new.self (kept_then c.order_master.result (MasterOrder c.in-MasterOrder.order) c.args.event.at c.args.event.stop c.args.self.now c.order_master.new.self c.messages-sent.ensures.kept c.order_master.ensures.state c.order_master.ensures.err)
+
+pub returns-in-MasterOrder-clause-held : goal.returns-in-MasterOrder-clause-held
+returns-in-MasterOrder-clause-held c = by_holders c.order_master.new.self (kept_then c.order_master.result (MasterOrder c.in-MasterOrder.order) c.args.event.at c.args.event.stop c.args.self.now c.order_master.new.self c.messages-sent.ensures.kept c.order_master.ensures.state c.order_master.ensures.err)
 
 pub returns-in-WorkerOrder-clause-alone : goal.returns-in-WorkerOrder-clause-alone
-returns-in-WorkerOrder-clause-alone c = alone_after c.order_worker.result (WorkerOrder c.in-WorkerOrder.name c.in-WorkerOrder.order) c.args.event.at c.args.event.stop c.args.self.now c.order_worker.new.self c.messages-sent.ensures.kept c.order_worker.ensures.state c.order_worker.ensures.err
+returns-in-WorkerOrder-clause-alone c = alone c.order_worker.new.self (kept_then c.order_worker.result (WorkerOrder c.in-WorkerOrder.name c.in-WorkerOrder.order) c.args.event.at c.args.event.stop c.args.self.now c.order_worker.new.self c.messages-sent.ensures.kept c.order_worker.ensures.state c.order_worker.ensures.err)
+
+pub returns-in-WorkerOrder-clause-held : goal.returns-in-WorkerOrder-clause-held
+returns-in-WorkerOrder-clause-held c = by_holders c.order_worker.new.self (kept_then c.order_worker.result (WorkerOrder c.in-WorkerOrder.name c.in-WorkerOrder.order) c.args.event.at c.args.event.stop c.args.self.now c.order_worker.new.self c.messages-sent.ensures.kept c.order_worker.ensures.state c.order_worker.ensures.err)
 
 pub returns-in-Deliver-clause-alone : goal.returns-in-Deliver-clause-alone
-returns-in-Deliver-clause-alone c = alone_after c.deliver.result (Deliver c.in-Deliver.number) c.args.event.at c.args.event.stop c.args.self.now c.deliver.new.self c.messages-sent.ensures.kept c.deliver.ensures.state c.deliver.ensures.err
+returns-in-Deliver-clause-alone c = alone c.deliver.new.self (kept_then c.deliver.result (Deliver c.in-Deliver.number) c.args.event.at c.args.event.stop c.args.self.now c.deliver.new.self c.messages-sent.ensures.kept c.deliver.ensures.state c.deliver.ensures.err)
+
+pub returns-in-Deliver-clause-held : goal.returns-in-Deliver-clause-held
+returns-in-Deliver-clause-held c = by_holders c.deliver.new.self (kept_then c.deliver.result (Deliver c.in-Deliver.number) c.args.event.at c.args.event.stop c.args.self.now c.deliver.new.self c.messages-sent.ensures.kept c.deliver.ensures.state c.deliver.ensures.err)
 
 pub returns-in-Restart-clause-alone : goal.returns-in-Restart-clause-alone
 returns-in-Restart-clause-alone c = alone c.args.self.now c.messages-sent.ensures.kept
+
+pub returns-in-Restart-clause-held : goal.returns-in-Restart-clause-held
+returns-in-Restart-clause-held c = by_holders c.args.self.now c.messages-sent.ensures.kept

@@ -1,0 +1,116 @@
+-- What the messages of a shop tell of merges: one that is put in, at the node above, and no other.
+use Rattle.std.proofs.Common.{◌≡◌, ◌⊎◌, inl, inr, ◌∙◌, ◌==◌, ℕ, Bool, true, false, cond, List, Option, Some, None, Result, Ok, Err, is_some, refl, sym, ap, subst}
+use Rattle.std.proofs.lemmas.Bool.{eqb-true}
+use Rattle.std.specs.Option.{option_and_then, option_map_or}
+use Rattle.std.specs.Str.{bytes_eq}
+use Rattle.ticket_items.proofs.SpawnTexts.{spawn_of-spawn_text}
+use Rattle.ticket_items.specs.SpawnId.{is_spawn_number}
+use Rattle.ticket_rows.proofs.AtHome.{find-passes}
+use Rattle.ticket_rows.specs.Place.{Row, nodes_in, up}
+use Rattle.controller.specs.declared.reply.Reply.TheVariants as reply
+use Rattle.world.proofs.Cases.{split, when_false}
+use Rattle.world.proofs.GoingOn.{as_often, one_if, told_once, touch_tells}
+use Rattle.world.proofs.MasterSpawns.{told_there}
+use Rattle.world.proofs.OrdersTell.{Tells}
+use Rattle.world.proofs.ShopTells as shops
+use Rattle.world.proofs.ShopTells.{HaveNumbers, TellsMore, is_above, phase_stays, same_rows, same_spawns, tells_none, tells_nothing, times}
+use Rattle.world.specs.MergeAudits.{GoOn, above_of, audit_tells}
+use Rattle.world.specs.Shop.{Merged, Open, Rows, Shop, SpawnState, has_number, is_away, is_done, spawn_of}
+use Rattle.world.specs.ShopActs.{is_held_by, merged, merged_audit, put_in, taken, told_above}
+use Rattle.world.specs.ShopSteps.{Submit, Return, Tag, ToReturn, ToSubmit, message_comes, return_comes, sends, submit_comes}
+use Rattle.world.specs.Stepping.{Moved}
+use Rattle.world_items.specs.declared.word.Word.{Word}
+use Rattle.world_items.specs.declared.word.Word.TheVariants.{Did, NoMessage}
+
+-- ---- one that is put in
+
+-- the node above a finished spawn stands, and the spawn doesn't hold it
+pub record StandsAbove (p : Shop) (a : SpawnState) : Type 0 where
+  pub above : List ℕ
+  pub is_above : up (nodes_in p.tree) a.node ≡ Some above
+  pub row : Row
+  pub seen : p.seen above ≡ Some row
+  pub now : p.now above ≡ Some row
+  pub free : is_held_by a.number p.holder above ≡ false
+
+-- the audit of a merge tells of its spawn
+audit_names : (a : SpawnState) (at s : ℕ) → is_spawn_number a.number ≡ true → audit_tells s (merged_audit a at) ≡ (a.number == s)
+audit_names a at s number = ap (λ o. option_map_or (λ t. t == s) o false) (spawn_of-spawn_text a.number number)
+
+-- so it does at the node above, and nowhere else
+counted : (one here there : Bool) → (one ≡ true → here ≡ there) → cond here (one_if one) 0 ≡ cond there (one_if one) 0
+counted true here there same = ap one_if (same refl)
+counted false true true same = refl
+counted false true false same = refl
+counted false false true same = refl
+counted false false false same = refl
+
+same_above : (p : Shop) (a : SpawnState) (s : ℕ) (u x : List ℕ) → above_of a.number p ≡ Some u → (a.number == s) ≡ true → bytes_eq u x ≡ is_above s p x
+same_above p a s u x there one =
+    sym (ap (λ o. option_map_or (λ v. bytes_eq v x) o false) (ap (λ t. above_of t p) (sym (eqb-true a.number s one)) ∙ there))
+
+told_so : (p : Shop) (a : SpawnState) (at s : ℕ) (u x : List ℕ) → is_spawn_number a.number ≡ true → above_of a.number p ≡ Some u → cond (bytes_eq u x) (told_once s (merged_audit a at)) 0 ≡ shops.told_there (times (Did (reply.Merged a.number))) p s x
+told_so p a at s u x number there =
+    ap (λ b. cond (bytes_eq u x) (one_if b) 0) (audit_names a at s number)
+    ∙ counted (a.number == s) (bytes_eq u x) (is_above s p x) (same_above p a s u x there)
+
+-- the audits of a row, once it is told above
+told_row : (p : Shop) (a : SpawnState) (at s : ℕ) (h : StandsAbove p a) (rows : Rows) (x : List ℕ) → is_spawn_number a.number ≡ true → above_of a.number p ≡ Some h.above → rows h.above ≡ Some h.row
+    → GoOn s (shops.told_there (times (Did (reply.Merged a.number))) p s x) (rows x) (told_above p.tree a.node (merged_audit a at) rows x)
+told_row p a at s h rows x number there stands =
+    let audit = merged_audit a at in
+    as_often s _ _ (rows x) (told_above p.tree a.node audit rows x) (told_so p a at s h.above x number there)
+    (subst (λ o. GoOn s (cond (bytes_eq h.above x) (told_once s audit) 0) (rows x) o) (sym (told_there p.tree a.node h.above audit rows x h.is_above)) (touch_tells s h.above audit rows h.row x stands))
+
+put_row : (p : Shop) (a : SpawnState) (s n : ℕ) (x : List ℕ) (after : Option Row) (held : Bool) → GoOn s n (cond held (p.now x) (p.seen x)) after → GoOn s n (p.seen x) after ⊎ GoOn s n (p.now x) after
+put_row p a s n x after true on = inr on
+put_row p a s n x after false on = inl on
+
+none_some : {X P : Type 0} (x : X) (o : Option X) → o ≡ Some x → o ≡ None → P
+none_some x o a b = cc
+
+merge_tells : (p : Shop) (a : SpawnState) (at : ℕ) → is_spawn_number a.number ≡ true → spawn_of a.number p ≡ Some a → StandsAbove p a → TellsMore (times (Did (reply.Merged a.number))) p (merged at a p)
+merge_tells p a at number found h =
+    let there : above_of a.number p ≡ Some h.above = ap (option_and_then (λ (b : SpawnState). up (nodes_in p.tree) b.node)) found ∙ h.is_above in
+    let put : put_in a.number p h.above ≡ Some h.row = when_false (is_held_by a.number p.holder h.above) (p.now h.above) (p.seen h.above) h.free ∙ h.seen in
+    let stay = phase_stays p (merged at a p) Merged a.number refl refl in
+    record {
+      seen = λ s x. put_row p a s (shops.told_there (times (Did (reply.Merged a.number))) p s x) x ((merged at a p).seen x) (is_held_by a.number p.holder x) (told_row p a at s h (put_in a.number p) x number there put);
+      now = λ s x. told_row p a at s h p.now x number there h.now;
+      above = stay.above;
+      none = λ s missing. split (a.number == s) (λ one. none_some h.above (above_of s p) (ap (λ t. above_of t p) (sym (eqb-true a.number s one)) ∙ there) missing) (λ other. ap one_if other);
+      numbers = stay.numbers;
+    }
+
+-- ---- messages
+
+return_tells : (p : Shop) (a : SpawnState) (at : ℕ) (done : Bool) → is_done a.phase ≡ done → is_spawn_number a.number ≡ true → spawn_of a.number p ≡ Some a → (is_done a.phase ≡ true → StandsAbove p a)
+    → Tells p (cond done (sends (reply.Merged a.number) (merged at a p) (ToReturn a.number)) (sends (reply.Already a.number) p (ToReturn a.number)))
+return_tells p a at true is number found stands = merge_tells p a at number found (stands is)
+return_tells p a at false is number found stands = tells_nothing (Did (reply.Already a.number)) p (λ s. refl)
+
+submit_tells : (p : Shop) (a : SpawnState) (away : Bool) → Tells p (cond away (sends (reply.Taken a.number) (taken a.number p) (ToSubmit a.number)) (sends (reply.Again a.number) p (ToSubmit a.number)))
+submit_tells p a true = tells_none (Did (reply.Taken a.number)) p (taken a.number p) (λ s. refl) (same_rows p.seen) (same_rows p.now) (phase_stays p (taken a.number p) Open a.number refl refl)
+submit_tells p a false = tells_nothing (Did (reply.Again a.number)) p (λ s. refl)
+
+-- a step, or the word where none is made
+abbrev pub StepTells : Shop → Result (Moved Shop Tag) Word → Type 0
+StepTells p (Ok moved) = Tells p moved
+StepTells p (Err word) = shops.IsSilent word
+
+found_tells : (p : Shop) (s : ℕ) (f : SpawnState → Moved Shop Tag) (found : Option SpawnState) → spawn_of s p ≡ found → ((a : SpawnState) → spawn_of s p ≡ Some a → Tells p (f a)) → StepTells p (option_map_or (λ a. Ok (f a)) found (Err NoMessage))
+found_tells p s f None is go = λ t. refl
+found_tells p s f (Some a) is go = go a is
+
+-- what is found by a number has it
+own_number : (p : Shop) (s : ℕ) (a : SpawnState) → spawn_of s p ≡ Some a → a.number ≡ s
+own_number p s a found = eqb-true a.number s (find-passes (has_number s) p.spawns a found)
+
+pub message_tells : (t : Tag) (at : ℕ) (p : Shop) → HaveNumbers p → ((s : ℕ) (a : SpawnState) → spawn_of s p ≡ Some a → is_done a.phase ≡ true → StandsAbove p a) → StepTells p (message_comes at p t)
+message_tells (Submit s) at p numbers stands = found_tells p s (submit_comes p) (spawn_of s p) refl (λ a found. submit_tells p a (is_away a.phase))
+message_tells (Return s) at p numbers stands =
+    found_tells p s (return_comes at p) (spawn_of s p) refl (λ a found.
+    let own = own_number p s a found in
+    return_tells p a at (is_done a.phase) refl (ap is_spawn_number own ∙ numbers s (ap is_some found)) (ap (λ n. spawn_of n p) own ∙ found) (stands s a found))
+message_tells (ToSubmit s) at p numbers stands = tells_nothing (Did (reply.Noted s)) p (λ t. refl)
+message_tells (ToReturn s) at p numbers stands = tells_nothing (Did (reply.Acked s)) p (λ t. refl)

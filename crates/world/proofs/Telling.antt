@@ -1,0 +1,53 @@
+-- What the messages tell of the shop that is shown, while their spawns are out.
+use Rattle.std.proofs.Common.{◌≡◌, ◌∙◌, true, Some, refl, sym, ap, subst}
+use Rattle.std.proofs.lemmas.List.Elements.{All-contains}
+use Rattle.std.specs.Option.{option_and_then, option_map_or}
+use Rattle.ticket_items.proofs.Places.{same_found}
+use Rattle.ticket_tree.specs.Part.{Copied}
+use Rattle.ticket_tree.specs.PartView.{part_row}
+use Rattle.controller.specs.Reply.{spawn_in}
+use Rattle.controller.specs.declared.body.Body.{Body}
+use Rattle.controller.specs.declared.body.Body.TheVariants.{Submit, Return, Answer}
+use Rattle.controller.specs.declared.message.Message.{Message}
+use Rattle.spawn.specs.Parts.{part_for}
+use Rattle.spawn.specs.Records.{is_out}
+use Rattle.spawn.specs.declared.records.spawn_rec.SpawnRec.{SpawnRec}
+use Rattle.master_core.proofs.Recorded.{number_is}
+use Rattle.master_core.specs.Master as master
+use Rattle.worker_core.specs.declared.entry.Entry.{Entry}
+use Rattle.world.proofs.PartsTaken.{claim_as_seen}
+use Rattle.world.proofs.Stored.{and_found}
+use Rattle.world.proofs.TicketSeen.{ticket_is_seen}
+use Rattle.world.specs.Messages.{IsInOrder, SaysRight, entry_for}
+use Rattle.world.specs.Showing.{entry_of_spawn, row_at, seen_shown, shop_shown}
+use Rattle.world.specs.State.{IsKept, State}
+use Rattle.world.specs.Telling.{AreTold, TellsOf}
+
+submitted : (p q : Copied) → Submit p ≡ Submit q → p ≡ q
+submitted p q e = cc
+
+returned : (p q : Copied) → Return p ≡ Return q → p ≡ q
+returned p q e = cc
+
+tells : (w : State) (m : Message) (r : SpawnRec) (body : Body) → IsKept w → m.body ≡ body → master.record_of w.controllers.master.records r.id ≡ Some r → is_out r ≡ true → SaysRight w.controllers r m body → TellsOf (shop_shown w.controllers) r body
+tells w m r (Submit p) ok is found out says =
+    let c = w.controllers in
+    let t = c.master.ticket in
+    let made : p ≡ part_for t r = submitted p (part_for t r) (sym is ∙ ap (λ (n : Message). n.body) (says out)) in
+    (made ∙ ap (λ u. part_for u r) (sym (ticket_is_seen w ok)), λ x held. ap (λ q. part_row q x) made ∙ claim_as_seen c.master r.id r x ok.master found out held)
+tells w m r (Return p) ok is found out says =
+    let c = w.controllers in
+    let ended = and_found _ (entry_for c r) says in
+    let e : Entry = ended.0 in
+    let part : p ≡ e.part = returned p e.part (sym is ∙ ap (λ (n : Message). n.body) ended.2.1) in
+    let entered : entry_of_spawn c r.id ≡ Some e = ap (option_and_then (entry_for c)) found ∙ ended.1 in
+    λ x held. ap (λ q. part_row q x) part ∙ sym (ap (row_at c x) held ∙ ap (λ o. option_map_or (λ (f : Entry). part_row f.part x) o (seen_shown c x)) entered)
+tells w m r (Answer command s told) ok is found out says = tt
+
+pub messages_told : (w : State) → IsKept w → AreTold w
+messages_told w ok m r there found out =
+    let c = w.controllers in
+    let h = All-contains (IsInOrder c) w.messages m ok.messages.each there in
+    let same : h.spawn ≡ r = same_found h.spawn r (master.record_of c.master.records (spawn_in m.body)) h.recorded found in
+    let own : master.record_of c.master.records r.id ≡ Some r = ap (master.record_of c.master.records) (number_is c.master.records (spawn_in m.body) r found) ∙ found in
+    tells w m r m.body ok refl own out (subst (λ q. SaysRight c q m m.body) same h.says)

@@ -1,0 +1,5 @@
+use Rattle.world.proofs.MergesTold.{merges_are_told}
+use Rattle.world.proofs.laws.merges_are_told.Goals as goal
+
+pub returns : goal.returns
+returns c = merges_are_told

@@ -1,0 +1,10 @@
+use Rattle.std.proofs.Common.{subst}
+use Rattle.world.proofs.Telling.{messages_told}
+use Rattle.world.specs.State.{State, state}
+use Rattle.world.specs.Telling.{AreTold}
+use Rattle.world.proofs.world.World.messages.Goals as goal
+
+pub returns-clause-told : goal.returns-clause-told
+returns-clause-told c =
+    let w : State = state c.self.inside.master c.self.inside.workers.items c.self.inside.messages.items in
+    subst AreTold c.self.view_is (messages_told w c.self.invariant)
