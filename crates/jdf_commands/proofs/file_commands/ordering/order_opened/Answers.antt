@@ -29,16 +29,16 @@ returns-in-Master-clause-refused g c =
 
 pub returns-in-Worker-clause-ok : goal.returns-in-Worker-clause-ok
 returns-in-Worker-clause-ok g c =
-    subst (λ o. IfOk c.order_kept.result (λ out. GivesOut g.K.Keep.is_honest g.K.Keep.held text_of (IsOrdered c.args.at c.args.input.now (held_in o).controller) (held_as of_worker c.order_kept.new.kept) out.text.items out.refused)) (sym c.in-Worker.is)
+    subst (λ o. IfOk c.order_kept-in-Worker.result (λ out. GivesOut g.K.Keep.is_honest g.K.Keep.held text_of (IsOrdered c.args.at c.args.input.now (held_in o).controller) (held_as of_worker c.order_kept-in-Worker.new.kept) out.text.items out.refused)) (sym c.in-Worker.is)
     (any_given of_worker g.K.Keep.is_honest g.K.Keep.held (λ x. compact_text (worker_state_data x)) text_of
     (IsOfOrder worker_order_read c.args.input.now (λ o. worker_ordered o c.args.at c.in-Worker.kept.controller))
-    (IsOrdered c.args.at c.args.input.now (of_worker c.in-Worker.kept.controller)) c.order_kept.new.kept c.order_kept.result (λ x. refl)
-    (λ s is. any_ordered of_worker worker_order_read c.args.input.now (λ o. worker_ordered o c.args.at c.in-Worker.kept.controller) s is) c.order_kept.ensures.ok)
+    (IsOrdered c.args.at c.args.input.now (of_worker c.in-Worker.kept.controller)) c.order_kept-in-Worker.new.kept c.order_kept-in-Worker.result (λ x. refl)
+    (λ s is. any_ordered of_worker worker_order_read c.args.input.now (λ o. worker_ordered o c.args.at c.in-Worker.kept.controller) s is) c.order_kept-in-Worker.ensures.ok)
 
 pub returns-in-Worker-clause-refused : goal.returns-in-Worker-clause-refused
 returns-in-Worker-clause-refused g c =
-    subst (λ o. IfErr c.order_kept.result (GivesNoOutput g.K.Keep.is_honest g.K.Keep.held g.K.Keep.count g.K.Keep.save_fails text_of (IsNoOrder c.args.input.now (held_in o).controller) (IsOrdered c.args.at c.args.input.now (held_in o).controller) (held_in o) (held_as of_worker c.order_kept.new.kept))) (sym c.in-Worker.is)
+    subst (λ o. IfErr c.order_kept-in-Worker.result (GivesNoOutput g.K.Keep.is_honest g.K.Keep.held g.K.Keep.count g.K.Keep.save_fails text_of (IsNoOrder c.args.input.now (held_in o).controller) (IsOrdered c.args.at c.args.input.now (held_in o).controller) (held_in o) (held_as of_worker c.order_kept-in-Worker.new.kept))) (sym c.in-Worker.is)
     (any_not_given of_worker g.K.Keep.is_honest g.K.Keep.held g.K.Keep.count g.K.Keep.save_fails (λ x. compact_text (worker_state_data x)) text_of (IsRefusalOf worker_order_read c.args.input.now)
     (IsOfOrder worker_order_read c.args.input.now (λ o. worker_ordered o c.args.at c.in-Worker.kept.controller))
-    (IsOrdered c.args.at c.args.input.now (of_worker c.in-Worker.kept.controller)) c.in-Worker.kept c.order_kept.new.kept c.order_kept.result (λ x. refl)
-    (λ s is. any_ordered of_worker worker_order_read c.args.input.now (λ o. worker_ordered o c.args.at c.in-Worker.kept.controller) s is) c.order_kept.ensures.refused)
+    (IsOrdered c.args.at c.args.input.now (of_worker c.in-Worker.kept.controller)) c.in-Worker.kept c.order_kept-in-Worker.new.kept c.order_kept-in-Worker.result (λ x. refl)
+    (λ s is. any_ordered of_worker worker_order_read c.args.input.now (λ o. worker_ordered o c.args.at c.in-Worker.kept.controller) s is) c.order_kept-in-Worker.ensures.refused)

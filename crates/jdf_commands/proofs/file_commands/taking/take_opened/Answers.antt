@@ -27,16 +27,16 @@ returns-in-Master-clause-refused g c =
 
 pub returns-in-Worker-clause-ok : goal.returns-in-Worker-clause-ok
 returns-in-Worker-clause-ok g c =
-    subst (λ o. IfOk c.take_kept.result (λ out. GivesOut g.K.Keep.is_honest g.K.Keep.held text_of (IsHanded c.args.at c.args.input.now (held_in o).controller) (held_as of_worker c.take_kept.new.kept) out.text.items out.refused)) (sym c.in-Worker.is)
+    subst (λ o. IfOk c.take_kept-in-Worker.result (λ out. GivesOut g.K.Keep.is_honest g.K.Keep.held text_of (IsHanded c.args.at c.args.input.now (held_in o).controller) (held_as of_worker c.take_kept-in-Worker.new.kept) out.text.items out.refused)) (sym c.in-Worker.is)
     (any_given of_worker g.K.Keep.is_honest g.K.Keep.held (λ x. compact_text (worker_state_data x)) text_of
     (IsTaken c.args.input.now (λ m. worker_taken m c.args.at c.in-Worker.kept.controller))
-    (IsHanded c.args.at c.args.input.now (of_worker c.in-Worker.kept.controller)) c.take_kept.new.kept c.take_kept.result (λ x. refl)
-    (λ s is. any_taken of_worker c.args.input.now (λ m. worker_taken m c.args.at c.in-Worker.kept.controller) s is) c.take_kept.ensures.ok)
+    (IsHanded c.args.at c.args.input.now (of_worker c.in-Worker.kept.controller)) c.take_kept-in-Worker.new.kept c.take_kept-in-Worker.result (λ x. refl)
+    (λ s is. any_taken of_worker c.args.input.now (λ m. worker_taken m c.args.at c.in-Worker.kept.controller) s is) c.take_kept-in-Worker.ensures.ok)
 
 pub returns-in-Worker-clause-refused : goal.returns-in-Worker-clause-refused
 returns-in-Worker-clause-refused g c =
-    subst (λ o. IfErr c.take_kept.result (GivesNoOutput g.K.Keep.is_honest g.K.Keep.held g.K.Keep.count g.K.Keep.save_fails text_of (IsRefusalOf c.args.input.now) (IsHanded c.args.at c.args.input.now (held_in o).controller) (held_in o) (held_as of_worker c.take_kept.new.kept))) (sym c.in-Worker.is)
+    subst (λ o. IfErr c.take_kept-in-Worker.result (GivesNoOutput g.K.Keep.is_honest g.K.Keep.held g.K.Keep.count g.K.Keep.save_fails text_of (IsRefusalOf c.args.input.now) (IsHanded c.args.at c.args.input.now (held_in o).controller) (held_in o) (held_as of_worker c.take_kept-in-Worker.new.kept))) (sym c.in-Worker.is)
     (any_not_given of_worker g.K.Keep.is_honest g.K.Keep.held g.K.Keep.count g.K.Keep.save_fails (λ x. compact_text (worker_state_data x)) text_of (IsRefusalOf c.args.input.now)
     (IsTaken c.args.input.now (λ m. worker_taken m c.args.at c.in-Worker.kept.controller))
-    (IsHanded c.args.at c.args.input.now (of_worker c.in-Worker.kept.controller)) c.in-Worker.kept c.take_kept.new.kept c.take_kept.result (λ x. refl)
-    (λ s is. any_taken of_worker c.args.input.now (λ m. worker_taken m c.args.at c.in-Worker.kept.controller) s is) c.take_kept.ensures.refused)
+    (IsHanded c.args.at c.args.input.now (of_worker c.in-Worker.kept.controller)) c.in-Worker.kept c.take_kept-in-Worker.new.kept c.take_kept-in-Worker.result (λ x. refl)
+    (λ s is. any_taken of_worker c.args.input.now (λ m. worker_taken m c.args.at c.in-Worker.kept.controller) s is) c.take_kept-in-Worker.ensures.refused)
