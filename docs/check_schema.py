@@ -25,13 +25,14 @@ WRITTEN = SCHEMA["anyOf"] + [{"$ref": "#/$defs/" + kind} for kind in ("part", "e
 
 # What the input of a case is, by its first word; of `order` and `show` the file tells.
 INPUTS = {"": "editInput", "edit": "editInput", "world": "script", "new": "opening",
-          "take": "message", "message": "message", "part": "part",
+          "take": "message", "message": "message", "part": "part", "ticket": "ticket",
           "below": "ticket", "home": "ticket", "subtree": "ticket"}
 
 # Words of the driver alone, with the number of lines of their answers. The answer to any other is
 # what the program prints and tells, and its status on a line.
-LINES = {"file": 0, "text": 1, "holders": 1, "value": 1, "part": 1, "message": 1, "tree": 1,
-         "part_tree": 1, "below": 1, "home": 1, "subtree": 1}
+LINES = {"file": 0, "text": 1, "holders": 1, "marked": 1, "value": 1, "ticket": 1, "change": 1,
+         "part": 1, "message": 1, "id": 1, "tree": 1, "part_tree": 1, "below": 1, "home": 1,
+         "subtree": 1}
 
 
 def cases():
