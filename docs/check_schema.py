@@ -25,14 +25,14 @@ WRITTEN = SCHEMA["anyOf"] + [{"$ref": "#/$defs/" + kind} for kind in ("part", "e
 
 # What the input of a case is, by its first word; of `order` and `show` the file tells.
 INPUTS = {"": "editInput", "edit": "editInput", "world": "script", "new": "opening",
-          "take": "message", "message": "message", "part": "part", "ticket": "ticket",
-          "below": "ticket", "home": "ticket", "subtree": "ticket"}
+          "take": "message", "message": "message", "id": "message", "part": "part",
+          "ticket": "ticket", "below": "ticket", "home": "ticket", "subtree": "ticket",
+          "change": "edit"}
 
-# Words of the driver alone, with the number of lines of their answers. The answer to any other is
-# what the program prints and tells, and its status on a line.
-LINES = {"file": 0, "text": 1, "holders": 1, "marked": 1, "value": 1, "ticket": 1, "change": 1,
-         "part": 1, "message": 1, "id": 1, "tree": 1, "part_tree": 1, "below": 1, "home": 1,
-         "subtree": 1}
+# Words of the driver alone, whose answer is one line, or none. The answer to any other is what the
+# program prints and tells, and its status on a line.
+ONE_LINE = {"text", "holders", "marked", "value", "ticket", "change", "part", "message", "id",
+            "tree", "part_tree", "below", "home", "subtree"}
 
 
 def cases():
@@ -58,10 +58,10 @@ def cases():
 
 def answer_to(word, held, answers):
     """The lines of the answer to a case of this first word, on a file that was given this text."""
-    answer = [next(answers) for _ in range(LINES.get(word, 1))]
+    answer = [] if word == "file" else [next(answers)]
     if word == "text" and answer[0] == held.split("\n")[0]:
         answer += [next(answers) for _ in range(held.count("\n"))]
-    while word not in LINES and not answer[-1].startswith("status "):
+    while word != "file" and word not in ONE_LINE and not answer[-1].startswith("status "):
         answer.append(next(answers))
     return answer
 
