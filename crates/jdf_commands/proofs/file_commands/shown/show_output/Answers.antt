@@ -1,0 +1,12 @@
+use Rattle.std.proofs.Common.{◌∙◌}
+use Rattle.jdf_commands.specs.FileCommands.AnyStep.{held_in}
+use Rattle.jdf_commands.proofs.file_commands.shown.show_output.Goals as goal
+
+pub returns-clause-ok : goal.returns-clause-ok
+returns-clause-ok g c =
+    record {
+      opened = held_in c.in_ok-opened.opened;
+      loaded = c.in_ok-opened.ensures.ok;
+      shown = c.unrefused.ensures.text ∙ c.in_ok-controller_text.ensures.ok;
+      accepted = c.unrefused.ensures.accepted;
+    }
