@@ -191,8 +191,8 @@ def a_command_that_waits_is_not_in_the_way():
 def job():
     """The commands of a day on `mis`, each with its input."""
     spawn = json.dumps({"Order": "Spawn", "Node": "n1", "Worker": "press", "RW": []})
-    add = {"Edit": "AddNode", "Parent": "n0",
-           "Node": {"ID": "n1", "JobPartID": "p1", "Status": "Waiting", "Type": "Cutting"}}
+    add = {"Edit": "AddNode", "Node": "n0", "ID": "n1", "JobPartID": "p1", "Status": "Waiting",
+           "Type": "Cutting"}
     orders = [attribute(f"B{number}", "y" * 900) for number in range(8)]
     orders += [json.dumps({"Order": "Edit", "Edit": add}), spawn]
     orders += [json.dumps({"Order": "Resend", "SpawnID": "S1"})]
@@ -275,7 +275,7 @@ def passes(test):
         print(f"{test.__name__} ... ok")
         return True
     except (AssertionError, subprocess.SubprocessError, OSError) as fault:
-        print(f"{test.__name__} ... FAILED: {fault}")
+        print(f"{test.__name__} ... FAILED: {str(fault)[:600]}")
         return False
     finally:
         os.chdir("/")

@@ -7,3 +7,4 @@ pub mod Names
 pub mod StepLines
 pub mod Steps
 pub mod AnySteps
+pub mod Commands

@@ -1,0 +1,34 @@
+-- Commands on a controller that a keeper holds, by the steps of the controller that was loaded.
+use Rattle.std.proofs.Common.{◌≡◌, ◌∙◌, ℕ, Bool, List, Result, Ok, Err, IfOk, IfErr, IsErrAnd, inl, inr, subst, sym}
+use Rattle.ticket_items.specs.declared.refusal.Refusal.{Refusal}
+use Rattle.stored_state.specs.Held.{Held}
+use Rattle.stored_state.specs.Opened.{AnyController}
+use Rattle.streams.specs.declared.command.Output.{Output}
+use Rattle.streams.specs.declared.fault.Fault.{Fault}
+use Rattle.streams.specs.Ends.{IsUnread}
+use Rattle.streams.specs.Streams.{IsInput, Use}
+use Rattle.jdf_commands.specs.FileCommands.AnyStep.{text_of}
+use Rattle.jdf_commands.specs.FileCommands.Commands.{DoesNoStep, DoesStep, Steps}
+use Rattle.jdf_commands.specs.FileCommands.Opening.{IsLoaded}
+use Rattle.jdf_commands.specs.FileCommands.Step.{GivesNoOutput, GivesOut}
+
+pub step_done : {K : Type 0} (is_honest : K → Bool) (held : K → List ℕ) (IsStep : Steps) (keep : K) (input : Use) (before after : Held AnyController K) (bytes : List ℕ) (r : Result Output Fault) → IsLoaded is_honest held keep before → IsInput input bytes → is_honest after.keep ≡ is_honest before.keep → IfOk r (λ o. GivesOut is_honest held text_of (IsStep bytes before.controller) after o.text.items o.refused) → IfOk r (λ o. DoesStep is_honest held IsStep keep input o.text.items o.refused)
+step_done h l IsStep keep input before after bytes (Ok o) loaded is_input honest gives =
+    record { before = before; loaded = loaded; bytes = bytes; is_input = is_input; after = after; gives = gives; honest = honest ∙ loaded.honest }
+step_done h l IsStep keep input before after bytes (Err e) loaded is_input honest gives = tt
+
+pub no_step_done : {K A : Type 0} (is_honest : K → Bool) (held : K → List ℕ) (count : K → ℕ) (load_fails : K → K → Type 0) (save_fails : K → List ℕ → K → Type 0) (Refuses : List ℕ → AnyController → Refusal → Type 0) (IsStep : Steps) (keep : K) (input : Use) (before after : Held AnyController K) (bytes : List ℕ) (r : Result A Fault) → IsLoaded is_honest held keep before → IsInput input bytes → IfErr r (GivesNoOutput is_honest held count save_fails text_of (Refuses bytes before.controller) (IsStep bytes before.controller) before after) → IfErr r (DoesNoStep is_honest held count load_fails save_fails Refuses IsStep keep input)
+no_step_done h l n lf sf Refuses IsStep keep input before after bytes (Ok a) loaded is_input gives = tt
+no_step_done h l n lf sf Refuses IsStep keep input before after bytes (Err f) loaded is_input gives =
+    inr (before, loaded, inr (bytes, is_input, after, gives))
+
+-- the input isn't read
+pub not_read : {K A : Type 0} (is_honest : K → Bool) (held : K → List ℕ) (count : K → ℕ) (load_fails : K → K → Type 0) (save_fails : K → List ℕ → K → Type 0) (Refuses : List ℕ → AnyController → Refusal → Type 0) (IsStep : Steps) (keep : K) (input : Use) (before : Held AnyController K) (r : Result A Fault) (e : Fault) → IsErrAnd r (λ f. f ≡ e) → IsLoaded is_honest held keep before → IsUnread input e → IfErr r (DoesNoStep is_honest held count load_fails save_fails Refuses IsStep keep input)
+not_read h l n lf sf Refuses IsStep keep input before (Ok a) e same loaded unread = absurd same
+not_read h l n lf sf Refuses IsStep keep input before (Err f) e same loaded unread =
+    inr (before, loaded, inl (subst (IsUnread input) (sym same) unread))
+
+-- a fault that is one by other words
+pub fault_as : {A : Type 0} (P Q : Fault → Type 0) (r : Result A Fault) → ((f : Fault) → P f → Q f) → IfErr r P → IfErr r Q
+fault_as P Q (Ok a) f why = tt
+fault_as P Q (Err e) f why = f e why
