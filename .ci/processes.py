@@ -212,6 +212,17 @@ def the_day_of_the_brochure():
     wants(day.stdout.decode().splitlines(), lines + [ticket])
 
 
+def kill_within(seconds, words, given):
+    """Runs a command, and kills it then."""
+    command = subprocess.Popen([PROGRAM, *words], stdin=subprocess.PIPE, stdout=subprocess.DEVNULL,
+                               stderr=subprocess.DEVNULL)
+    command.stdin.write(given.encode())
+    command.stdin.close()
+    time.sleep(seconds)
+    command.kill()
+    command.wait()
+
+
 def a_killed_command_leaves_the_old_or_the_new():
     begin()
     commands = job()
@@ -229,19 +240,15 @@ def a_killed_command_leaves_the_old_or_the_new():
         with open("mis", "wb") as file:
             file.write(states[0])
         for step, (words, given) in enumerate(commands):
-            while content("mis") == states[step]:
-                # A stop at a moment of the command, or of none of it at last.
-                command = subprocess.Popen([PROGRAM, *words], stdin=subprocess.PIPE,
-                                           stdout=subprocess.DEVNULL, stderr=subprocess.DEVNULL)
-                command.stdin.write(given.encode())
-                command.stdin.close()
-                time.sleep(chance.uniform(0, took))
-                command.kill()
-                command.wait()
+            while content("mis") == states[step] and kills < KILLS:
+                # At a moment of the command, or behind its end.
+                kill_within(1.5 * took * chance.random(), words, given)
                 kills += 1
                 held = content("mis")
                 assert held in (states[step], states[step + 1]), "neither the old nor the new"
                 old, new = old + (held == states[step]), new + (held != states[step])
+            if content("mis") == states[step]:
+                run(*words, given=given)
             assert content("mis") == states[step + 1]
             wants(run("show", "mis")[::2], (0, ""))
     wants(content("mis"), states[-1])
