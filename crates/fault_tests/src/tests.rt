@@ -6,7 +6,7 @@ mod file_keep;
 mod lent;
 mod memory_keep;
 mod steps;
-mod streams;
+mod failing_streams;
 mod texts;
 
 use keepers::Keep;
