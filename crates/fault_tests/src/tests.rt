@@ -1,12 +1,12 @@
 mod commands;
 mod counts;
 mod failing_keep;
+mod failing_streams;
 mod fakes;
 mod file_keep;
 mod lent;
 mod memory_keep;
 mod steps;
-mod failing_streams;
 mod texts;
 
 use keepers::Keep;
