@@ -45,28 +45,32 @@ fn holders_line(alloc: Global, master: &Master, ids: &[String]) -> Result<Vec<u8
         if !text.is_empty() {
             text.push_str(", ")?;
         }
-        push_holder(alloc, &mut text, master, &Id::new(alloc, id.as_str())?)?;
+        push_held(alloc, &mut text, master, &Id::new(alloc, id.as_str())?)?;
     }
     text.push('\n')?;
     Ok(text.into_bytes())
 }
 
-/// Appends who holds an id, and whether the master may change it.
+/// Appends who holds something.
 fn push_holder(
     alloc: Global,
     text: &mut String,
-    master: &Master,
-    id: &Id,
+    holder: Option<&Holder>,
 ) -> Result<(), AllocError> {
-    text.push_str(id.as_str())?;
-    match master.holder_of(id) {
-        None => text.push_str(" None")?,
-        Some(Holder::Master) => text.push_str(" Master")?,
+    match holder {
+        None => text.push_str(" None"),
+        Some(Holder::Master) => text.push_str(" Master"),
         Some(Holder::Spawn(spawn)) => {
             text.push(' ')?;
-            text.push_str(spawn.to_id(alloc)?.as_str())?;
+            text.push_str(spawn.to_id(alloc)?.as_str())
         }
     }
+}
+
+/// Appends who holds an id, and whether the master may change it.
+fn push_held(alloc: Global, text: &mut String, master: &Master, id: &Id) -> Result<(), AllocError> {
+    text.push_str(id.as_str())?;
+    push_holder(alloc, text, master.holder_of(id).as_ref())?;
     text.push_str(if master.may_change(id) {
         " may"
     } else {

@@ -74,11 +74,16 @@ fn comes_to(alloc: Global, kept: &mut Lending<'_>, step: &Step, line: &str) -> b
     }
 }
 
+/// Whether the fault is this one of the device.
+fn is_of_device(fault: Fault, refused: Refused) -> bool {
+    fault == Fault::Device(refused)
+}
+
 /// Whether a step is refused so.
 fn is_refused(alloc: Global, kept: &mut Lending<'_>, step: &Step, refused: Refused) -> bool {
     match do_step(alloc, kept, step) {
         Ok(_) => false,
-        Err(fault) => fault == Fault::Device(refused),
+        Err(fault) => is_of_device(fault, refused),
     }
 }
 
