@@ -81,9 +81,9 @@ fn is_of_device(fault: Fault, refused: Refused) -> bool {
 
 /// Whether a step is refused so.
 fn is_refused(alloc: Global, kept: &mut Lending<'_>, step: &Step, refused: Refused) -> bool {
-    match do_step(alloc, kept, step) {
-        Ok(_) => false,
-        Err(fault) => is_of_device(fault, refused),
+    match do_step(alloc, kept, step).err() {
+        Some(fault) => is_of_device(fault, refused),
+        None => false,
     }
 }
 
