@@ -13,7 +13,8 @@ import sys
 import tempfile
 import time
 
-PROGRAM = os.path.realpath(sys.argv[1])
+# A copy that any user may run.
+PROGRAM = os.path.join(tempfile.mkdtemp(), "jdf_cli")
 HERE = os.path.dirname(os.path.realpath(__file__))
 EXAMPLES = os.path.join(os.path.dirname(HERE), "examples")
 AT = "1782806400"
@@ -291,7 +292,11 @@ def passes(test):
 
 
 def main():
+    shutil.copyfile(sys.argv[1], PROGRAM)
+    os.chmod(PROGRAM, 0o755)
+    os.chmod(os.path.dirname(PROGRAM), 0o755)
     passed = sum([passes(test) for test in TESTS])
+    shutil.rmtree(os.path.dirname(PROGRAM))
     print(f"processes: {passed} passed, {len(TESTS) - passed} failed")
     sys.exit(passed != len(TESTS))
 
