@@ -1,5 +1,12 @@
-use Rattle.std.proofs.Common.{inl, inr, refl}
+use Rattle.std.proofs.Common.{Bool, true, false, ap, inl, inr, refl}
+use Rattle.std.proofs.lemmas.Bool.{true≢false}
+use Rattle.jdf_words.specs.declared.call_fault.CallFault.{CallFault}
+use Rattle.jdf_words.specs.declared.call_fault.CallFault.TheVariants.{Clap, Memory}
 use Rattle.jdf_commands.proofs.words.run_words.Goals as goal
+
+abbrev is_clap : CallFault → Bool
+is_clap (Clap e) = true
+is_clap Memory = false
 
 pub returns-in-Ok : goal.returns-in-Ok
 returns-in-Ok g c =
@@ -7,4 +14,10 @@ returns-in-Ok g c =
 
 pub returns-in-Err-Clap : goal.returns-in-Err-Clap
 returns-in-Err-Clap g c =
-    inr (inl (record { unread = refl; unwritten = refl; no_call = c.tell_help.ensures }))
+    inr (inl (record {
+      some = λ none. c.in-Err-Clap.ensures.edit none;
+      wrong = λ taken. true≢false (ap is_clap (c.in-Err-Clap.ensures.passes taken));
+      unread = refl;
+      unwritten = refl;
+      no_call = c.tell_help.ensures;
+    }))
