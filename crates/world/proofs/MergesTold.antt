@@ -32,10 +32,10 @@ use Rattle.world.proofs.Changing.{made_of}
 use Rattle.world.proofs.Events.{event_is_replayed, events_are_replayed}
 use Rattle.world.proofs.GoingOn.{IsNew, as_often, one_if, stays_so}
 use Rattle.world.proofs.MasterEdits.{edit_refused, new_nowhere}
+use Rattle.world.proofs.Opening.{opening_is_shown}
 use Rattle.world.proofs.MergesTell.{StandsAbove, StepTells, message_tells}
 use Rattle.world.proofs.Once.{each_is_merged_once}
 use Rattle.world.proofs.OrdersTell.{StaysAbove, Tells, master_tells, worker_tells}
-use Rattle.world.proofs.Replaying.{opening_is_shown}
 use Rattle.world.proofs.Resends.{spawn_found}
 use Rattle.world.proofs.ShopTells.{HaveNumbers, IsSilent, IsTold, TellsMore, is_above, tells_nothing, then_told, times}
 use Rattle.world.specs.Happening as world

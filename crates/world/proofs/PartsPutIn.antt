@@ -36,7 +36,7 @@ use Rattle.master_core.specs.Master as master
 use Rattle.master_core.specs.Messages as master_messages
 use Rattle.worker_core.specs.Worker as worker
 use Rattle.worker_core.specs.declared.entry.Entry.{Entry}
-use Rattle.world.proofs.Agreeing.{Agrees}
+use Rattle.world.proofs.Agreeing.{Agrees, StepsAgree}
 use Rattle.world.proofs.Cases.{split, when_false, when_true}
 use Rattle.world.proofs.Doors.{master_refuses_nothing, return_fits}
 use Rattle.world.proofs.HeldBySpawn.{good_record, held_claims, held_spawn}
@@ -44,7 +44,6 @@ use Rattle.world.proofs.MasterEdits.{touch_as}
 use Rattle.world.proofs.MasterSpawns.{told_as, told_stays, told_there, with_told}
 use Rattle.world.proofs.MasterSteps.{with_master}
 use Rattle.world.proofs.PartHolds.{claims}
-use Rattle.world.proofs.Replaying.{StepsAgree}
 use Rattle.world.proofs.Resends.{spawn_found}
 use Rattle.world.proofs.ShopPaths.{same_shop}
 use Rattle.world.proofs.Stored.{and_found}

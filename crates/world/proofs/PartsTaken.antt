@@ -27,12 +27,11 @@ use Rattle.worker_core.proofs.AtNumber.{found_holds}
 use Rattle.worker_core.specs.Messages.{taken_answer}
 use Rattle.worker_core.specs.Worker as worker
 use Rattle.worker_core.specs.declared.entry.Entry.{Entry}
-use Rattle.world.proofs.Agreeing.{Agrees}
+use Rattle.world.proofs.Agreeing.{Agrees, StepsAgree}
 use Rattle.world.proofs.Back.{one_record}
 use Rattle.world.proofs.Cases.{split, split_some}
 use Rattle.world.proofs.Doors.{worker_refuses_nothing}
 use Rattle.world.proofs.EntryStored.{HasStored, row_stored, spawns_stored}
-use Rattle.world.proofs.Replaying.{StepsAgree}
 use Rattle.world.proofs.Resends.{spawn_found}
 use Rattle.world.proofs.SameWorkers.{stored_same}
 use Rattle.world.proofs.ShopPaths.{same_shop}

@@ -1,5 +1,5 @@
 -- What happens at an event: which step is made, and what is left of it.
-use Rattle.std.specs.Prelude.{ℕ, Bool, false, List, [], ◌∷◌, if◌then◌else◌, is_ok, Result, Ok}
+use Rattle.std.specs.Prelude.{ℕ, Bool, false, List, if◌then◌else◌, is_ok, Result, Ok}
 use Rattle.std.specs.Prelude.{Err}
 use Rattle.std.specs.Option.{option_map_or}
 use Rattle.std.specs.Str.{bytes_eq}
@@ -7,8 +7,8 @@ use Rattle.ticket_items.specs.declared.refusal.Refusal.TheVariants.{UnknownWorke
 use Rattle.controller.specs.declared.message.Message.{Message}
 use Rattle.master_core.specs.declared.order.Order as master
 use Rattle.worker_core.specs.declared.order.Order as worker
-use Rattle.world.specs.Settling.{answer_without_step, settled_answer, settled_messages}
-use Rattle.world.specs.Settling.{settled_state}
+use Rattle.world.specs.Running as running
+use Rattle.world.specs.Running.{Machine}
 use Rattle.world.specs.State.{Controllers, State, is_controller, message_at, worker_of}
 use Rattle.world.specs.Stepping.{Moved, master_moved, ordered_master, ordered_worker}
 use Rattle.world.specs.Stepping.{taken_by_master, taken_by_worker, worker_moved}
@@ -75,37 +75,38 @@ is_made Run step = is_ok step
 is_made BeforeSave step = false
 is_made BeforeSend step = is_ok step
 
--- what is answered
-abbrev pub settled_word : Stop → State → Step → Answer
-settled_word stop w (Ok moved) = settled_answer stop w.messages moved.word moved.sent
-settled_word stop w (Err word) = answer_without_step word
-
--- what is there then
-abbrev pub settled : Stop → State → Step → State
-settled stop w (Ok moved) =
-    record {
-      controllers = settled_state stop w.controllers moved.next;
-      messages = settled_messages stop w.messages moved.sent;
-    }
-settled stop w (Err word) = w
-
--- ---- one event
-
-abbrev pub answer_to : Event → State → Answer
-answer_to e w = settled_word e.stop w (step_of e.what e.at w)
-
-abbrev pub after : Event → State → State
-after e w = settled e.stop w (step_of e.what e.at w)
-
 abbrev pub makes_step : Event → State → Bool
 makes_step e w = is_made e.stop (step_of e.what e.at w)
 
--- ---- a list of events
+-- ---- as they run
 
+-- the controllers with their messages, as a machine
+abbrev pub machine : Machine State Controllers Message
+machine =
+    record {
+      inner = λ w. w.controllers;
+      sent = λ w. w.messages;
+      made = λ c messages. record { controllers = c; messages = messages };
+      step_of = step_of;
+    }
+
+-- what is answered to a step, and what is there then
+abbrev pub settled_word : Stop → State → Step → Answer
+settled_word = running.settled_word machine
+
+abbrev pub settled : Stop → State → Step → State
+settled = running.settled machine
+
+-- the same of an event
+abbrev pub answer_to : Event → State → Answer
+answer_to = running.answer_to machine
+
+abbrev pub after : Event → State → State
+after = running.after machine
+
+-- and of events in turn
 abbrev pub answers_to : List Event → State → List Answer
-answers_to [] w = []
-answers_to (e ∷ events) w = answer_to e w ∷ answers_to events (after e w)
+answers_to = running.answers_to machine
 
 abbrev pub after_all : List Event → State → State
-after_all [] w = w
-after_all (e ∷ events) w = after_all events (after e w)
+after_all = running.after_all machine

@@ -3,6 +3,7 @@ pub mod Controllers
 pub mod Messages
 pub mod State
 pub mod Stepping
+pub mod Running
 pub mod Happening
 pub mod Shop
 pub mod Changing
