@@ -37,9 +37,11 @@ use Rattle.world.specs.Laws.{EventsAreReplayed}
 use Rattle.world.specs.Messages.{IsInOrder}
 use Rattle.world.specs.Replay as replay
 use Rattle.world.specs.Running.{IsShownBy}
+use Rattle.world.specs.Shop.{Shop}
 use Rattle.world.specs.ShopSteps as shop
 use Rattle.world.specs.Showing.{shop_shown, shows, tag_in, tag_of}
 use Rattle.world.specs.State.{IsKept, State, message_at}
+use Rattle.world.specs.Step.{StepOrWord}
 use Rattle.world.specs.Stepping.{master_moved, ordered_master, ordered_worker, taken_by_worker, worker_moved}
 use Rattle.world_items.specs.declared.event.Event.{Event}
 use Rattle.world_items.specs.declared.what.What.{What}
@@ -58,10 +60,10 @@ WorkerAgrees w name v o at = Agrees (worker_moved w.controllers v (ordered_worke
 
 -- ---- who receives a message
 
-by_master : (w : State) (m : Message) (at : ℕ) (plain : replay.Step) → bytes_eq m.receiver w.controllers.master.name ≡ true → StepsAgree (world.master_takes m at w) plain → StepsAgree (world.receiver_takes at w m) plain
+by_master : (w : State) (m : Message) (at : ℕ) (plain : StepOrWord Shop shop.Tag) → bytes_eq m.receiver w.controllers.master.name ≡ true → StepsAgree (world.master_takes m at w) plain → StepsAgree (world.receiver_takes at w m) plain
 by_master w m at plain mine agree = subst (λ b. StepsAgree (cond b (world.master_takes m at w) (world.worker_takes m at w)) plain) (sym mine) agree
 
-by_worker : (w : State) (m : Message) (at : ℕ) (plain : replay.Step) → (is : IsReceived w m) → StepsAgree (Ok (worker_moved w.controllers is.by (taken_by_worker m at is.by))) plain → StepsAgree (world.receiver_takes at w m) plain
+by_worker : (w : State) (m : Message) (at : ℕ) (plain : StepOrWord Shop shop.Tag) → (is : IsReceived w m) → StepsAgree (Ok (worker_moved w.controllers is.by (taken_by_worker m at is.by))) plain → StepsAgree (world.receiver_takes at w m) plain
 by_worker w m at plain is agree =
     subst (λ b. StepsAgree (cond b (world.master_takes m at w) (world.worker_takes m at w)) plain) (sym is.other)
     (subst (λ o. StepsAgree (option_map_or (λ v. Ok (worker_moved w.controllers v (taken_by_worker m at v))) o (Err NoMessage)) plain) (sym is.found) agree)

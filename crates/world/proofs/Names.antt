@@ -17,7 +17,8 @@ use Rattle.worker_core.specs.Worker as worker
 use Rattle.worker_core.specs.Messages as worker_messages
 use Rattle.worker_core.specs.Orders as worker_orders
 use Rattle.worker_core.specs.declared.order.Order as worker_order
-use Rattle.world.specs.Stepping.{Moved, ordered_master, ordered_worker, refused, taken_by_master, taken_by_worker}
+use Rattle.world.specs.Step.{Step, refused}
+use Rattle.world.specs.Stepping.{ordered_master, ordered_worker, taken_by_master, taken_by_worker}
 
 -- ---- the master
 
@@ -34,7 +35,7 @@ ordered_names (order.Edit e) at m = record { own = refl; workers = refl }
 ordered_names (order.Spawn node to rw) at m = record { own = refl; workers = refl }
 ordered_names (order.Resend s) at m = same m
 
-unless_refused : (r : Option Refusal) (m : master.Known) (v : Moved master.Known Message) → HasNames m v.next → HasNames m (option_map_or (λ e. refused e m) r v).next
+unless_refused : (r : Option Refusal) (m : master.Known) (v : Step master.Known Message) → HasNames m v.next → HasNames m (option_map_or (λ e. refused e m) r v).next
 unless_refused None m v names = names
 unless_refused (Some e) m v names = same m
 
@@ -67,7 +68,7 @@ pub record HasItsNames (old next : worker.Known) : Type 0 where
   pub own : next.name ≡ old.name
   pub masters : next.master ≡ old.master
 
-unless_worker_refused : (r : Option Refusal) (w : worker.Known) (v : Moved worker.Known Message) → HasItsNames w v.next → HasItsNames w (option_map_or (λ e. refused e w) r v).next
+unless_worker_refused : (r : Option Refusal) (w : worker.Known) (v : Step worker.Known Message) → HasItsNames w v.next → HasItsNames w (option_map_or (λ e. refused e w) r v).next
 unless_worker_refused None w v names = names
 unless_worker_refused (Some e) w v names = record { own = refl; masters = refl }
 

@@ -1,5 +1,5 @@
 -- What happens at an event: which step is made, and what is left of it.
-use Rattle.std.specs.Prelude.{ℕ, Bool, false, List, if◌then◌else◌, is_ok, Result, Ok}
+use Rattle.std.specs.Prelude.{ℕ, Bool, false, List, if◌then◌else◌, is_ok, Ok}
 use Rattle.std.specs.Prelude.{Err}
 use Rattle.std.specs.Option.{option_map_or}
 use Rattle.std.specs.Str.{bytes_eq}
@@ -10,7 +10,8 @@ use Rattle.worker_core.specs.declared.order.Order as worker
 use Rattle.world.specs.Running as running
 use Rattle.world.specs.Running.{Machine}
 use Rattle.world.specs.State.{Controllers, State, is_controller, message_at, worker_of}
-use Rattle.world.specs.Stepping.{Moved, master_moved, ordered_master, ordered_worker}
+use Rattle.world.specs.Step.{StepOrWord}
+use Rattle.world.specs.Stepping.{master_moved, ordered_master, ordered_worker}
 use Rattle.world.specs.Stepping.{taken_by_master, taken_by_worker, worker_moved}
 use Rattle.world_items.specs.declared.answer.Answer.{Answer}
 use Rattle.world_items.specs.declared.event.Event.{Event}
@@ -21,38 +22,36 @@ use Rattle.world_items.specs.declared.what.What.TheVariants.{MasterOrder, Worker
 use Rattle.world_items.specs.declared.word.Word.{Word}
 use Rattle.world_items.specs.declared.word.Word.TheVariants.{NoMessage, Refused, Restarted}
 
--- a step that a controller makes, or the word where none does
-abbrev pub Step : Type 0
-Step = Result (Moved Controllers Message) Word
+-- ---- one step
 
 -- the master's on an order
-abbrev pub master_step : master.Order → ℕ → State → Step
+abbrev pub master_step : master.Order → ℕ → State → StepOrWord Controllers Message
 master_step o at w = Ok (master_moved w.controllers (ordered_master o at w.controllers.master))
 
 -- the one of the worker of a name, if there is one
-abbrev pub worker_step : List ℕ → worker.Order → ℕ → State → Step
+abbrev pub worker_step : List ℕ → worker.Order → ℕ → State → StepOrWord Controllers Message
 worker_step name o at w =
     option_map_or (λ v. Ok (worker_moved w.controllers v (ordered_worker o at v)))
     (worker_of w.controllers.workers name) (Err (Refused UnknownWorker))
 
 -- the master's on a message
-abbrev pub master_takes : Message → ℕ → State → Step
+abbrev pub master_takes : Message → ℕ → State → StepOrWord Controllers Message
 master_takes m at w = Ok (master_moved w.controllers (taken_by_master m at w.controllers.master))
 
 -- the one of the worker that a message is for, if there is one
-abbrev pub worker_takes : Message → ℕ → State → Step
+abbrev pub worker_takes : Message → ℕ → State → StepOrWord Controllers Message
 worker_takes m at w =
     option_map_or (λ v. Ok (worker_moved w.controllers v (taken_by_worker m at v)))
     (worker_of w.controllers.workers m.receiver) (Err NoMessage)
 
 -- the one of the receiver of a message
-abbrev pub receiver_takes : ℕ → State → Message → Step
+abbrev pub receiver_takes : ℕ → State → Message → StepOrWord Controllers Message
 receiver_takes at w m =
     if bytes_eq m.receiver w.controllers.master.name
     then master_takes m at w else worker_takes m at w
 
 -- the one of the receiver of the message of a number, if there is one
-abbrev pub delivery_step : ℕ → ℕ → State → Step
+abbrev pub delivery_step : ℕ → ℕ → State → StepOrWord Controllers Message
 delivery_step k at w =
     option_map_or (receiver_takes at w) (message_at w.messages k) (Err NoMessage)
 
@@ -62,7 +61,7 @@ restart_word name w =
     if is_controller w.controllers name then Restarted else Refused UnknownWorker
 
 -- that of what happens
-abbrev pub step_of : What → ℕ → State → Step
+abbrev pub step_of : What → ℕ → State → StepOrWord Controllers Message
 step_of (MasterOrder o) at w = master_step o at w
 step_of (WorkerOrder name o) at w = worker_step name o at w
 step_of (Deliver k) at w = delivery_step k at w
@@ -70,7 +69,7 @@ step_of (Restart name) at w = Err (restart_word name w)
 
 -- whether a step is made that isn't lost: there is one, and its controller doesn't stop before its
 -- state is stored
-abbrev pub is_made : Stop → Step → Bool
+abbrev pub is_made : Stop → StepOrWord Controllers Message → Bool
 is_made Run step = is_ok step
 is_made BeforeSave step = false
 is_made BeforeSend step = is_ok step
@@ -91,10 +90,10 @@ machine =
     }
 
 -- what is answered to a step, and what is there then
-abbrev pub settled_word : Stop → State → Step → Answer
+abbrev pub settled_word : Stop → State → StepOrWord Controllers Message → Answer
 settled_word = running.settled_word machine
 
-abbrev pub settled : Stop → State → Step → State
+abbrev pub settled : Stop → State → StepOrWord Controllers Message → State
 settled = running.settled machine
 
 -- the same of an event

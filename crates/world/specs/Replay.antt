@@ -1,5 +1,5 @@
 -- The replay of events in a shop: what is answered, what the shop is then, and what was sent.
-use Rattle.std.specs.Prelude.{ℕ, ◌||◌, List, [], if◌then◌else◌, Result, Ok, Err}
+use Rattle.std.specs.Prelude.{ℕ, ◌||◌, List, [], if◌then◌else◌, Ok, Err}
 use Rattle.std.specs.Option.{option_map_or}
 use Rattle.std.specs.Str.{bytes_eq}
 use Rattle.ticket_items.specs.Ids.{mem}
@@ -12,7 +12,7 @@ use Rattle.world.specs.Shop.{Shop}
 use Rattle.world.specs.ShopActs as acts
 use Rattle.world.specs.ShopSteps.{Tag, master_does, message_comes, worker_does}
 use Rattle.world.specs.State.{message_at}
-use Rattle.world.specs.Stepping.{Moved}
+use Rattle.world.specs.Step.{StepOrWord}
 use Rattle.world_items.specs.declared.answer.Answer.{Answer}
 use Rattle.world_items.specs.declared.event.Event.{Event}
 use Rattle.world_items.specs.declared.stop.Stop.{Stop}
@@ -32,17 +32,13 @@ opening name workers ticket = record { shop = acts.opening name workers ticket; 
 
 -- ---- one step
 
--- a step, or the word where none is made
-abbrev pub Step : Type 0
-Step = Result (Moved Shop Tag) Word
-
 -- the one of the worker of a name, if there is one
-abbrev pub worker_step : List ℕ → worker_order.Order → ℕ → Shop → Step
+abbrev pub worker_step : List ℕ → worker_order.Order → ℕ → Shop → StepOrWord Shop Tag
 worker_step name o at p =
     if mem name p.workers then Ok (worker_does name o at p) else Err (Refused UnknownWorker)
 
 -- that on the message of a number, if there is one
-abbrev pub delivery_step : ℕ → ℕ → Shown → Step
+abbrev pub delivery_step : ℕ → ℕ → Shown → StepOrWord Shop Tag
 delivery_step k at p = option_map_or (message_comes at p.shop) (message_at p.tags k) (Err NoMessage)
 
 -- a restart is none
@@ -51,7 +47,7 @@ restart_word name p =
     if bytes_eq name p.master || mem name p.workers then Restarted else Refused UnknownWorker
 
 -- that of what happens
-abbrev pub step_of : What → ℕ → Shown → Step
+abbrev pub step_of : What → ℕ → Shown → StepOrWord Shop Tag
 step_of (MasterOrder o) at p = Ok (master_does o at p.shop)
 step_of (WorkerOrder name o) at p = worker_step name o at p.shop
 step_of (Deliver k) at p = delivery_step k at p
@@ -70,10 +66,10 @@ machine =
     }
 
 -- what is answered to a step, and what is shown then
-abbrev pub settled_word : Stop → Shown → Step → Answer
+abbrev pub settled_word : Stop → Shown → StepOrWord Shop Tag → Answer
 settled_word = running.settled_word machine
 
-abbrev pub settled : Stop → Shown → Step → Shown
+abbrev pub settled : Stop → Shown → StepOrWord Shop Tag → Shown
 settled = running.settled machine
 
 -- the same of an event

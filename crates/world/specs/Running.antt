@@ -1,15 +1,14 @@
 -- A run as one machine: at each event a step is made and settled, for any kind of state and of
 -- message. And when what one machine shows of itself runs as another.
-use Rattle.std.specs.Prelude.{◌≡◌, ℕ, List, [], ◌∷◌, map, Result, Ok, Err}
+use Rattle.std.specs.Prelude.{◌≡◌, ℕ, List, [], ◌∷◌, map, Ok, Err}
 use Rattle.std.specs.Option.{option_map}
 use Rattle.world.specs.Settling.{answer_without_step, settled_answer, settled_messages}
 use Rattle.world.specs.Settling.{settled_state}
-use Rattle.world.specs.Stepping.{Moved}
+use Rattle.world.specs.Step.{Step, StepOrWord, word_of}
 use Rattle.world_items.specs.declared.answer.Answer.{Answer}
 use Rattle.world_items.specs.declared.event.Event.{Event}
 use Rattle.world_items.specs.declared.stop.Stop.{Stop}
 use Rattle.world_items.specs.declared.what.What.{What}
-use Rattle.world_items.specs.declared.word.Word.{Word}
 
 -- what runs: a whole of a state and of the messages that were sent, and the step that is made of
 -- what happens, or the word where none is
@@ -17,18 +16,17 @@ pub record Machine (W S M : Type 0) : Type 0 where
   pub inner : W → S
   pub sent : W → List M
   pub made : S → List M → W
-  pub step_of : What → ℕ → W → Result (Moved S M) Word
+  pub step_of : What → ℕ → W → StepOrWord S M
 
 -- ---- one event
 
 -- what is answered
-abbrev pub settled_word : {W S M : Type 0} → Machine W S M → Stop → W → Result (Moved S M) Word
-    → Answer
-settled_word m stop w (Ok moved) = settled_answer stop (m.sent w) moved.word moved.sent
+abbrev pub settled_word : {W S M : Type 0} → Machine W S M → Stop → W → StepOrWord S M → Answer
+settled_word m stop w (Ok moved) = settled_answer stop (m.sent w) (word_of moved.reply) moved.sent
 settled_word m stop w (Err word) = answer_without_step word
 
 -- what is there then
-abbrev pub settled : {W S M : Type 0} → Machine W S M → Stop → W → Result (Moved S M) Word → W
+abbrev pub settled : {W S M : Type 0} → Machine W S M → Stop → W → StepOrWord S M → W
 settled m stop w (Ok moved) =
     m.made (settled_state stop (m.inner w) moved.next)
     (settled_messages stop (m.sent w) moved.sent)
@@ -54,16 +52,16 @@ after_all m (e ∷ events) w = after_all m events (after m e w)
 
 -- ---- two machines
 
--- two steps agree: they say the same, lead to the same, and send the same, as it is shown
-pub record Agrees {S M T N : Type 0} (state_of : S → T) (tag_of : M → N) (moved : Moved S M)
-    (plain : Moved T N) : Type 0 where
-  pub word : moved.word ≡ plain.word
-  pub next : state_of moved.next ≡ plain.next
+-- two steps agree: they reply the same, send the same, and lead to the same, as it is shown
+pub record Agrees {S M T N : Type 0} (state_of : S → T) (tag_of : M → N) (moved : Step S M)
+    (plain : Step T N) : Type 0 where
+  pub reply : moved.reply ≡ plain.reply
   pub sent : option_map tag_of moved.sent ≡ plain.sent
+  pub next : state_of moved.next ≡ plain.next
 
 -- two steps agree, or neither is made and the word is the same
-abbrev pub StepsAgree : {S M T N : Type 0} → (S → T) → (M → N) → Result (Moved S M) Word
-    → Result (Moved T N) Word → Type 0
+abbrev pub StepsAgree : {S M T N : Type 0} → (S → T) → (M → N) → StepOrWord S M → StepOrWord T N
+    → Type 0
 StepsAgree state_of tag_of (Ok moved) (Ok plain) = Agrees state_of tag_of moved plain
 StepsAgree state_of tag_of (Ok moved) (Err word) = ⊥
 StepsAgree state_of tag_of (Err word) (Ok plain) = ⊥
