@@ -50,14 +50,14 @@ use Rattle.world.specs.ShopActs.{edited, with_new}
 use Rattle.world.specs.ShopSteps.{Tag, edit_refusal, master_does}
 use Rattle.world.specs.Showing.{entry_of_spawn, now_shown, row_at, shop_shown}
 use Rattle.world.specs.State.{IsKept, State}
-use Rattle.world.specs.Step.{Step, refused, unless_refused}
+use Rattle.world.specs.Step.{Step, unless_refused}
 use Rattle.world.specs.Stepping.{master_moved, ordered_master}
 
 -- ---- refusals
 
 -- an order that is refused alike, and done alike where it isn't
 pub order_agrees : (c : Controllers) (done : Step Known Message) (plain : Step Shop Tag) (mine its : Option Refusal) → mine ≡ its → (mine ≡ None → Agrees (master_moved c done) plain)
-    → Agrees (master_moved c (option_map_or (λ e. refused e c.master) mine done)) (unless_refused its (shop_shown c) plain)
+    → Agrees (master_moved c (unless_refused mine c.master done)) (unless_refused its (shop_shown c) plain)
 order_agrees c done plain None None same go = go refl
 order_agrees c done plain None (Some e) same go = cc
 order_agrees c done plain (Some e) None same go = cc

@@ -17,7 +17,7 @@ use Rattle.worker_core.specs.Worker as worker
 use Rattle.worker_core.specs.Messages as worker_messages
 use Rattle.worker_core.specs.Orders as worker_orders
 use Rattle.worker_core.specs.declared.order.Order as worker_order
-use Rattle.world.specs.Step.{Step, refused}
+use Rattle.world.specs.Step.{Step, unless_refused}
 use Rattle.world.specs.Stepping.{ordered_master, ordered_worker, taken_by_master, taken_by_worker}
 
 -- ---- the master
@@ -35,12 +35,12 @@ ordered_names (order.Edit e) at m = record { own = refl; workers = refl }
 ordered_names (order.Spawn node to rw) at m = record { own = refl; workers = refl }
 ordered_names (order.Resend s) at m = same m
 
-unless_refused : (r : Option Refusal) (m : master.Known) (v : Step master.Known Message) → HasNames m v.next → HasNames m (option_map_or (λ e. refused e m) r v).next
-unless_refused None m v names = names
-unless_refused (Some e) m v names = same m
+names_unless_refused : (r : Option Refusal) (m : master.Known) (v : Step master.Known Message) → HasNames m v.next → HasNames m (unless_refused r m v).next
+names_unless_refused None m v names = names
+names_unless_refused (Some e) m v names = same m
 
 pub ordered_master_names : (o : master_order.Order) (at : ℕ) (m : master.Known) → HasNames m (ordered_master o at m).next
-ordered_master_names o at m = unless_refused (master_orders.order_refusal o m) m _ (ordered_names o at m)
+ordered_master_names o at m = names_unless_refused (master_orders.order_refusal o m) m _ (ordered_names o at m)
 
 merged_names : (out : Bool) (p : Copied) (at : ℕ) (m : master.Known) (r : SpawnRec) → HasNames m (cond out (master_messages.merged p at m r) m)
 merged_names true p at m r = record { own = refl; workers = refl }
@@ -68,12 +68,12 @@ pub record HasItsNames (old next : worker.Known) : Type 0 where
   pub own : next.name ≡ old.name
   pub masters : next.master ≡ old.master
 
-unless_worker_refused : (r : Option Refusal) (w : worker.Known) (v : Step worker.Known Message) → HasItsNames w v.next → HasItsNames w (option_map_or (λ e. refused e w) r v).next
-unless_worker_refused None w v names = names
-unless_worker_refused (Some e) w v names = record { own = refl; masters = refl }
+names_unless_worker_refused : (r : Option Refusal) (w : worker.Known) (v : Step worker.Known Message) → HasItsNames w v.next → HasItsNames w (unless_refused r w v).next
+names_unless_worker_refused None w v names = names
+names_unless_worker_refused (Some e) w v names = record { own = refl; masters = refl }
 
 pub ordered_worker_names : (o : worker_order.Order) (at : ℕ) (w : worker.Known) → HasItsNames w (ordered_worker o at w).next
-ordered_worker_names o at w = unless_worker_refused (worker_orders.order_refusal o w.entries) w _ (record { own = refl; masters = refl })
+ordered_worker_names o at w = names_unless_worker_refused (worker_orders.order_refusal o w.entries) w _ (record { own = refl; masters = refl })
 
 if_worker_refused : (b : Bool) (w next : worker.Known) → HasItsNames w next → HasItsNames w (cond b w next)
 if_worker_refused true w next names = record { own = refl; masters = refl }

@@ -38,7 +38,7 @@ use Rattle.world.specs.Laws.{EachIsMergedOnce}
 use Rattle.world.specs.Messages.{IsInOrder}
 use Rattle.world.specs.Once.{AreMergedOnce, TellsMerge}
 use Rattle.world.specs.State.{IsKept, State, message_at}
-use Rattle.world.specs.Step.{Step, refused, word_of}
+use Rattle.world.specs.Step.{Step, unless_refused, word_of}
 use Rattle.world.specs.Stepping.{master_moved, ordered_master, ordered_worker, taken_by_master, taken_by_worker, worker_moved}
 use Rattle.world_items.specs.declared.answer.Answer.{Answer}
 use Rattle.world_items.specs.declared.event.Event.{Event}
@@ -64,7 +64,7 @@ ordered_has : (o : master_order.Order) (at : ℕ) (m : Known) (s : ℕ) (r : Spa
 ordered_has o at m s r has isn't = by (master_orders.order_refusal o m) refl
   where
     by : (e : Option Refusal) → master_orders.order_refusal o m ≡ e
-        → record_of (option_map_or (λ e. refused e m) e (record { reply = Ok (master_orders.order_reply o m); next = master_orders.ordered o at m; sent = master_orders.order_message o at m })).next.records s ≡ Some r
+        → record_of (unless_refused e m (record { reply = Ok (master_orders.order_reply o m); next = master_orders.ordered o at m; sent = master_orders.order_message o at m })).next.records s ≡ Some r
     by None free = ap (λ (v : Known). record_of v.records s) (sym (done_order o at m free)) ∙ (in_stays_in m s r has isn't).0 o at
     by (Some e) is = has
 
@@ -105,7 +105,7 @@ no_order_reply (master_orders_are.Spawn node name rw) m s is = cc
 no_order_reply (master_orders_are.Resend t) m s is = cc
 
 no_master_order : (refusal : Option Refusal) (o : master_order.Order) (at : ℕ) (m : Known) (s : ℕ)
-    → word_of (option_map_or (λ e. refused e m) refusal (record { reply = Ok (master_orders.order_reply o m); next = master_orders.ordered o at m; sent = master_orders.order_message o at m })).reply ≡ Did (reply.Merged s) → ⊥
+    → word_of (unless_refused refusal m (record { reply = Ok (master_orders.order_reply o m); next = master_orders.ordered o at m; sent = master_orders.order_message o at m })).reply ≡ Did (reply.Merged s) → ⊥
 no_master_order None o at m s is = no_order_reply o m s is
 no_master_order (Some e) o at m s is = cc
 
@@ -115,7 +115,7 @@ no_worker_reply (worker_orders_are.Finish t how) s is = cc
 no_worker_reply (worker_orders_are.Resend t) s is = cc
 
 no_worker_order : (refusal : Option Refusal) (o : worker_order.Order) (at : ℕ) (v : worker.Known) (s : ℕ)
-    → word_of (option_map_or (λ e. refused e v) refusal (record { reply = Ok (worker_orders.order_reply o); next = worker_orders.ordered o at v; sent = worker_orders.order_message o at v })).reply ≡ Did (reply.Merged s) → ⊥
+    → word_of (unless_refused refusal v (record { reply = Ok (worker_orders.order_reply o); next = worker_orders.ordered o at v; sent = worker_orders.order_message o at v })).reply ≡ Did (reply.Merged s) → ⊥
 no_worker_order None o at v s is = no_worker_reply o s is
 no_worker_order (Some e) o at v s is = cc
 

@@ -20,7 +20,7 @@ use Rattle.world.specs.Shop.{Done, Open, has_number, is_out, spawn_of}
 use Rattle.world.specs.ShopSteps.{Submit, master_does, sends}
 use Rattle.world.specs.Showing.{phase_shown, shop_shown, spawn_shown}
 use Rattle.world.specs.State.{IsKept, State}
-use Rattle.world.specs.Step.{refused, unless_refused}
+use Rattle.world.specs.Step.{unless_refused}
 use Rattle.world.specs.Stepping.{master_moved, ordered_master}
 
 -- ---- by the master
@@ -41,7 +41,7 @@ spawn_found c s = found_made (has_number s) (spawn_shown c) c.master.records
 
 record_resent : (w : State) (s at : ℕ) (o : Option SpawnRec) (out : Bool) → record_of w.controllers.master.records s ≡ o → option_map_or records.is_out o false ≡ out
     → Agrees
-    (master_moved w.controllers (option_map_or (λ e. refused e w.controllers.master) (unless out NotOut) (record { reply = Ok (reply.Sent s); next = w.controllers.master; sent = option_map (submit_of w.controllers.master.name w.controllers.master.ticket) o })))
+    (master_moved w.controllers (unless_refused (unless out NotOut) w.controllers.master (record { reply = Ok (reply.Sent s); next = w.controllers.master; sent = option_map (submit_of w.controllers.master.name w.controllers.master.ticket) o })))
     (unless_refused (unless out NotOut) (shop_shown w.controllers) (sends (reply.Sent s) (shop_shown w.controllers) (Submit s)))
 record_resent w s at None true found is = cc
 record_resent w s at None false found is = record { reply = refl; next = refl; sent = refl }

@@ -18,7 +18,7 @@ use Rattle.world.specs.Shop.{Shop}
 use Rattle.world.specs.ShopSteps.{Tag, spawn_worked, worker_does}
 use Rattle.world.specs.Showing.{shop_shown, spawn_shown}
 use Rattle.world.specs.State.{IsKept, State}
-use Rattle.world.specs.Step.{Step, refused}
+use Rattle.world.specs.Step.{Step, refused, unless_refused}
 use Rattle.world.specs.Stepping.{ordered_worker, worker_moved}
 
 -- steps that are the same agree as these do
@@ -27,7 +27,7 @@ agrees_as c v one two p q same plain agrees = subst (λ o. Agrees (worker_moved 
 
 -- both refuse for the same, or agree
 pub refused_or_agrees : (c : Controllers) (v : worker.Known) (why : Option Refusal) (moved : Step worker.Known Message) (plain : Step Shop Tag) → worker_of c.workers v.name ≡ Some v → (why ≡ None → Agrees (worker_moved c v moved) plain)
-    → Agrees (worker_moved c v (option_map_or (λ e. refused e v) why moved)) (option_map_or (λ e. refused e (shop_shown c)) why plain)
+    → Agrees (worker_moved c v (unless_refused why v moved)) (unless_refused why (shop_shown c) plain)
 refused_or_agrees c v None moved plain found go = go refl
 refused_or_agrees c v (Some e) moved plain found go = record { reply = refl; next = worker_as_it_was c v found; sent = refl }
 
@@ -35,7 +35,7 @@ refused_or_agrees c v (Some e) moved plain found go = record { reply = refl; nex
 abbrev pub AgreesThere : State → worker.Known → Order → ℕ → Type 0
 AgreesThere w v o at =
     (e : Entry) (h : HasRecord w.controllers v.name (orders.spawn_of_order o) e) → worker.entry_of v.entries (orders.spawn_of_order o) ≡ Some e
-    → Agrees (worker_moved w.controllers v (option_map_or (λ r. refused r v) (orders.entry_refusal o e) (record { reply = Ok (orders.order_reply o); next = orders.ordered o at v; sent = orders.order_message o at v })))
+    → Agrees (worker_moved w.controllers v (unless_refused (orders.entry_refusal o e) v (record { reply = Ok (orders.order_reply o); next = orders.ordered o at v; sent = orders.order_message o at v })))
     (spawn_worked o at (shop_shown w.controllers) (spawn_shown w.controllers h.spawn))
 
 -- where it has none both refuse
@@ -44,7 +44,7 @@ worker_agrees w v o at ok found there =
     let c = w.controllers in
     let p = shop_shown c in
     let s = orders.spawn_of_order o in
-    let step = λ (why : Option Refusal). option_map_or (λ r. refused r v) why (record { reply = Ok (orders.order_reply o); next = orders.ordered o at v; sent = orders.order_message o at v }) in
+    let step = λ (why : Option Refusal). unless_refused why v (record { reply = Ok (orders.order_reply o); next = orders.ordered o at v; sent = orders.order_message o at v }) in
     split_some (worker.entry_of v.entries s)
     (λ e has_entry.
     let h = entry_record w v.name s v e ok found has_entry in

@@ -46,7 +46,7 @@ use Rattle.world.specs.ShopActs.{is_held_by, worked}
 use Rattle.world.specs.ShopSteps as steps
 use Rattle.world.specs.Showing.{now_shown, phase_shown, row_at, seen_shown, shop_shown, spawn_shown}
 use Rattle.world.specs.State.{IsKept, State}
-use Rattle.world.specs.Step.{Step, refused}
+use Rattle.world.specs.Step.{Step, unless_refused}
 use Rattle.world.specs.Stepping.{ordered_worker, worker_moved}
 
 -- ---- an entry that is open
@@ -183,11 +183,11 @@ edit_agrees w v s e at ok found x h has_entry =
     let moved : Step worker.Known Message = record { reply = Ok reply.Edited; next = orders.ordered (order.Edit s e) at v; sent = None } in
     let plain = steps.replies reply.Edited (worked e at p) in
     agrees_as c v
-    (option_map_or (λ r. refused r v) (orders.edit_refusal e x) moved)
-    (option_map_or (λ r. refused r v) (steps.work_refusal e a p) moved)
-    (option_map_or (λ r. refused r p) (steps.work_refusal e a p) plain)
-    (option_map_or (λ r. refused r p) (steps.work_refusal e a p) plain)
-    (ap (λ why. option_map_or (λ r. refused r v) why moved) (same_edit_refusal w v s e x ok found has_entry h))
+    (unless_refused (orders.edit_refusal e x) v moved)
+    (unless_refused (steps.work_refusal e a p) v moved)
+    (unless_refused (steps.work_refusal e a p) p plain)
+    (unless_refused (steps.work_refusal e a p) p plain)
+    (ap (λ why. unless_refused why v moved) (same_edit_refusal w v s e x ok found has_entry h))
     refl
     (refused_or_agrees c v (steps.work_refusal e a p) moved plain found (λ none.
     let free = edit_free e x (same_edit_refusal w v s e x ok found has_entry h ∙ none) in

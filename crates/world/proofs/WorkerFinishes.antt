@@ -41,7 +41,7 @@ use Rattle.world.specs.ShopActs.{finished, in_phase, is_held_by}
 use Rattle.world.specs.ShopSteps as steps
 use Rattle.world.specs.Showing.{now_shown, phase_shown, shop_shown, spawn_shown, tag_of}
 use Rattle.world.specs.State.{IsKept, State}
-use Rattle.world.specs.Step.{Step, refused}
+use Rattle.world.specs.Step.{Step, unless_refused}
 use Rattle.world.specs.Stepping.{ordered_worker, worker_moved}
 
 -- ---- the node of a part
@@ -81,11 +81,11 @@ finish_agrees w v s how at ok found x h has_entry =
     let plain = steps.sends (reply.Finished s) (finished how at a p) (steps.Return s) in
     let shown = open_shown c v.name s x h in
     agrees_as c v
-    (option_map_or (λ e. refused e v) (unless (worker.is_open x) NotOpen) moved)
-    (option_map_or (λ e. refused e v) (unless (shop.is_open a.phase) NotOpen) moved)
-    (option_map_or (λ e. refused e p) (unless (shop.is_open a.phase) NotOpen) plain)
-    (option_map_or (λ e. refused e p) (unless (shop.is_open a.phase) NotOpen) plain)
-    (ap (λ b. option_map_or (λ e. refused e v) (unless b NotOpen) moved) (sym shown))
+    (unless_refused (unless (worker.is_open x) NotOpen) v moved)
+    (unless_refused (unless (shop.is_open a.phase) NotOpen) v moved)
+    (unless_refused (unless (shop.is_open a.phase) NotOpen) p plain)
+    (unless_refused (unless (shop.is_open a.phase) NotOpen) p plain)
+    (ap (λ b. unless_refused (unless b NotOpen) v moved) (sym shown))
     refl
     (refused_or_agrees c v (unless (shop.is_open a.phase) NotOpen) moved plain found (λ none.
     let is_open = open_free x (ap (λ b. unless b NotOpen) (sym shown) ∙ none) in

@@ -33,7 +33,7 @@ open_shown c name s e h =
 
 -- a refusal of both, or what both send
 resent : (w : State) (v : worker.Known) (s : ℕ) (e : Entry) (here : Bool) → IsKept w → worker_of w.controllers.workers v.name ≡ Some v → e.part.spawn_id ≡ s
-    → Agrees (worker_moved w.controllers v (option_map_or (λ r. refused r v) (unless (not here) NotDone) (record { reply = Ok (reply.Sent s); next = v; sent = Some (return_of v.name v.master e) })))
+    → Agrees (worker_moved w.controllers v (unless_refused (unless (not here) NotDone) v (record { reply = Ok (reply.Sent s); next = v; sent = Some (return_of v.name v.master e) })))
     (unless_refused (unless (not here) NotDone) (shop_shown w.controllers) (sends (reply.Sent s) (shop_shown w.controllers) (Return s)))
 resent w v s e true ok found own = record { reply = refl; next = ap shop_shown (stored_same w v.name v ok found); sent = refl }
 resent w v s e false ok found own = record { reply = refl; next = ap shop_shown (stored_same w v.name v ok found); sent = ap (λ n. Some (Return n)) own }
@@ -43,7 +43,7 @@ as_same : (moved : Step Controllers Message) (p q : Step Shop Tag) → q ≡ p �
 as_same moved p q same h = subst (Agrees moved) (sym same) h
 
 by_entry : (w : State) (name : List ℕ) (v : worker.Known) (s at : ℕ) (o : Option Entry) → IsKept w → worker_of w.controllers.workers name ≡ Some v → worker_of w.controllers.workers v.name ≡ Some v → worker.entry_of v.entries s ≡ o
-    → Agrees (worker_moved w.controllers v (option_map_or (λ r. refused r v) (option_map_or (entry_refusal (Resend s)) o (Some UnknownEntry)) (record { reply = Ok (reply.Sent s); next = v; sent = option_map (return_of v.name v.master) o })))
+    → Agrees (worker_moved w.controllers v (unless_refused (option_map_or (entry_refusal (Resend s)) o (Some UnknownEntry)) v (record { reply = Ok (reply.Sent s); next = v; sent = option_map (return_of v.name v.master) o })))
     (worker_does name (Resend s) at (shop_shown w.controllers))
 by_entry w name v s at None ok found own none =
     let p = shop_shown w.controllers in
