@@ -30,10 +30,6 @@ answered (Some r) (Err e) reply message old ordered next h =
     λ i. came_out (told (h.refused_is i)) (h.err i)
 
 -- what holds of a result holds as more is known
-pub lifted : {C E : Type 0} (F : Type 0) (P Q : C → Type 0) (r : Result C E) → IfOk r P → OnOk r F → (F → (m : C) → P m → Q m) → IfOk r Q
-lifted F P Q (Ok m) p f go = go f m p
-lifted F P Q (Err e) p f go = tt
-
 pub if_ok : {C E : Type 0} (P Q : C → Type 0) (r : Result C E) → IfOk r P → ((m : C) → P m → Q m) → IfOk r Q
 if_ok P Q (Ok m) p go = go m p
 if_ok P Q (Err e) p go = tt
