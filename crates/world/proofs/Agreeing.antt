@@ -7,7 +7,7 @@ use Rattle.world.specs.ShopSteps.{Tag}
 use Rattle.world.specs.Showing.{shop_shown, tag_of}
 use Rattle.world.specs.Step.{Step, StepOrWord}
 
--- they say the same, lead to the same, and send the same
+-- they reply the same, send the same, and lead to the same
 abbrev pub Agrees : Step Controllers Message → Step Shop Tag → Type 0
 Agrees moved plain = running.Agrees shop_shown tag_of moved plain
 

@@ -18,7 +18,8 @@ use Rattle.world_items.specs.declared.event.Event.{Event}
 use Rattle.world_items.specs.declared.stop.Stop.{Stop}
 use Rattle.world_items.specs.declared.stop.Stop.TheVariants.{Run, BeforeSave, BeforeSend}
 use Rattle.world_items.specs.declared.what.What.{What}
-use Rattle.world_items.specs.declared.what.What.TheVariants.{MasterOrder, WorkerOrder, Deliver, Restart}
+use Rattle.world_items.specs.declared.what.What.TheVariants.{MasterOrder, WorkerOrder}
+use Rattle.world_items.specs.declared.what.What.TheVariants.{Deliver, Restart}
 use Rattle.world_items.specs.declared.word.Word.{Word}
 use Rattle.world_items.specs.declared.word.Word.TheVariants.{NoMessage, Refused, Restarted}
 
