@@ -1,15 +1,16 @@
 -- What agrees: a step of the controllers, and the step of the shop that they show.
-use Rattle.std.proofs.Common.{◌≡◌}
-use Rattle.std.specs.Option.{option_map}
 use Rattle.controller.specs.declared.message.Message.{Message}
 use Rattle.world.specs.Controllers.{Controllers}
+use Rattle.world.specs.Running as running
 use Rattle.world.specs.Shop.{Shop}
 use Rattle.world.specs.ShopSteps.{Tag}
 use Rattle.world.specs.Showing.{shop_shown, tag_of}
-use Rattle.world.specs.Stepping.{Moved}
+use Rattle.world.specs.Step.{Step, StepOrWord}
 
--- they say the same, lead to the same, and send the same
-pub record Agrees (moved : Moved Controllers Message) (plain : Moved Shop Tag) : Type 0 where
-  pub word : moved.word ≡ plain.word
-  pub next : shop_shown moved.next ≡ plain.next
-  pub sent : option_map tag_of moved.sent ≡ plain.sent
+-- they reply the same, send the same, and lead to the same
+abbrev pub Agrees : Step Controllers Message → Step Shop Tag → Type 0
+Agrees moved plain = running.Agrees shop_shown tag_of moved plain
+
+-- they agree, or neither is made and the word is the same
+abbrev pub StepsAgree : StepOrWord Controllers Message → StepOrWord Shop Tag → Type 0
+StepsAgree = running.StepsAgree shop_shown tag_of

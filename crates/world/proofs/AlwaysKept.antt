@@ -41,7 +41,8 @@ use Rattle.world.specs.Controllers.{Controllers, is_named, worker_of}
 use Rattle.world.specs.Happening.{after, after_all, master_takes, receiver_takes, settled, step_of, worker_takes}
 use Rattle.world.specs.Messages.{AreRecorded, IsInOrder}
 use Rattle.world.specs.State.{IsKept, State, message_at}
-use Rattle.world.specs.Stepping.{Moved, master_moved, ordered_master, ordered_worker, refused, taken_by_master, taken_by_worker, worker_moved}
+use Rattle.world.specs.Step.{Step, unless_refused}
+use Rattle.world.specs.Stepping.{master_moved, ordered_master, ordered_worker, taken_by_master, taken_by_worker, worker_moved}
 use Rattle.world_items.specs.declared.event.Event.{Event}
 use Rattle.world_items.specs.declared.stop.Stop.{Stop}
 use Rattle.world_items.specs.declared.what.What.{What}
@@ -51,15 +52,15 @@ use Rattle.world_items.specs.declared.word.Word.TheVariants.{NoMessage, Refused}
 
 -- ---- the master
 
-unless_refused : (r : Option Refusal) (w : State) (v : Moved master.Known Message) → IsKept w → (r ≡ None → Keeps w (master_moved w.controllers v)) → Keeps w (master_moved w.controllers (option_map_or (λ e. refused e w.controllers.master) r v))
-unless_refused None w v ok go = go refl
-unless_refused (Some e) w v ok go = record { stored = ok; sent = tt }
+keeps_unless_refused : (r : Option Refusal) (w : State) (v : Step master.Known Message) → IsKept w → (r ≡ None → Keeps w (master_moved w.controllers v)) → Keeps w (master_moved w.controllers (unless_refused r w.controllers.master v))
+keeps_unless_refused None w v ok go = go refl
+keeps_unless_refused (Some e) w v ok go = record { stored = ok; sent = tt }
 
 pub master_order_keeps : (o : master_order.Order) (at : ℕ) (w : State) → IsKept w → Keeps w (master_moved w.controllers (ordered_master o at w.controllers.master))
 master_order_keeps o at w ok =
     let c = w.controllers in
     let next = master_orders.ordered o at c.master in
-    unless_refused (master_orders.order_refusal o c.master) w _ ok (λ none.
+    keeps_unless_refused (master_orders.order_refusal o c.master) w _ ok (λ none.
     let later = master_steps.ordered_later o at c ok.master none in
     let kept = ordered_kept o at c.master ok.master none in
     let stored = master_stored c next w.messages ok kept (ordered_names o at c.master) later (ordered_back o at c ok.back) in
@@ -104,10 +105,10 @@ is_there w v ok found =
       recorded = found_holds (AreRecorded c) (is_named v.name) c.workers v found ok.recorded;
     }
 
-unless_worker_refused : (r : Option Refusal) (w : State) (v : worker.Known) (moved : Moved worker.Known Message) → IsKept w → worker_of w.controllers.workers v.name ≡ Some v → (r ≡ None → Keeps w (worker_moved w.controllers v moved))
-    → Keeps w (worker_moved w.controllers v (option_map_or (λ e. refused e v) r moved))
-unless_worker_refused None w v moved ok found go = go refl
-unless_worker_refused (Some e) w v moved ok found go =
+keeps_unless_worker_refused : (r : Option Refusal) (w : State) (v : worker.Known) (moved : Step worker.Known Message) → IsKept w → worker_of w.controllers.workers v.name ≡ Some v → (r ≡ None → Keeps w (worker_moved w.controllers v moved))
+    → Keeps w (worker_moved w.controllers v (unless_refused r v moved))
+keeps_unless_worker_refused None w v moved ok found go = go refl
+keeps_unless_worker_refused (Some e) w v moved ok found go =
     let c = w.controllers in
     let is = is_there w v ok found in
     record { stored = worker_stored c v v w.messages ok is.knows is.kept (record { own = refl; masters = refl }) (worker_steps.worker_later c v v found refl (λ s x here ended. here)) is.recorded; sent = tt }
@@ -117,7 +118,7 @@ worker_order_keeps o at w v ok found =
     let c = w.controllers in
     let next = worker_orders.ordered o at v in
     let is = is_there w v ok found in
-    unless_worker_refused (worker_orders.order_refusal o v.entries) w v _ ok found (λ none.
+    keeps_unless_worker_refused (worker_orders.order_refusal o v.entries) w v _ ok found (λ none.
     let later = worker_steps.worker_later c v next found refl (worker_steps.ordered_stays o at v is.kept none) in
     let kept = worker_kept.kept_ordered o at v is.kept none in
     let recorded = worker_steps.ordered_recorded o at c v none is.recorded in
@@ -149,7 +150,7 @@ worker_takes_keeps m at w v ok found there own =
 
 -- ---- one event
 
-found_step : (w : State) (stop : Stop) (f : worker.Known → Moved worker.Known Message) (word : Word) (name : List ℕ) (found : Option worker.Known) → worker_of w.controllers.workers name ≡ found → IsKept w
+found_step : (w : State) (stop : Stop) (f : worker.Known → Step worker.Known Message) (word : Word) (name : List ℕ) (found : Option worker.Known) → worker_of w.controllers.workers name ≡ found → IsKept w
     → ((v : worker.Known) → v.name ≡ name → worker_of w.controllers.workers v.name ≡ Some v → Keeps w (worker_moved w.controllers v (f v))) → IsKept (settled stop w (option_map_or (λ v. Ok (worker_moved w.controllers v (f v))) found (Err word)))
 found_step w stop f word name None is ok keeps = ok
 found_step w stop f word name (Some v) is ok keeps =

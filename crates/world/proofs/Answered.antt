@@ -1,16 +1,15 @@
 -- A step by what an order was answered with is the step of the definitions.
 use Rattle.std.proofs.Common.{◌≡◌, Option, Some, None, Result, Ok, Err, IfOk, IfErr, IfNone, IfSome, OnOk, OnErr, ap, refl}
-use Rattle.std.specs.Option.{option_map_or}
 use Rattle.ticket_items.specs.declared.refusal.Refusal.{Refusal}
 use Rattle.ticket_items.specs.declared.refusal.Refusal.TheVariants.{Memory}
 use Rattle.controller.specs.declared.done.Done.{Done}
 use Rattle.controller.specs.declared.message.Message.{Message}
 use Rattle.controller.specs.declared.reply.Reply.{Reply}
 use Rattle.world.specs.Settling.{settled_state}
-use Rattle.world.specs.Stepping.{refused, told_sent, told_word}
+use Rattle.world.specs.Step.{unless_refused}
+use Rattle.world.specs.Stepping.{came_out, told}
 use Rattle.world_items.specs.declared.stop.Stop.{Stop}
 use Rattle.world_items.specs.declared.stop.Stop.TheVariants.{Run, BeforeSave, BeforeSend}
-use Rattle.world_items.specs.declared.word.Word.TheVariants.{Did}
 
 -- what is known of an order that was answered: of a state that it may change, and of its refusal
 pub record IsAnswered {S : Type 0} (o : Option Refusal) (done : Result Done Refusal) (reply : Reply) (message : Option Message) (old ordered next : S) : Type 0 where
@@ -23,18 +22,14 @@ pub record IsAnswered {S : Type 0} (o : Option Refusal) (done : Result Done Refu
   pub free : ¬ (done ≡ Err Memory)
 
 pub answered : {S : Type 0} (o : Option Refusal) (done : Result Done Refusal) (reply : Reply) (message : Option Message) (old ordered next : S) → IsAnswered o done reply message old ordered next
-    → record { word = told_word done; next = next; sent = told_sent done } ≡ option_map_or (λ e. refused e old) o (record { word = Did reply; next = ordered; sent = message })
-answered None (Ok d) reply message old ordered next h = λ i. record { word = Did (h.reply_is i); next = h.state i; sent = h.message_is i }
+    → came_out (told done) next ≡ unless_refused o old (record { reply = Ok reply; sent = message; next = ordered })
+answered None (Ok d) reply message old ordered next h = λ i. record { reply = Ok (h.reply_is i); sent = h.message_is i; next = h.state i }
 answered None (Err e) reply message old ordered next h = absurd (h.free (ap Err h.memory))
 answered (Some r) (Ok d) reply message old ordered next h = cc
 answered (Some r) (Err e) reply message old ordered next h =
-    λ i. record { word = told_word (h.refused_is i); next = h.err i; sent = told_sent (h.refused_is i) }
+    λ i. came_out (told (h.refused_is i)) (h.err i)
 
 -- what holds of a result holds as more is known
-pub lifted : {C E : Type 0} (F : Type 0) (P Q : C → Type 0) (r : Result C E) → IfOk r P → OnOk r F → (F → (m : C) → P m → Q m) → IfOk r Q
-lifted F P Q (Ok m) p f go = go f m p
-lifted F P Q (Err e) p f go = tt
-
 pub if_ok : {C E : Type 0} (P Q : C → Type 0) (r : Result C E) → IfOk r P → ((m : C) → P m → Q m) → IfOk r Q
 if_ok P Q (Ok m) p go = go m p
 if_ok P Q (Err e) p go = tt

@@ -17,8 +17,7 @@ use Rattle.world.specs.Messages.{IsInOrder}
 use Rattle.world.specs.ShopSteps.{replies}
 use Rattle.world.specs.Showing.{shop_shown}
 use Rattle.world.specs.State.{IsKept, State}
-use Rattle.world.specs.Stepping.{master_moved, taken_by_master, taken_by_worker, word_of, worker_moved}
-use Rattle.world_items.specs.declared.word.Word.TheVariants.{Did}
+use Rattle.world.specs.Stepping.{master_moved, taken_by_master, taken_by_worker, worker_moved}
 
 -- the answer that tells of a command
 abbrev pub answer : List ℕ → List ℕ → ℕ → Command → ℕ → Result QueueStatus ℕ → Message
@@ -32,7 +31,7 @@ submit_is_answered w sender receiver sent s told at ok good =
     let m = answer sender receiver sent command.Submit s told in
     let none = master_refuses_nothing c m ok.recorded refl good in
     record {
-      word = ap (λ o. word_of (refused_or o (reply.Noted s))) none;
+      reply = ap (λ o. refused_or o (reply.Noted s)) none;
       next = ap (λ o. shop_shown (record c { master = cond (is_some o) c.master c.master })) none;
       sent = refl;
     }
@@ -50,7 +49,7 @@ return_is_answered w v sender receiver sent s told at ok found named knows good 
     let m = answer sender receiver sent command.Return s told in
     let none = worker_refuses_nothing c v m found named knows refl good in
     record {
-      word = ap (λ o. word_of (refused_or o (worker_messages.answer_reply s told))) none ∙ ap Did (acknowledged s told good.says.0);
-      next = ap (λ o. shop_shown (worker_moved c v (record { word = Did (reply.Acked s); next = cond (is_some o) v v; sent = None })).next) none ∙ ap shop_shown (stored_same w v.name v ok (ap (worker_of c.workers) named ∙ found));
+      reply = ap (λ o. refused_or o (worker_messages.answer_reply s told)) none ∙ (λ i. Ok (acknowledged s told good.says.0 i));
+      next = ap (λ o. shop_shown (worker_moved c v (record { reply = Ok (reply.Acked s); next = cond (is_some o) v v; sent = None })).next) none ∙ ap shop_shown (stored_same w v.name v ok (ap (worker_of c.workers) named ∙ found));
       sent = refl;
     }

@@ -16,16 +16,16 @@ use Rattle.master_core.specs.declared.order.Order.TheVariants as to_master
 use Rattle.worker_core.specs.Worker as worker
 use Rattle.worker_core.specs.declared.order.Order as worker_order
 use Rattle.worker_core.specs.declared.order.Order.TheVariants as to_worker
-use Rattle.world.proofs.Agreeing.{Agrees}
-use Rattle.world.proofs.AlwaysKept.{message_there}
+use Rattle.world.proofs.Agreeing.{Agrees, StepsAgree}
+use Rattle.world.proofs.AlwaysKept.{kept_after, message_there}
 use Rattle.world.proofs.AnswersCome.{return_is_answered, submit_is_answered}
 use Rattle.world.proofs.MasterEdits.{master_edits}
 use Rattle.world.proofs.MasterSpawns.{master_spawns}
 use Rattle.world.proofs.PartsPutIn.{part_is_put_in}
 use Rattle.world.proofs.PartsTaken.{part_is_taken}
 use Rattle.world.proofs.Receivers.{IsReceived, master_receives, worker_receives}
-use Rattle.world.proofs.Replaying.{StepsAgree, StepsAreReplayed, event_is_replayed_by, events_are_replayed_by}
 use Rattle.world.proofs.Resends.{master_resends}
+use Rattle.world.proofs.Running.{event_agrees, runs_agree}
 use Rattle.world.proofs.SameWorkers.{worker_known}
 use Rattle.world.proofs.TakenSpawns.{name_of}
 use Rattle.world.proofs.WorkerEdits.{worker_edits}
@@ -33,13 +33,18 @@ use Rattle.world.proofs.WorkerFinishes.{worker_finishes}
 use Rattle.world.proofs.WorkerResends.{worker_resends}
 use Rattle.world.specs.Controllers.{worker_of}
 use Rattle.world.specs.Happening as world
-use Rattle.world.specs.Laws.{EventIsReplayed, EventsAreReplayed}
+use Rattle.world.specs.Laws.{EventsAreReplayed}
 use Rattle.world.specs.Messages.{IsInOrder}
 use Rattle.world.specs.Replay as replay
+use Rattle.world.specs.Running.{IsShownBy}
+use Rattle.world.specs.Shop.{Shop}
 use Rattle.world.specs.ShopSteps as shop
-use Rattle.world.specs.Showing.{shop_shown, tag_in, tag_of}
+use Rattle.world.specs.Showing.{shop_shown, shows, tag_in, tag_of}
 use Rattle.world.specs.State.{IsKept, State, message_at}
+use Rattle.world.specs.Step.{StepOrWord}
 use Rattle.world.specs.Stepping.{master_moved, ordered_master, ordered_worker, taken_by_worker, worker_moved}
+use Rattle.world_items.specs.declared.event.Event.{Event}
+use Rattle.world_items.specs.declared.what.What.{What}
 use Rattle.world_items.specs.declared.what.What.TheVariants.{MasterOrder, WorkerOrder, Deliver, Restart}
 use Rattle.world_items.specs.declared.word.Word.TheVariants.{NoMessage, Refused, Restarted}
 
@@ -55,10 +60,10 @@ WorkerAgrees w name v o at = Agrees (worker_moved w.controllers v (ordered_worke
 
 -- ---- who receives a message
 
-by_master : (w : State) (m : Message) (at : ℕ) (plain : replay.Step) → bytes_eq m.receiver w.controllers.master.name ≡ true → StepsAgree (world.master_takes m at w) plain → StepsAgree (world.receiver_takes at w m) plain
+by_master : (w : State) (m : Message) (at : ℕ) (plain : StepOrWord Shop shop.Tag) → bytes_eq m.receiver w.controllers.master.name ≡ true → StepsAgree (world.master_takes m at w) plain → StepsAgree (world.receiver_takes at w m) plain
 by_master w m at plain mine agree = subst (λ b. StepsAgree (cond b (world.master_takes m at w) (world.worker_takes m at w)) plain) (sym mine) agree
 
-by_worker : (w : State) (m : Message) (at : ℕ) (plain : replay.Step) → (is : IsReceived w m) → StepsAgree (Ok (worker_moved w.controllers is.by (taken_by_worker m at is.by))) plain → StepsAgree (world.receiver_takes at w m) plain
+by_worker : (w : State) (m : Message) (at : ℕ) (plain : StepOrWord Shop shop.Tag) → (is : IsReceived w m) → StepsAgree (Ok (worker_moved w.controllers is.by (taken_by_worker m at is.by))) plain → StepsAgree (world.receiver_takes at w m) plain
 by_worker w m at plain is agree =
     subst (λ b. StepsAgree (cond b (world.master_takes m at w) (world.worker_takes m at w)) plain) (sym is.other)
     (subst (λ o. StepsAgree (option_map_or (λ v. Ok (worker_moved w.controllers v (taken_by_worker m at v))) o (Err NoMessage)) plain) (sym is.found) agree)
@@ -118,15 +123,28 @@ delivery_agrees w k at (Some m) ok is =
     let there = message_there w.messages k m is in
     message_agrees w m.sender m.receiver m.at m.body at ok there (All-contains (IsInOrder w.controllers) w.messages m ok.messages.each there)
 
-steps_are_replayed : StepsAreReplayed
+-- whatever happens
+steps_are_replayed : (w : State) (what : What) (at : ℕ) → IsKept w → StepsAgree (world.step_of what at w) (replay.step_of what at (shows w))
 steps_are_replayed w (MasterOrder o) at ok = master_agrees o w at ok
 steps_are_replayed w (WorkerOrder name o) at ok = found_agrees o w name at (worker_of w.controllers.workers name) (mem name w.controllers.master.workers) ok refl (worker_known w name ok)
 steps_are_replayed w (Deliver k) at ok =
     subst (λ o. StepsAgree (world.delivery_step k at w) (option_map_or (shop.message_comes at (shop_shown w.controllers)) o (Err NoMessage))) (sym (tag_at w.messages k)) (delivery_agrees w k at (message_at w.messages k) ok refl)
 steps_are_replayed w (Restart name) at ok = ap (λ b. cond (bytes_eq name w.controllers.master.name || b) Restarted (Refused UnknownWorker)) (worker_known w name ok)
 
-pub event_is_replayed : EventIsReplayed
-event_is_replayed = event_is_replayed_by steps_are_replayed
+-- ---- as they run
+
+is_shown : IsShownBy world.machine replay.machine IsKept shop_shown tag_of shows
+is_shown =
+    record {
+      inner = λ w. refl;
+      sent = λ w. refl;
+      made = λ c messages. refl;
+      kept = λ w e ok. kept_after e w ok;
+      steps = steps_are_replayed;
+    }
+
+pub event_is_replayed : (w : State) (e : Event) → IsKept w → (world.answer_to e w ≡ replay.answer_to e (shows w)) × (shows (world.after e w) ≡ replay.after e (shows w))
+event_is_replayed = event_agrees world.machine replay.machine IsKept shop_shown tag_of shows is_shown
 
 pub events_are_replayed : EventsAreReplayed
-events_are_replayed = events_are_replayed_by event_is_replayed
+events_are_replayed = runs_agree world.machine replay.machine IsKept shop_shown tag_of shows is_shown

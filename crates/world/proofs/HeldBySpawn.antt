@@ -55,6 +55,3 @@ pub held_spawn : (s : ℕ) (o : Option Holder) → option_map_or (is_spawn s) o 
 held_spawn s None e = absurd (true≢false (sym e))
 held_spawn s (Some Master) e = absurd (true≢false (sym e))
 held_spawn s (Some (Spawn t)) e = ap (λ n. Some (Spawn n)) (eqb-true t s e)
-
-pub spawn_held : (s : ℕ) (o : Option Holder) → o ≡ Some (Spawn s) → option_map_or (is_spawn s) o false ≡ true
-spawn_held s o e = ap (λ h. option_map_or (is_spawn s) h false) e ∙ eq-eqb s s refl

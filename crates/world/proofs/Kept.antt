@@ -18,7 +18,8 @@ use Rattle.world.specs.Happening.{settled}
 use Rattle.world.specs.Messages.{AreInOrder, AreRecorded, HasComeBack, IsInOrder, IsRecorded}
 use Rattle.world.specs.Settling.{settled_messages, settled_state, with_sent}
 use Rattle.world.specs.State.{IsKept, State, state}
-use Rattle.world.specs.Stepping.{Moved, master_moved}
+use Rattle.world.specs.Step.{Step}
+use Rattle.world.specs.Stepping.{master_moved}
 use Rattle.world_items.specs.declared.stop.Stop.{Stop}
 use Rattle.world_items.specs.declared.stop.Stop.TheVariants.{Run, BeforeSave, BeforeSend}
 
@@ -63,7 +64,7 @@ worker_stored c v next messages ok knows kept names later recorded =
 -- ---- a step that is settled
 
 -- a step after which all is in order, also once what it sends is sent
-pub record Keeps (w : State) (moved : Moved Controllers Message) : Type 0 where
+pub record Keeps (w : State) (moved : Step Controllers Message) : Type 0 where
   pub stored : IsKept (beside moved.next w.messages)
   pub sent : IfSome moved.sent (IsNew moved.next w.messages)
 
@@ -80,13 +81,13 @@ sent_kept c messages (Some m) ok new =
       back = ok.back;
     }
 
-pub settled_kept : (stop : Stop) (w : State) (moved : Moved Controllers Message) → IsKept w → Keeps w moved → IsKept (settled stop w (Ok moved))
+pub settled_kept : (stop : Stop) (w : State) (moved : Step Controllers Message) → IsKept w → Keeps w moved → IsKept (settled stop w (Ok moved))
 settled_kept Run w moved ok keeps = sent_kept moved.next w.messages moved.sent keeps.stored keeps.sent
 settled_kept BeforeSave w moved ok keeps = ok
 settled_kept BeforeSend w moved ok keeps = keeps.stored
 
 -- where memory runs out nothing changes
-pub master_kept : {A E : Type 0} (r : Result A E) (stop : Stop) (m stored : master.Known) (workers : List worker.Known) (old new : List Message) (moved : Moved master.Known Message)
+pub master_kept : {A E : Type 0} (r : Result A E) (stop : Stop) (m stored : master.Known) (workers : List worker.Known) (old new : List Message) (moved : Step master.Known Message)
     → OnOk r (stored ≡ settled_state stop m moved.next) → OnOk r (new ≡ settled_messages stop old moved.sent) → OnErr r (stored ≡ m) → OnErr r (new ≡ old)
     → IsKept (state m workers old) → Keeps (state m workers old) (master_moved (record { master = m; workers = workers }) moved) → IsKept (state stored workers new)
 master_kept (Ok a) stop m stored workers old new moved is sent same unsent ok keeps = subst IsKept (sym (master_settled stop m stored workers old new moved is sent)) (settled_kept stop (state m workers old) _ ok keeps)

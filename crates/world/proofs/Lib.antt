@@ -22,8 +22,8 @@ pub mod Runs
 mod Worked
 mod WorkedShop
 pub mod ShopPaths
+pub mod Running
 pub mod Agreeing
-pub mod Replaying
 pub mod TicketSeen
 pub mod MarksShown
 pub mod SameWorkers

@@ -1,5 +1,5 @@
 -- An edit of the master in a shop: the controllers' step and the shop's agree.
-use Rattle.std.proofs.Common.{◌≡◌, ◌∙◌, ℕ, ◌&&◌, ◌||◌, not, Bool, true, false, cond, List, [], ◌∷◌, map, Option, Some, None, is_some, refl, sym, ap}
+use Rattle.std.proofs.Common.{◌≡◌, ◌∙◌, ℕ, ◌&&◌, ◌||◌, not, Bool, true, false, cond, List, [], ◌∷◌, map, Option, Some, None, is_some, Err, refl, sym, ap}
 use Rattle.std.proofs.lemmas.Bool.{true≢false}
 use Rattle.std.proofs.lemmas.Slice.Eq.{bytes_eq-Decides}
 use Rattle.std.specs.List.{find, list_any}
@@ -47,23 +47,23 @@ use Rattle.world.proofs.ShopPaths.{same_shop}
 use Rattle.world.specs.Controllers.{Controllers}
 use Rattle.world.specs.Shop.{Rows, Shop}
 use Rattle.world.specs.ShopActs.{edited, with_new}
-use Rattle.world.specs.ShopSteps.{Tag, edit_refusal, master_does, unless_refused}
+use Rattle.world.specs.ShopSteps.{Tag, edit_refusal, master_does}
 use Rattle.world.specs.Showing.{entry_of_spawn, now_shown, row_at, shop_shown}
 use Rattle.world.specs.State.{IsKept, State}
-use Rattle.world.specs.Stepping.{Moved, master_moved, ordered_master, refused}
-use Rattle.world_items.specs.declared.word.Word.TheVariants.{Refused}
+use Rattle.world.specs.Step.{Step, unless_refused}
+use Rattle.world.specs.Stepping.{master_moved, ordered_master}
 
 -- ---- refusals
 
 -- an order that is refused alike, and done alike where it isn't
-pub order_agrees : (c : Controllers) (done : Moved Known Message) (plain : Moved Shop Tag) (mine its : Option Refusal) → mine ≡ its → (mine ≡ None → Agrees (master_moved c done) plain)
-    → Agrees (master_moved c (option_map_or (λ e. refused e c.master) mine done)) (unless_refused its (shop_shown c) plain)
+pub order_agrees : (c : Controllers) (done : Step Known Message) (plain : Step Shop Tag) (mine its : Option Refusal) → mine ≡ its → (mine ≡ None → Agrees (master_moved c done) plain)
+    → Agrees (master_moved c (unless_refused mine c.master done)) (unless_refused its (shop_shown c) plain)
 order_agrees c done plain None None same go = go refl
 order_agrees c done plain None (Some e) same go = cc
 order_agrees c done plain (Some e) None same go = cc
 order_agrees c done plain (Some e) (Some f) same go =
     let one : e ≡ f = cc in
-    record { word = ap Refused one; next = refl; sent = refl }
+    record { reply = λ i. Err (one i); next = refl; sent = refl }
 
 pub edit_refused : (e : Edit) (c : Controllers) → IsValid c.master.ticket.rows → orders.edit_refusal e c.master ≡ edit_refusal e (shop_shown c)
 edit_refused e c valid =
@@ -318,4 +318,4 @@ master_edits w e at kept =
     let c = w.controllers in
     let valid = kept.master.valid in
     order_agrees c _ _ (orders.edit_refusal e c.master) (edit_refusal e (shop_shown c)) (edit_refused e c valid)
-    (λ none. record { word = refl; next = edit_is_shown e at c valid kept.master.apart (edit_free e c.master none); sent = refl })
+    (λ none. record { reply = refl; next = edit_is_shown e at c valid kept.master.apart (edit_free e c.master none); sent = refl })

@@ -1,5 +1,5 @@
 -- A spawn of the master in a shop: the controllers' step and the shop's agree.
-use Rattle.std.proofs.Common.{◌≡◌, ◌∙◌, ◌⊎◌, inl, inr, ℕ, suc, ◌<◌, ◌&&◌, Bool, true, false, cond, List, [], ◌∷◌, ◌++◌, length, map, Option, Some, None, is_some, slice_get, refl, sym, ap, arith}
+use Rattle.std.proofs.Common.{◌≡◌, ◌∙◌, ◌⊎◌, inl, inr, ℕ, suc, ◌<◌, ◌&&◌, Bool, true, false, cond, List, [], ◌∷◌, ◌++◌, length, map, Option, Some, None, is_some, slice_get, Ok, refl, sym, ap, arith}
 use Rattle.std.proofs.lemmas.Bool.{true≢false}
 use Rattle.std.proofs.lemmas.List.{length-map, map-append}
 use Rattle.std.proofs.lemmas.List.Folds.{find-append}
@@ -67,7 +67,6 @@ use Rattle.world.specs.ShopSteps.{Submit, master_does, spawn_refusal}
 use Rattle.world.specs.Showing.{entry_of_spawn, now_shown, phase_shown, row_at, seen_shown, shop_shown, spawn_shown}
 use Rattle.world.specs.State.{IsKept, State}
 use Rattle.world.specs.Stepping.{master_moved, ordered_master}
-use Rattle.world_items.specs.declared.word.Word.TheVariants.{Did}
 
 -- ---- refusals
 
@@ -402,7 +401,7 @@ master_spawns w n worker copies at kept =
     let c = w.controllers in
     order_agrees c _ _ (orders.order_refusal (order.Spawn n worker copies) c.master) (spawn_refusal n worker copies (shop_shown c)) (spawn_refused n worker copies c kept.master.valid)
     (λ none. record {
-      word = ap (λ k. Did (reply.Spawned k)) (sym (number_shown c));
+      reply = ap (λ k. Ok (reply.Spawned k)) (sym (number_shown c));
       next = spawn_is_shown c n worker copies at (sent_of c n worker copies at kept.master kept.recorded none);
       sent = ap (λ k. Some (Submit k)) (sym (number_shown c));
     })

@@ -1,5 +1,5 @@
 -- What the messages of a shop tell of merges: one that is put in, at the node above, and no other.
-use Rattle.std.proofs.Common.{◌≡◌, ◌⊎◌, inl, inr, ◌∙◌, ◌==◌, ℕ, Bool, true, false, cond, List, Option, Some, None, Result, Ok, Err, is_some, refl, sym, ap, subst}
+use Rattle.std.proofs.Common.{◌≡◌, ◌⊎◌, inl, inr, ◌∙◌, ◌==◌, ℕ, Bool, true, false, cond, List, Option, Some, None, Ok, Err, is_some, refl, sym, ap, subst}
 use Rattle.std.proofs.lemmas.Bool.{eqb-true}
 use Rattle.std.specs.Option.{option_and_then, option_map_or}
 use Rattle.std.specs.Str.{bytes_eq}
@@ -18,8 +18,7 @@ use Rattle.world.specs.MergeAudits.{GoOn, above_of, audit_tells}
 use Rattle.world.specs.Shop.{Merged, Open, Rows, Shop, SpawnState, has_number, is_away, is_done, spawn_of}
 use Rattle.world.specs.ShopActs.{is_held_by, merged, merged_audit, put_in, taken, told_above}
 use Rattle.world.specs.ShopSteps.{Submit, Return, Tag, ToReturn, ToSubmit, message_comes, return_comes, sends, submit_comes}
-use Rattle.world.specs.Stepping.{Moved}
-use Rattle.world_items.specs.declared.word.Word.{Word}
+use Rattle.world.specs.Step.{Step, StepOrWord}
 use Rattle.world_items.specs.declared.word.Word.TheVariants.{Did, NoMessage}
 
 -- ---- one that is put in
@@ -94,11 +93,11 @@ submit_tells p a true = tells_none (Did (reply.Taken a.number)) p (taken a.numbe
 submit_tells p a false = tells_nothing (Did (reply.Again a.number)) p (λ s. refl)
 
 -- a step, or the word where none is made
-abbrev pub StepTells : Shop → Result (Moved Shop Tag) Word → Type 0
+abbrev pub StepTells : Shop → StepOrWord Shop Tag → Type 0
 StepTells p (Ok moved) = Tells p moved
 StepTells p (Err word) = shops.IsSilent word
 
-found_tells : (p : Shop) (s : ℕ) (f : SpawnState → Moved Shop Tag) (found : Option SpawnState) → spawn_of s p ≡ found → ((a : SpawnState) → spawn_of s p ≡ Some a → Tells p (f a)) → StepTells p (option_map_or (λ a. Ok (f a)) found (Err NoMessage))
+found_tells : (p : Shop) (s : ℕ) (f : SpawnState → Step Shop Tag) (found : Option SpawnState) → spawn_of s p ≡ found → ((a : SpawnState) → spawn_of s p ≡ Some a → Tells p (f a)) → StepTells p (option_map_or (λ a. Ok (f a)) found (Err NoMessage))
 found_tells p s f None is go = λ t. refl
 found_tells p s f (Some a) is go = go a is
 

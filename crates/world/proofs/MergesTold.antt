@@ -32,10 +32,10 @@ use Rattle.world.proofs.Changing.{made_of}
 use Rattle.world.proofs.Events.{event_is_replayed, events_are_replayed}
 use Rattle.world.proofs.GoingOn.{IsNew, as_often, one_if, stays_so}
 use Rattle.world.proofs.MasterEdits.{edit_refused, new_nowhere}
+use Rattle.world.proofs.Opening.{opening_is_shown}
 use Rattle.world.proofs.MergesTell.{StandsAbove, StepTells, message_tells}
 use Rattle.world.proofs.Once.{each_is_merged_once}
 use Rattle.world.proofs.OrdersTell.{StaysAbove, Tells, master_tells, worker_tells}
-use Rattle.world.proofs.Replaying.{opening_is_shown}
 use Rattle.world.proofs.Resends.{spawn_found}
 use Rattle.world.proofs.ShopTells.{HaveNumbers, IsSilent, IsTold, TellsMore, is_above, tells_nothing, then_told, times}
 use Rattle.world.specs.Happening as world
@@ -50,7 +50,7 @@ use Rattle.world.specs.ShopActs.{is_spawn}
 use Rattle.world.specs.ShopSteps.{Tag, edit_refusal, message_comes, worker_does}
 use Rattle.world.specs.Showing.{phase_shown, row_at, shop_shown, shows, spawn_shown}
 use Rattle.world.specs.State.{IsKept, State, message_at, opening}
-use Rattle.world.specs.Stepping.{Moved}
+use Rattle.world.specs.Step.{Step, StepOrWord}
 use Rattle.world_items.specs.declared.answer.Answer.{Answer}
 use Rattle.world_items.specs.declared.event.Event.{Event}
 use Rattle.world_items.specs.declared.stop.Stop.{Stop}
@@ -149,7 +149,7 @@ either_silent : (b : Bool) → IsSilent (cond b Restarted (Refused UnknownWorker
 either_silent true s = refl
 either_silent false s = refl
 
-worker_step_tells : (p : Shop) (moved : Moved Shop Tag) (known : Bool) → Tells p moved → StepTells p (cond known (Ok moved) (Err (Refused UnknownWorker)))
+worker_step_tells : (p : Shop) (moved : Step Shop Tag) (known : Bool) → Tells p moved → StepTells p (cond known (Ok moved) (Err (Refused UnknownWorker)))
 worker_step_tells p moved true tells = tells
 worker_step_tells p moved false tells = λ s. refl
 
@@ -163,7 +163,7 @@ what_tells w (WorkerOrder name o) at ok numbers = worker_step_tells (shop_shown 
 what_tells w (Deliver k) at ok numbers = delivery_tells (shop_shown w.controllers) at (message_at (shows w).tags k) (λ t. message_tells t at (shop_shown w.controllers) numbers (λ s a found done. stands_above w s a ok found done))
 what_tells w (Restart name) at ok numbers = either_silent (bytes_eq name w.controllers.master.name || mem name w.controllers.master.workers)
 
-settled_tells : (stop : Stop) (p : replay.Shown) (step : replay.Step) → StepTells p.shop step → TellsMore (times (replay.settled_word stop p step).word) p.shop (replay.settled stop p step).shop
+settled_tells : (stop : Stop) (p : replay.Shown) (step : StepOrWord Shop Tag) → StepTells p.shop step → TellsMore (times (replay.settled_word stop p step).word) p.shop (replay.settled stop p step).shop
 settled_tells Run p (Ok moved) tells = tells
 settled_tells BeforeSave p (Ok moved) tells = tells_nothing Stopped p.shop (λ s. refl)
 settled_tells BeforeSend p (Ok moved) tells = tells

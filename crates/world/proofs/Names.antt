@@ -1,7 +1,6 @@
 -- A step changes no name: not a controller's, nor those that it knows.
 use Rattle.std.proofs.Common.{◌≡◌, Bool, true, false, cond, ℕ, Option, Some, None, refl, is_some}
 use Rattle.std.specs.Option.{option_map_or}
-use Rattle.ticket_items.specs.declared.refusal.Refusal.{Refusal}
 use Rattle.controller.specs.declared.body.Body.{Body}
 use Rattle.controller.specs.declared.body.Body.TheVariants.{Submit, Return, Answer}
 use Rattle.controller.specs.declared.message.Message.{Message}
@@ -15,9 +14,7 @@ use Rattle.spawn.specs.declared.records.spawn_rec.SpawnRec.{SpawnRec}
 use Rattle.ticket_tree.specs.Part.{Copied}
 use Rattle.worker_core.specs.Worker as worker
 use Rattle.worker_core.specs.Messages as worker_messages
-use Rattle.worker_core.specs.Orders as worker_orders
-use Rattle.worker_core.specs.declared.order.Order as worker_order
-use Rattle.world.specs.Stepping.{Moved, ordered_master, ordered_worker, refused, taken_by_master, taken_by_worker}
+use Rattle.world.specs.Stepping.{taken_by_master, taken_by_worker}
 
 -- ---- the master
 
@@ -33,13 +30,6 @@ pub ordered_names : (o : master_order.Order) (at : ℕ) (m : master.Known) → H
 ordered_names (order.Edit e) at m = record { own = refl; workers = refl }
 ordered_names (order.Spawn node to rw) at m = record { own = refl; workers = refl }
 ordered_names (order.Resend s) at m = same m
-
-unless_refused : (r : Option Refusal) (m : master.Known) (v : Moved master.Known Message) → HasNames m v.next → HasNames m (option_map_or (λ e. refused e m) r v).next
-unless_refused None m v names = names
-unless_refused (Some e) m v names = same m
-
-pub ordered_master_names : (o : master_order.Order) (at : ℕ) (m : master.Known) → HasNames m (ordered_master o at m).next
-ordered_master_names o at m = unless_refused (master_orders.order_refusal o m) m _ (ordered_names o at m)
 
 merged_names : (out : Bool) (p : Copied) (at : ℕ) (m : master.Known) (r : SpawnRec) → HasNames m (cond out (master_messages.merged p at m r) m)
 merged_names true p at m r = record { own = refl; workers = refl }
@@ -66,13 +56,6 @@ taken_by_master_names message at m = if_refused (is_some (master_messages.take_r
 pub record HasItsNames (old next : worker.Known) : Type 0 where
   pub own : next.name ≡ old.name
   pub masters : next.master ≡ old.master
-
-unless_worker_refused : (r : Option Refusal) (w : worker.Known) (v : Moved worker.Known Message) → HasItsNames w v.next → HasItsNames w (option_map_or (λ e. refused e w) r v).next
-unless_worker_refused None w v names = names
-unless_worker_refused (Some e) w v names = record { own = refl; masters = refl }
-
-pub ordered_worker_names : (o : worker_order.Order) (at : ℕ) (w : worker.Known) → HasItsNames w (ordered_worker o at w).next
-ordered_worker_names o at w = unless_worker_refused (worker_orders.order_refusal o w.entries) w _ (record { own = refl; masters = refl })
 
 if_worker_refused : (b : Bool) (w next : worker.Known) → HasItsNames w next → HasItsNames w (cond b w next)
 if_worker_refused true w next names = record { own = refl; masters = refl }

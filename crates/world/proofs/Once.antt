@@ -38,7 +38,8 @@ use Rattle.world.specs.Laws.{EachIsMergedOnce}
 use Rattle.world.specs.Messages.{IsInOrder}
 use Rattle.world.specs.Once.{AreMergedOnce, TellsMerge}
 use Rattle.world.specs.State.{IsKept, State, message_at}
-use Rattle.world.specs.Stepping.{Moved, master_moved, ordered_master, ordered_worker, refused, taken_by_master, taken_by_worker, word_of, worker_moved}
+use Rattle.world.specs.Step.{Step, unless_refused, word_of}
+use Rattle.world.specs.Stepping.{master_moved, ordered_master, ordered_worker, taken_by_master, taken_by_worker, worker_moved}
 use Rattle.world_items.specs.declared.answer.Answer.{Answer}
 use Rattle.world_items.specs.declared.event.Event.{Event}
 use Rattle.world_items.specs.declared.stop.Stop.{Stop}
@@ -54,7 +55,7 @@ use Rattle.world_items.specs.declared.word.Word.TheVariants.{Did, NoMessage, Ref
 abbrev Has : Controllers → ℕ → SpawnRec → Type 0
 Has c s r = record_of c.master.records s ≡ Some r
 
-settled_has : (stop : Stop) (w : State) (moved : Moved Controllers Message) (s : ℕ) (r : SpawnRec) → Has w.controllers s r → Has moved.next s r → Has (settled stop w (Ok moved)).controllers s r
+settled_has : (stop : Stop) (w : State) (moved : Step Controllers Message) (s : ℕ) (r : SpawnRec) → Has w.controllers s r → Has moved.next s r → Has (settled stop w (Ok moved)).controllers s r
 settled_has Run w moved s r has next = next
 settled_has BeforeSave w moved s r has next = has
 settled_has BeforeSend w moved s r has next = next
@@ -63,11 +64,11 @@ ordered_has : (o : master_order.Order) (at : ℕ) (m : Known) (s : ℕ) (r : Spa
 ordered_has o at m s r has isn't = by (master_orders.order_refusal o m) refl
   where
     by : (e : Option Refusal) → master_orders.order_refusal o m ≡ e
-        → record_of (option_map_or (λ e. refused e m) e (record { word = Did (master_orders.order_reply o m); next = master_orders.ordered o at m; sent = master_orders.order_message o at m })).next.records s ≡ Some r
+        → record_of (unless_refused e m (record { reply = Ok (master_orders.order_reply o m); next = master_orders.ordered o at m; sent = master_orders.order_message o at m })).next.records s ≡ Some r
     by None free = ap (λ (v : Known). record_of v.records s) (sym (done_order o at m free)) ∙ (in_stays_in m s r has isn't).0 o at
     by (Some e) is = has
 
-found_has : (found : Option worker.Known) (f : worker.Known → Moved worker.Known Message) (word : Word) (stop : Stop) (w : State) (s : ℕ) (r : SpawnRec) → Has w.controllers s r
+found_has : (found : Option worker.Known) (f : worker.Known → Step worker.Known Message) (word : Word) (stop : Stop) (w : State) (s : ℕ) (r : SpawnRec) → Has w.controllers s r
     → Has (settled stop w (option_map_or (λ v. Ok (worker_moved w.controllers v (f v))) found (Err word))).controllers s r
 found_has None f word stop w s r has = has
 found_has (Some v) f word stop w s r has = settled_has stop w (worker_moved w.controllers v (f v)) s r has has
@@ -104,7 +105,7 @@ no_order_reply (master_orders_are.Spawn node name rw) m s is = cc
 no_order_reply (master_orders_are.Resend t) m s is = cc
 
 no_master_order : (refusal : Option Refusal) (o : master_order.Order) (at : ℕ) (m : Known) (s : ℕ)
-    → (option_map_or (λ e. refused e m) refusal (record { word = Did (master_orders.order_reply o m); next = master_orders.ordered o at m; sent = master_orders.order_message o at m })).word ≡ Did (reply.Merged s) → ⊥
+    → word_of (unless_refused refusal m (record { reply = Ok (master_orders.order_reply o m); next = master_orders.ordered o at m; sent = master_orders.order_message o at m })).reply ≡ Did (reply.Merged s) → ⊥
 no_master_order None o at m s is = no_order_reply o m s is
 no_master_order (Some e) o at m s is = cc
 
@@ -114,7 +115,7 @@ no_worker_reply (worker_orders_are.Finish t how) s is = cc
 no_worker_reply (worker_orders_are.Resend t) s is = cc
 
 no_worker_order : (refusal : Option Refusal) (o : worker_order.Order) (at : ℕ) (v : worker.Known) (s : ℕ)
-    → (option_map_or (λ e. refused e v) refusal (record { word = Did (worker_orders.order_reply o); next = worker_orders.ordered o at v; sent = worker_orders.order_message o at v })).word ≡ Did (reply.Merged s) → ⊥
+    → word_of (unless_refused refusal v (record { reply = Ok (worker_orders.order_reply o); next = worker_orders.ordered o at v; sent = worker_orders.order_message o at v })).reply ≡ Did (reply.Merged s) → ⊥
 no_worker_order None o at v s is = no_worker_reply o s is
 no_worker_order (Some e) o at v s is = cc
 
@@ -140,15 +141,15 @@ no_worker_take : (m : Message) (v : worker.Known) (s : ℕ) → word_of (worker_
 no_worker_take m v s is = no_take_reply m.body v.entries s (told_reply (worker_messages.take_refusal m v) (worker_messages.take_reply m.body v.entries) s is).1
 
 -- the word of a step is told only where its state is stored
-settled_tells : (stop : Stop) (w : State) (moved : Moved Controllers Message) (s : ℕ) → TellsMerge s (settled_word stop w (Ok moved)) → (moved.word ≡ Did (reply.Merged s)) × ((settled stop w (Ok moved)).controllers ≡ moved.next)
+settled_tells : (stop : Stop) (w : State) (moved : Step Controllers Message) (s : ℕ) → TellsMerge s (settled_word stop w (Ok moved)) → (word_of moved.reply ≡ Did (reply.Merged s)) × ((settled stop w (Ok moved)).controllers ≡ moved.next)
 settled_tells Run w moved s tells = (tells, refl)
 settled_tells BeforeSave w moved s tells = cc
 settled_tells BeforeSend w moved s tells = (tells, refl)
 
-no_step : (stop : Stop) (w : State) (moved : Moved Controllers Message) (s : ℕ) → (moved.word ≡ Did (reply.Merged s) → ⊥) → TellsMerge s (settled_word stop w (Ok moved)) → ⊥
+no_step : (stop : Stop) (w : State) (moved : Step Controllers Message) (s : ℕ) → (word_of moved.reply ≡ Did (reply.Merged s) → ⊥) → TellsMerge s (settled_word stop w (Ok moved)) → ⊥
 no_step stop w moved s unsaid tells = unsaid (settled_tells stop w moved s tells).0
 
-no_found : (found : Option worker.Known) (f : worker.Known → Moved worker.Known Message) (word : Word) (stop : Stop) (w : State) (s : ℕ) → ((v : worker.Known) → (f v).word ≡ Did (reply.Merged s) → ⊥) → (word ≡ Did (reply.Merged s) → ⊥)
+no_found : (found : Option worker.Known) (f : worker.Known → Step worker.Known Message) (word : Word) (stop : Stop) (w : State) (s : ℕ) → ((v : worker.Known) → word_of (f v).reply ≡ Did (reply.Merged s) → ⊥) → (word ≡ Did (reply.Merged s) → ⊥)
     → TellsMerge s (settled_word stop w (option_map_or (λ v. Ok (worker_moved w.controllers v (f v))) found (Err word))) → ⊥
 no_found None f word stop w s unsaid other tells = other tells
 no_found (Some v) f word stop w s unsaid other tells = no_step stop w (worker_moved w.controllers v (f v)) s (unsaid v) tells

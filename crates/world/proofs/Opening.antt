@@ -1,16 +1,24 @@
--- In the beginning all is in order.
-use Rattle.std.proofs.Common.{◌≡◌, ◌∷◌, false, List, [], ℕ, map, refl, sym, ap, ◌∙◌, subst, arith}
+-- In the beginning all is in order, and what is shown is the beginning of a shop.
+use Rattle.std.proofs.Common.{◌≡◌, ◌∷◌, false, List, [], ℕ, map, Option, Some, None, is_some, if◌then◌else◌, refl, sym, ap, ◌∙◌, subst, arith}
 use Rattle.std.proofs.lemmas.Bool.{and_parts, not-true, or_parts}
 use Rattle.std.proofs.lemmas.List.Elements.{All-cons, All-nil}
 use Rattle.std.specs.List.{All}
+use Rattle.std.specs.Option.{option_map}
 use Rattle.std.specs.Str.{bytes_eq}
 use Rattle.ticket_items.specs.Ids.{mem}
+use Rattle.ticket_rows.specs.Place.{Place, place_at, places}
 use Rattle.controller.specs.declared.message.Message.{Message}
+use Rattle.spawn.specs.Table.{holder_at}
+use Rattle.spawn.specs.declared.tables.holder.Holder.TheVariants.{Master}
 use Rattle.master_core.specs.Master as master
 use Rattle.worker_core.specs.Worker as worker
+use Rattle.world.proofs.ShopPaths.{same_shop}
 use Rattle.world.specs.Controllers.{Controllers}
+use Rattle.world.specs.Laws.{OpeningIsShown}
 use Rattle.world.specs.Messages.{AreInOrder, AreRecorded, HasComeBack}
-use Rattle.world.specs.State.{IsKept, new_worker, state}
+use Rattle.world.specs.ShopActs as acts
+use Rattle.world.specs.Showing.{row_at, seen_shown, shop_shown}
+use Rattle.world.specs.State.{IsKept, new_worker, opening, state}
 
 -- each new worker has its name
 named : (m : List ℕ) (names : List (List ℕ)) → map (λ (v : worker.Known). v.name) (map (new_worker m) names) ≡ names
@@ -54,3 +62,29 @@ opening_kept m workers messages ok is none nothing =
       messages = subst (AreInOrder c) (sym none) (nothing_sent c);
       back = subst (All (HasComeBack c)) (sym nothing) (All-nil _);
     }
+
+-- ---- as it is shown
+
+masters : (o : Option Place) → option_map (holder_at []) o ≡ (if is_some o then Some Master else None)
+masters None = refl
+masters (Some p) = refl
+
+masters_row : (c : Controllers) (x : List ℕ) (o : Option Place) → row_at c x (option_map (holder_at []) o) ≡ seen_shown c x
+masters_row c x None = refl
+masters_row c x (Some p) = refl
+
+pub opening_is_shown : OpeningIsShown
+opening_is_shown name workers ticket =
+    let c = (opening name workers ticket).controllers in
+    ap (λ p. record { shop = p; tags = [] })
+    (same_shop (shop_shown c) (acts.opening name workers ticket)
+    (record {
+      master = refl;
+      workers = refl;
+      job = refl;
+      tree = refl;
+      seen = λ x. refl;
+      now = λ x. masters_row c x (place_at (places ticket.rows) x);
+      holder = λ x. masters (place_at (places ticket.rows) x);
+      spawns = refl;
+    }))

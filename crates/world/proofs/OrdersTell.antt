@@ -28,16 +28,16 @@ use Rattle.world.proofs.ShopTells.{SpawnsStay, TellsMore, phase_stays, same_rows
 use Rattle.world.specs.MergeAudits.{above_of}
 use Rattle.world.specs.Shop.{Done, Shop, SpawnState, has_number, is_open, next_number, spawn_of}
 use Rattle.world.specs.ShopActs.{edited, finished, next_spawn, sent_out, spawned, spawned_audit, worked}
-use Rattle.world.specs.ShopSteps.{Return, Submit, Tag, edit_refusal, is_held, is_taken_by, is_to_read, master_does, not_held, replies, resend_refusal, sends, spawn_refusal, spawn_worked, unless_refused, work_refusal, worker_does}
-use Rattle.world.specs.Stepping.{Moved, refused}
+use Rattle.world.specs.ShopSteps.{Return, Submit, Tag, edit_refusal, is_held, is_taken_by, is_to_read, master_does, not_held, replies, resend_refusal, sends, spawn_refusal, spawn_worked, work_refusal, worker_does}
+use Rattle.world.specs.Step.{Step, refused, unless_refused, word_of}
 use Rattle.world_items.specs.declared.word.Word.TheVariants.{Did, Refused}
 
 -- a step of a shop tells of a merge in its audits as often as in its word
-abbrev pub Tells : Shop → Moved Shop Tag → Type 0
-Tells p moved = TellsMore (times moved.word) p moved.next
+abbrev pub Tells : Shop → Step Shop Tag → Type 0
+Tells p moved = TellsMore (times (word_of moved.reply)) p moved.next
 
 -- what is refused tells nothing
-pub refused_or_tells : (why : Option Refusal) (p : Shop) (moved : Moved Shop Tag) → (why ≡ None → Tells p moved) → Tells p (unless_refused why p moved)
+pub refused_or_tells : (why : Option Refusal) (p : Shop) (moved : Step Shop Tag) → (why ≡ None → Tells p moved) → Tells p (unless_refused why p moved)
 refused_or_tells None p moved go = go refl
 refused_or_tells (Some e) p moved go = tells_nothing (Refused e) p (λ s. refl)
 

@@ -36,7 +36,7 @@ use Rattle.master_core.specs.Master as master
 use Rattle.master_core.specs.Messages as master_messages
 use Rattle.worker_core.specs.Worker as worker
 use Rattle.worker_core.specs.declared.entry.Entry.{Entry}
-use Rattle.world.proofs.Agreeing.{Agrees}
+use Rattle.world.proofs.Agreeing.{Agrees, StepsAgree}
 use Rattle.world.proofs.Cases.{split, when_false, when_true}
 use Rattle.world.proofs.Doors.{master_refuses_nothing, return_fits}
 use Rattle.world.proofs.HeldBySpawn.{good_record, held_claims, held_spawn}
@@ -44,7 +44,6 @@ use Rattle.world.proofs.MasterEdits.{touch_as}
 use Rattle.world.proofs.MasterSpawns.{told_as, told_stays, told_there, with_told}
 use Rattle.world.proofs.MasterSteps.{with_master}
 use Rattle.world.proofs.PartHolds.{claims}
-use Rattle.world.proofs.Replaying.{StepsAgree}
 use Rattle.world.proofs.Resends.{spawn_found}
 use Rattle.world.proofs.ShopPaths.{same_shop}
 use Rattle.world.proofs.Stored.{and_found}
@@ -52,13 +51,14 @@ use Rattle.world.proofs.TakenSpawns.{phase_of_entry}
 use Rattle.world.specs.Controllers.{Controllers}
 use Rattle.world.specs.Messages.{IsInOrder, entry_for}
 use Rattle.world.specs.Shop as plain
-use Rattle.world.specs.Shop.{Shop, SpawnState, has_number}
+use Rattle.world.specs.Shop.{SpawnState, has_number}
 use Rattle.world.specs.ShopActs as acts
 use Rattle.world.specs.ShopSteps as shop
 use Rattle.world.specs.Showing.{entry_of_spawn, now_shown, phase_shown, row_at, seen_shown, shop_shown, spawn_shown, tag_of}
 use Rattle.world.specs.State.{IsKept, State}
-use Rattle.world.specs.Stepping.{Moved, master_moved, taken_by_master, word_of}
-use Rattle.world_items.specs.declared.word.Word.TheVariants.{Did, NoMessage}
+use Rattle.world.specs.Step.{Step}
+use Rattle.world.specs.Stepping.{master_moved, taken_by_master}
+use Rattle.world_items.specs.declared.word.Word.TheVariants.{NoMessage}
 
 -- ---- what is put in
 
@@ -223,19 +223,19 @@ abbrev part_returned : List ℕ → List ℕ → ℕ → Copied → Message
 part_returned sender receiver sent p = record { sender = sender; receiver = receiver; at = sent; body = Return p }
 
 -- the master's step, by why the part is refused and by the record of its spawn
-abbrev step_by : master.Known → Message → Copied → ℕ → Option Refusal → Option SpawnRec → Moved master.Known Message
+abbrev step_by : master.Known → Message → Copied → ℕ → Option Refusal → Option SpawnRec → Step master.Known Message
 step_by m message p at why o =
     record {
-      word = word_of (refused_or why (cond (option_map_or is_out o false) (reply.Merged p.spawn_id) (reply.Already p.spawn_id)));
+      reply = refused_or why (cond (option_map_or is_out o false) (reply.Merged p.spawn_id) (reply.Already p.spawn_id));
       next = cond (is_some why) m (option_map_or (λ r. cond (is_out r) (master_messages.merged p at m r) m) o m);
       sent = master_messages.taken_answer message at m;
     }
 
 -- the step on one that isn't refused, by whether its spawn is out
-abbrev step_on : master.Known → Message → Copied → ℕ → SpawnRec → Bool → Moved master.Known Message
+abbrev step_on : master.Known → Message → Copied → ℕ → SpawnRec → Bool → Step master.Known Message
 step_on m message p at r out =
     record {
-      word = Did (cond out (reply.Merged p.spawn_id) (reply.Already p.spawn_id));
+      reply = Ok (cond out (reply.Merged p.spawn_id) (reply.Already p.spawn_id));
       next = cond out (master_messages.merged p at m r) m;
       sent = master_messages.taken_answer message at m;
     }
@@ -248,7 +248,7 @@ back_by : (out : Bool) (c : Controllers) (message : Message) (p : Copied) (at : 
 back_by true c message p at r number back answered =
     let h = back refl in
     record {
-      word = ap (λ n. Did (reply.Merged n)) (sym number);
+      reply = ap (λ n. Ok (reply.Merged n)) (sym number);
       next =
           same_shop _ _
           (record {
@@ -264,7 +264,7 @@ back_by true c message p at r number back answered =
       sent = answered ∙ ap (λ n. Some (shop.ToReturn n)) (sym number);
     }
 back_by false c message p at r number back answered =
-    record { word = ap (λ n. Did (reply.Already n)) (sym number); next = refl; sent = answered ∙ ap (λ n. Some (shop.ToReturn n)) (sym number) }
+    record { reply = ap (λ n. Ok (reply.Already n)) (sym number); next = refl; sent = answered ∙ ap (λ n. Some (shop.ToReturn n)) (sym number) }
 
 and_all : (b : Bool) → (b && true) ≡ b
 and_all true = refl

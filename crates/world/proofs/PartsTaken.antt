@@ -27,12 +27,11 @@ use Rattle.worker_core.proofs.AtNumber.{found_holds}
 use Rattle.worker_core.specs.Messages.{taken_answer}
 use Rattle.worker_core.specs.Worker as worker
 use Rattle.worker_core.specs.declared.entry.Entry.{Entry}
-use Rattle.world.proofs.Agreeing.{Agrees}
+use Rattle.world.proofs.Agreeing.{Agrees, StepsAgree}
 use Rattle.world.proofs.Back.{one_record}
 use Rattle.world.proofs.Cases.{split, split_some}
 use Rattle.world.proofs.Doors.{worker_refuses_nothing}
 use Rattle.world.proofs.EntryStored.{HasStored, row_stored, spawns_stored}
-use Rattle.world.proofs.Replaying.{StepsAgree}
 use Rattle.world.proofs.Resends.{spawn_found}
 use Rattle.world.proofs.SameWorkers.{stored_same}
 use Rattle.world.proofs.ShopPaths.{same_shop}
@@ -45,18 +44,19 @@ use Rattle.world.specs.ShopActs.{in_phase, taken}
 use Rattle.world.specs.ShopSteps as shop
 use Rattle.world.specs.Showing.{entry_of_spawn, phase_shown, row_at, seen_shown, shop_shown, spawn_shown, tag_of}
 use Rattle.world.specs.State.{IsKept, State}
-use Rattle.world.specs.Stepping.{Moved, taken_by_worker, word_of, worker_moved}
-use Rattle.world_items.specs.declared.word.Word.TheVariants.{Did, NoMessage}
+use Rattle.world.specs.Step.{Step}
+use Rattle.world.specs.Stepping.{taken_by_worker, worker_moved}
+use Rattle.world_items.specs.declared.word.Word.TheVariants.{NoMessage}
 
 -- the message that brings a part to a worker
 abbrev part_sent : List ℕ → worker.Known → ℕ → Copied → Message
 part_sent sender v sent p = record { sender = sender; receiver = v.name; at = sent; body = Submit p }
 
 -- the worker's step, by why the part is refused and by the entry that it has
-abbrev step_by : worker.Known → Message → Copied → ℕ → Option Refusal → Option Entry → Moved worker.Known Message
+abbrev step_by : worker.Known → Message → Copied → ℕ → Option Refusal → Option Entry → Step worker.Known Message
 step_by v m p at why o =
     record {
-      word = word_of (refused_or why (cond (is_some o) (reply.Again p.spawn_id) (reply.Taken p.spawn_id)));
+      reply = refused_or why (cond (is_some o) (reply.Again p.spawn_id) (reply.Taken p.spawn_id));
       next = cond (is_some why) v (record v { entries = cond (is_some o) v.entries (v.entries ++ worker.new_entry p at ∷ []) });
       sent = taken_answer m at v;
     }
@@ -93,7 +93,7 @@ taken_again w v m p at r e ok found number entered answered =
     subst (λ b. Agrees (worker_moved c v (step_by v m p at None (Some e))) (cond b (shop.sends (reply.Taken r.id) (taken r.id s) (shop.ToSubmit r.id)) (shop.sends (reply.Again r.id) s (shop.ToSubmit r.id))))
     (sym (ap (λ o. is_away (phase_shown (is_out r) o)) entered ∙ (phase_of_entry (is_out r) e).away))
     (record {
-      word = ap (λ n. Did (reply.Again n)) (sym number);
+      reply = ap (λ n. Ok (reply.Again n)) (sym number);
       next = ap shop_shown (stored_same w v.name v ok found);
       sent = answered ∙ ap (λ n. Some (shop.ToSubmit n)) (sym number);
     })
@@ -166,7 +166,7 @@ newly_taken w v m p at r ok found recorded named made missing none answered =
     subst (λ b. Agrees (worker_moved c v (step_by v m p at None None)) (cond b (shop.sends (reply.Taken r.id) (taken r.id s) (shop.ToSubmit r.id)) (shop.sends (reply.Again r.id) s (shop.ToSubmit r.id))))
     (sym (phase_away (is_out r) (entry_for c r) none out))
     (record {
-      word = ap (λ n. Did (reply.Taken n)) (sym number);
+      reply = ap (λ n. Ok (reply.Taken n)) (sym number);
       next =
           same_shop _ _
           (record {

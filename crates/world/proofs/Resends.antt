@@ -1,5 +1,5 @@
 -- A part that is sent once more: the controllers' step and the shop's agree.
-use Rattle.std.proofs.Common.{◌≡◌, ◌∙◌, ℕ, Bool, true, false, cond, Option, Some, None, refl, sym, ap, subst}
+use Rattle.std.proofs.Common.{◌≡◌, ◌∙◌, ℕ, Bool, true, false, cond, Option, Some, None, Ok, refl, sym, ap, subst}
 use Rattle.std.specs.Option.{option_map, option_map_or}
 use Rattle.ticket_items.specs.declared.refusal.Refusal.TheVariants.{NotOut}
 use Rattle.ticket_rows.specs.Ticket.{unless}
@@ -17,11 +17,11 @@ use Rattle.world.proofs.Cases.{found_made}
 use Rattle.world.specs.Controllers.{Controllers}
 use Rattle.world.specs.Messages.{entry_for}
 use Rattle.world.specs.Shop.{Done, Open, has_number, is_out, spawn_of}
-use Rattle.world.specs.ShopSteps.{Submit, master_does, sends, unless_refused}
+use Rattle.world.specs.ShopSteps.{Submit, master_does, sends}
 use Rattle.world.specs.Showing.{phase_shown, shop_shown, spawn_shown}
 use Rattle.world.specs.State.{IsKept, State}
-use Rattle.world.specs.Stepping.{master_moved, ordered_master, refused}
-use Rattle.world_items.specs.declared.word.Word.TheVariants.{Did}
+use Rattle.world.specs.Step.{unless_refused}
+use Rattle.world.specs.Stepping.{master_moved, ordered_master}
 
 -- ---- by the master
 
@@ -41,12 +41,12 @@ spawn_found c s = found_made (has_number s) (spawn_shown c) c.master.records
 
 record_resent : (w : State) (s at : ℕ) (o : Option SpawnRec) (out : Bool) → record_of w.controllers.master.records s ≡ o → option_map_or records.is_out o false ≡ out
     → Agrees
-    (master_moved w.controllers (option_map_or (λ e. refused e w.controllers.master) (unless out NotOut) (record { word = Did (reply.Sent s); next = w.controllers.master; sent = option_map (submit_of w.controllers.master.name w.controllers.master.ticket) o })))
+    (master_moved w.controllers (unless_refused (unless out NotOut) w.controllers.master (record { reply = Ok (reply.Sent s); next = w.controllers.master; sent = option_map (submit_of w.controllers.master.name w.controllers.master.ticket) o })))
     (unless_refused (unless out NotOut) (shop_shown w.controllers) (sends (reply.Sent s) (shop_shown w.controllers) (Submit s)))
 record_resent w s at None true found is = cc
-record_resent w s at None false found is = record { word = refl; next = refl; sent = refl }
-record_resent w s at (Some r) true found is = record { word = refl; next = refl; sent = ap (λ n. Some (Submit n)) (number_is w.controllers.master.records s r found) }
-record_resent w s at (Some r) false found is = record { word = refl; next = refl; sent = refl }
+record_resent w s at None false found is = record { reply = refl; next = refl; sent = refl }
+record_resent w s at (Some r) true found is = record { reply = refl; next = refl; sent = ap (λ n. Some (Submit n)) (number_is w.controllers.master.records s r found) }
+record_resent w s at (Some r) false found is = record { reply = refl; next = refl; sent = refl }
 
 out_so : (c : Controllers) (o : Option SpawnRec) → option_map_or (λ a. is_out a.phase) (option_map (spawn_shown c) o) false ≡ option_map_or records.is_out o false
 out_so c None = refl

@@ -12,17 +12,19 @@ use Rattle.worker_core.specs.Worker as worker
 use Rattle.world.proofs.AlwaysKept.{message_there}
 use Rattle.world.proofs.Doors.{master_refuses_nothing, worker_refuses_nothing}
 use Rattle.world.proofs.Receivers.{master_receives, worker_receives}
+use Rattle.world.specs.Controllers.{Controllers}
 use Rattle.world.specs.Controllers.{worker_of}
-use Rattle.world.specs.Happening.{Step, master_takes, receiver_takes, settled_word, worker_takes}
+use Rattle.world.specs.Happening.{master_takes, receiver_takes, settled_word, worker_takes}
 use Rattle.world.specs.Laws.{SentIsTaken}
 use Rattle.world.specs.Messages.{IsInOrder}
 use Rattle.world.specs.State.{IsKept, State}
-use Rattle.world.specs.Stepping.{taken_by_worker, word_of, worker_moved}
+use Rattle.world.specs.Step.{StepOrWord, word_of}
+use Rattle.world.specs.Stepping.{taken_by_worker, worker_moved}
 use Rattle.world_items.specs.declared.stop.Stop.TheVariants.{Run}
 use Rattle.world_items.specs.declared.word.Word.TheVariants.{Did, NoMessage}
 
 -- what is said to a step that isn't stopped
-abbrev Said : State → Step → Type 0
+abbrev Said : State → StepOrWord Controllers Message → Type 0
 Said w step = (reply : Reply) × ((settled_word Run w step).word ≡ Did reply)
 
 -- ---- what it says

@@ -4,36 +4,38 @@ use Rattle.std.specs.Option.{option_map_or}
 use Rattle.controller.specs.declared.message.Message.{Message}
 use Rattle.master_core.specs.Master as master
 use Rattle.worker_core.specs.Worker as worker
-use Rattle.world.specs.Happening.{Step, settled, settled_word}
+use Rattle.world.specs.Controllers.{Controllers}
+use Rattle.world.specs.Happening.{settled, settled_word}
 use Rattle.world.specs.Settling.{answer_without_step, settled_answer, settled_messages, settled_state}
 use Rattle.world.specs.State.{State, state}
-use Rattle.world.specs.Stepping.{Moved, master_moved, worker_moved}
+use Rattle.world.specs.Step.{Step, StepOrWord, word_of}
+use Rattle.world.specs.Stepping.{master_moved, worker_moved}
 use Rattle.world_items.specs.declared.stop.Stop.{Stop}
 use Rattle.world_items.specs.declared.stop.Stop.TheVariants.{Run, BeforeSave, BeforeSend}
 use Rattle.world_items.specs.declared.word.Word.{Word}
 
-pub master_settled : (stop : Stop) (m stored : master.Known) (workers : List worker.Known) (old new : List Message) (moved : Moved master.Known Message) → stored ≡ settled_state stop m moved.next → new ≡ settled_messages stop old moved.sent
+pub master_settled : (stop : Stop) (m stored : master.Known) (workers : List worker.Known) (old new : List Message) (moved : Step master.Known Message) → stored ≡ settled_state stop m moved.next → new ≡ settled_messages stop old moved.sent
     → state stored workers new ≡ settled stop (state m workers old) (Ok (master_moved (record { master = m; workers = workers }) moved))
 master_settled Run m stored workers old new moved is sent = λ i. state (is i) workers (sent i)
 master_settled BeforeSave m stored workers old new moved is sent = λ i. state (is i) workers (sent i)
 master_settled BeforeSend m stored workers old new moved is sent = λ i. state (is i) workers (sent i)
 
 -- the step of a worker that is looked for
-abbrev pub step_of_found : State → (worker.Known → Moved worker.Known Message) → Word → Option worker.Known → Step
+abbrev pub step_of_found : State → (worker.Known → Step worker.Known Message) → Word → Option worker.Known → StepOrWord Controllers Message
 step_of_found w f word found = option_map_or (λ v. Ok (worker_moved w.controllers v (f v))) found (Err word)
 
-pub none_answers : (stop : Stop) (w : State) (f : worker.Known → Moved worker.Known Message) (word : Word) (found : Option worker.Known) → found ≡ None → answer_without_step word ≡ settled_word stop w (step_of_found w f word found)
+pub none_answers : (stop : Stop) (w : State) (f : worker.Known → Step worker.Known Message) (word : Word) (found : Option worker.Known) → found ≡ None → answer_without_step word ≡ settled_word stop w (step_of_found w f word found)
 none_answers stop w f word found none = sym (ap (λ o. settled_word stop w (step_of_found w f word o)) none)
 
-pub none_settles : (stop : Stop) (w : State) (f : worker.Known → Moved worker.Known Message) (word : Word) (found : Option worker.Known) → found ≡ None → w ≡ settled stop w (step_of_found w f word found)
+pub none_settles : (stop : Stop) (w : State) (f : worker.Known → Step worker.Known Message) (word : Word) (found : Option worker.Known) → found ≡ None → w ≡ settled stop w (step_of_found w f word found)
 none_settles stop w f word found none = sym (ap (λ o. settled stop w (step_of_found w f word o)) none)
 
-pub found_answers : (stop : Stop) (w : State) (f : worker.Known → Moved worker.Known Message) (word : Word) (found : Option worker.Known) (x : worker.Known) (moved : Moved worker.Known Message) → found ≡ Some x → moved ≡ f x
-    → settled_answer stop w.messages moved.word moved.sent ≡ settled_word stop w (step_of_found w f word found)
+pub found_answers : (stop : Stop) (w : State) (f : worker.Known → Step worker.Known Message) (word : Word) (found : Option worker.Known) (x : worker.Known) (moved : Step worker.Known Message) → found ≡ Some x → moved ≡ f x
+    → settled_answer stop w.messages (word_of moved.reply) moved.sent ≡ settled_word stop w (step_of_found w f word found)
 found_answers stop w f word found x moved there is =
-    ap (λ (v : Moved worker.Known Message). settled_answer stop w.messages v.word v.sent) is ∙ sym (ap (λ o. settled_word stop w (step_of_found w f word o)) there)
+    ap (λ (v : Step worker.Known Message). settled_answer stop w.messages (word_of v.reply) v.sent) is ∙ sym (ap (λ o. settled_word stop w (step_of_found w f word o)) there)
 
-pub found_settles : (stop : Stop) (w : State) (f : worker.Known → Moved worker.Known Message) (word : Word) (found : Option worker.Known) (x : worker.Known) (moved : Moved worker.Known Message) → found ≡ Some x → moved ≡ f x
+pub found_settles : (stop : Stop) (w : State) (f : worker.Known → Step worker.Known Message) (word : Word) (found : Option worker.Known) (x : worker.Known) (moved : Step worker.Known Message) → found ≡ Some x → moved ≡ f x
     → settled stop w (Ok (worker_moved w.controllers x moved)) ≡ settled stop w (step_of_found w f word found)
 found_settles stop w f word found x moved there is =
     ap (λ v. settled stop w (Ok (worker_moved w.controllers x v))) is ∙ sym (ap (λ o. settled stop w (step_of_found w f word o)) there)

@@ -10,23 +10,25 @@ use Rattle.worker_core.specs.Worker as worker
 use Rattle.world.proofs.AlwaysKept.{message_there}
 use Rattle.world.proofs.Cases.{split, when_false, when_true}
 use Rattle.world.proofs.Receivers.{master_receives, worker_receives}
-use Rattle.world.specs.Happening.{Step, delivery_step, is_made, master_takes, receiver_takes, settled, settled_word, worker_takes}
+use Rattle.world.specs.Controllers.{Controllers}
+use Rattle.world.specs.Happening.{delivery_step, is_made, master_takes, receiver_takes, settled, settled_word, worker_takes}
 use Rattle.world.specs.Messages.{IsInOrder}
 use Rattle.world.specs.Settling.{answer_without_step}
 use Rattle.world.specs.State.{IsKept, State, message_at}
+use Rattle.world.specs.Step.{StepOrWord}
 use Rattle.world.specs.Stepping.{taken_by_worker, worker_moved}
 use Rattle.world_items.specs.declared.stop.Stop.{Stop}
 use Rattle.world_items.specs.declared.stop.Stop.TheVariants.{Run, BeforeSave, BeforeSend}
 use Rattle.world_items.specs.declared.word.Word.TheVariants.{NoMessage, Stopped}
 
 -- a step that isn't lost is made
-pub is_lost : (stop : Stop) (step : Step) → is_ok step ≡ true → is_made stop step ≡ false → stop ≡ BeforeSave
+pub is_lost : (stop : Stop) (step : StepOrWord Controllers Message) → is_ok step ≡ true → is_made stop step ≡ false → stop ≡ BeforeSave
 is_lost Run step there unmade = absurd (true≢false (sym there ∙ unmade))
 is_lost BeforeSave step there unmade = refl
 is_lost BeforeSend step there unmade = absurd (true≢false (sym there ∙ unmade))
 
 -- of a step that is lost nothing is left
-pub lost : (w : State) (step : Step) → is_ok step ≡ true → (settled_word BeforeSave w step ≡ answer_without_step Stopped) × (settled BeforeSave w step ≡ w)
+pub lost : (w : State) (step : StepOrWord Controllers Message) → is_ok step ≡ true → (settled_word BeforeSave w step ≡ answer_without_step Stopped) × (settled BeforeSave w step ≡ w)
 lost w (Ok moved) there = (refl, refl)
 lost w (Err word) there = absurd (true≢false (sym there))
 

@@ -1,5 +1,5 @@
 -- A worker's step and the shop's agree: where it is refused, and where it isn't.
-use Rattle.std.proofs.Common.{◌≡◌, ℕ, Option, Some, None, refl, sym, ap, subst}
+use Rattle.std.proofs.Common.{◌≡◌, ℕ, Option, Some, None, Ok, refl, sym, ap, subst}
 use Rattle.std.specs.Option.{option_map_or}
 use Rattle.ticket_items.specs.declared.refusal.Refusal.{Refusal}
 use Rattle.ticket_items.specs.declared.refusal.Refusal.TheVariants.{UnknownEntry}
@@ -18,24 +18,24 @@ use Rattle.world.specs.Shop.{Shop}
 use Rattle.world.specs.ShopSteps.{Tag, spawn_worked, worker_does}
 use Rattle.world.specs.Showing.{shop_shown, spawn_shown}
 use Rattle.world.specs.State.{IsKept, State}
-use Rattle.world.specs.Stepping.{Moved, ordered_worker, refused, worker_moved}
-use Rattle.world_items.specs.declared.word.Word.TheVariants.{Did}
+use Rattle.world.specs.Step.{Step, refused, unless_refused}
+use Rattle.world.specs.Stepping.{ordered_worker, worker_moved}
 
 -- steps that are the same agree as these do
-pub agrees_as : (c : Controllers) (v : worker.Known) (one two : Moved worker.Known Message) (p q : Moved Shop Tag) → one ≡ two → p ≡ q → Agrees (worker_moved c v two) q → Agrees (worker_moved c v one) p
+pub agrees_as : (c : Controllers) (v : worker.Known) (one two : Step worker.Known Message) (p q : Step Shop Tag) → one ≡ two → p ≡ q → Agrees (worker_moved c v two) q → Agrees (worker_moved c v one) p
 agrees_as c v one two p q same plain agrees = subst (λ o. Agrees (worker_moved c v o) p) (sym same) (subst (Agrees (worker_moved c v two)) (sym plain) agrees)
 
 -- both refuse for the same, or agree
-pub refused_or_agrees : (c : Controllers) (v : worker.Known) (why : Option Refusal) (moved : Moved worker.Known Message) (plain : Moved Shop Tag) → worker_of c.workers v.name ≡ Some v → (why ≡ None → Agrees (worker_moved c v moved) plain)
-    → Agrees (worker_moved c v (option_map_or (λ e. refused e v) why moved)) (option_map_or (λ e. refused e (shop_shown c)) why plain)
+pub refused_or_agrees : (c : Controllers) (v : worker.Known) (why : Option Refusal) (moved : Step worker.Known Message) (plain : Step Shop Tag) → worker_of c.workers v.name ≡ Some v → (why ≡ None → Agrees (worker_moved c v moved) plain)
+    → Agrees (worker_moved c v (unless_refused why v moved)) (unless_refused why (shop_shown c) plain)
 refused_or_agrees c v None moved plain found go = go refl
-refused_or_agrees c v (Some e) moved plain found go = record { word = refl; next = worker_as_it_was c v found; sent = refl }
+refused_or_agrees c v (Some e) moved plain found go = record { reply = refl; next = worker_as_it_was c v found; sent = refl }
 
 -- on an order about a spawn of which the worker has an entry
 abbrev pub AgreesThere : State → worker.Known → Order → ℕ → Type 0
 AgreesThere w v o at =
     (e : Entry) (h : HasRecord w.controllers v.name (orders.spawn_of_order o) e) → worker.entry_of v.entries (orders.spawn_of_order o) ≡ Some e
-    → Agrees (worker_moved w.controllers v (option_map_or (λ r. refused r v) (orders.entry_refusal o e) (record { word = Did (orders.order_reply o); next = orders.ordered o at v; sent = orders.order_message o at v })))
+    → Agrees (worker_moved w.controllers v (unless_refused (orders.entry_refusal o e) v (record { reply = Ok (orders.order_reply o); next = orders.ordered o at v; sent = orders.order_message o at v })))
     (spawn_worked o at (shop_shown w.controllers) (spawn_shown w.controllers h.spawn))
 
 -- where it has none both refuse
@@ -44,7 +44,7 @@ worker_agrees w v o at ok found there =
     let c = w.controllers in
     let p = shop_shown c in
     let s = orders.spawn_of_order o in
-    let step = λ (why : Option Refusal). option_map_or (λ r. refused r v) why (record { word = Did (orders.order_reply o); next = orders.ordered o at v; sent = orders.order_message o at v }) in
+    let step = λ (why : Option Refusal). unless_refused why v (record { reply = Ok (orders.order_reply o); next = orders.ordered o at v; sent = orders.order_message o at v }) in
     split_some (worker.entry_of v.entries s)
     (λ e has_entry.
     let h = entry_record w v.name s v e ok found has_entry in
@@ -56,4 +56,4 @@ worker_agrees w v o at ok found there =
     agrees_as c v (ordered_worker o at v) (refused UnknownEntry v) (worker_does v.name o at p) (refused UnknownEntry p)
     (ap (λ x. step (option_map_or (orders.entry_refusal o) x (Some UnknownEntry))) none)
     (ap (λ a. option_map_or (spawn_worked o at p) a (refused UnknownEntry p)) (none_shown w v.name s v ok found none))
-    (record { word = refl; next = worker_as_it_was c v found; sent = refl }))
+    (record { reply = refl; next = worker_as_it_was c v found; sent = refl }))

@@ -1,5 +1,5 @@
 -- A worker's edits: its step and the shop's agree.
-use Rattle.std.proofs.Common.{◌≡◌, ◌∙◌, ◌&&◌, ◌||◌, ℕ, Bool, true, false, cond, not, List, [], ◌∷◌, Option, Some, None, refl, sym, ap}
+use Rattle.std.proofs.Common.{◌≡◌, ◌∙◌, ◌&&◌, ◌||◌, ℕ, Bool, true, false, cond, not, List, [], ◌∷◌, Option, Some, None, Ok, refl, sym, ap}
 use Rattle.std.proofs.lemmas.Bool.{and_parts, true≢false}
 use Rattle.std.proofs.lemmas.Slice.Eq.{bytes_eq-Decides}
 use Rattle.std.specs.Option.{option_and_then, option_map, option_map_or}
@@ -46,8 +46,8 @@ use Rattle.world.specs.ShopActs.{is_held_by, worked}
 use Rattle.world.specs.ShopSteps as steps
 use Rattle.world.specs.Showing.{now_shown, phase_shown, row_at, seen_shown, shop_shown, spawn_shown}
 use Rattle.world.specs.State.{IsKept, State}
-use Rattle.world.specs.Stepping.{Moved, ordered_worker, refused, worker_moved}
-use Rattle.world_items.specs.declared.word.Word.TheVariants.{Did}
+use Rattle.world.specs.Step.{Step, unless_refused}
+use Rattle.world.specs.Stepping.{ordered_worker, worker_moved}
 
 -- ---- an entry that is open
 
@@ -180,14 +180,14 @@ edit_agrees w v s e at ok found x h has_entry =
     let c = w.controllers in
     let p = shop_shown c in
     let a = spawn_shown c h.spawn in
-    let moved : Moved worker.Known Message = record { word = Did reply.Edited; next = orders.ordered (order.Edit s e) at v; sent = None } in
+    let moved : Step worker.Known Message = record { reply = Ok reply.Edited; next = orders.ordered (order.Edit s e) at v; sent = None } in
     let plain = steps.replies reply.Edited (worked e at p) in
     agrees_as c v
-    (option_map_or (λ r. refused r v) (orders.edit_refusal e x) moved)
-    (option_map_or (λ r. refused r v) (steps.work_refusal e a p) moved)
-    (option_map_or (λ r. refused r p) (steps.work_refusal e a p) plain)
-    (option_map_or (λ r. refused r p) (steps.work_refusal e a p) plain)
-    (ap (λ why. option_map_or (λ r. refused r v) why moved) (same_edit_refusal w v s e x ok found has_entry h))
+    (unless_refused (orders.edit_refusal e x) v moved)
+    (unless_refused (steps.work_refusal e a p) v moved)
+    (unless_refused (steps.work_refusal e a p) p plain)
+    (unless_refused (steps.work_refusal e a p) p plain)
+    (ap (λ why. unless_refused why v moved) (same_edit_refusal w v s e x ok found has_entry h))
     refl
     (refused_or_agrees c v (steps.work_refusal e a p) moved plain found (λ none.
     let free = edit_free e x (same_edit_refusal w v s e x ok found has_entry h ∙ none) in
@@ -195,7 +195,7 @@ edit_agrees w v s e at ok found x h has_entry =
     let held : is_held_by s (master.holder c.master) (target e) ≡ true = ap (λ n. is_held_by n (master.holder c.master) (target e)) (sym h.number) ∙ here.1 in
     let stored = changed_stored w v s x (orders.edited_entry e at) (λ y. refl) ok found has_entry h in
     record {
-      word = refl;
+      reply = refl;
       next =
           same_shop _ _
           (record {

@@ -1,5 +1,5 @@
 -- A worker finishes the work on a part: its step and the shop's agree.
-use Rattle.std.proofs.Common.{◌≡◌, ◌∙◌, ◌||◌, ℕ, true, List, [], ◌∷◌, length, map, Some, slice_get, refl, sym, ap}
+use Rattle.std.proofs.Common.{◌≡◌, ◌∙◌, ◌||◌, ℕ, true, List, [], ◌∷◌, length, map, Some, slice_get, Ok, refl, sym, ap}
 use Rattle.std.specs.Option.{option_map, option_map_or}
 use Rattle.ticket_items.specs.Ids.{mem}
 use Rattle.ticket_items.specs.Resource.{resource_ids}
@@ -41,8 +41,8 @@ use Rattle.world.specs.ShopActs.{finished, in_phase, is_held_by}
 use Rattle.world.specs.ShopSteps as steps
 use Rattle.world.specs.Showing.{now_shown, phase_shown, shop_shown, spawn_shown, tag_of}
 use Rattle.world.specs.State.{IsKept, State}
-use Rattle.world.specs.Stepping.{Moved, ordered_worker, refused, worker_moved}
-use Rattle.world_items.specs.declared.word.Word.TheVariants.{Did}
+use Rattle.world.specs.Step.{Step, unless_refused}
+use Rattle.world.specs.Stepping.{ordered_worker, worker_moved}
 
 -- ---- the node of a part
 
@@ -77,15 +77,15 @@ finish_agrees w v s how at ok found x h has_entry =
     let a = spawn_shown c r in
     let next = orders.ordered (order.Finish s how) at v in
     let new = orders.finished_entry how at x in
-    let moved : Moved worker.Known Message = record { word = Did (reply.Finished s); next = next; sent = orders.order_message (order.Finish s how) at v } in
+    let moved : Step worker.Known Message = record { reply = Ok (reply.Finished s); next = next; sent = orders.order_message (order.Finish s how) at v } in
     let plain = steps.sends (reply.Finished s) (finished how at a p) (steps.Return s) in
     let shown = open_shown c v.name s x h in
     agrees_as c v
-    (option_map_or (λ e. refused e v) (unless (worker.is_open x) NotOpen) moved)
-    (option_map_or (λ e. refused e v) (unless (shop.is_open a.phase) NotOpen) moved)
-    (option_map_or (λ e. refused e p) (unless (shop.is_open a.phase) NotOpen) plain)
-    (option_map_or (λ e. refused e p) (unless (shop.is_open a.phase) NotOpen) plain)
-    (ap (λ b. option_map_or (λ e. refused e v) (unless b NotOpen) moved) (sym shown))
+    (unless_refused (unless (worker.is_open x) NotOpen) v moved)
+    (unless_refused (unless (shop.is_open a.phase) NotOpen) v moved)
+    (unless_refused (unless (shop.is_open a.phase) NotOpen) p plain)
+    (unless_refused (unless (shop.is_open a.phase) NotOpen) p plain)
+    (ap (λ b. unless_refused (unless b NotOpen) v moved) (sym shown))
     refl
     (refused_or_agrees c v (unless (shop.is_open a.phase) NotOpen) moved plain found (λ none.
     let is_open = open_free x (ap (λ b. unless b NotOpen) (sym shown) ∙ none) in
@@ -96,7 +96,7 @@ finish_agrees w v s how at ok found x h has_entry =
     let held = root_held c.master s r x ok.master h.recorded out (h.fits out) kept in
     let stored = changed_stored w v s x (orders.finished_entry how at) (λ y. refl) ok found has_entry h in
     record {
-      word = refl;
+      reply = refl;
       next =
           same_shop _ _
           (record {

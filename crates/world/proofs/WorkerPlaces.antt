@@ -16,7 +16,8 @@ use Rattle.world.proofs.Kept.{Keeps, settled_kept}
 use Rattle.world.specs.Happening.{settled}
 use Rattle.world.specs.Settling.{settled_messages, settled_state}
 use Rattle.world.specs.State.{IsKept, is_named, state, with_worker, worker_of}
-use Rattle.world.specs.Stepping.{Moved, worker_moved}
+use Rattle.world.specs.Step.{Step}
+use Rattle.world.specs.Stepping.{worker_moved}
 use Rattle.world_items.specs.declared.stop.Stop.{Stop}
 use Rattle.world_items.specs.declared.stop.Stop.TheVariants.{Run, BeforeSave, BeforeSend}
 
@@ -49,7 +50,7 @@ put m workers messages name k x next ok here =
     ∙ ap (λ n. with_worker n next workers) (sym (name_of workers name k x here))
 
 -- the state once a step of the worker is settled
-pub settled_there : (stop : Stop) (m : master.Known) (workers : List worker.Known) (old new : List Message) (name : List ℕ) (k : ℕ) (x stored : worker.Known) (moved : Moved worker.Known Message) → IsKept (state m workers old) → StandsAt workers name k x
+pub settled_there : (stop : Stop) (m : master.Known) (workers : List worker.Known) (old new : List Message) (name : List ℕ) (k : ℕ) (x stored : worker.Known) (moved : Step worker.Known Message) → IsKept (state m workers old) → StandsAt workers name k x
     → stored ≡ settled_state stop x moved.next → new ≡ settled_messages stop old moved.sent
     → state m (set workers k stored) new ≡ settled stop (state m workers old) (Ok (worker_moved (record { master = m; workers = workers }) x moved))
 settled_there Run m workers old new name k x stored moved ok here is sent =
@@ -60,7 +61,7 @@ settled_there BeforeSend m workers old new name k x stored moved ok here is sent
     ap (λ ms. state m (set workers k stored) ms) sent ∙ ap (λ s. state m (set workers k s) old) is ∙ ap (λ ws. state m ws old) (put m workers old name k x moved.next ok here)
 
 -- and what always holds holds then. Where memory runs out nothing changes
-pub kept_there : {A E : Type 0} (r : Result A E) (stop : Stop) (m : master.Known) (workers : List worker.Known) (old new : List Message) (name : List ℕ) (k : ℕ) (x stored : worker.Known) (moved : Moved worker.Known Message) → IsKept (state m workers old) → StandsAt workers name k x
+pub kept_there : {A E : Type 0} (r : Result A E) (stop : Stop) (m : master.Known) (workers : List worker.Known) (old new : List Message) (name : List ℕ) (k : ℕ) (x stored : worker.Known) (moved : Step worker.Known Message) → IsKept (state m workers old) → StandsAt workers name k x
     → OnOk r (stored ≡ settled_state stop x moved.next) → OnOk r (new ≡ settled_messages stop old moved.sent) → OnErr r (stored ≡ x) → OnErr r (new ≡ old)
     → Keeps (state m workers old) (worker_moved (record { master = m; workers = workers }) x moved) → IsKept (state m (set workers k stored) new)
 kept_there (Ok a) stop m workers old new name k x stored moved ok here is sent same unsent keeps =

@@ -1,5 +1,5 @@
 -- A part that its worker sends back once more: the controllers' step and the shop's agree.
-use Rattle.std.proofs.Common.{◌≡◌, ◌∙◌, ◌&&◌, ℕ, Bool, true, false, not, List, Option, Some, None, refl, sym, ap, subst}
+use Rattle.std.proofs.Common.{◌≡◌, ◌∙◌, ◌&&◌, ℕ, Bool, true, false, not, List, Option, Some, None, Ok, refl, sym, ap, subst}
 use Rattle.std.specs.Option.{option_map, option_map_or}
 use Rattle.ticket_items.specs.declared.refusal.Refusal.TheVariants.{NotDone, UnknownEntry}
 use Rattle.ticket_rows.specs.Ticket.{unless}
@@ -15,11 +15,11 @@ use Rattle.world.proofs.SameWorkers.{stored_same}
 use Rattle.world.proofs.TakenSpawns.{name_of, HasRecord, entry_record, none_shown, phase_of_entry, taken_shown}
 use Rattle.world.specs.Controllers.{Controllers, worker_of}
 use Rattle.world.specs.Shop.{Shop, is_open}
-use Rattle.world.specs.ShopSteps.{Return, Tag, sends, spawn_worked, unless_refused, worker_does}
+use Rattle.world.specs.ShopSteps.{Return, Tag, sends, spawn_worked, worker_does}
 use Rattle.world.specs.Showing.{phase_shown, shop_shown, spawn_shown}
 use Rattle.world.specs.State.{IsKept, State}
-use Rattle.world.specs.Stepping.{Moved, ordered_worker, refused, worker_moved}
-use Rattle.world_items.specs.declared.word.Word.TheVariants.{Did}
+use Rattle.world.specs.Step.{Step, refused, unless_refused}
+use Rattle.world.specs.Stepping.{ordered_worker, worker_moved}
 
 -- the work on the spawn that is shown is open just if it is on its entry
 open_either : (out here : Bool) → (out ≡ false → here ≡ false) → (out && here) ≡ here
@@ -33,22 +33,22 @@ open_shown c name s e h =
 
 -- a refusal of both, or what both send
 resent : (w : State) (v : worker.Known) (s : ℕ) (e : Entry) (here : Bool) → IsKept w → worker_of w.controllers.workers v.name ≡ Some v → e.part.spawn_id ≡ s
-    → Agrees (worker_moved w.controllers v (option_map_or (λ r. refused r v) (unless (not here) NotDone) (record { word = Did (reply.Sent s); next = v; sent = Some (return_of v.name v.master e) })))
+    → Agrees (worker_moved w.controllers v (unless_refused (unless (not here) NotDone) v (record { reply = Ok (reply.Sent s); next = v; sent = Some (return_of v.name v.master e) })))
     (unless_refused (unless (not here) NotDone) (shop_shown w.controllers) (sends (reply.Sent s) (shop_shown w.controllers) (Return s)))
-resent w v s e true ok found own = record { word = refl; next = ap shop_shown (stored_same w v.name v ok found); sent = refl }
-resent w v s e false ok found own = record { word = refl; next = ap shop_shown (stored_same w v.name v ok found); sent = ap (λ n. Some (Return n)) own }
+resent w v s e true ok found own = record { reply = refl; next = ap shop_shown (stored_same w v.name v ok found); sent = refl }
+resent w v s e false ok found own = record { reply = refl; next = ap shop_shown (stored_same w v.name v ok found); sent = ap (λ n. Some (Return n)) own }
 
 -- what agrees with a step agrees with one that is the same
-as_same : (moved : Moved Controllers Message) (p q : Moved Shop Tag) → q ≡ p → Agrees moved p → Agrees moved q
+as_same : (moved : Step Controllers Message) (p q : Step Shop Tag) → q ≡ p → Agrees moved p → Agrees moved q
 as_same moved p q same h = subst (Agrees moved) (sym same) h
 
 by_entry : (w : State) (name : List ℕ) (v : worker.Known) (s at : ℕ) (o : Option Entry) → IsKept w → worker_of w.controllers.workers name ≡ Some v → worker_of w.controllers.workers v.name ≡ Some v → worker.entry_of v.entries s ≡ o
-    → Agrees (worker_moved w.controllers v (option_map_or (λ r. refused r v) (option_map_or (entry_refusal (Resend s)) o (Some UnknownEntry)) (record { word = Did (reply.Sent s); next = v; sent = option_map (return_of v.name v.master) o })))
+    → Agrees (worker_moved w.controllers v (unless_refused (option_map_or (entry_refusal (Resend s)) o (Some UnknownEntry)) v (record { reply = Ok (reply.Sent s); next = v; sent = option_map (return_of v.name v.master) o })))
     (worker_does name (Resend s) at (shop_shown w.controllers))
 by_entry w name v s at None ok found own none =
     let p = shop_shown w.controllers in
     let missing = none_shown w name s v ok found none in
-    as_same _ (refused UnknownEntry p) (worker_does name (Resend s) at p) (ap (λ a. option_map_or (spawn_worked (Resend s) at p) a (refused UnknownEntry p)) missing) (record { word = refl; next = ap shop_shown (stored_same w v.name v ok own); sent = refl })
+    as_same _ (refused UnknownEntry p) (worker_does name (Resend s) at p) (ap (λ a. option_map_or (spawn_worked (Resend s) at p) a (refused UnknownEntry p)) missing) (record { reply = refl; next = ap shop_shown (stored_same w v.name v ok own); sent = refl })
 by_entry w name v s at (Some e) ok found own there =
     let c = w.controllers in
     let p = shop_shown c in

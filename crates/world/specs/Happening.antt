@@ -1,5 +1,5 @@
 -- What happens at an event: which step is made, and what is left of it.
-use Rattle.std.specs.Prelude.{ℕ, Bool, false, List, [], ◌∷◌, if◌then◌else◌, is_ok, Result, Ok}
+use Rattle.std.specs.Prelude.{ℕ, Bool, false, List, if◌then◌else◌, is_ok, Ok}
 use Rattle.std.specs.Prelude.{Err}
 use Rattle.std.specs.Option.{option_map_or}
 use Rattle.std.specs.Str.{bytes_eq}
@@ -7,52 +7,52 @@ use Rattle.ticket_items.specs.declared.refusal.Refusal.TheVariants.{UnknownWorke
 use Rattle.controller.specs.declared.message.Message.{Message}
 use Rattle.master_core.specs.declared.order.Order as master
 use Rattle.worker_core.specs.declared.order.Order as worker
-use Rattle.world.specs.Settling.{answer_without_step, settled_answer, settled_messages}
-use Rattle.world.specs.Settling.{settled_state}
+use Rattle.world.specs.Running as running
+use Rattle.world.specs.Running.{Machine}
 use Rattle.world.specs.State.{Controllers, State, is_controller, message_at, worker_of}
-use Rattle.world.specs.Stepping.{Moved, master_moved, ordered_master, ordered_worker}
+use Rattle.world.specs.Step.{StepOrWord}
+use Rattle.world.specs.Stepping.{master_moved, ordered_master, ordered_worker}
 use Rattle.world.specs.Stepping.{taken_by_master, taken_by_worker, worker_moved}
 use Rattle.world_items.specs.declared.answer.Answer.{Answer}
 use Rattle.world_items.specs.declared.event.Event.{Event}
 use Rattle.world_items.specs.declared.stop.Stop.{Stop}
 use Rattle.world_items.specs.declared.stop.Stop.TheVariants.{Run, BeforeSave, BeforeSend}
 use Rattle.world_items.specs.declared.what.What.{What}
-use Rattle.world_items.specs.declared.what.What.TheVariants.{MasterOrder, WorkerOrder, Deliver, Restart}
+use Rattle.world_items.specs.declared.what.What.TheVariants.{MasterOrder, WorkerOrder}
+use Rattle.world_items.specs.declared.what.What.TheVariants.{Deliver, Restart}
 use Rattle.world_items.specs.declared.word.Word.{Word}
 use Rattle.world_items.specs.declared.word.Word.TheVariants.{NoMessage, Refused, Restarted}
 
--- a step that a controller makes, or the word where none does
-abbrev pub Step : Type 0
-Step = Result (Moved Controllers Message) Word
+-- ---- one step
 
 -- the master's on an order
-abbrev pub master_step : master.Order → ℕ → State → Step
+abbrev pub master_step : master.Order → ℕ → State → StepOrWord Controllers Message
 master_step o at w = Ok (master_moved w.controllers (ordered_master o at w.controllers.master))
 
 -- the one of the worker of a name, if there is one
-abbrev pub worker_step : List ℕ → worker.Order → ℕ → State → Step
+abbrev pub worker_step : List ℕ → worker.Order → ℕ → State → StepOrWord Controllers Message
 worker_step name o at w =
     option_map_or (λ v. Ok (worker_moved w.controllers v (ordered_worker o at v)))
     (worker_of w.controllers.workers name) (Err (Refused UnknownWorker))
 
 -- the master's on a message
-abbrev pub master_takes : Message → ℕ → State → Step
+abbrev pub master_takes : Message → ℕ → State → StepOrWord Controllers Message
 master_takes m at w = Ok (master_moved w.controllers (taken_by_master m at w.controllers.master))
 
 -- the one of the worker that a message is for, if there is one
-abbrev pub worker_takes : Message → ℕ → State → Step
+abbrev pub worker_takes : Message → ℕ → State → StepOrWord Controllers Message
 worker_takes m at w =
     option_map_or (λ v. Ok (worker_moved w.controllers v (taken_by_worker m at v)))
     (worker_of w.controllers.workers m.receiver) (Err NoMessage)
 
 -- the one of the receiver of a message
-abbrev pub receiver_takes : ℕ → State → Message → Step
+abbrev pub receiver_takes : ℕ → State → Message → StepOrWord Controllers Message
 receiver_takes at w m =
     if bytes_eq m.receiver w.controllers.master.name
     then master_takes m at w else worker_takes m at w
 
 -- the one of the receiver of the message of a number, if there is one
-abbrev pub delivery_step : ℕ → ℕ → State → Step
+abbrev pub delivery_step : ℕ → ℕ → State → StepOrWord Controllers Message
 delivery_step k at w =
     option_map_or (receiver_takes at w) (message_at w.messages k) (Err NoMessage)
 
@@ -62,7 +62,7 @@ restart_word name w =
     if is_controller w.controllers name then Restarted else Refused UnknownWorker
 
 -- that of what happens
-abbrev pub step_of : What → ℕ → State → Step
+abbrev pub step_of : What → ℕ → State → StepOrWord Controllers Message
 step_of (MasterOrder o) at w = master_step o at w
 step_of (WorkerOrder name o) at w = worker_step name o at w
 step_of (Deliver k) at w = delivery_step k at w
@@ -70,42 +70,43 @@ step_of (Restart name) at w = Err (restart_word name w)
 
 -- whether a step is made that isn't lost: there is one, and its controller doesn't stop before its
 -- state is stored
-abbrev pub is_made : Stop → Step → Bool
+abbrev pub is_made : Stop → StepOrWord Controllers Message → Bool
 is_made Run step = is_ok step
 is_made BeforeSave step = false
 is_made BeforeSend step = is_ok step
 
--- what is answered
-abbrev pub settled_word : Stop → State → Step → Answer
-settled_word stop w (Ok moved) = settled_answer stop w.messages moved.word moved.sent
-settled_word stop w (Err word) = answer_without_step word
-
--- what is there then
-abbrev pub settled : Stop → State → Step → State
-settled stop w (Ok moved) =
-    record {
-      controllers = settled_state stop w.controllers moved.next;
-      messages = settled_messages stop w.messages moved.sent;
-    }
-settled stop w (Err word) = w
-
--- ---- one event
-
-abbrev pub answer_to : Event → State → Answer
-answer_to e w = settled_word e.stop w (step_of e.what e.at w)
-
-abbrev pub after : Event → State → State
-after e w = settled e.stop w (step_of e.what e.at w)
-
 abbrev pub makes_step : Event → State → Bool
 makes_step e w = is_made e.stop (step_of e.what e.at w)
 
--- ---- a list of events
+-- ---- as they run
 
+-- the controllers with their messages, as a machine
+abbrev pub machine : Machine State Controllers Message
+machine =
+    record {
+      inner = λ w. w.controllers;
+      sent = λ w. w.messages;
+      made = λ c messages. record { controllers = c; messages = messages };
+      step_of = step_of;
+    }
+
+-- what is answered to a step, and what is there then
+abbrev pub settled_word : Stop → State → StepOrWord Controllers Message → Answer
+settled_word = running.settled_word machine
+
+abbrev pub settled : Stop → State → StepOrWord Controllers Message → State
+settled = running.settled machine
+
+-- the same of an event
+abbrev pub answer_to : Event → State → Answer
+answer_to = running.answer_to machine
+
+abbrev pub after : Event → State → State
+after = running.after machine
+
+-- and of events in turn
 abbrev pub answers_to : List Event → State → List Answer
-answers_to [] w = []
-answers_to (e ∷ events) w = answer_to e w ∷ answers_to events (after e w)
+answers_to = running.answers_to machine
 
 abbrev pub after_all : List Event → State → State
-after_all [] w = w
-after_all (e ∷ events) w = after_all events (after e w)
+after_all = running.after_all machine

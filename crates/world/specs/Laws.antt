@@ -5,10 +5,12 @@ use Rattle.controller.specs.declared.message.Message.{Message}
 use Rattle.controller.specs.declared.reply.Reply.{Reply}
 use Rattle.spawn.specs.Marking.{marks}
 use Rattle.world.specs.Changing.{Changer, Holds, MayChange}
-use Rattle.world.specs.Happening.{after, after_all, answer_to, answers_to}
+use Rattle.world.specs.Happening as happening
+use Rattle.world.specs.Happening.{after_all, answer_to, answers_to}
 use Rattle.world.specs.MergeAudits.{AreToldAbove}
 use Rattle.world.specs.Once.{AreMergedOnce, IsIn, TellsMerge}
 use Rattle.world.specs.Replay as replay
+use Rattle.world.specs.Running.{RunsAgree}
 use Rattle.world.specs.SeenTicket.{ticket_seen}
 use Rattle.world.specs.ShopMarks.{shop_marks}
 use Rattle.world.specs.Showing.{shop_shown, shows}
@@ -65,19 +67,10 @@ MergesAreTold =
 
 -- ---- one ticket with one table of holders
 
--- what an event is answered with, and what is shown then, is its replay in the shop that is shown
-abbrev pub EventIsReplayed : Type 0
-EventIsReplayed =
-    (w : State) (e : Event) → IsKept w
-    → (answer_to e w ≡ replay.answer_to e (shows w))
-    × (shows (after e w) ≡ replay.after e (shows w))
-
--- the same of events in turn
+-- what events in turn are answered with, and what is shown then, is their replay in the shop that
+-- is shown
 abbrev pub EventsAreReplayed : Type 0
-EventsAreReplayed =
-    (w : State) (events : List Event) → IsKept w
-    → (answers_to events w ≡ replay.answers_to events (shows w))
-    × (shows (after_all events w) ≡ replay.after_all events (shows w))
+EventsAreReplayed = RunsAgree happening.machine replay.machine IsKept shows
 
 -- what is shown in the beginning
 abbrev pub OpeningIsShown : Type 0

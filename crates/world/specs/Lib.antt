@@ -2,7 +2,9 @@ pub mod Settling
 pub mod Controllers
 pub mod Messages
 pub mod State
+pub mod Step
 pub mod Stepping
+pub mod Running
 pub mod Happening
 pub mod Shop
 pub mod Changing

@@ -1,23 +1,24 @@
 -- The replay of events in a shop: what is answered, what the shop is then, and what was sent.
-use Rattle.std.specs.Prelude.{ℕ, ◌||◌, List, [], ◌∷◌, if◌then◌else◌, Result, Ok, Err}
+use Rattle.std.specs.Prelude.{ℕ, ◌||◌, List, [], if◌then◌else◌, Ok, Err}
 use Rattle.std.specs.Option.{option_map_or}
 use Rattle.std.specs.Str.{bytes_eq}
 use Rattle.ticket_items.specs.Ids.{mem}
 use Rattle.ticket_items.specs.declared.refusal.Refusal.TheVariants.{UnknownWorker}
 use Rattle.ticket_rows.specs.Ticket.{Job}
 use Rattle.worker_core.specs.declared.order.Order as worker_order
-use Rattle.world.specs.Settling.{answer_without_step, settled_answer, settled_messages}
-use Rattle.world.specs.Settling.{settled_state}
+use Rattle.world.specs.Running as running
+use Rattle.world.specs.Running.{Machine}
 use Rattle.world.specs.Shop.{Shop}
 use Rattle.world.specs.ShopActs as acts
 use Rattle.world.specs.ShopSteps.{Tag, master_does, message_comes, worker_does}
 use Rattle.world.specs.State.{message_at}
-use Rattle.world.specs.Stepping.{Moved}
+use Rattle.world.specs.Step.{StepOrWord}
 use Rattle.world_items.specs.declared.answer.Answer.{Answer}
 use Rattle.world_items.specs.declared.event.Event.{Event}
 use Rattle.world_items.specs.declared.stop.Stop.{Stop}
 use Rattle.world_items.specs.declared.what.What.{What}
-use Rattle.world_items.specs.declared.what.What.TheVariants.{MasterOrder, WorkerOrder, Deliver, Restart}
+use Rattle.world_items.specs.declared.what.What.TheVariants.{MasterOrder, WorkerOrder}
+use Rattle.world_items.specs.declared.what.What.TheVariants.{Deliver, Restart}
 use Rattle.world_items.specs.declared.word.Word.{Word}
 use Rattle.world_items.specs.declared.word.Word.TheVariants.{NoMessage, Refused, Restarted}
 
@@ -30,19 +31,15 @@ pub record Shown : Type 0 where
 abbrev pub opening : List ℕ → List (List ℕ) → Job → Shown
 opening name workers ticket = record { shop = acts.opening name workers ticket; tags = [] }
 
--- ---- one event
-
--- a step, or the word where none is made
-abbrev pub Step : Type 0
-Step = Result (Moved Shop Tag) Word
+-- ---- one step
 
 -- the one of the worker of a name, if there is one
-abbrev pub worker_step : List ℕ → worker_order.Order → ℕ → Shop → Step
+abbrev pub worker_step : List ℕ → worker_order.Order → ℕ → Shop → StepOrWord Shop Tag
 worker_step name o at p =
     if mem name p.workers then Ok (worker_does name o at p) else Err (Refused UnknownWorker)
 
 -- that on the message of a number, if there is one
-abbrev pub delivery_step : ℕ → ℕ → Shown → Step
+abbrev pub delivery_step : ℕ → ℕ → Shown → StepOrWord Shop Tag
 delivery_step k at p = option_map_or (message_comes at p.shop) (message_at p.tags k) (Err NoMessage)
 
 -- a restart is none
@@ -51,38 +48,41 @@ restart_word name p =
     if bytes_eq name p.master || mem name p.workers then Restarted else Refused UnknownWorker
 
 -- that of what happens
-abbrev pub step_of : What → ℕ → Shown → Step
+abbrev pub step_of : What → ℕ → Shown → StepOrWord Shop Tag
 step_of (MasterOrder o) at p = Ok (master_does o at p.shop)
 step_of (WorkerOrder name o) at p = worker_step name o at p.shop
 step_of (Deliver k) at p = delivery_step k at p
 step_of (Restart name) at p = Err (restart_word name p.shop)
 
--- what is answered
-abbrev pub settled_word : Stop → Shown → Step → Answer
-settled_word stop p (Ok moved) = settled_answer stop p.tags moved.word moved.sent
-settled_word stop p (Err word) = answer_without_step word
+-- ---- as they run
 
--- what is shown then
-abbrev pub settled : Stop → Shown → Step → Shown
-settled stop p (Ok moved) =
+-- the shop with its tags, as a machine
+abbrev pub machine : Machine Shown Shop Tag
+machine =
     record {
-      shop = settled_state stop p.shop moved.next;
-      tags = settled_messages stop p.tags moved.sent;
+      inner = λ p. p.shop;
+      sent = λ p. p.tags;
+      made = λ p tags. record { shop = p; tags = tags };
+      step_of = step_of;
     }
-settled stop p (Err word) = p
 
+-- what is answered to a step, and what is shown then
+abbrev pub settled_word : Stop → Shown → StepOrWord Shop Tag → Answer
+settled_word = running.settled_word machine
+
+abbrev pub settled : Stop → Shown → StepOrWord Shop Tag → Shown
+settled = running.settled machine
+
+-- the same of an event
 abbrev pub answer_to : Event → Shown → Answer
-answer_to e p = settled_word e.stop p (step_of e.what e.at p)
+answer_to = running.answer_to machine
 
 abbrev pub after : Event → Shown → Shown
-after e p = settled e.stop p (step_of e.what e.at p)
+after = running.after machine
 
--- ---- a list of events
-
+-- and of events in turn
 abbrev pub answers_to : List Event → Shown → List Answer
-answers_to [] p = []
-answers_to (e ∷ events) p = answer_to e p ∷ answers_to events (after e p)
+answers_to = running.answers_to machine
 
 abbrev pub after_all : List Event → Shown → Shown
-after_all [] p = p
-after_all (e ∷ events) p = after_all events (after e p)
+after_all = running.after_all machine

@@ -1,6 +1,6 @@
 -- What is answered in a shop, and what is done: to each order and to each message that comes.
 use Rattle.std.specs.Prelude.{ℕ, ◌&&◌, ◌||◌, Bool, false, not, List, [], ◌∷◌, map, is_some}
-use Rattle.std.specs.Prelude.{if◌then◌else◌, Option, Some, None, Result, Ok, Err}
+use Rattle.std.specs.Prelude.{if◌then◌else◌, Option, Some, None, Ok, Err}
 use Rattle.std.specs.List.{find, list_all}
 use Rattle.std.specs.Option.{option_map_or}
 use Rattle.std.specs.Str.{bytes_eq}
@@ -32,9 +32,8 @@ use Rattle.worker_core.specs.declared.order.Order.TheVariants as to_worker
 use Rattle.world.specs.Shop.{Shop, SpawnState, has_number, is_away, is_done, is_open, is_out}
 use Rattle.world.specs.Shop.{next_number, spawn_of}
 use Rattle.world.specs.ShopActs.{edited, finished, is_held_by, merged, spawned, taken, worked}
-use Rattle.world.specs.Stepping.{Moved, refused}
-use Rattle.world_items.specs.declared.word.Word.{Word}
-use Rattle.world_items.specs.declared.word.Word.TheVariants.{Did, NoMessage}
+use Rattle.world.specs.Step.{Step, StepOrWord, refused, unless_refused}
+use Rattle.world_items.specs.declared.word.Word.TheVariants.{NoMessage}
 
 -- a message that was sent, without what it says: a part goes out, or comes back, or either is
 -- answered
@@ -45,15 +44,11 @@ pub data Tag : Type 0 where
   ToReturn : ℕ → Tag
 
 -- a reply with nothing sent, and one with a message
-abbrev pub replies : Reply → Shop → Moved Shop Tag
-replies reply next = record { word = Did reply; next = next; sent = None }
+abbrev pub replies : Reply → Shop → Step Shop Tag
+replies reply next = record { reply = Ok reply; sent = None; next = next }
 
-abbrev pub sends : Reply → Shop → Tag → Moved Shop Tag
-sends reply next tag = record { word = Did reply; next = next; sent = Some tag }
-
--- the refusal, if there is one, or else the step
-abbrev pub unless_refused : Option Refusal → Shop → Moved Shop Tag → Moved Shop Tag
-unless_refused why p moved = option_map_or (λ e. refused e p) why moved
+abbrev pub sends : Reply → Shop → Tag → Step Shop Tag
+sends reply next tag = record { reply = Ok reply; sent = Some tag; next = next }
 
 -- ---- the master
 
@@ -85,7 +80,7 @@ abbrev pub resend_refusal : ℕ → Shop → Option Refusal
 resend_refusal s p = unless (option_map_or (λ a. is_out a.phase) (spawn_of s p) false) NotOut
 
 -- the master on an order
-abbrev pub master_does : master_order.Order → ℕ → Shop → Moved Shop Tag
+abbrev pub master_does : master_order.Order → ℕ → Shop → Step Shop Tag
 master_does (to_master.Edit e) at p =
     unless_refused (edit_refusal e p) p (replies reply.Edited (edited e at p))
 master_does (to_master.Spawn n worker rw) at p =
@@ -120,7 +115,7 @@ work_refusal e a p =
     ∷ unless (not (is_to_read e a p)) ReadOnly ∷ later_refusal e (plain_lookups p.tree) ∷ [])
 
 -- the worker on an order about a spawn that it took
-abbrev pub spawn_worked : worker_order.Order → ℕ → Shop → SpawnState → Moved Shop Tag
+abbrev pub spawn_worked : worker_order.Order → ℕ → Shop → SpawnState → Step Shop Tag
 spawn_worked (to_worker.Edit s e) at p a =
     unless_refused (work_refusal e a p) p (replies reply.Edited (worked e at p))
 spawn_worked (to_worker.Finish s how) at p a =
@@ -130,7 +125,7 @@ spawn_worked (to_worker.Resend s) at p a =
     unless_refused (unless (not (is_open a.phase)) NotDone) p (sends (reply.Sent s) p (Return s))
 
 -- the worker of a name on an order
-abbrev pub worker_does : List ℕ → worker_order.Order → ℕ → Shop → Moved Shop Tag
+abbrev pub worker_does : List ℕ → worker_order.Order → ℕ → Shop → Step Shop Tag
 worker_does name o at p =
     option_map_or (spawn_worked o at p) (find (is_taken_by name (spawn_of_order o)) p.spawns)
     (refused UnknownEntry p)
@@ -138,7 +133,7 @@ worker_does name o at p =
 -- ---- a message
 
 -- a part comes to the worker: it is taken, or it was before
-abbrev pub submit_comes : Shop → SpawnState → Moved Shop Tag
+abbrev pub submit_comes : Shop → SpawnState → Step Shop Tag
 submit_comes p a =
     if is_away a.phase
     then sends (reply.Taken a.number) (taken a.number p) (ToSubmit a.number)
@@ -146,18 +141,18 @@ submit_comes p a =
 
 -- a part comes back to the master: it is put in, or it was before. None comes back that isn't
 -- finished; as if it was put in before
-abbrev pub return_comes : ℕ → Shop → SpawnState → Moved Shop Tag
+abbrev pub return_comes : ℕ → Shop → SpawnState → Step Shop Tag
 return_comes at p a =
     if is_done a.phase
     then sends (reply.Merged a.number) (merged at a p) (ToReturn a.number)
     else sends (reply.Already a.number) p (ToReturn a.number)
 
 -- what comes of a spawn, by its number. No message tells of one that there isn't; as if none came
-abbrev pub comes_of : ℕ → Shop → (SpawnState → Moved Shop Tag) → Result (Moved Shop Tag) Word
+abbrev pub comes_of : ℕ → Shop → (SpawnState → Step Shop Tag) → StepOrWord Shop Tag
 comes_of s p f = option_map_or (λ a. Ok (f a)) (spawn_of s p) (Err NoMessage)
 
 -- a message comes to its receiver
-abbrev pub message_comes : ℕ → Shop → Tag → Result (Moved Shop Tag) Word
+abbrev pub message_comes : ℕ → Shop → Tag → StepOrWord Shop Tag
 message_comes at p (Submit s) = comes_of s p (submit_comes p)
 message_comes at p (Return s) = comes_of s p (return_comes at p)
 message_comes at p (ToSubmit s) = Ok (replies (reply.Noted s) p)

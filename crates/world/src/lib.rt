@@ -6,7 +6,6 @@ mod apart;
 pub mod laws;
 mod settling;
 mod stepping;
-mod told;
 mod workers;
 mod world;
 

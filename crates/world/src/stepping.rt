@@ -4,60 +4,38 @@
 
 ghost use Rattle.std.specs.Prelude.{◌≡◌, Err, IfOk, IsOk, OnErr, OnOk};
 ghost use Rattle.world.specs.Settling as settling;
+ghost use Rattle.world.specs.Step as steps;
 ghost use Rattle.world.specs.Stepping as stepping;
 ghost use Rattle.world_items.specs.declared.stop.Stop.TheVariants.{BeforeSave};
 
 use crate::settling::settle;
-use crate::told::Told;
-use controller::{Done, Message, Outcome, Reply};
+use controller::{Done, Message, Outcome};
 use master_core::Master;
 use std::alloc::{AllocError, Global};
 use ticket_tree::Refusal;
 use worker_core::Worker;
 use world_items::{Answer, Stop, Word};
 
-/// What is replied, in a word.
-fn word_of(reply: Result<Reply, Refusal>) -> Word
-    ensures { result ≡ stepping.word_of reply }
-{
-    match reply {
-        Ok(reply) => Word::Did(reply),
-        Err(refusal) => Word::Refused(refusal),
-    }
-}
-
 /// What is told of an order that was answered so. Where memory ran out no step was made.
-fn told_of(done: Result<Done, Refusal>) -> Result<Told, AllocError>
-    ensures word { IfOk result (λ t. t.word ≡ stepping.told_word done) }
-    ensures sent { IfOk result (λ t. t.sent ≡ stepping.told_sent done) }
+fn told_of(done: Result<Done, Refusal>) -> Result<Outcome, AllocError>
+    ensures told { IfOk result (λ outcome. outcome ≡ stepping.told done) }
     ensures memory { OnOk result (¬ (done ≡ Err Refusal.Memory)) }
     ensures err { OnErr result (done ≡ Err Refusal.Memory) }
 {
     match done {
-        Ok(done) => Ok(Told {
-            word: Word::Did(done.reply),
-            sent: done.message,
+        Ok(done) => Ok(Outcome {
+            reply: Ok(done.reply),
+            answer: done.message,
         }),
         Err(refusal) => {
             if refusal == Refusal::Memory {
                 return Err(AllocError);
             }
-            Ok(Told {
-                word: Word::Refused(refusal),
-                sent: None,
+            Ok(Outcome {
+                reply: Err(refusal),
+                answer: None,
             })
         }
-    }
-}
-
-/// What is told of a message that came out so.
-fn told_of_message(outcome: Outcome) -> Told
-    ensures word { result.word ≡ stepping.word_of outcome.reply }
-    ensures sent { result.sent ≡ outcome.answer }
-{
-    Told {
-        word: word_of(outcome.reply),
-        sent: outcome.answer,
     }
 }
 
@@ -71,7 +49,7 @@ pub fn master_is_told(
     stop: Stop,
 ) -> Result<Answer, AllocError>
     ensures answer { IfOk result (λ a. a ≡ settling.settled_answer stop messages.old.items
-        (stepping.ordered_master order at stored.old).word
+        (steps.word_of (stepping.ordered_master order at stored.old).reply)
         (stepping.ordered_master order at stored.old).sent) }
     ensures stored { OnOk result (stored.new ≡ settling.settled_state stop stored.old
         (stepping.ordered_master order at stored.old).next) }
@@ -87,8 +65,8 @@ pub fn master_is_told(
         return Ok(Answer::without_step(Word::Stopped));
     }
     messages.reserve(1)?;
-    let told = told_of(stored.order(alloc, order, at))?;
-    Ok(settle(messages, told, stop))
+    let outcome = told_of(stored.order(alloc, order, at))?;
+    Ok(settle(messages, outcome, stop))
 }
 
 /// A message comes to a master. Where memory runs out nothing is changed.
@@ -101,7 +79,7 @@ pub fn master_takes(
     stop: Stop,
 ) -> Result<Answer, AllocError>
     ensures answer { IfOk result (λ a. a ≡ settling.settled_answer stop messages.old.items
-        (stepping.taken_by_master message at stored.old).word
+        (steps.word_of (stepping.taken_by_master message at stored.old).reply)
         (stepping.taken_by_master message at stored.old).sent) }
     ensures stored { OnOk result (stored.new ≡ settling.settled_state stop stored.old
         (stepping.taken_by_master message at stored.old).next) }
@@ -116,8 +94,8 @@ pub fn master_takes(
         return Ok(Answer::without_step(Word::Stopped));
     }
     messages.reserve(1)?;
-    let told = told_of_message(stored.take(alloc, message, at)?);
-    Ok(settle(messages, told, stop))
+    let outcome = stored.take(alloc, message, at)?;
+    Ok(settle(messages, outcome, stop))
 }
 
 /// A worker is told to do something. Where memory runs out nothing is changed.
@@ -130,7 +108,7 @@ pub fn worker_is_told(
     stop: Stop,
 ) -> Result<Answer, AllocError>
     ensures answer { IfOk result (λ a. a ≡ settling.settled_answer stop messages.old.items
-        (stepping.ordered_worker order at stored.old).word
+        (steps.word_of (stepping.ordered_worker order at stored.old).reply)
         (stepping.ordered_worker order at stored.old).sent) }
     ensures stored { OnOk result (stored.new ≡ settling.settled_state stop stored.old
         (stepping.ordered_worker order at stored.old).next) }
@@ -146,8 +124,8 @@ pub fn worker_is_told(
         return Ok(Answer::without_step(Word::Stopped));
     }
     messages.reserve(1)?;
-    let told = told_of(stored.order(alloc, order, at))?;
-    Ok(settle(messages, told, stop))
+    let outcome = told_of(stored.order(alloc, order, at))?;
+    Ok(settle(messages, outcome, stop))
 }
 
 /// A message comes to a worker. Where memory runs out nothing is changed.
@@ -160,7 +138,7 @@ pub fn worker_takes(
     stop: Stop,
 ) -> Result<Answer, AllocError>
     ensures answer { IfOk result (λ a. a ≡ settling.settled_answer stop messages.old.items
-        (stepping.taken_by_worker message at stored.old).word
+        (steps.word_of (stepping.taken_by_worker message at stored.old).reply)
         (stepping.taken_by_worker message at stored.old).sent) }
     ensures stored { OnOk result (stored.new ≡ settling.settled_state stop stored.old
         (stepping.taken_by_worker message at stored.old).next) }
@@ -175,6 +153,6 @@ pub fn worker_takes(
         return Ok(Answer::without_step(Word::Stopped));
     }
     messages.reserve(1)?;
-    let told = told_of_message(stored.take(alloc, message, at)?);
-    Ok(settle(messages, told, stop))
+    let outcome = stored.take(alloc, message, at)?;
+    Ok(settle(messages, outcome, stop))
 }

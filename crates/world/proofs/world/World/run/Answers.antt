@@ -6,7 +6,7 @@ use Rattle.world.proofs.MergesTold.{run_told}
 use Rattle.world.proofs.Once.{run_merges_once}
 use Rattle.world.proofs.Replayed.{all_said, all_shown, cut_before}
 use Rattle.world.proofs.Runs.{all_of, has_room, next_of, one_more, stands_before}
-use Rattle.world.specs.Happening.{after_all, answers_to}
+use Rattle.world.specs.Happening.{after_all, answers_to, machine}
 use Rattle.world.proofs.world.World.run.Goals as goal
 
 pub loop-event-init : goal.loop-event-init
@@ -17,32 +17,32 @@ pub loop-event-preserved : goal.loop-event-preserved
 loop-event-preserved c =
     let all = YieldsList-from_vec {s = c.into_iter-event-iterator.result} c.args.events.items (search rules) (search rules) in
     let so = c.loop-event.invariant in
-    one_more c.args.events.items c.loop-event.yielded c.in-Some.event c.args.self.now c.loop-event.answers.items c.loop-event.answers.len c.loop-event.answers.cap c.loop-event.self c.extend_from_slice.new.self.items c.extend_from_slice.new.self.len c.extend_from_slice.new.self.cap c.step.new.self c.in_ok-answer.answer so c.in_ok-answer.ensures.answer c.in_ok-answer.ensures.state c.in_ok-extend_from_slice.ensures.items c.in_ok-extend_from_slice.ensures.len c.in_ok-extend_from_slice.ensures.capacity
+    one_more machine c.args.events.items c.loop-event.yielded c.in-Some.event c.args.self.now c.loop-event.answers.items c.loop-event.answers.len c.loop-event.answers.cap c.loop-event.self c.extend_from_slice.new.self.items c.extend_from_slice.new.self.len c.extend_from_slice.new.self.cap c.step.new.self c.in_ok-answer.answer so c.in_ok-answer.ensures.answer c.in_ok-answer.ensures.state c.in_ok-extend_from_slice.ensures.items c.in_ok-extend_from_slice.ensures.len c.in_ok-extend_from_slice.ensures.capacity
 
 pub returns-in_err-answer-clause-err : goal.returns-in_err-answer-clause-err
 returns-in_err-answer-clause-err c =
     let all = YieldsList-from_vec {s = c.into_iter-event-iterator.result} c.args.events.items (search rules) (search rules) in
     let next = next_of all c.loop-event.yielded c.loop-event.event-iterator c.loop-event.yielded_by c.next.result c.next.new.self c.in-Some.event c.in-Some.is c.next.ensures.steps in
-    on_err _ c.from_residual-in_err-answer.result (stands_before c.args.events.items c.loop-event.yielded c.in-Some.event c.args.self.now c.loop-event.answers.items c.loop-event.answers.len c.loop-event.answers.cap c.loop-event.self c.step.new.self c.loop-event.invariant next c.in_err-answer.ensures.err)
+    on_err _ c.from_residual-in_err-answer.result (stands_before machine c.args.events.items c.loop-event.yielded c.in-Some.event c.args.self.now c.loop-event.answers.items c.loop-event.answers.len c.loop-event.answers.cap c.loop-event.self c.step.new.self c.loop-event.invariant next c.in_err-answer.ensures.err)
 
 pub returns-in_err-answer-clause-cut : goal.returns-in_err-answer-clause-cut
 returns-in_err-answer-clause-cut c =
     let all = YieldsList-from_vec {s = c.into_iter-event-iterator.result} c.args.events.items (search rules) (search rules) in
     let next = next_of all c.loop-event.yielded c.loop-event.event-iterator c.loop-event.yielded_by c.next.result c.next.new.self c.in-Some.event c.in-Some.is c.next.ensures.steps in
-    on_err _ c.from_residual-in_err-answer.result (cut_before c.args.events.items c.args.self.now c.step.new.self c.messages-sent.ensures.kept (stands_before c.args.events.items c.loop-event.yielded c.in-Some.event c.args.self.now c.loop-event.answers.items c.loop-event.answers.len c.loop-event.answers.cap c.loop-event.self c.step.new.self c.loop-event.invariant next c.in_err-answer.ensures.err))
+    on_err _ c.from_residual-in_err-answer.result (cut_before c.args.events.items c.args.self.now c.step.new.self c.messages-sent.ensures.kept (stands_before machine c.args.events.items c.loop-event.yielded c.in-Some.event c.args.self.now c.loop-event.answers.items c.loop-event.answers.len c.loop-event.answers.cap c.loop-event.self c.step.new.self c.loop-event.invariant next c.in_err-answer.ensures.err))
 
 pub returns-in_err-extend_from_slice-clause-err : goal.returns-in_err-extend_from_slice-clause-err
 returns-in_err-extend_from_slice-clause-err c =
     let all = YieldsList-from_vec {s = c.into_iter-event-iterator.result} c.args.events.items (search rules) (search rules) in
     let next = next_of all c.loop-event.yielded c.loop-event.event-iterator c.loop-event.yielded_by c.next.result c.next.new.self c.in-Some.event c.in-Some.is c.next.ensures.steps in
-    let no = c.in_err-extend_from_slice.ensures.succeeds (has_room c.args.events.items c.loop-event.yielded c.in-Some.event c.args.self.now c.loop-event.answers.items c.loop-event.answers.len c.loop-event.answers.cap c.loop-event.self c.loop-event.invariant next) in
+    let no = c.in_err-extend_from_slice.ensures.succeeds (has_room machine c.args.events.items c.loop-event.yielded c.in-Some.event c.args.self.now c.loop-event.answers.items c.loop-event.answers.len c.loop-event.answers.cap c.loop-event.self c.loop-event.invariant next) in
     cc
 
 pub returns-in_err-extend_from_slice-clause-cut : goal.returns-in_err-extend_from_slice-clause-cut
 returns-in_err-extend_from_slice-clause-cut c =
     let all = YieldsList-from_vec {s = c.into_iter-event-iterator.result} c.args.events.items (search rules) (search rules) in
     let next = next_of all c.loop-event.yielded c.loop-event.event-iterator c.loop-event.yielded_by c.next.result c.next.new.self c.in-Some.event c.in-Some.is c.next.ensures.steps in
-    let no = c.in_err-extend_from_slice.ensures.succeeds (has_room c.args.events.items c.loop-event.yielded c.in-Some.event c.args.self.now c.loop-event.answers.items c.loop-event.answers.len c.loop-event.answers.cap c.loop-event.self c.loop-event.invariant next) in
+    let no = c.in_err-extend_from_slice.ensures.succeeds (has_room machine c.args.events.items c.loop-event.yielded c.in-Some.event c.args.self.now c.loop-event.answers.items c.loop-event.answers.len c.loop-event.answers.cap c.loop-event.self c.loop-event.invariant next) in
     cc
 
 pub returns-in_err-answers-clause-alone : goal.returns-in_err-answers-clause-alone

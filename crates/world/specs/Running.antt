@@ -1,0 +1,89 @@
+-- A run as one machine: at each event a step is made and settled, for any kind of state and of
+-- message. And when what one machine shows of itself runs as another.
+use Rattle.std.specs.Prelude.{◌≡◌, ℕ, List, [], ◌∷◌, map, Ok, Err}
+use Rattle.std.specs.Option.{option_map}
+use Rattle.world.specs.Settling.{answer_without_step, settled_answer, settled_messages}
+use Rattle.world.specs.Settling.{settled_state}
+use Rattle.world.specs.Step.{Step, StepOrWord, word_of}
+use Rattle.world_items.specs.declared.answer.Answer.{Answer}
+use Rattle.world_items.specs.declared.event.Event.{Event}
+use Rattle.world_items.specs.declared.stop.Stop.{Stop}
+use Rattle.world_items.specs.declared.what.What.{What}
+
+-- what runs: a whole of a state and of the messages that were sent, and the step that is made of
+-- what happens, or the word where none is
+pub record Machine (W S M : Type 0) : Type 0 where
+  pub inner : W → S
+  pub sent : W → List M
+  pub made : S → List M → W
+  pub step_of : What → ℕ → W → StepOrWord S M
+
+-- ---- one event
+
+-- what is answered
+abbrev pub settled_word : {W S M : Type 0} → Machine W S M → Stop → W → StepOrWord S M → Answer
+settled_word m stop w (Ok moved) = settled_answer stop (m.sent w) (word_of moved.reply) moved.sent
+settled_word m stop w (Err word) = answer_without_step word
+
+-- what is there then
+abbrev pub settled : {W S M : Type 0} → Machine W S M → Stop → W → StepOrWord S M → W
+settled m stop w (Ok moved) =
+    m.made (settled_state stop (m.inner w) moved.next)
+    (settled_messages stop (m.sent w) moved.sent)
+settled m stop w (Err word) = w
+
+-- what an event is answered with, and what is there after it
+abbrev pub answer_to : {W S M : Type 0} → Machine W S M → Event → W → Answer
+answer_to m e w = settled_word m e.stop w (m.step_of e.what e.at w)
+
+abbrev pub after : {W S M : Type 0} → Machine W S M → Event → W → W
+after m e w = settled m e.stop w (m.step_of e.what e.at w)
+
+-- ---- a list of events
+
+-- what each of the events is answered with in turn, and what is there after them all
+abbrev pub answers_to : {W S M : Type 0} → Machine W S M → List Event → W → List Answer
+answers_to m [] w = []
+answers_to m (e ∷ events) w = answer_to m e w ∷ answers_to m events (after m e w)
+
+abbrev pub after_all : {W S M : Type 0} → Machine W S M → List Event → W → W
+after_all m [] w = w
+after_all m (e ∷ events) w = after_all m events (after m e w)
+
+-- ---- two machines
+
+-- two steps agree: they reply the same, send the same, and lead to the same, as it is shown
+pub record Agrees {S M T N : Type 0} (state_of : S → T) (tag_of : M → N) (moved : Step S M)
+    (plain : Step T N) : Type 0 where
+  pub reply : moved.reply ≡ plain.reply
+  pub sent : option_map tag_of moved.sent ≡ plain.sent
+  pub next : state_of moved.next ≡ plain.next
+
+-- two steps agree, or neither is made and the word is the same
+abbrev pub StepsAgree : {S M T N : Type 0} → (S → T) → (M → N) → StepOrWord S M → StepOrWord T N
+    → Type 0
+StepsAgree state_of tag_of (Ok moved) (Ok plain) = Agrees state_of tag_of moved plain
+StepsAgree state_of tag_of (Ok moved) (Err word) = ⊥
+StepsAgree state_of tag_of (Err word) (Ok plain) = ⊥
+StepsAgree state_of tag_of (Err word) (Err same) = word ≡ same
+
+-- what is kept of one machine is shown by another: by its parts; an event keeps it; and the steps
+-- of what happens agree
+pub record IsShownBy {W S M V T N : Type 0} (a : Machine W S M) (b : Machine V T N)
+    (IsKept : W → Type 0) (state_of : S → T) (tag_of : M → N) (shows : W → V) : Type 0 where
+  pub inner : (w : W) → b.inner (shows w) ≡ state_of (a.inner w)
+  pub sent : (w : W) → b.sent (shows w) ≡ map tag_of (a.sent w)
+  pub made : (s : S) (sent : List M) → shows (a.made s sent) ≡ b.made (state_of s) (map tag_of sent)
+  pub kept : (w : W) (e : Event) → IsKept w → IsKept (after a e w)
+  pub steps :
+      (w : W) (what : What) (at : ℕ) → IsKept w
+      → StepsAgree state_of tag_of (a.step_of what at w) (b.step_of what at (shows w))
+
+-- what is kept of one machine answers to events in turn, and shows after them, as another does that
+-- begins with what is shown
+abbrev pub RunsAgree : {W S M V T N : Type 0} → Machine W S M → Machine V T N → (W → Type 0)
+    → (W → V) → Type 0
+RunsAgree {W = W} a b IsKept shows =
+    (w : W) (events : List Event) → IsKept w
+    → (answers_to a events w ≡ answers_to b events (shows w))
+    × (shows (after_all a events w) ≡ after_all b events (shows w))
