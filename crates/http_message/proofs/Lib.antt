@@ -4,3 +4,4 @@ pub mod Heads
 pub mod Said
 pub mod BytesRead
 pub mod MessageRead
+pub mod OneAnswer

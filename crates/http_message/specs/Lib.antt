@@ -4,3 +4,4 @@ pub mod Says
 pub mod Head
 pub mod Message
 pub mod Reading
+pub mod Laws

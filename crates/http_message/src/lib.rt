@@ -4,6 +4,7 @@
 mod body;
 mod field;
 mod kind;
+pub mod laws;
 mod length;
 mod look;
 mod looking;
