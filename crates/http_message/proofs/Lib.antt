@@ -5,3 +5,6 @@ pub mod Said
 pub mod BytesRead
 pub mod MessageRead
 pub mod OneAnswer
+pub mod Writing
+pub mod TextLemmas
+pub mod Messages

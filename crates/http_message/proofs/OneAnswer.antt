@@ -1,10 +1,9 @@
 -- An input has at most one answer.
-use Rattle.std.proofs.Common.{Bool, true, false, ◌≡◌, ◌∙◌, ℕ, ◌<◌, ◌+◌, List, ◌++◌, length, take, drop, Result, Ok, Err, is_ok, arith, sym, ap, ⊎_elim, length-append}
+use Rattle.std.proofs.Common.{true, false, ◌≡◌, ◌∙◌, ℕ, ◌+◌, List, ◌++◌, length, take, drop, Result, Ok, Err, is_ok, arith, sym, ap, ⊎_elim, length-append}
 use Rattle.std.proofs.Math.Seq.{take-append_seam}
 use Rattle.streams.specs.declared.refused.Refused.{Refused}
-use Rattle.streams.specs.declared.refused.Refused.TheVariants.{CutShort}
 use Rattle.http_message.specs.Head.{Head, BeginsWith, head_says}
-use Rattle.http_message.specs.Laws.{HasOneAnswer, InputsHaveOneAnswer}
+use Rattle.http_message.specs.Laws.{InputsHaveOneAnswer}
 use Rattle.http_message.specs.Message.{Carries, IsCut, IsRefusedAs}
 use Rattle.http_message.specs.declared.kind.Kind.{Kind}
 use Rattle.http_message.proofs.Heads.{begins_once}

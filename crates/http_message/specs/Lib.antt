@@ -5,3 +5,6 @@ pub mod Head
 pub mod Message
 pub mod Reading
 pub mod Laws
+pub mod Pieces
+pub mod Status
+pub mod Texts

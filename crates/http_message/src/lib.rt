@@ -1,4 +1,5 @@
-//! HTTP's messages, each with the whole input that it stands in: heads, and the bodies behind them.
+//! HTTP's messages, with no controller in them: heads and bodies that are read, each with the whole
+//! input that it stands in, and requests and responses that are written.
 #![tactic(auto)]
 
 mod body;
@@ -6,12 +7,17 @@ mod field;
 mod kind;
 pub mod laws;
 mod length;
+mod lines;
 mod look;
 mod looking;
+mod pieces;
 mod reading;
 mod received;
+mod response;
 mod says;
+mod sending;
 mod start;
+mod status;
 mod told;
 
 pub use body::Body;
@@ -21,4 +27,7 @@ pub use look::Look;
 pub use looking::{MAX_FIELDS, MAX_HEAD_BYTES, look_for_head};
 pub use reading::{MAX_READS, read_request, receive};
 pub use received::Received;
+pub use response::write_response;
+pub use sending::send;
+pub use status::status_of;
 pub use told::Told;
