@@ -32,9 +32,12 @@ pub later_fault : {T : Type 0} (known : T → Option (List ℕ)) (start : ℕ) (
     → HasRead start (used known a b) bytes → IsMoreFault start (used known b c) e → IsMoreFault start (used known a c) e
 later_fault known start a b c bytes e read fault =
     ⊎_elim
-    (λ f. inl (f.0, ⊎_elim
-        (λ failed. inl (⊎_elim (λ rose. inl (omega (arith, rose, read.unfailed))) (λ full. inr full) failed))
-        (λ many. inr many) f.1))
+    (λ f. inl (
+      f.0,
+      ⊎_elim
+          (λ failed. inl (⊎_elim (λ rose. inl (omega (arith, rose, read.unfailed))) (λ full. inr full) failed))
+          (λ many. inr many) f.1,
+    ))
     (λ memory. inr memory)
     fault
 

@@ -41,8 +41,8 @@ carried known kind start a b c bytes new told n has says whole =
       code = has.told_of.code;
       rest = drop ((told.size + n) - told.size) (drop told.size new) ++ rest;
       behind = ap (λ s. drop s ((bytes ++ more) ++ rest)) (sym has.told_of.size)
-      ∙ ap (λ xs. drop told.size (xs ++ rest)) (sym whole.gained.grown)
-      ∙ body_behind new rest told.size n whole.enough;
+          ∙ ap (λ xs. drop told.size (xs ++ rest)) (sym whole.gained.grown)
+          ∙ body_behind new rest told.size n whole.enough;
     })
 
 -- ---- why none was read
@@ -80,23 +80,23 @@ pub unread_body : {T : Type 0} (known : T → Option (List ℕ)) (kind : Kind) (
 unread_body known kind start calls a b c bytes new told n e same has says fault =
     ⊎_elim
     (λ cut.
-        let more = cut.1.gained.more in
-        let read = read_then known start a b c bytes more has.read cut.1.gained.read in
-        let within : told.size ≤ length new = omega (arith, has.bounded.size, ap length cut.1.gained.grown, length-append bytes more) in
-        inl (
-          ap is_refusal cut.0,
-          all_read _ _ (bytes ++ more) read.taken cut.1.ended (λ all. IsRefusedAs kind all e)
-              (inr (inr (
-                cut.0,
-                record {
-                  head = has.head;
-                  begins = begins_more kind bytes more has.head has.begins;
-                  wanted = n;
-                  says = sym has.told_of.says ∙ says;
-                  short = subst (λ s. length (drop s (bytes ++ more)) < n) has.told_of.size
+    let more = cut.1.gained.more in
+    let read = read_then known start a b c bytes more has.read cut.1.gained.read in
+    let within : told.size ≤ length new = omega (arith, has.bounded.size, ap length cut.1.gained.grown, length-append bytes more) in
+    inl (
+      ap is_refusal cut.0,
+      all_read _ _ (bytes ++ more) read.taken cut.1.ended (λ all. IsRefusedAs kind all e)
+          (inr (inr (
+            cut.0,
+            record {
+              head = has.head;
+              begins = begins_more kind bytes more has.head has.begins;
+              wanted = n;
+              says = sym has.told_of.says ∙ says;
+              short = subst (λ s. length (drop s (bytes ++ more)) < n) has.told_of.size
                   (subst (λ xs. length (drop told.size xs) < n) cut.1.gained.grown (short_of new told.size n within cut.1.short));
-                },
-              ))),
-        ))
+            },
+          ))),
+    ))
     (λ more. inr (subst (λ s. IsMoreFault s (used known a c) e) same (later_fault known start a b c bytes e has.read more)))
     fault

@@ -45,32 +45,32 @@ not_cut kind input s a x cut =
     let same = begins_once kind input cut.head x.head cut.begins x.begins in
     let wanted : cut.wanted ≡ length a = ok_is cut.wanted (length a) (head_says cut.head) cut.says (ap head_says same ∙ x.says) in
     let there : length (drop cut.head.size input) ≡ length a + length x.rest =
-        ap (λ h. length (drop h.size input)) same ∙ ap length x.behind ∙ length-append a x.rest in
+    ap (λ h. length (drop h.size input)) same ∙ ap length x.behind ∙ length-append a x.rest in
     absurd (omega (arith, wanted, there, cut.short))
 
 carried_or_refused : (kind : Kind) (input : List ℕ) (s : ℕ) (a : List ℕ) (e : Refused) → Carries kind input s a → IsRefusedAs kind input e → ⊥
 carried_or_refused kind input s a e x refused =
     ⊎_elim (λ none. none.1 x.head x.begins)
     (λ other. ⊎_elim
-        (λ said. ok_not_err (head_says said.0) (says_length kind input s a said.0 x said.1) said.2)
-        (λ cut. not_cut kind input s a x cut.1) other)
+    (λ said. ok_not_err (head_says said.0) (says_length kind input s a said.0 x said.1) said.2)
+    (λ cut. not_cut kind input s a x cut.1) other)
     refused
 
 same_refusal : (kind : Kind) (input : List ℕ) (d e : Refused) → IsRefusedAs kind input d → IsRefusedAs kind input e → d ≡ e
 same_refusal kind input d e x y =
     ⊎_elim
     (λ none. ⊎_elim (λ other. none.0 ∙ sym other.0)
-        (λ more. ⊎_elim (λ said. absurd (none.1 said.0 said.1)) (λ cut. absurd (none.1 cut.1.head cut.1.begins)) more) y)
+    (λ more. ⊎_elim (λ said. absurd (none.1 said.0 said.1)) (λ cut. absurd (none.1 cut.1.head cut.1.begins)) more) y)
     (λ more. ⊎_elim
-        (λ said. ⊎_elim (λ none. absurd (none.1 said.0 said.1))
-            (λ others. ⊎_elim
-                (λ other. err_is d e (head_says said.0) said.2 (same_head kind input said.0 other.0 said.1 other.1 ∙ other.2))
-                (λ cut. absurd (ok_not_err (head_says said.0) (same_head kind input said.0 cut.1.head said.1 cut.1.begins ∙ cut.1.says) said.2)) others) y)
-        (λ cut. ⊎_elim (λ none. absurd (none.1 cut.1.head cut.1.begins))
-            (λ others. ⊎_elim
-                (λ other. absurd (ok_not_err (head_says other.0) (same_head kind input other.0 cut.1.head other.1 cut.1.begins ∙ cut.1.says) other.2))
-                (λ other. cut.0 ∙ sym other.0) others) y)
-        more)
+    (λ said. ⊎_elim (λ none. absurd (none.1 said.0 said.1))
+    (λ others. ⊎_elim
+    (λ other. err_is d e (head_says said.0) said.2 (same_head kind input said.0 other.0 said.1 other.1 ∙ other.2))
+    (λ cut. absurd (ok_not_err (head_says said.0) (same_head kind input said.0 cut.1.head said.1 cut.1.begins ∙ cut.1.says) said.2)) others) y)
+    (λ cut. ⊎_elim (λ none. absurd (none.1 cut.1.head cut.1.begins))
+    (λ others. ⊎_elim
+    (λ other. absurd (ok_not_err (head_says other.0) (same_head kind input other.0 cut.1.head other.1 cut.1.begins ∙ cut.1.says) other.2))
+    (λ other. cut.0 ∙ sym other.0) others) y)
+    more)
     x
 
 pub one_answer : InputsHaveOneAnswer

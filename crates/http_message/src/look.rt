@@ -2,7 +2,7 @@ use crate::told::Told;
 
 /// What stands at the front of the bytes.
 #[derive(Drop)]
-pub enum Look {
+pub(crate) enum Look {
     /// A head.
     Head(Told),
     /// No head yet.

@@ -84,7 +84,7 @@ fn look_in(kind: Kind, bytes: &[u8]) -> Look
 /// What stands at the front of the bytes: a head, no head yet, or no head whatever bytes follow.
 /// A head has at most `MAX_HEAD_BYTES` and `MAX_FIELDS`, its lines may end with LF alone, and empty
 /// lines may stand before it.
-pub fn look_for_head(kind: Kind, bytes: &[u8]) -> Look
+pub(crate) fn look_for_head(kind: Kind, bytes: &[u8]) -> Look
     ensures head { IfHead result (λ told. (head : Head) × BeginsWith kind bytes.now head
         × IsToldOf head told) }
     ensures bound { IfHead result (IsBounded MAX_BODY_BYTES (length bytes.now)) }

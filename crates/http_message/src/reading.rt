@@ -10,9 +10,9 @@ ghost use Rattle.http_message.specs.Reading.{Grows, Has, HasFailedIn, HasHead, H
 ghost use Rattle.http_message.specs.Reading.{IsBodyFault, IsHeadFault, IsMoreFault, IsUnread};
 
 use crate::body::Body;
-use crate::looking::look_for_head;
 use crate::kind::Kind;
 use crate::look::Look;
+use crate::looking::look_for_head;
 use crate::received::Received;
 use crate::told::Told;
 use std::alloc::{AllocError, Global};

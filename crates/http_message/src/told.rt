@@ -2,7 +2,7 @@ use streams::Refused;
 
 /// What a head tells of the message.
 #[derive(Drop)]
-pub struct Told {
+pub(crate) struct Told {
     /// How many bytes the head takes. The body stands behind them.
     pub size: usize,
     /// The status of a response, and 0 of a request.

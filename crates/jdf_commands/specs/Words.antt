@@ -1,7 +1,7 @@
 -- How the words of the command line end.
-use Rattle.std.specs.Prelude.{◌≡◌, ◌≢◌, ◌⊎◌, ℕ, List, [], map, String, string_bytes}
+use Rattle.std.specs.Prelude.{◌≡◌, ◌≢◌, ◌⊎◌, ℕ, List, [], map, String, string_bytes, true}
 use Rattle.std.specs.declared.alloc.Global.{Global}
-use Rattle.clap.specs.Words.{subcommand_of}
+use Rattle.clap.specs.Words.{subcommand_of, takes}
 use Rattle.ticket_items.specs.declared.refusal.Refusal.TheVariants.{Memory}
 use Rattle.streams.specs.declared.refused.Refused.TheVariants.{Core}
 use Rattle.streams.specs.declared.fault.Fault.TheVariants.{Input}
@@ -19,9 +19,11 @@ pub record IsCallOf (words : List (String Global)) (call : Call) : Type 0 where
   pub edit : words ≡ [] → call ≡ Edit
   pub named : words ≢ [] → Means call (subcommand_of jdf (map string_bytes words))
 
--- nothing is read or written, and the status says that the words stand for no call: clap's text is
--- told, of which nothing is said here
-pub record TellsHelp (input output : Use) (status : ℕ) : Type 0 where
+-- these words stand for no call: nothing is read or written, and the status says so. clap's text
+-- is told, of which nothing is said here
+pub record TellsHelp (words : List (String Global)) (input output : Use) (status : ℕ) : Type 0 where
+  pub some : words ≢ []
+  pub wrong : takes jdf (map string_bytes words) ≢ true
   pub unread : IsUntouched input
   pub unwritten : IsUntouched output
   pub no_call : status ≡ NO_CALL
@@ -30,5 +32,5 @@ pub record TellsHelp (input output : Use) (status : ℕ) : Type 0 where
 abbrev pub EndsWords : List (String Global) → Use → Use → Use → ℕ → Type 0
 EndsWords words input output told status =
     ((call : Call) × IsCallOf words call × EndsCall call input output told status)
-    ⊎ (TellsHelp input output status
+    ⊎ (TellsHelp words input output status
     ⊎ (IsUntouched input × GivesUp (Input (Core Memory)) output told status))

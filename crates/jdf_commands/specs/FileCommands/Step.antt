@@ -1,12 +1,8 @@
--- What a step of a controller gives out and leaves, and what is written of it.
-use Rattle.std.specs.Prelude.{◌≡◌, ◌⊎◌, ◌++◌, ℕ, Bool, false, true, not, List, [], ◌∷◌}
+-- What is written of a step of a controller, and what is not.
+use Rattle.std.specs.Prelude.{◌≡◌, ◌⊎◌, ◌++◌, ℕ, Bool, not, List, [], ◌∷◌}
 use Rattle.std.specs.Prelude.{Option, Some, None, Result, Ok, Err, is_ok}
-use Rattle.std.specs.Option.{option_map}
-use Rattle.serde_json.specs.Data.{Data}
 use Rattle.ticket_items.specs.declared.refusal.Refusal.{Refusal}
 use Rattle.ticket_items.specs.declared.refusal.Refusal.TheVariants.{Memory}
-use Rattle.controller.specs.Reply.{refused_or}
-use Rattle.controller.specs.declared.message.Message.{Message}
 use Rattle.controller.specs.declared.reply.Reply.{Reply}
 use Rattle.world_items.specs.declared.word.Word.{Word}
 use Rattle.world_items.specs.declared.word.Word.TheVariants.{Did, Refused}
@@ -15,49 +11,8 @@ use Rattle.streams.specs.declared.refused.Refused.{Refused as CallRefused}
 use Rattle.streams.specs.declared.refused.Refused.TheVariants.{Core}
 use Rattle.streams.specs.declared.fault.Fault.{Fault}
 use Rattle.streams.specs.declared.fault.Fault.TheVariants.{Input, Device}
-use Rattle.json_profile.specs.ReadAs.{IsReadAs}
 use Rattle.stored_state.specs.Held.{GivesNothing, Held}
-use Rattle.stored_state.specs.Kept.{IsOfMessage, message_text, unless_refused}
-
--- ---- steps
-
--- what is replied, or why it is refused; the text of what goes out; and the controller after it
-pub record Step (C : Type 0) : Type 0 where
-  pub reply : Result Reply Refusal
-  pub message : Option (List ℕ)
-  pub after : C
-
--- the step of an order at a time, by why one is refused, what is replied to it, what goes out by
--- it, and what it leaves
-abbrev pub order_step : {C O : Type 0} → (O → C → Option Refusal) → (O → C → Reply)
-    → (O → ℕ → C → Option Message) → (O → ℕ → C → C) → O → ℕ → C → Step C
-order_step refusal reply message ordered o at c =
-    record {
-      reply = refused_or (refusal o c) (reply o c);
-      message = option_map message_text (unless_refused (refusal o c) None (message o at c));
-      after = unless_refused (refusal o c) c (ordered o at c);
-    }
-
--- the step of a message at a time, by what one is taken as, its answer, and what it leaves
-abbrev pub take_step : {C : Type 0} → (Message → C → Result Reply Refusal)
-    → (Message → ℕ → C → Option Message) → (Message → ℕ → C → C) → Message → ℕ → C → Step C
-take_step reply answer taken m at c =
-    record {
-      reply = reply m c;
-      message = option_map message_text (answer m at c);
-      after = taken m at c;
-    }
-
--- the step is that of the order that the bytes are
-pub record IsOfOrder {C O : Type 0} (reads : Data → Result O Refusal) (bytes : List ℕ)
-    (does : O → Step C) (step : Step C) : Type 0 where
-  pub order : O
-  pub read : IsReadAs reads bytes (Ok order)
-  pub is : step ≡ does order
-
--- the step is that of the message that the bytes are
-abbrev pub IsTaken : {C : Type 0} → List ℕ → (Message → Step C) → Step C → Type 0
-IsTaken bytes does step = IsOfMessage bytes (λ m. step ≡ does m)
+pub use Rattle.stored_state.specs.Step.{IsLeft, IsOfOrder, IsSaved, IsTaken, Step, order_step, take_step}
 
 -- ---- what is written
 
@@ -81,13 +36,6 @@ step_lines step = reply_line step.reply ++ text_line step.message
 
 -- ---- steps that are saved
 
--- the step was done, and an honest keeper holds the text of the state that it leaves
-pub record IsSaved {C K : Type 0} (is_honest : K → Bool) (held : K → List ℕ)
-    (state_text : C → List ℕ) (step : Step C) (new : Held C K) : Type 0 where
-  pub after : new.controller ≡ step.after
-  pub fresh : new.stale ≡ false
-  pub holds : is_honest new.keep ≡ true → held new.keep ≡ state_text step.after
-
 -- such a step was saved, its lines are written, and this tells whether it was refused
 pub record GivesOut {C K : Type 0} (is_honest : K → Bool) (held : K → List ℕ)
     (state_text : C → List ℕ) (IsStep : Step C → Type 0) (new : Held C K) (text : List ℕ)
@@ -102,13 +50,6 @@ pub record GivesOut {C K : Type 0} (is_honest : K → Bool) (held : K → List �
 abbrev pub fault_of : CallRefused → Fault
 fault_of (Core e) = Input (Core e)
 fault_of other = Device other
-
--- the text is that of the state that such a step leaves
-pub record IsLeft {C : Type 0} (state_text : C → List ℕ) (IsStep : Step C → Type 0)
-    (text : List ℕ) : Type 0 where
-  pub step : Step C
-  pub is_step : IsStep step
-  pub state : text ≡ state_text step.after
 
 -- such a step was saved, and then memory ran out for its lines
 pub record IsUntold {C K : Type 0} (is_honest : K → Bool) (held : K → List ℕ)

@@ -8,5 +8,5 @@ returns-then-ne-clause-fault g c =
     let room : 0 < length c.loop-reader.buffer = search rules in (
       refl,
       inl (call_failed g.R.Read.remaining c.args.reader.now c.loop-reader.reader c.read.new.self so_far.unfailed (λ full. (c.in-Err.ensures.full room full).1)
-      (λ more. was_failure c.loop-reader.reader c.read.new.self c.in-Err.error (search rules) (c.in-Err.ensures.called room more))),
+          (λ more. was_failure c.loop-reader.reader c.read.new.self c.in-Err.error (search rules) (c.in-Err.ensures.called room more))),
     )

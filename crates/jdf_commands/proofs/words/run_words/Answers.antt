@@ -7,4 +7,10 @@ returns-in-Ok g c =
 
 pub returns-in-Err-Clap : goal.returns-in-Err-Clap
 returns-in-Err-Clap g c =
-    inr (inl (record { unread = refl; unwritten = refl; no_call = c.tell_help.ensures }))
+    inr (inl (record {
+      some = λ none. told_of_none (c.in-Err-Clap.ensures.edit none) c.in-Err-Clap.is;
+      wrong = λ taken. clap_is_no_memory (c.in-Err-Clap.ensures.passes taken);
+      unread = refl;
+      unwritten = refl;
+      no_call = c.tell_help.ensures;
+    }))
