@@ -53,6 +53,11 @@ StepsNot is_honest held count save_fails state_text does known old new e =
     × GivesNothing is_honest held count save_fails (IsUndecoded body)
     (λ text. IsOfMessage body (λ m. text ≡ state_text (does m).after)) old new e)
 
+-- whether this says that a read failed
+abbrev pub is_unread : Refused → Bool
+is_unread ReadFailed = true
+is_unread _ = false
+
 -- a read of the request failed, or more were made than may be, which changes nothing
 pub record IsUnread {C K : Type 0} (start : ℕ) (input : Use) (old new : Held C K) (e : Refused)
     : Type 0 where

@@ -6,6 +6,7 @@ ghost use Rattle.serde_json.specs.Written.{compact_text};
 ghost use Rattle.stored_state.specs.Step.{take_step};
 ghost use Rattle.http_message.specs.Status.{done_status, status_of as status_for};
 ghost use Rattle.http_message.specs.Texts.{response_text};
+ghost use Rattle.http_edge.specs.Exchange as exchanges;
 ghost use Rattle.http_edge.specs.Exchange.{Serves, ServesFront, ServesNone, refusal_in};
 ghost use Rattle.http_edge.specs.declared.edge_fault.EdgeFault.TheVariants.{ReadFailed, WriteFailed};
 ghost use Rattle.streams.specs.Streams.{used, Writes, WritesFront};
@@ -32,10 +33,7 @@ fn refusal_of(taken: &TakenBytes) -> Option<Refused>
 
 /// Writes the response to a request of which the message was taken. Gives up with `WriteFailed`
 /// alone.
-fn answer_step<W: Write>(
-    writer: &mut Counted<W>,
-    taken: &TakenBytes,
-) -> Result<Served, EdgeFault>
+fn answer_step<W: Write>(writer: &mut Counted<W>, taken: &TakenBytes) -> Result<Served, EdgeFault>
     ensures told { IfOk result (λ told. told
         ≡ record { status = done_status; refusal = refusal_in taken.now.reply }) }
     ensures ok { OnOk result (Writes (used W.contents writer.old writer.new)
@@ -44,8 +42,11 @@ fn answer_step<W: Write>(
         (response_text (Ok (option_map (λ b. b.items) taken.now.answer)))) }
     ensures fault { IfErr result (λ fault. fault ≡ WriteFailed) }
 {
-    let answer = taken.answer.as_ref().map(|text| text.as_slice());
-    match write_response(writer, Ok(answer)) {
+    let answer = match &taken.answer {
+        Some(text) => Some(text.as_slice()),
+        None => None,
+    };
+    match write_response(writer, &Ok(answer)) {
         Ok(()) => Ok(Served {
             status: 200,
             refusal: refusal_of(taken),
@@ -54,23 +55,30 @@ fn answer_step<W: Write>(
     }
 }
 
+/// Whether a read of the request failed.
+fn is_unread(refused: &Refused) -> bool
+    ensures { result ≡ exchanges.is_unread refused.now }
+{
+    match refused {
+        Refused::ReadFailed => true,
+        _ => false,
+    }
+}
+
 /// Writes the response to a request of which there is no step. Gives up with `WriteFailed` alone.
-fn answer_refusal<W: Write>(
-    writer: &mut Counted<W>,
-    refused: Refused,
-) -> Result<Served, EdgeFault>
+fn answer_refusal<W: Write>(writer: &mut Counted<W>, refused: &Refused) -> Result<Served, EdgeFault>
     ensures told { IfOk result (λ told. told
-        ≡ record { status = status_for refused; refusal = Some refused }) }
+        ≡ record { status = status_for refused.now; refusal = Some refused.now }) }
     ensures ok { OnOk result (Writes (used W.contents writer.old writer.new)
-        (response_text (Err refused))) }
+        (response_text (Err refused.now))) }
     ensures front { OnErr result (WritesFront (used W.contents writer.old writer.new)
-        (response_text (Err refused))) }
+        (response_text (Err refused.now))) }
     ensures fault { IfErr result (λ fault. fault ≡ WriteFailed) }
 {
-    match write_response(writer, Err(refused)) {
+    match write_response(writer, &Err(*refused)) {
         Ok(()) => Ok(Served {
-            status: status_of(refused).as_u16(),
-            refusal: Some(refused),
+            status: status_of(*refused).as_u16(),
+            refusal: Some(*refused),
         }),
         Err(_) => Err(EdgeFault::WriteFailed),
     }
@@ -106,7 +114,11 @@ pub fn serve_one<R: Read, W: Write, C: Controller, K: Keep>(
 {
     match exchange(alloc, reader, kept, at) {
         Ok(taken) => answer_step(writer, &taken),
-        Err(Refused::ReadFailed) => Err(EdgeFault::ReadFailed),
-        Err(refused) => answer_refusal(writer, refused),
+        Err(refused) => {
+            if is_unread(&refused) {
+                return Err(EdgeFault::ReadFailed);
+            }
+            answer_refusal(writer, &refused)
+        }
     }
 }
