@@ -1,0 +1,116 @@
+-- What comes of a request.
+use Rattle.std.proofs.Common.{◌≡◌, ◌≢◌, ◌∙◌, ◌⊎◌, ℕ, Bool, true, false, List, Option, Some, Result, Ok, Err, is_ok, IfOk, OnErr, OnOk, sym, ap, subst, refl, inl, inr, ⊎_elim}
+use Rattle.std.proofs.lemmas.Bool.{false_from_ne_true, true≢false}
+use Rattle.controller.specs.declared.message.Message.{Message}
+use Rattle.ticket_items.specs.declared.refusal.Refusal.{Refusal}
+use Rattle.ticket_items.specs.declared.refusal.Refusal.TheVariants.{Memory}
+use Rattle.streams.specs.Streams.{Use}
+use Rattle.streams.specs.declared.refused.Refused.{Refused}
+use Rattle.streams.specs.declared.refused.Refused.TheVariants.{Core, ReadFailed, Stale}
+use Rattle.http_message.specs.Message.{is_refusal}
+use Rattle.http_message.specs.Reading as reading
+use Rattle.http_message.specs.declared.kind.Kind.TheVariants as kinds
+use Rattle.stored_state.specs.Held.{GivesNothing, Held}
+use Rattle.stored_state.specs.Step.{IsSaved, Step}
+use Rattle.controller.specs.declared.reply.Reply.{Reply}
+use Rattle.streams.specs.Streams.{IsUntouched, Writes, WritesFront}
+use Rattle.http_message.specs.Status.{done_status, status_of}
+use Rattle.http_message.specs.Texts.{response_text}
+use Rattle.http_edge.specs.Exchange.{IsUnread, Serves, ServesFront, ServesNone, Steps, StepsNot, is_unread, refusal_in}
+use Rattle.http_edge.specs.declared.edge_fault.EdgeFault.{EdgeFault}
+use Rattle.http_edge.specs.declared.edge_fault.EdgeFault.TheVariants.{WriteFailed}
+use Rattle.http_edge.specs.declared.served.Served.{Served}
+
+-- a step is saved where the keeper holds the state that it leaves
+pub saved : {C K : Type 0} (is_honest : K → Bool) (held : K → List ℕ) (state_text : C → List ℕ) (step : Step C) (old new : Held C K) → new.controller ≡ step.after → new.stale ≡ false → is_honest new.keep ≡ is_honest old.keep → (is_honest old.keep ≡ true → held new.keep ≡ state_text new.controller) → IsSaved is_honest held state_text step new
+saved is_honest held state_text step old new after fresh honest holds =
+    record { after = after; fresh = fresh; holds = λ h. holds (sym honest ∙ h) ∙ ap state_text after }
+
+-- what is stale is refused as such
+pub fresh_of : {A : Type 0} (x : A) (stale : Bool) → (stale ≡ true → Ok x ≡ Err Stale) → stale ≡ false
+fresh_of x stale refuses = false_from_ne_true stale (λ is. let wrong : true ≡ false = ap is_ok (refuses is) in cc)
+
+-- the controller never answers that a read failed
+pub never_unread : {C K : Type 0} (is_honest : K → Bool) (held : K → List ℕ) (count : K → ℕ) (save_fails : K → List ℕ → K → Type 0) (R : Refusal → Type 0) (T : List ℕ → Type 0) (old new : Held C K) (e : Refused)
+    → GivesNothing is_honest held count save_fails R T old new e → e ≢ ReadFailed
+never_unread h l n sf R T old new e gives same = subst (λ x. GivesNothing h l n sf R T old new x) same gives
+
+no_refusal : (e : Refused) → is_refusal e ≡ true → e ≢ ReadFailed
+no_refusal e is same = let no : false ≡ true = sym (ap is_refusal same) ∙ is in cc
+
+not_memory : (e : Refused) → e ≡ Core Memory → e ≢ ReadFailed
+not_memory e is same = let no : Core Memory ≡ ReadFailed = sym is ∙ same in cc
+
+-- why a request isn't read
+pub not_read : {C K : Type 0} (is_honest : K → Bool) (held : K → List ℕ) (count : K → ℕ) (save_fails : K → List ℕ → K → Type 0) (state_text : C → List ℕ) (does : Message → Step C) (start : ℕ) (u : Use) (old : Held C K) (e : Refused)
+    → reading.IsUnread kinds.Request start u e
+    → IsUnread start u old old e ⊎ ((e ≢ ReadFailed) × StepsNot is_honest held count save_fails state_text does u.before.bytes old old e)
+not_read h l n sf t does start u old e unread =
+    ⊎_elim
+    (λ refused. inr (no_refusal e refused.0, inl (inl (refused.0, refused.1), refl)))
+    (λ fault. ⊎_elim
+    (λ failed. inl (record { is = failed.0; failed = failed.1; unstepped = refl }))
+    (λ memory. inr (not_memory e memory, inl (inr memory, refl))) fault)
+    unread
+
+unread_is : (e : Refused) → is_unread e ≡ true → e ≡ ReadFailed
+unread_is ReadFailed is = refl
+unread_is _ is = let wrong : false ≡ true = is in cc
+
+-- ---- how it is served
+
+module _ {C K : Type 0} (is_honest : K → Bool) (held : K → List ℕ) (count : K → ℕ) (save_fails : K → List ℕ → K → Type 0) (state_text : C → List ℕ) (does : Message → Step C) (known : Option (List ℕ)) (old new : Held C K) (output : Use) where
+  -- the step was answered
+  pub serves_step : (reply : Result Reply Refusal) (answer : Option (List ℕ)) (r : Result Served EdgeFault)
+      → (step : Step C) × Steps is_honest held state_text does known old new step × (reply ≡ step.reply) × (answer ≡ step.message)
+      → IfOk r (λ told. told ≡ record { status = done_status; refusal = refusal_in reply })
+      → OnOk r (Writes output (response_text (Ok answer)))
+      → IfOk r (Serves is_honest held count save_fails state_text does known old new output)
+  serves_step reply answer (Ok told) came is wrote =
+      record {
+        came = Ok came.0;
+        exchange = came.1;
+        written = subst (λ m. Writes output (response_text (Ok m))) came.3 wrote;
+        told_of = is ∙ ap (λ x. record { status = done_status; refusal = refusal_in x }) came.2;
+      }
+  serves_step reply answer (Err f) came is wrote = tt
+
+  pub serves_front_of_step : (reply : Result Reply Refusal) (answer : Option (List ℕ)) (r : Result Served EdgeFault)
+      → (step : Step C) × Steps is_honest held state_text does known old new step × (reply ≡ step.reply) × (answer ≡ step.message)
+      → OnErr r (WritesFront output (response_text (Ok answer))) → r ≡ Err WriteFailed
+      → ServesFront is_honest held count save_fails state_text does known old new output
+  serves_front_of_step reply answer (Ok told) came front is = let wrong : true ≡ false = ap is_ok is in absurd (true≢false wrong)
+  serves_front_of_step reply answer (Err f) came front is =
+      record {
+        came = Ok came.0;
+        exchange = came.1;
+        front = subst (λ m. WritesFront output (response_text (Ok m))) came.3 front;
+      }
+
+  -- the refusal was answered
+  pub serves_refusal : (start : ℕ) (input : Use) (e : Refused) (r : Result Served EdgeFault)
+      → IsUnread start input old new e ⊎ ((e ≢ ReadFailed) × StepsNot is_honest held count save_fails state_text does known old new e)
+      → is_unread e ≡ false → IfOk r (λ told. told ≡ record { status = status_of e; refusal = Some e })
+      → OnOk r (Writes output (response_text (Err e)))
+      → IfOk r (Serves is_honest held count save_fails state_text does known old new output)
+  serves_refusal start input e (Ok told) (inl unread) isnt is wrote = absurd (true≢false (sym (ap is_unread unread.is) ∙ isnt))
+  serves_refusal start input e (Ok told) (inr none) isnt is wrote =
+      record { came = Err e; exchange = none.1; written = wrote; told_of = is }
+  serves_refusal start input e (Err f) why isnt is wrote = tt
+
+  pub serves_front_of_refusal : (start : ℕ) (input : Use) (e : Refused) (r : Result Served EdgeFault)
+      → IsUnread start input old new e ⊎ ((e ≢ ReadFailed) × StepsNot is_honest held count save_fails state_text does known old new e)
+      → is_unread e ≡ false → OnErr r (WritesFront output (response_text (Err e))) → r ≡ Err WriteFailed
+      → ServesFront is_honest held count save_fails state_text does known old new output
+  serves_front_of_refusal start input e (Ok told) why isnt front is = absurd (true≢false (ap is_ok is))
+  serves_front_of_refusal start input e (Err f) (inl unread) isnt front is = absurd (true≢false (sym (ap is_unread unread.is) ∙ isnt))
+  serves_front_of_refusal start input e (Err f) (inr none) isnt front is =
+      record { came = Err e; exchange = none.1; front = front }
+
+  -- nothing was, since a read failed
+  pub serves_none : (start : ℕ) (input : Use) (e : Refused)
+      → IsUnread start input old new e ⊎ ((e ≢ ReadFailed) × StepsNot is_honest held count save_fails state_text does known old new e)
+      → is_unread e ≡ true → IsUntouched output → ServesNone start input output old new
+  serves_none start input e (inl unread) is same =
+      record { failed = unread.failed; unstepped = unread.unstepped; unwritten = same }
+  serves_none start input e (inr none) is same = absurd (none.0 (unread_is e is))

@@ -1,0 +1,82 @@
+-- Bytes that are read one after the other.
+use Rattle.std.proofs.Common.{◌≡◌, ◌∙◌, ℕ, ◌≤◌, ◌+◌, List, [], ◌++◌, Option, Some, None, IfSome, arith, sym, ap, subst, refl, inl, inr, ⊎_elim, append-nil}
+use Rattle.std.specs.Io.KnownBytes.{Consumes, IsAtEnd}
+use Rattle.std.proofs.KnownBytes.{Consumes-nil, Consumes-trans}
+use Rattle.streams.specs.Counts.{Counts}
+use Rattle.streams.specs.Streams.{used}
+use Rattle.streams.specs.declared.refused.Refused.{Refused}
+use Rattle.streams.specs.declared.refused.Refused.TheVariants.{BadHead}
+use Rattle.http_message.specs.Head.{Head, BeginsWith}
+use Rattle.http_message.specs.Reading.{Grows, HasRead, IsHeadFault, IsMoreFault}
+use Rattle.http_message.specs.declared.kind.Kind.{Kind}
+
+pub read_none : {T : Type 0} (known : T → Option (List ℕ)) (start : ℕ) (c : Counts T) → c.calls ≤ start + 2000000
+    → HasRead start (used known c c) []
+read_none known start c within =
+    record { taken = Consumes-nil (known c.inner); on = omega arith; bound = within; unfailed = refl }
+
+-- what was read and what was read then
+pub read_then : {T : Type 0} (known : T → Option (List ℕ)) (start : ℕ) (a b c : Counts T) (bytes more : List ℕ)
+    → HasRead start (used known a b) bytes → HasRead start (used known b c) more
+    → HasRead start (used known a c) (bytes ++ more)
+read_then known start a b c bytes more first then =
+    record {
+      taken = Consumes-trans _ _ _ _ _ first.taken then.taken;
+      on = omega (arith, first.on, then.on);
+      bound = then.bound;
+      unfailed = then.unfailed ∙ first.unfailed;
+    }
+
+-- a fault of a later read
+pub later_fault : {T : Type 0} (known : T → Option (List ℕ)) (start : ℕ) (a b c : Counts T) (bytes : List ℕ) (e : Refused)
+    → HasRead start (used known a b) bytes → IsMoreFault start (used known b c) e → IsMoreFault start (used known a c) e
+later_fault known start a b c bytes e read fault =
+    ⊎_elim
+    (λ f. inl (
+      f.0,
+      ⊎_elim
+          (λ failed. inl (⊎_elim (λ rose. inl (omega (arith, rose, read.unfailed))) (λ full. inr full) failed))
+          (λ many. inr many) f.1,
+    ))
+    (λ memory. inr memory)
+    fault
+
+-- a reader that is at its end had what was read
+pub all_read : (before after : Option (List ℕ)) (bytes : List ℕ) → Consumes before after bytes → IsAtEnd after
+    → (P : List ℕ → Type 0) → P bytes → IfSome before P
+all_read None after bytes taken end P p = tt
+all_read (Some all) None bytes taken end P p = absurd taken
+all_read (Some all) (Some rest) bytes taken end P p =
+    subst P (sym (taken ∙ ap (λ r. bytes ++ r) end ∙ append-nil bytes)) p
+
+-- what holds however the bytes go on holds of what the reader had
+pub whatever_follows : (before after : Option (List ℕ)) (bytes : List ℕ) → Consumes before after bytes
+    → (P : List ℕ → Type 0) → ((more : List ℕ) → P (bytes ++ more)) → IfSome before P
+whatever_follows None after bytes taken P p = tt
+whatever_follows (Some all) None bytes taken P p = absurd taken
+whatever_follows (Some all) (Some rest) bytes taken P p = subst P (sym taken) (p rest)
+
+-- there is no head, whatever follows what was read
+pub never_headed : {T : Type 0} (known : T → Option (List ℕ)) (kind : Kind) (start : ℕ) (a b : Counts T) (bytes seen : List ℕ)
+    → HasRead start (used known a b) bytes → seen ≡ bytes
+    → ((more : List ℕ) (h : Head) → BeginsWith kind (seen ++ more) h → ⊥)
+    → IsHeadFault kind start (used known a b) BadHead
+never_headed known kind start a b bytes seen read same never =
+    inl (
+      refl,
+      whatever_follows _ _ bytes read.taken (λ all. (h : Head) → ¬ (BeginsWith kind all h))
+          (λ more h begins. never more h (subst (λ s. BeginsWith kind (s ++ more) h) (sym same) begins)),
+    )
+
+-- there is no head in what was read, and nothing follows
+pub not_headed : {T : Type 0} (known : T → Option (List ℕ)) (kind : Kind) (start : ℕ) (a b c : Counts T) (bytes seen new : List ℕ)
+    (count : ℕ) → HasRead start (used known a b) bytes → seen ≡ bytes → ((h : Head) → BeginsWith kind seen h → ⊥)
+    → Grows start (used known b c) bytes new count → count ≡ 0 → IsHeadFault kind start (used known a c) BadHead
+not_headed known kind start a b c bytes seen new count read same none grows zero =
+    let end = grows.ended zero in
+    let whole = read_then known start a b c bytes grows.gained.more read grows.gained.read in
+    inl (
+      refl,
+      all_read _ _ (bytes ++ grows.gained.more) whole.taken end.ended (λ all. (h : Head) → ¬ (BeginsWith kind all h))
+          (λ h begins. none h (subst (λ s. BeginsWith kind s h) (sym grows.gained.grown ∙ end.same ∙ sym same) begins)),
+    )

@@ -1,0 +1,134 @@
+-- Heads at the front of an input.
+use Rattle.std.proofs.Common.{◌≡◌, ℕ, ◌+◌, ◌-◌, ◌<◌, ◌≤◌, List, [], ◌++◌, length, take, map, refl, ap, ◌∙◌, sym, subst, arith, ⊎_elim, length-take, drop, Bool, Result, Ok}
+use Rattle.std.specs.Prelude.{◌==◌, bytes_eq, codes}
+use Rattle.streams.specs.declared.refused.Refused.{Refused}
+use Rattle.httparse.specs.Outcome.{IfComplete}
+use Rattle.httparse.specs.declared.Error.{Error}
+use Rattle.httparse.specs.declared.Status.{Status}
+use Rattle.httparse.specs.declared.Status.TheVariants.{Complete}
+use Rattle.std.proofs.lemmas.List.{take_all, take-append-le, append-nil, length-map}
+use Rattle.std.proofs.lemmas.Bool.{cases_lt}
+use Rattle.std.proofs.Math.Seq.{take-append-add}
+use Rattle.httparse.specs.declared.spans.HeaderSpan.{HeaderSpan}
+use Rattle.httparse.specs.declared.spans.RequestSpans.{RequestSpans}
+use Rattle.httparse.specs.declared.spans.ResponseSpans.{ResponseSpans}
+use Rattle.httparse.specs.Grammar.{Field}
+use Rattle.httparse.proofs.GrammarLemmas.{ReadsRequest-append, ReadsResponse-append, request_unique, response_unique}
+use Rattle.httparse.specs.Spans.{IsSectionWithin, IsRequestWithin, IsResponseWithin, IsRequestOf, IsResponseOf, AreFieldsAt, span_bytes, header_bytes, name_and_value}
+use Rattle.http_message.specs.Head.{Head, StartsWith, BeginsWith, HasNoStart, HasNoHead, IsToldOf, request_seen, response_seen}
+use Rattle.http_message.specs.Says.{said}
+use Rattle.http_message.specs.declared.start.Start.TheVariants as starts
+use Rattle.http_message.specs.declared.kind.Kind.{Kind}
+use Rattle.http_message.specs.declared.kind.Kind.TheVariants as kinds
+
+-- ---- what is looked at
+
+pub few_taken : (m : ℕ) (bytes : List ℕ) → length bytes < m → take m bytes ≡ bytes
+few_taken m bytes short = take_all m bytes (omega arith)
+
+few_and_more : (m : ℕ) (bytes more : List ℕ) → length bytes < m
+    → take m (bytes ++ more) ≡ bytes ++ take (m - length bytes) more
+few_and_more m bytes more short =
+    let is : m ≡ length bytes + (m - length bytes) = omega arith in
+    ap (λ n. take n (bytes ++ more)) is ∙ take-append-add bytes more (m - length bytes)
+
+-- no head in the few bytes there are
+pub none_in_few : (kind : Kind) (bytes : List ℕ) → length bytes < 8192 → HasNoStart kind bytes → HasNoHead kind bytes
+none_in_few kind bytes short none head begins =
+    none head (subst (λ (b : List ℕ). StartsWith kind b head) (few_taken 8192 bytes short) begins)
+
+-- and none whatever follows
+pub none_after_few : (kind : Kind) (bytes : List ℕ) → length bytes < 8192
+    → ((more : List ℕ) → HasNoStart kind (bytes ++ more)) → (more : List ℕ) → HasNoHead kind (bytes ++ more)
+none_after_few kind bytes short none more head begins =
+    none (take (8192 - length bytes) more) head
+    (subst (λ (b : List ℕ). StartsWith kind b head) (few_and_more 8192 bytes more short) begins)
+
+-- no head within the limit, whatever follows
+pub none_after_many : (kind : Kind) (bytes : List ℕ) → 8192 ≤ length bytes
+    → HasNoStart kind (take 8192 bytes) → (more : List ℕ) → HasNoHead kind (bytes ++ more)
+none_after_many kind bytes long none more head begins =
+    none head (subst (λ (b : List ℕ). StartsWith kind b head) (take-append-le 8192 bytes more long) begins)
+
+-- what has no head whatever follows has none
+pub none_at_all : (kind : Kind) (bytes : List ℕ) → ((more : List ℕ) → HasNoStart kind (bytes ++ more)) → HasNoStart kind bytes
+none_at_all kind bytes none head begins =
+    none [] head (subst (λ (b : List ℕ). StartsWith kind b head) (sym (append-nil bytes)) begins)
+
+-- ---- what is told of a head
+
+few_fields : (bytes : List ℕ) (spans : List HeaderSpan) (len count : ℕ) (fields : List Field)
+    → length spans ≡ 64 → IsSectionWithin bytes spans len count
+    → AreFieldsAt bytes spans count fields → length fields ≤ 64
+few_fields bytes spans len count fields room within are =
+    let same : length (map (header_bytes bytes) (take count spans)) ≡ length (map name_and_value fields) = ap length are in
+    omega (arith, same, within.count_fits, length-map (take count spans) (header_bytes bytes), length-map fields name_and_value, length-take count spans)
+
+-- the answer of a parse that is complete
+complete_at : {A : Type 0} (s : Status A) (a : A) (P : A → Type 0) → s ≡ Complete a
+    → IfComplete {E = Error} (Ok s) P → P a
+complete_at s a P is holds = subst (λ s. IfComplete {E = Error} (Ok s) P) is holds
+
+pub whole_response : (bytes : List ℕ) (spans : List HeaderSpan) (s : Status ResponseSpans) (r : ResponseSpans)
+    (told : Result ℕ Refused)
+    → s ≡ Complete r → length spans ≡ 64
+    → IfComplete {E = Error} (Ok s) (IsResponseWithin bytes spans)
+    → IfComplete {E = Error} (Ok s) (IsResponseOf bytes spans)
+    → told ≡ said starts.Response (map (header_bytes bytes) (take r.headers spans))
+    → (head : Head) × StartsWith kinds.Response bytes head
+    × IsToldOf head (record { size = r.len; code = r.code; says = told })
+whole_response bytes spans s r told is room within complete says =
+    let in_bytes = complete_at s r (IsResponseWithin bytes spans) is within in
+    let of = complete_at s r (IsResponseOf bytes spans) is complete in (
+      response_seen of.0,
+      (of.0, drop r.len bytes, of.1.reads, few_fields bytes spans r.len r.headers of.0.fields room in_bytes.section of.1.fields, refl),
+      record { size = of.1.len; code = of.1.code; says = says ∙ ap (λ fs. said starts.Response fs) of.1.fields },
+    )
+
+pub whole_request : (bytes : List ℕ) (spans : List HeaderSpan) (s : Status RequestSpans) (r : RequestSpans)
+    (method post post_bytes : List ℕ) (is_post : Bool) (told : Result ℕ Refused)
+    → s ≡ Complete r → length spans ≡ 64
+    → IfComplete {E = Error} (Ok s) (IsRequestWithin bytes spans)
+    → IfComplete {E = Error} (Ok s) (IsRequestOf bytes spans)
+    → method ≡ span_bytes bytes r.method → post ≡ codes "POST" → post_bytes ≡ post
+    → is_post ≡ bytes_eq method post_bytes
+    → told ≡ said (starts.Request is_post (r.version == 1)) (map (header_bytes bytes) (take r.headers spans))
+    → (head : Head) × StartsWith kinds.Request bytes head
+    × IsToldOf head (record { size = r.len; code = 0; says = told })
+whole_request bytes spans s r method post post_bytes is_post told is room within complete of_method of_post of_bytes eq says =
+    let in_bytes = complete_at s r (IsRequestWithin bytes spans) is within in
+    let of = complete_at s r (IsRequestOf bytes spans) is complete in
+    let posts : is_post ≡ bytes_eq of.0.method (codes "POST") =
+    eq ∙ ap (λ m. bytes_eq m post_bytes) (of_method ∙ of.1.method) ∙ ap (λ p. bytes_eq of.0.method p) (of_bytes ∙ of_post) in
+    let wants : (r.version == 1) ≡ (of.0.minor == 1) = ap (λ v. v == 1) of.1.version in (
+      request_seen of.0,
+      (of.0, drop r.len bytes, of.1.reads, few_fields bytes spans r.len r.headers of.0.fields room in_bytes.section of.1.fields, refl),
+      record { size = of.1.len; code = refl; says = says ∙ (λ i. said (starts.Request (posts i) (wants i)) (of.1.fields i)) },
+    )
+
+-- ---- whatever follows
+
+starts_more : (kind : Kind) (bytes more : List ℕ) (head : Head) → StartsWith kind bytes head → StartsWith kind (bytes ++ more) head
+starts_more kinds.Request bytes more head s = (s.0, s.1 ++ more, ReadsRequest-append bytes s.0 s.1 more s.2, s.3, s.4)
+starts_more kinds.Response bytes more head s = (s.0, s.1 ++ more, ReadsResponse-append bytes s.0 s.1 more s.2, s.3, s.4)
+
+starts_once : (kind : Kind) (bytes : List ℕ) (a b : Head) → StartsWith kind bytes a → StartsWith kind bytes b → a ≡ b
+starts_once kinds.Request bytes a b s t = s.4 ∙ ap request_seen (request_unique bytes s.0 t.0 s.1 t.1 s.2 t.2).0 ∙ sym t.4
+starts_once kinds.Response bytes a b s t = s.4 ∙ ap response_seen (response_unique bytes s.0 t.0 s.1 t.1 s.2 t.2).0 ∙ sym t.4
+
+-- what stands within the limit stands there whatever follows
+pub front_more : (m : ℕ) (bytes more : List ℕ) → (behind : List ℕ) × (take m (bytes ++ more) ≡ take m bytes ++ behind)
+front_more m bytes more =
+    ⊎_elim
+    (λ few. (take (m - length bytes) more, few_and_more m bytes more few ∙ ap (λ b. b ++ take (m - length bytes) more) (sym (few_taken m bytes few))))
+    (λ many. ([], take-append-le m bytes more many ∙ sym (append-nil (take m bytes))))
+    (cases_lt (length bytes) m)
+
+pub begins_more : (kind : Kind) (bytes more : List ℕ) (head : Head) → BeginsWith kind bytes head → BeginsWith kind (bytes ++ more) head
+begins_more kind bytes more head begins =
+    let front = front_more 8192 bytes more in
+    subst (λ (b : List ℕ). StartsWith kind b head) (sym front.1) (starts_more kind (take 8192 bytes) front.0 head begins)
+
+-- an input begins with one head at most
+pub begins_once : (kind : Kind) (input : List ℕ) (a b : Head) → BeginsWith kind input a → BeginsWith kind input b → a ≡ b
+begins_once kind input a b = starts_once kind (take 8192 input) a b

@@ -1,0 +1,10 @@
+pub mod Fields
+pub mod Digits
+pub mod Heads
+pub mod Said
+pub mod BytesRead
+pub mod MessageRead
+pub mod OneAnswer
+pub mod Writing
+pub mod TextLemmas
+pub mod Messages

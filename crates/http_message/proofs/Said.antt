@@ -1,0 +1,46 @@
+-- What a head says is a length, or a refusal of HTTP.
+use Rattle.std.proofs.Common.{◌≡◌, ℕ, Bool, true, false, if◌then◌else◌, List, Result, Ok, Err, refl}
+use Rattle.std.specs.Prelude.{nat_lt, codes, not, ◌&&◌}
+use Rattle.std.specs.Str.Parse.{digits_value}
+use Rattle.streams.specs.declared.refused.Refused.{Refused}
+use Rattle.streams.specs.declared.refused.Refused.TheVariants.{BadHead, TooLarge}
+use Rattle.http_message.specs.Fields.{NamedValue, Summary, absent, once, often, is_once}
+use Rattle.http_message.specs.Message.{is_refusal}
+use Rattle.http_message.specs.Says.{is_number, length_of, length_told, is_bad, is_coded, said, said_with, under}
+use Rattle.http_message.specs.declared.length.TheConstants.{MAX_BODY_BYTES}
+use Rattle.http_message.specs.declared.start.Start.{Start}
+use Rattle.http_message.specs.declared.start.Start.TheVariants as starts
+
+-- a length, or a refusal of HTTP
+abbrev pub is_of_http : Result ℕ Refused → Bool
+is_of_http (Ok n) = true
+is_of_http (Err e) = is_refusal e
+
+either : (c : Bool) (a b : Result ℕ Refused) → is_of_http a ≡ true → is_of_http b ≡ true
+    → is_of_http (if c then a else b) ≡ true
+either true a b p q = p
+either false a b p q = q
+
+of_length : (text : List ℕ) → is_of_http (length_of text) ≡ true
+unfolding length_of
+of_length text =
+    let n = digits_value 10 text in
+    either (is_number text) (if nat_lt MAX_BODY_BYTES n then Err TooLarge else Ok n) (Err BadHead)
+    (either (nat_lt MAX_BODY_BYTES n) (Err TooLarge) (Ok n) refl refl) refl
+
+of_told : (s : Summary) → is_of_http (length_told s) ≡ true
+of_told absent = refl
+of_told (once v) = of_length v
+of_told often = refl
+
+of_rest : (start : Start) (fields : List NamedValue) (length : Result ℕ Refused) → is_of_http length ≡ true
+    → is_of_http (said_with start fields length) ≡ true
+of_rest (starts.Request is_post wants_host) fields length ok =
+    either (wants_host && not (is_once (under (codes "host") fields))) _ _ refl
+    (either is_post _ _ (either (is_coded fields) _ _ refl ok) refl)
+of_rest starts.Response fields length ok = either (is_coded fields) _ _ refl ok
+
+pub said_of_http : (start : Start) (fields : List NamedValue) → is_of_http (said start fields) ≡ true
+said_of_http start fields =
+    let length = length_told (under (codes "content-length") fields) in
+    either (is_bad length) _ _ refl (of_rest start fields length (of_told (under (codes "content-length") fields)))

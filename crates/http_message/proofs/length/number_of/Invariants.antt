@@ -1,0 +1,7 @@
+-- The number of the digits so far.
+use Rattle.std.proofs.Common.{◌≡◌, min, take}
+use Rattle.std.specs.Str.Parse.{digits_value}
+use Rattle.http_message.proofs.length.number_of.Given as goal
+
+abbrev pub invariant-loop-digit : goal.invariant-loop-digit
+invariant-loop-digit l = l.number ≡ min (digits_value 10 (take l.digit-index l.digits)) 1048577

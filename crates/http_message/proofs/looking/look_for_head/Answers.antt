@@ -1,0 +1,41 @@
+use Rattle.std.proofs.Common.{ℕ, ◌≤◌, List, length, take, subst, sym, arith, ⊎_elim, length-take}
+use Rattle.http_message.specs.Head.{Head, StartsWith, IfHead, IsToldOf, IsBounded}
+use Rattle.http_message.specs.declared.told.Told.{Told}
+use Rattle.http_message.proofs.Heads.{few_taken, none_in_few, none_after_few, none_after_many, none_at_all}
+use Rattle.http_message.proofs.looking.look_for_head.Goals as goal
+
+pub returns-then-bytes-lt-MAX_HEAD_BYTES-clause-head :
+    goal.returns-then-bytes-lt-MAX_HEAD_BYTES-clause-head
+returns-then-bytes-lt-MAX_HEAD_BYTES-clause-head c =
+    subst (λ (b : List ℕ). IfHead c.look_in.result (λ told. (h : Head) × StartsWith c.args.kind b h × IsToldOf h told))
+    (sym (few_taken 8192 c.args.bytes.now c.if-bytes-lt-MAX_HEAD_BYTES.true)) c.look_in.ensures.head
+
+pub returns-then-bytes-lt-MAX_HEAD_BYTES-clause-part :
+    goal.returns-then-bytes-lt-MAX_HEAD_BYTES-clause-part
+returns-then-bytes-lt-MAX_HEAD_BYTES-clause-part c is head begins =
+    none_in_few c.args.kind c.args.bytes.now c.if-bytes-lt-MAX_HEAD_BYTES.true
+    (λ h s. c.look_in.ensures.part is h s) head begins
+
+pub returns-then-bytes-lt-MAX_HEAD_BYTES-clause-never :
+    goal.returns-then-bytes-lt-MAX_HEAD_BYTES-clause-never
+returns-then-bytes-lt-MAX_HEAD_BYTES-clause-never c is more head begins =
+    none_after_few c.args.kind c.args.bytes.now c.if-bytes-lt-MAX_HEAD_BYTES.true
+    (λ m h s. c.look_in.ensures.never is m h s) more head begins
+
+bounded_in : (most m : ℕ) (bytes : List ℕ) (told : Told) → m ≤ length bytes
+    → IsBounded most (length (take m bytes)) told → IsBounded most (length bytes) told
+bounded_in most m bytes told long bounded = record {
+  size = omega (arith, bounded.size, length-take {A = ℕ});
+  body = bounded.body;
+}
+
+pub returns-in-Head-clause-bound : goal.returns-in-Head-clause-bound
+returns-in-Head-clause-bound c =
+    bounded_in 1048576 8192 c.args.bytes.now c.in-Head.told c.if-bytes-lt-MAX_HEAD_BYTES.false c.in-Head.ensures.bound
+
+pub returns-in-Part-clause-never : goal.returns-in-Part-clause-never
+returns-in-Part-clause-never c is more head begins =
+    none_after_many c.args.kind c.args.bytes.now c.if-bytes-lt-MAX_HEAD_BYTES.false
+    (λ h s. ⊎_elim (λ part. c.look_in-2.ensures.part part h s)
+    (λ never. none_at_all c.args.kind (take 8192 c.args.bytes.now) (λ m k t. c.look_in-2.ensures.never never m k t) h s)
+    c.in-Part.is) more head begins

@@ -1,0 +1,12 @@
+use Rattle.http_message.proofs.Heads.{whole_request}
+use Rattle.http_message.proofs.looking.look_for_request.Goals as goal
+
+pub returns-in-Ok-Complete-clause-head : goal.returns-in-Ok-Complete-clause-head
+returns-in-Ok-Complete-clause-head c =
+    let bytes = c.args.bytes.now in
+    let spans = c.parse_request.new.headers in
+    whole_request bytes spans c.in-Ok-Complete.field-0 c.in-Ok-Complete.head c.of.result.now c.as_str.result.now
+    c.as_bytes.result.now c.eq.result c.says.result
+    c.in-Ok-Complete.field-0-is c.parse_request.auto.headers c.in-Ok-Complete.ensures.within
+    c.in-Ok-Complete.ensures.complete c.of.ensures c.as_str.ensures.value c.as_bytes.ensures.value c.eq.ensures
+    c.says.ensures.value

@@ -1,0 +1,81 @@
+-- The head at the front of an input: whole, within the limits, and what it says.
+use Rattle.std.specs.Prelude.{◌≡◌, ℕ, ◌≤◌, ◌==◌, List, length, take, map, codes, bytes_eq, Result, IfOk, ⊤}
+use Rattle.streams.specs.declared.refused.Refused.{Refused}
+use Rattle.httparse.specs.Grammar.{RequestHead, ReadsRequest, print_request}
+use Rattle.httparse.specs.Grammar.{ResponseHead, ReadsResponse, print_response, status_code}
+use Rattle.httparse.specs.Spans.{name_and_value}
+use Rattle.http_message.specs.Fields.{NamedValue}
+use Rattle.http_message.specs.Says.{said}
+use Rattle.http_message.specs.declared.kind.Kind.{Kind}
+use Rattle.http_message.specs.declared.kind.Kind.TheVariants as kinds
+use Rattle.http_message.specs.declared.look.Look.{Look}
+use Rattle.http_message.specs.declared.look.Look.TheVariants as looks
+use Rattle.http_message.specs.declared.looking.TheConstants.{MAX_HEAD_BYTES, MAX_FIELDS}
+use Rattle.http_message.specs.declared.start.Start.{Start}
+use Rattle.http_message.specs.declared.start.Start.TheVariants as starts
+use Rattle.http_message.specs.declared.told.Told.{Told}
+
+-- a head: what its first line tells, the status of a response, its fields, and its length
+pub record Head : Type 0 where
+  pub start : Start
+  pub code : ℕ
+  pub fields : List NamedValue
+  pub size : ℕ
+
+abbrev pub request_seen : RequestHead → Head
+request_seen h =
+    record {
+      start = starts.Request (bytes_eq h.method (codes "POST")) (h.minor == 1);
+      code = 0;
+      fields = map name_and_value h.fields;
+      size = length (print_request h);
+    }
+
+abbrev pub response_seen : ResponseHead → Head
+response_seen h =
+    record {
+      start = starts.Response;
+      code = status_code h;
+      fields = map name_and_value h.fields;
+      size = length (print_response h);
+    }
+
+-- the bytes begin with this head, which has no more fields than may be
+abbrev pub StartsWith : Kind → List ℕ → Head → Type 0
+StartsWith kinds.Request bytes head =
+    (h : RequestHead) × (rest : List ℕ) × ReadsRequest bytes h rest × (length h.fields ≤ MAX_FIELDS)
+    × (head ≡ request_seen h)
+StartsWith kinds.Response bytes head =
+    (h : ResponseHead) × (rest : List ℕ) × ReadsResponse bytes h rest
+    × (length h.fields ≤ MAX_FIELDS) × (head ≡ response_seen h)
+
+abbrev pub HasNoStart : Kind → List ℕ → Type 0
+HasNoStart kind bytes = (head : Head) → ¬ (StartsWith kind bytes head)
+
+-- the input begins with this head, within the limits
+abbrev pub BeginsWith : Kind → List ℕ → Head → Type 0
+BeginsWith kind input head = StartsWith kind (take MAX_HEAD_BYTES input) head
+
+abbrev pub HasNoHead : Kind → List ℕ → Type 0
+HasNoHead kind input = (head : Head) → ¬ (BeginsWith kind input head)
+
+-- the length of the body, or the first refusal
+abbrev pub head_says : Head → Result ℕ Refused
+head_says head = said head.start head.fields
+
+-- what is told of a head is what the head is
+pub record IsToldOf (head : Head) (told : Told) : Type 0 where
+  pub size : told.size ≡ head.size
+  pub code : told.code ≡ head.code
+  pub says : told.says ≡ head_says head
+
+-- the head lies within the bytes, and the body within the limit
+pub record IsBounded (most len : ℕ) (told : Told) : Type 0 where
+  pub size : told.size ≤ len
+  pub body : IfOk told.says (λ n. n ≤ most)
+
+-- P of what is told, where there is a head
+abbrev pub IfHead : Look → (Told → Type 0) → Type 0
+IfHead (looks.Head told) P = P told
+IfHead looks.Part P = ⊤
+IfHead looks.Never P = ⊤

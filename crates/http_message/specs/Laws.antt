@@ -1,0 +1,16 @@
+-- Laws of the definitions.
+use Rattle.std.specs.Prelude.{◌≡◌, ℕ, List}
+use Rattle.streams.specs.declared.refused.Refused.{Refused}
+use Rattle.http_message.specs.Message.{Carries, IsRefusedAs}
+use Rattle.http_message.specs.declared.kind.Kind.{Kind}
+
+-- an input carries at most one message, or is refused as one thing, and not both
+pub record HasOneAnswer (kind : Kind) (input : List ℕ) : Type 0 where
+  pub status : (s t : ℕ) (a b : List ℕ) → Carries kind input s a → Carries kind input t b → s ≡ t
+  pub body : (s t : ℕ) (a b : List ℕ) → Carries kind input s a → Carries kind input t b → a ≡ b
+  pub refusal : (d e : Refused) → IsRefusedAs kind input d → IsRefusedAs kind input e → d ≡ e
+  pub either : (s : ℕ) (a : List ℕ) (e : Refused) → Carries kind input s a
+      → ¬ (IsRefusedAs kind input e)
+
+abbrev pub InputsHaveOneAnswer : Type 0
+InputsHaveOneAnswer = (kind : Kind) (input : List ℕ) → HasOneAnswer kind input

@@ -1,0 +1,10 @@
+pub mod Fields
+pub mod Seen
+pub mod Says
+pub mod Head
+pub mod Message
+pub mod Reading
+pub mod Laws
+pub mod Pieces
+pub mod Status
+pub mod Texts

@@ -1,0 +1,41 @@
+-- What an input is: a message whose head and body stand at its front, or refused.
+use Rattle.std.specs.Prelude.{◌≡◌, ◌⊎◌, ℕ, ◌<◌, Bool, true, false, List, ◌++◌, length, drop, Ok, Err}
+use Rattle.streams.specs.declared.refused.Refused.{Refused}
+use Rattle.streams.specs.declared.refused.Refused.TheVariants.{BadHead, NotPost, NoLength}
+use Rattle.streams.specs.declared.refused.Refused.TheVariants.{TooLarge, CutShort, Coding}
+use Rattle.http_message.specs.Head.{Head, BeginsWith, head_says}
+use Rattle.http_message.specs.declared.kind.Kind.{Kind}
+
+-- the input begins with a head of this status, and this body stands behind it
+pub record Carries (kind : Kind) (input : List ℕ) (status : ℕ) (body : List ℕ) : Type 0 where
+  pub head : Head
+  pub begins : BeginsWith kind input head
+  pub says : head_says head ≡ Ok (length body)
+  pub code : status ≡ head.code
+  pub rest : List ℕ
+  pub behind : drop head.size input ≡ body ++ rest
+
+-- the input ends before its body does
+pub record IsCut (kind : Kind) (input : List ℕ) : Type 0 where
+  pub head : Head
+  pub begins : BeginsWith kind input head
+  pub wanted : ℕ
+  pub says : head_says head ≡ Ok wanted
+  pub short : length (drop head.size input) < wanted
+
+-- the first refusal of the input: there is no head, or what the head says, or the body is cut short
+abbrev pub IsRefusedAs : Kind → List ℕ → Refused → Type 0
+IsRefusedAs kind input e =
+    ((e ≡ BadHead) × ((h : Head) → ¬ (BeginsWith kind input h)))
+    ⊎ (((h : Head) × BeginsWith kind input h × (head_says h ≡ Err e))
+    ⊎ ((e ≡ CutShort) × IsCut kind input))
+
+-- what an input may be refused as
+abbrev pub is_refusal : Refused → Bool
+is_refusal BadHead = true
+is_refusal NotPost = true
+is_refusal NoLength = true
+is_refusal TooLarge = true
+is_refusal CutShort = true
+is_refusal Coding = true
+is_refusal _ = false

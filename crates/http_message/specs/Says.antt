@@ -1,0 +1,60 @@
+-- What a head says of the body behind it: its length, or the first refusal.
+use Rattle.std.specs.Prelude.{ℕ, Bool, true, false, not, ◌&&◌, ◌||◌, nat_lt, List, length, if◌then◌else◌, codes, Result, Ok, Err}
+use Rattle.std.specs.Char.{is_ascii_digit}
+use Rattle.std.specs.List.{list_all}
+use Rattle.std.specs.Str.Parse.{digits_value}
+use Rattle.streams.specs.declared.refused.Refused.{Refused}
+use Rattle.streams.specs.declared.refused.Refused.TheVariants.{BadHead, NotPost, NoLength, TooLarge, Coding}
+use Rattle.http_message.specs.Fields.{NamedValue, Summary, absent, once, often, values_of, summary, is_once, is_absent}
+use Rattle.http_message.specs.declared.length.TheConstants.{MAX_BODY_BYTES}
+use Rattle.http_message.specs.declared.start.Start.{Start}
+use Rattle.http_message.specs.declared.start.Start.TheVariants as starts
+
+-- decimal digits alone, one or more
+abbrev pub is_number : List ℕ → Bool
+is_number text = nat_lt 0 (length text) && list_all is_ascii_digit text
+
+-- the number, unless it is none or above the limit
+unfoldable pub length_of : List ℕ → Result ℕ Refused
+length_of text =
+    if is_number text then (
+    if nat_lt MAX_BODY_BYTES (digits_value 10 text) then Err TooLarge else Ok (digits_value 10 text))
+    else Err BadHead
+
+-- what the values of Content-Length tell
+abbrev pub length_told : Summary → Result ℕ Refused
+length_told absent = Err NoLength
+length_told (once v) = length_of v
+length_told often = Err BadHead
+
+-- a length that is none
+abbrev pub is_bad : Result ℕ Refused → Bool
+is_bad (Err BadHead) = true
+is_bad other = false
+
+-- the values under a name of the fields
+abbrev pub under : List ℕ → List NamedValue → Summary
+under name fields = summary (values_of name fields)
+
+-- a body that isn't written as it is
+abbrev pub is_coded : List NamedValue → Bool
+is_coded fields =
+    not (is_absent (under (codes "transfer-encoding") fields))
+    || not (is_absent (under (codes "content-encoding") fields))
+
+-- the length, or that the body is coded
+abbrev pub uncoded : List NamedValue → Result ℕ Refused → Result ℕ Refused
+uncoded fields length = if is_coded fields then Err Coding else length
+
+-- what a first line and the fields say, where this is told of the length
+abbrev pub said_with : Start → List NamedValue → Result ℕ Refused → Result ℕ Refused
+said_with (starts.Request is_post wants_host) fields length =
+    if wants_host && not (is_once (under (codes "host") fields)) then Err BadHead
+    else (if is_post then uncoded fields length else Err NotPost)
+said_with starts.Response fields length = uncoded fields length
+
+-- the length of the body, or the first refusal
+abbrev pub said : Start → List NamedValue → Result ℕ Refused
+said start fields =
+    let length = length_told (under (codes "content-length") fields) in
+    if is_bad length then Err BadHead else said_with start fields length

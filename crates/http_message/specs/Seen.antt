@@ -1,0 +1,10 @@
+-- The code's values as those of the definitions.
+use Rattle.http_message.specs.Fields.{Summary, absent, once, often}
+use Rattle.http_message.specs.declared.field.Named.{Named}
+use Rattle.http_message.specs.declared.field.Named.TheVariants as code
+
+-- the values under a name
+abbrev pub named_seen : Named → Summary
+named_seen code.Absent = absent
+named_seen (code.Once v) = once v.now
+named_seen code.Often = often

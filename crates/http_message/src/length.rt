@@ -1,0 +1,69 @@
+//! The length that a head tells.
+
+ghost use Rattle.std.specs.Prelude.{◌≡◌, ◌+◌, ◌≤◌, min, IsTrue, IfOk};
+ghost use Rattle.std.specs.Char.{is_ascii_digit};
+ghost use Rattle.std.specs.List.{list_all};
+ghost use Rattle.std.specs.Str.Parse.{digits_value};
+ghost use Rattle.http_message.specs.Says as rules;
+ghost use Rattle.http_message.specs.Seen.{named_seen};
+
+use crate::field::Named;
+use streams::Refused;
+
+/// How many bytes a body has at most.
+pub const MAX_BODY_BYTES: usize = 1_048_576;
+
+// The number that these digits write, and MAX_BODY_BYTES + 1 for any above.
+fn number_of(digits: &[u8]) -> usize
+    requires { IsTrue (rules.is_number digits.now) }
+    ensures { result ≡ min (digits_value 10 digits.now) (MAX_BODY_BYTES + 1) }
+{
+    let mut number = 0;
+    for digit in digits {
+        number = usize::min(number * 10 + (*digit - b'0') as usize, MAX_BODY_BYTES + 1);
+    }
+    number
+}
+
+fn are_digits(text: &[u8]) -> bool
+    ensures { result ≡ list_all is_ascii_digit text.now }
+{
+    text.iter().all(|digit| digit.is_ascii_digit())
+}
+
+fn is_number(text: &[u8]) -> bool
+    ensures { result ≡ rules.is_number text.now }
+{
+    if text.is_empty() {
+        return false;
+    }
+    are_digits(text)
+}
+
+// The length that this text writes. More than `MAX_BODY_BYTES` are `TooLarge`, however many digits
+// there are.
+fn length_of(text: &[u8]) -> Result<usize, Refused>
+    ensures value { result ≡ rules.length_of text.now }
+    ensures bound { IfOk result (λ n. n ≤ MAX_BODY_BYTES) }
+{
+    if !is_number(text) {
+        return Err(Refused::BadHead);
+    }
+    let length = number_of(text);
+    if length > MAX_BODY_BYTES {
+        return Err(Refused::TooLarge);
+    }
+    Ok(length)
+}
+
+/// What the values of `Content-Length` tell.
+pub(crate) fn length_told(values: Named) -> Result<usize, Refused>
+    ensures value { result ≡ rules.length_told (named_seen values.entry) }
+    ensures bound { IfOk result (λ n. n ≤ MAX_BODY_BYTES) }
+{
+    match values {
+        Named::Absent => Err(Refused::NoLength),
+        Named::Once(value) => length_of(value),
+        Named::Often => Err(Refused::BadHead),
+    }
+}

@@ -1,0 +1,31 @@
+//! HTTP's messages, with no controller in them: heads and bodies that are read, each with the whole
+//! input that it stands in, and requests and responses that are written.
+#![tactic(auto)]
+
+mod body;
+mod field;
+mod kind;
+pub mod laws;
+mod length;
+mod lines;
+mod look;
+mod looking;
+mod pieces;
+mod reading;
+mod received;
+mod response;
+mod says;
+mod sending;
+mod start;
+mod status;
+mod told;
+
+pub use body::Body;
+pub use kind::Kind;
+pub use length::MAX_BODY_BYTES;
+pub use looking::{MAX_FIELDS, MAX_HEAD_BYTES};
+pub use reading::{MAX_READS, read_request, receive};
+pub use received::Received;
+pub use response::write_response;
+pub use sending::send;
+pub use status::status_of;

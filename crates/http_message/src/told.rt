@@ -1,0 +1,12 @@
+use streams::Refused;
+
+/// What a head tells of the message.
+#[derive(Drop)]
+pub(crate) struct Told {
+    /// How many bytes the head takes. The body stands behind them.
+    pub size: usize,
+    /// The status of a response, and 0 of a request.
+    pub code: u16,
+    /// How many bytes the body takes, or the first refusal.
+    pub says: Result<usize, Refused>,
+}
