@@ -1,4 +1,4 @@
-use Rattle.std.proofs.Common.{Bool, true, false, ap, inl, inr, refl}
+use Rattle.std.proofs.Common.{◌∙◌, Bool, true, false, ap, inl, inr, refl, sym}
 use Rattle.std.proofs.lemmas.Bool.{true≢false}
 use Rattle.jdf_words.specs.declared.call_fault.CallFault.{CallFault}
 use Rattle.jdf_words.specs.declared.call_fault.CallFault.TheVariants.{Clap, Memory}
@@ -15,8 +15,8 @@ returns-in-Ok g c =
 pub returns-in-Err-Clap : goal.returns-in-Err-Clap
 returns-in-Err-Clap g c =
     inr (inl (record {
-      some = λ none. c.in-Err-Clap.ensures.edit none;
-      wrong = λ taken. true≢false (ap is_clap (c.in-Err-Clap.ensures.passes taken));
+      some = λ none. true≢false (sym (c.in-Err-Clap.ensures.edit none));
+      wrong = λ taken. true≢false (ap is_clap (sym c.in-Err-Clap.field-0-is ∙ c.in-Err-Clap.ensures.passes taken));
       unread = refl;
       unwritten = refl;
       no_call = c.tell_help.ensures;
