@@ -164,11 +164,12 @@ def commands_at_once_lose_nothing():
 def new_at_once_begins_one():
     started = []
     for number in range(20):
-        opening = json.dumps({"Master": f"mis{number}", "Worker": "press"})
-        command = [PROGRAM, "new", "press"]
-        started.append(subprocess.Popen(command, stdin=subprocess.PIPE, stderr=subprocess.PIPE))
-        started[-1].stdin.write(opening.encode())
-        started[-1].stdin.close()
+        # A file, since nothing is read where FILE is there already.
+        with tempfile.TemporaryFile() as opening:
+            opening.write(json.dumps({"Master": f"mis{number}", "Worker": "press"}).encode())
+            opening.seek(0)
+            command = [PROGRAM, "new", "press"]
+            started.append(subprocess.Popen(command, stdin=opening, stderr=subprocess.PIPE))
     ends = [(command.stderr.read(), command.wait()) for command in started]
     wants(sorted(ends), [(b"", 0)] + 19 * [(b"Refused 57 SaveFailed\n", 4)])
     first = ends.index((b"", 0))
