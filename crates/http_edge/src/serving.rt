@@ -8,7 +8,8 @@ ghost use Rattle.http_message.specs.Status.{done_status, status_of as status_for
 ghost use Rattle.http_message.specs.Texts.{response_text};
 ghost use Rattle.http_edge.specs.Exchange as exchanges;
 ghost use Rattle.http_edge.specs.Exchange.{Serves, ServesFront, ServesNone, refusal_in};
-ghost use Rattle.http_edge.specs.declared.edge_fault.EdgeFault.TheVariants.{ReadFailed, WriteFailed};
+ghost use Rattle.http_edge.specs.declared.edge_fault.EdgeFault.TheVariants.{ReadFailed};
+ghost use Rattle.http_edge.specs.declared.edge_fault.EdgeFault.TheVariants.{WriteFailed};
 ghost use Rattle.streams.specs.Streams.{used, Writes, WritesFront};
 
 use crate::edge_fault::EdgeFault;

@@ -13,7 +13,8 @@ is_same_name a b = bytes_eq (map to_ascii_lowercase a) (map to_ascii_lowercase b
 -- the values that stand under a name
 abbrev pub values_of : List ℕ → List NamedValue → List (List ℕ)
 values_of name [] = []
-values_of name (f ∷ fs) = if is_same_name f.0 name then f.1 ∷ values_of name fs else values_of name fs
+values_of name (f ∷ fs) =
+    if is_same_name f.0 name then f.1 ∷ values_of name fs else values_of name fs
 
 -- no value, one, or more
 pub data Summary : Type 0 where

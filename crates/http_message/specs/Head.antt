@@ -1,5 +1,6 @@
 -- The head at the front of an input: whole, within the limits, and what it says.
-use Rattle.std.specs.Prelude.{◌≡◌, ℕ, ◌≤◌, ◌==◌, List, length, take, map, codes, bytes_eq, Result, IfOk, ⊤}
+use Rattle.std.specs.Prelude.{◌≡◌, ℕ, ◌≤◌, ◌==◌, List, length, take, map, codes, bytes_eq, Result}
+use Rattle.std.specs.Prelude.{IfOk, ⊤}
 use Rattle.streams.specs.declared.refused.Refused.{Refused}
 use Rattle.httparse.specs.Grammar.{RequestHead, ReadsRequest, print_request}
 use Rattle.httparse.specs.Grammar.{ResponseHead, ReadsResponse, print_response, status_code}

@@ -1,5 +1,6 @@
 -- What an input is: a message whose head and body stand at its front, or refused.
-use Rattle.std.specs.Prelude.{◌≡◌, ◌⊎◌, ℕ, ◌<◌, Bool, true, false, List, ◌++◌, length, drop, Ok, Err}
+use Rattle.std.specs.Prelude.{◌≡◌, ◌⊎◌, ℕ, ◌<◌, Bool, true, false, List, ◌++◌, length, drop}
+use Rattle.std.specs.Prelude.{Ok, Err}
 use Rattle.streams.specs.declared.refused.Refused.{Refused}
 use Rattle.streams.specs.declared.refused.Refused.TheVariants.{BadHead, NotPost, NoLength}
 use Rattle.streams.specs.declared.refused.Refused.TheVariants.{TooLarge, CutShort, Coding}

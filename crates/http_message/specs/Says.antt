@@ -1,11 +1,14 @@
 -- What a head says of the body behind it: its length, or the first refusal.
-use Rattle.std.specs.Prelude.{ℕ, Bool, true, false, not, ◌&&◌, ◌||◌, nat_lt, List, length, if◌then◌else◌, codes, Result, Ok, Err}
+use Rattle.std.specs.Prelude.{ℕ, Bool, true, false, not, ◌&&◌, ◌||◌, nat_lt, List, length}
+use Rattle.std.specs.Prelude.{if◌then◌else◌, codes, Result, Ok, Err}
 use Rattle.std.specs.Char.{is_ascii_digit}
 use Rattle.std.specs.List.{list_all}
 use Rattle.std.specs.Str.Parse.{digits_value}
 use Rattle.streams.specs.declared.refused.Refused.{Refused}
-use Rattle.streams.specs.declared.refused.Refused.TheVariants.{BadHead, NotPost, NoLength, TooLarge, Coding}
-use Rattle.http_message.specs.Fields.{NamedValue, Summary, absent, once, often, values_of, summary, is_once, is_absent}
+use Rattle.streams.specs.declared.refused.Refused.TheVariants.{BadHead, NotPost, NoLength, TooLarge}
+use Rattle.streams.specs.declared.refused.Refused.TheVariants.{Coding}
+use Rattle.http_message.specs.Fields.{NamedValue, Summary, absent, once, often, values_of, summary}
+use Rattle.http_message.specs.Fields.{is_once, is_absent}
 use Rattle.http_message.specs.declared.length.TheConstants.{MAX_BODY_BYTES}
 use Rattle.http_message.specs.declared.start.Start.{Start}
 use Rattle.http_message.specs.declared.start.Start.TheVariants as starts
@@ -18,8 +21,8 @@ is_number text = nat_lt 0 (length text) && list_all is_ascii_digit text
 unfoldable pub length_of : List ℕ → Result ℕ Refused
 length_of text =
     if is_number text then (
-    if nat_lt MAX_BODY_BYTES (digits_value 10 text) then Err TooLarge else Ok (digits_value 10 text))
-    else Err BadHead
+    if nat_lt MAX_BODY_BYTES (digits_value 10 text) then Err TooLarge
+    else Ok (digits_value 10 text)) else Err BadHead
 
 -- what the values of Content-Length tell
 abbrev pub length_told : Summary → Result ℕ Refused

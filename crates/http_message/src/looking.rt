@@ -1,7 +1,8 @@
 //! Heads as HTTP/1.0 and HTTP/1.1 write them (RFC 9112), within limits of our own.
 
 ghost use Rattle.std.specs.Prelude.{◌≡◌, ◌<◌, ◌≤◌, ℕ, List, ◌++◌, length};
-ghost use Rattle.http_message.specs.Head.{Head, StartsWith, BeginsWith, IfHead, IsToldOf, IsBounded, HasNoStart, HasNoHead};
+ghost use Rattle.http_message.specs.Head.{Head, StartsWith, BeginsWith, HasNoStart, HasNoHead};
+ghost use Rattle.http_message.specs.Head.{IfHead, IsToldOf, IsBounded};
 ghost use Rattle.http_message.specs.declared.kind.Kind.TheVariants as kinds;
 ghost use Rattle.http_message.specs.declared.look.Look.TheVariants as looks;
 
