@@ -10,6 +10,7 @@
 
 mod case;
 mod escapes;
+mod exchanges;
 mod files;
 mod forms;
 mod lines;
