@@ -15,14 +15,14 @@ fn refused_of(fault: EdgeFault) -> Refused {
     }
 }
 
-/// Appends a line with the status of a response, and behind it the refusal, if there was one.
+/// Appends a line with the refusal of a request, if there was one, and one with the status of the
+/// response.
 fn push_served(alloc: Global, lines: &mut Vec<u8>, served: &Served) -> Result<(), AllocError> {
-    let status = served.status;
-    lines.extend_from_slice(format!(in alloc; "status {status}\n")?.as_bytes())?;
-    match served.refusal {
-        None => Ok(()),
-        Some(refused) => lines.extend_from_slice(refused_line(refused).as_bytes()),
+    if let Some(refused) = served.refusal {
+        lines.extend_from_slice(refused_line(refused).as_bytes())?;
     }
+    let status = served.status;
+    lines.extend_from_slice(format!(in alloc; "status {status}\n")?.as_bytes())
 }
 
 /// `serve FILE AT`: the response of the controller that a file holds to the request that is read,
@@ -56,12 +56,11 @@ pub fn sent(alloc: Global, body: &[u8]) -> Result<Vec<u8>, Refused> {
     Ok(answer)
 }
 
-/// `receive`: the status of the response that is read, and its body.
+/// `receive`: the body of the response that is read, and its status.
 pub fn received(alloc: Global, response: &[u8]) -> Result<Vec<u8>, Refused> {
     let received = receive(alloc, &mut Counted::new(response))?;
     let status = received.status;
-    let mut answer = format!(in alloc; "status {status}\n")?.into_bytes();
-    answer.extend_from_slice(received.body.as_slice())?;
-    answer.extend_from_slice(b"\n")?;
+    let mut answer = Vec::from_slice(alloc, received.body.as_slice())?;
+    answer.extend_from_slice(format!(in alloc; "\nstatus {status}\n")?.as_bytes())?;
     Ok(answer)
 }
