@@ -1,7 +1,7 @@
 //! Words that the program doesn't have: files as they are, and calls that it never makes by itself.
 
 use crate::case::Case;
-use crate::{exchanges, files, forms, masters, places, trees};
+use crate::{files, forms, masters, places, trees};
 use keepers::Locks;
 use std::alloc::{AllocError, Global};
 use streams::{Refused, refused_line};
@@ -34,7 +34,6 @@ fn called<R: Locks>(
         ("file", [file]) => files::put(rt, alloc, file.as_str(), input)?,
         ("text", [file]) => files::text(rt, alloc, file.as_str())?,
         ("holders", [file, ids @ ..]) => masters::holders(rt, alloc, file.as_str(), ids)?,
-        ("serve", [file, at]) => exchanges::serve(rt, alloc, file.as_str(), at.as_bytes(), input)?,
         ("marked", [file]) => masters::marked(rt, alloc, file.as_str())?,
         ("below" | "subtree" | "home", ids) => places::place(alloc, word, ids, input)?,
         ("tree", rows) => trees::tree(alloc, rows)?,
@@ -54,8 +53,6 @@ fn form_again(alloc: Global, word: &str, input: &[u8]) -> Result<Option<Vec<u8>>
         "part" => forms::part(alloc, input)?,
         "message" => forms::message(alloc, input)?,
         "id" => forms::id(alloc, input)?,
-        "send" => exchanges::sent(alloc, input)?,
-        "receive" => exchanges::received(alloc, input)?,
         _ => return Ok(None),
     };
     Ok(Some(answer))
