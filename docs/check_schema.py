@@ -34,6 +34,9 @@ INPUTS = {"": "editInput", "edit": "editInput", "world": "script", "new": "openi
 ONE_LINE = {"text", "holders", "marked", "value", "ticket", "change", "part", "message", "id",
             "tree", "part_tree", "below", "home", "subtree"}
 
+# How many lines the answer to `send` has behind its first: a head, and a body of one line.
+SENT_LINES = 6
+
 
 def cases():
     """Each case: where it stands, what its input is, the input, and the lines of its answer."""
@@ -61,6 +64,10 @@ def answer_to(word, held, answers):
     answer = [] if word == "file" else [next(answers)]
     if word == "text" and answer[0] == held.split("\n")[0]:
         answer += [next(answers) for _ in range(held.count("\n"))]
+    if word == "send":
+        return answer + [next(answers) for _ in range(SENT_LINES)]
+    if word == "receive" and answer[0].startswith("Refused "):
+        return answer
     while word != "file" and word not in ONE_LINE and not answer[-1].startswith("status "):
         answer.append(next(answers))
     return answer

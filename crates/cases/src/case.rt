@@ -38,7 +38,7 @@ fn word_in(alloc: Global, word: &[u8]) -> Result<String, AllocError> {
 }
 
 /// The number that a text is, or 0.
-fn number_in(text: &[u8]) -> usize {
+pub fn number_in(text: &[u8]) -> usize {
     from_utf8(text).unwrap_or("").parse::<usize>().unwrap_or(0)
 }
 

@@ -1,6 +1,7 @@
 //! From the lines of the input to what comes of them.
 
 use crate::case::Case;
+use crate::exchanges::exchange_answer;
 use crate::other::other_answer;
 use crate::program::program_answer;
 use keepers::Locks;
@@ -45,6 +46,9 @@ fn push_answer<R: Locks>(
 
 /// What comes of a case.
 fn answer<R: Locks>(rt: &R, alloc: Global, case: &Case) -> Result<Vec<u8>, AllocError> {
+    if let Some(answer) = exchange_answer(rt, alloc, case)? {
+        return Ok(answer);
+    }
     match other_answer(rt, alloc, case)? {
         Some(answer) => Ok(answer),
         None => program_answer(rt, alloc, case),

@@ -5,11 +5,13 @@
 //! status on a line of its own. Files are those of the folder where this runs. Lines that are empty
 //! or begin with `#` are written as they are; the latter say what the cases below them are about.
 //!
-//! A few words more call what the program never does by itself; `other.rt` lists them.
+//! A few words more call what the program never does by itself; `other.rt` and `exchanges.rt` list
+//! them.
 #![tactic(auto)]
 
 mod case;
 mod escapes;
+mod exchanges;
 mod files;
 mod forms;
 mod lines;
