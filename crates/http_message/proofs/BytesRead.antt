@@ -38,7 +38,7 @@ later_fault known start a b c bytes e read fault =
           (λ failed. inl (⊎_elim (λ rose. inl (omega (arith, rose, read.unfailed))) (λ full. inr full) failed))
           (λ many. inr many) f.1,
     ))
-    (λ memory. inr memory)
+    (λ memory. inr (memory.0, memory.1 ∙ read.unfailed))
     fault
 
 -- a reader that is at its end had what was read
@@ -64,6 +64,7 @@ pub never_headed : {T : Type 0} (known : T → Option (List ℕ)) (kind : Kind) 
 never_headed known kind start a b bytes seen read same never =
     inl (
       refl,
+      read.unfailed,
       whatever_follows _ _ bytes read.taken (λ all. (h : Head) → ¬ (BeginsWith kind all h))
           (λ more h begins. never more h (subst (λ s. BeginsWith kind (s ++ more) h) (sym same) begins)),
     )
@@ -77,6 +78,7 @@ not_headed known kind start a b c bytes seen new count read same none grows zero
     let whole = read_then known start a b c bytes grows.gained.more read grows.gained.read in
     inl (
       refl,
+      whole.unfailed,
       all_read _ _ (bytes ++ grows.gained.more) whole.taken end.ended (λ all. (h : Head) → ¬ (BeginsWith kind all h))
           (λ h begins. none h (subst (λ s. BeginsWith kind s h) (sym grows.gained.grown ∙ end.same ∙ sym same) begins)),
     )

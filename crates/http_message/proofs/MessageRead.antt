@@ -7,7 +7,7 @@ use Rattle.streams.specs.Streams.{used}
 use Rattle.streams.specs.declared.refused.Refused.{Refused}
 use Rattle.http_message.specs.Head.{Head, head_says}
 use Rattle.http_message.specs.Message.{Carries, IsRefusedAs, is_refusal}
-use Rattle.http_message.specs.Reading.{Has, HasHead, IsBodyFault, IsHeadFault, IsMoreFault, IsUnread}
+use Rattle.http_message.specs.Reading.{Has, HasHead, IsBodyFault, IsMoreFault, IsUnread}
 use Rattle.http_message.specs.declared.kind.Kind.{Kind}
 use Rattle.http_message.specs.declared.told.Told.{Told}
 use Rattle.http_message.proofs.BytesRead.{all_read, later_fault, read_then, whatever_follows}
@@ -54,11 +54,6 @@ if_some (Some a) P Q f p = f a p
 of_http : (h : Head) (e : Refused) → head_says h ≡ Err e → is_refusal e ≡ true
 of_http h e says = sym (ap is_of_http says) ∙ said_of_http h.start h.fields
 
-pub unread_head : {T : Type 0} (known : T → Option (List ℕ)) (kind : Kind) (start : ℕ) (a b : Counts T) (e : Refused)
-    → IsHeadFault kind start (used known a b) e → IsUnread kind start (used known a b) e
-unread_head known kind start a b e fault =
-    ⊎_elim (λ bad. inl (ap is_refusal bad.0, if_some (known a.inner) _ _ (λ all none. inl (bad.0, none)) bad.1)) (λ more. inr more) fault
-
 pub refused_by_head : {T A : Type 0} (known : T → Option (List ℕ)) (kind : Kind) (start calls : ℕ) (a b : Counts T) (bytes : List ℕ) (told : Told) (e : Refused)
     (result : Result A Refused) → HasHead kind start (used known a b) bytes told → told.says ≡ Err e → IsErrAnd result (λ f. f ≡ e)
     → IfErr result (IsUnread kind calls (used known a b))
@@ -67,6 +62,7 @@ refused_by_head known kind start calls a b bytes told e (Err f) has says same =
     let said = sym has.told_of.says ∙ says ∙ ap Err (sym same) in
     inl (
       of_http has.head f said,
+      has.read.unfailed,
       whatever_follows _ _ bytes has.read.taken (λ all. IsRefusedAs kind all f)
           (λ more. inr (inl (has.head, begins_more kind bytes more has.head has.begins, said))),
     )
@@ -85,6 +81,7 @@ unread_body known kind start calls a b c bytes new told n e same has says fault 
     let within : told.size ≤ length new = omega (arith, has.bounded.size, ap length cut.1.gained.grown, length-append bytes more) in
     inl (
       ap is_refusal cut.0,
+      read.unfailed,
       all_read _ _ (bytes ++ more) read.taken cut.1.ended (λ all. IsRefusedAs kind all e)
           (inr (inr (
             cut.0,

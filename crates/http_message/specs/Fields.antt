@@ -22,11 +22,13 @@ pub data Summary : Type 0 where
   once : List ℕ → Summary
   often : Summary
 
+-- how many values there are, and the one that stands alone
 abbrev pub summary : List (List ℕ) → Summary
 summary [] = absent
 summary (v ∷ []) = once v
 summary (v ∷ w ∷ vs) = often
 
+-- whether there is one, and whether there is none
 abbrev pub is_once : Summary → Bool
 is_once absent = false
 is_once (once v) = true

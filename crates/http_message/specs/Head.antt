@@ -23,6 +23,7 @@ pub record Head : Type 0 where
   pub fields : List NamedValue
   pub size : ℕ
 
+-- what of a request's head, and of a response's, counts here
 abbrev pub request_seen : RequestHead → Head
 request_seen h =
     record {
@@ -50,6 +51,7 @@ StartsWith kinds.Response bytes head =
     (h : ResponseHead) × (rest : List ℕ) × ReadsResponse bytes h rest
     × (length h.fields ≤ MAX_FIELDS) × (head ≡ response_seen h)
 
+-- they begin with no such head
 abbrev pub HasNoStart : Kind → List ℕ → Type 0
 HasNoStart kind bytes = (head : Head) → ¬ (StartsWith kind bytes head)
 
@@ -57,6 +59,7 @@ HasNoStart kind bytes = (head : Head) → ¬ (StartsWith kind bytes head)
 abbrev pub BeginsWith : Kind → List ℕ → Head → Type 0
 BeginsWith kind input head = StartsWith kind (take MAX_HEAD_BYTES input) head
 
+-- it begins with none within them
 abbrev pub HasNoHead : Kind → List ℕ → Type 0
 HasNoHead kind input = (head : Head) → ¬ (BeginsWith kind input head)
 

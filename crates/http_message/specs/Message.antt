@@ -4,7 +4,7 @@ use Rattle.std.specs.Prelude.{Ok, Err}
 use Rattle.streams.specs.declared.refused.Refused.{Refused}
 use Rattle.streams.specs.declared.refused.Refused.TheVariants.{BadHead, NotPost, NoLength}
 use Rattle.streams.specs.declared.refused.Refused.TheVariants.{TooLarge, CutShort, Coding}
-use Rattle.http_message.specs.Head.{Head, BeginsWith, head_says}
+use Rattle.http_message.specs.Head.{Head, BeginsWith, HasNoHead, head_says}
 use Rattle.http_message.specs.declared.kind.Kind.{Kind}
 
 -- the input begins with a head of this status, and this body stands behind it
@@ -27,7 +27,7 @@ pub record IsCut (kind : Kind) (input : List ℕ) : Type 0 where
 -- the first refusal of the input: there is no head, or what the head says, or the body is cut short
 abbrev pub IsRefusedAs : Kind → List ℕ → Refused → Type 0
 IsRefusedAs kind input e =
-    ((e ≡ BadHead) × ((h : Head) → ¬ (BeginsWith kind input h)))
+    ((e ≡ BadHead) × HasNoHead kind input)
     ⊎ (((h : Head) × BeginsWith kind input h × (head_says h ≡ Err e))
     ⊎ ((e ≡ CutShort) × IsCut kind input))
 

@@ -5,27 +5,32 @@ use Rattle.ticket_items.specs.declared.refusal.Refusal.TheVariants.{Memory}
 use Rattle.streams.specs.Streams.{HasFailed, Use}
 use Rattle.streams.specs.declared.refused.Refused.{Refused}
 use Rattle.streams.specs.declared.refused.Refused.TheVariants.{Core, BadHead, CutShort, ReadFailed}
-use Rattle.http_message.specs.Head.{Head, BeginsWith, IsToldOf, IsBounded}
+use Rattle.http_message.specs.Head.{Head, BeginsWith, HasNoHead, IsToldOf, IsBounded}
 use Rattle.http_message.specs.Message.{IsRefusedAs, is_refusal}
 use Rattle.http_message.specs.declared.kind.Kind.{Kind}
 use Rattle.http_message.specs.declared.length.TheConstants.{MAX_BODY_BYTES}
 use Rattle.http_message.specs.declared.reading.TheConstants.{MAX_READS}
 use Rattle.http_message.specs.declared.told.Told.{Told}
 
+-- no read failed
+abbrev pub IsUnfailed : Use → Type 0
+IsUnfailed u = u.after.failures ≡ u.before.failures
+
 -- these bytes were read, with no more calls since the start than may be, and none failed
 pub record HasRead (start : ℕ) (u : Use) (bytes : List ℕ) : Type 0 where
   pub taken : Consumes u.before.bytes u.after.bytes bytes
   pub on : u.before.calls ≤ u.after.calls
   pub bound : u.after.calls ≤ start + MAX_READS
-  pub unfailed : u.after.failures ≡ u.before.failures
+  pub unfailed : IsUnfailed u
 
 -- a read failed, or as many were made since the start as may be
 abbrev pub HasFailedIn : ℕ → Use → Type 0
 HasFailedIn start u = HasFailed u ⊎ (u.after.calls ≡ start + MAX_READS)
 
--- why no more was read
+-- why no more was read: a read failed, or as many were made as may be; or memory ran out
 abbrev pub IsMoreFault : ℕ → Use → Refused → Type 0
-IsMoreFault start u e = ((e ≡ ReadFailed) × HasFailedIn start u) ⊎ (e ≡ Core Memory)
+IsMoreFault start u e =
+    ((e ≡ ReadFailed) × HasFailedIn start u) ⊎ ((e ≡ Core Memory) × IsUnfailed u)
 
 -- more was read behind the old bytes
 pub record Gains (start : ℕ) (u : Use) (old new : List ℕ) : Type 0 where
@@ -55,7 +60,7 @@ pub record HasHead (kind : Kind) (start : ℕ) (u : Use) (bytes : List ℕ) (tol
 -- there is no head, or no more was read
 abbrev pub IsHeadFault : Kind → ℕ → Use → Refused → Type 0
 IsHeadFault kind start u e =
-    ((e ≡ BadHead) × IfSome u.before.bytes (λ all. (h : Head) → ¬ (BeginsWith kind all h)))
+    ((e ≡ BadHead) × IsUnfailed u × IfSome u.before.bytes (HasNoHead kind))
     ⊎ IsMoreFault start u e
 
 -- more was read, until as many bytes were there as are wanted
@@ -77,5 +82,5 @@ IsBodyFault whole start u old new e =
 -- why no message was read: the input is refused, or no more was read
 abbrev pub IsUnread : Kind → ℕ → Use → Refused → Type 0
 IsUnread kind start u e =
-    ((is_refusal e ≡ true) × IfSome u.before.bytes (λ all. IsRefusedAs kind all e))
+    ((is_refusal e ≡ true) × IsUnfailed u × IfSome u.before.bytes (λ all. IsRefusedAs kind all e))
     ⊎ IsMoreFault start u e

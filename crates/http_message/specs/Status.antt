@@ -15,6 +15,7 @@ abbrev pub core_status : Refusal → ℕ
 core_status Memory = 503
 core_status _ = 400
 
+-- the status that answers a refusal
 abbrev pub status_of : Refused → ℕ
 status_of (refusals.Core e) = core_status e
 status_of refusals.BadHead = 400

@@ -7,7 +7,7 @@ ghost use Rattle.streams.specs.Streams.{used};
 ghost use Rattle.streams.specs.declared.refused.Refused.TheVariants.{ReadFailed};
 ghost use Rattle.http_message.specs.Message.{Carries};
 ghost use Rattle.http_message.specs.Reading.{Grows, Has, HasFailedIn, HasHead, HasRead};
-ghost use Rattle.http_message.specs.Reading.{IsBodyFault, IsHeadFault, IsMoreFault, IsUnread};
+ghost use Rattle.http_message.specs.Reading.{IsBodyFault, IsHeadFault, IsMoreFault, IsUnfailed, IsUnread};
 
 use crate::body::Body;
 use crate::kind::Kind;
@@ -142,17 +142,15 @@ fn read_body<R: Read>(
     Ok(())
 }
 
-/// Reads a message whose head has at most `MAX_HEAD_BYTES` and `MAX_FIELDS`, and whose body at most
-/// `MAX_BODY_BYTES`. No more than one read goes past it. Refuses what it is refused for, in the
-/// order `BadHead`, `NotPost`, `Coding`, `NoLength`, `TooLarge`, `CutShort`; `ReadFailed` where a
-/// read failed or `MAX_READS` were made, and `Memory`.
-pub(crate) fn read_message<R: Read>(
+/// Reads a message: `read_request` and `receive` tell its limits and what it is refused for.
+fn read_message<R: Read>(
     alloc: Global,
     reader: &mut Counted<R>,
     kind: Kind,
 ) -> Result<Received, Refused>
     ensures ok { IfOk result (λ message. IfSome (R.remaining reader.old.inner)
         (λ all. Carries kind all message.status message.body)) }
+    ensures unfailed { OnOk result (IsUnfailed (used R.remaining reader.old reader.new)) }
     ensures unread { IfErr result (IsUnread kind reader.old.calls
         (used R.remaining reader.old reader.new)) }
     ensures bound { reader.new.calls ≤ reader.old.calls + MAX_READS }
@@ -182,6 +180,7 @@ pub(crate) fn read_message<R: Read>(
 pub fn read_request<R: Read>(alloc: Global, reader: &mut Counted<R>) -> Result<Body, Refused>
     ensures ok { IfOk result (λ body. IfSome (R.remaining reader.old.inner)
         (λ all. Carries Kind.Request all 0 body)) }
+    ensures unfailed { OnOk result (IsUnfailed (used R.remaining reader.old reader.new)) }
     ensures unread { IfErr result (IsUnread Kind.Request reader.old.calls
         (used R.remaining reader.old reader.new)) }
     ensures bound { reader.new.calls ≤ reader.old.calls + MAX_READS }
@@ -197,6 +196,7 @@ pub fn read_request<R: Read>(alloc: Global, reader: &mut Counted<R>) -> Result<B
 pub fn receive<R: Read>(alloc: Global, reader: &mut Counted<R>) -> Result<Received, Refused>
     ensures ok { IfOk result (λ message. IfSome (R.remaining reader.old.inner)
         (λ all. Carries Kind.Response all message.status message.body)) }
+    ensures unfailed { OnOk result (IsUnfailed (used R.remaining reader.old reader.new)) }
     ensures unread { IfErr result (IsUnread Kind.Response reader.old.calls
         (used R.remaining reader.old reader.new)) }
     ensures bound { reader.new.calls ≤ reader.old.calls + MAX_READS }
