@@ -16,6 +16,7 @@ use Rattle.controller.specs.declared.reply.Reply.{Reply}
 use Rattle.streams.specs.Streams.{IsUntouched, Writes, WritesFront}
 use Rattle.http_message.specs.Status.{done_status, status_of}
 use Rattle.http_message.specs.Texts.{response_text}
+use Rattle.http_message.specs.Reading.{IsUnfailed}
 use Rattle.http_edge.specs.Exchange.{IsUnread, Serves, ServesFront, ServesNone, Steps, StepsNot, is_unread, refusal_in}
 use Rattle.http_edge.specs.declared.edge_fault.EdgeFault.{EdgeFault}
 use Rattle.http_edge.specs.declared.edge_fault.EdgeFault.TheVariants.{WriteFailed}
@@ -44,13 +45,13 @@ not_memory e is same = let no : Core Memory ≡ ReadFailed = sym is ∙ same in 
 -- why a request isn't read
 pub not_read : {C K : Type 0} (is_honest : K → Bool) (held : K → List ℕ) (count : K → ℕ) (save_fails : K → List ℕ → K → Type 0) (state_text : C → List ℕ) (does : Message → Step C) (start : ℕ) (u : Use) (old : Held C K) (e : Refused)
     → reading.IsUnread kinds.Request start u e
-    → IsUnread start u old old e ⊎ ((e ≢ ReadFailed) × StepsNot is_honest held count save_fails state_text does u.before.bytes old old e)
+    → IsUnread start u old old e ⊎ ((e ≢ ReadFailed) × IsUnfailed u × StepsNot is_honest held count save_fails state_text does u.before.bytes old old e)
 not_read h l n sf t does start u old e unread =
     ⊎_elim
-    (λ refused. inr (no_refusal e refused.0, inl (inl (refused.0, refused.1), refl)))
+    (λ refused. inr (no_refusal e refused.0, refused.1, inl (inl (refused.0, refused.2), refl)))
     (λ fault. ⊎_elim
     (λ failed. inl (record { is = failed.0; failed = failed.1; unstepped = refl }))
-    (λ memory. inr (not_memory e memory, inl (inr memory, refl))) fault)
+    (λ memory. inr (not_memory e memory.0, memory.1, inl (inr memory.0, refl))) fault)
     unread
 
 unread_is : (e : Refused) → is_unread e ≡ true → e ≡ ReadFailed
@@ -59,58 +60,60 @@ unread_is _ is = let wrong : false ≡ true = is in cc
 
 -- ---- how it is served
 
-module _ {C K : Type 0} (is_honest : K → Bool) (held : K → List ℕ) (count : K → ℕ) (save_fails : K → List ℕ → K → Type 0) (state_text : C → List ℕ) (does : Message → Step C) (known : Option (List ℕ)) (old new : Held C K) (output : Use) where
+module _ {C K : Type 0} (is_honest : K → Bool) (held : K → List ℕ) (count : K → ℕ) (save_fails : K → List ℕ → K → Type 0) (state_text : C → List ℕ) (does : Message → Step C) (input : Use) (old new : Held C K) (output : Use) where
   -- the step was answered
   pub serves_step : (reply : Result Reply Refusal) (answer : Option (List ℕ)) (r : Result Served EdgeFault)
-      → (step : Step C) × Steps is_honest held state_text does known old new step × (reply ≡ step.reply) × (answer ≡ step.message)
+      → (step : Step C) × Steps is_honest held state_text does input.before.bytes old new step × (reply ≡ step.reply) × (answer ≡ step.message) → IsUnfailed input
       → IfOk r (λ told. told ≡ record { status = done_status; refusal = refusal_in reply })
       → OnOk r (Writes output (response_text (Ok answer)))
-      → IfOk r (Serves is_honest held count save_fails state_text does known old new output)
-  serves_step reply answer (Ok told) came is wrote =
+      → IfOk r (Serves is_honest held count save_fails state_text does input old new output)
+  serves_step reply answer (Ok told) came unfailed is wrote =
       record {
         came = Ok came.0;
         exchange = came.1;
+        unfailed = unfailed;
         written = subst (λ m. Writes output (response_text (Ok m))) came.3 wrote;
         told_of = is ∙ ap (λ x. record { status = done_status; refusal = refusal_in x }) came.2;
       }
-  serves_step reply answer (Err f) came is wrote = tt
+  serves_step reply answer (Err f) came unfailed is wrote = tt
 
   pub serves_front_of_step : (reply : Result Reply Refusal) (answer : Option (List ℕ)) (r : Result Served EdgeFault)
-      → (step : Step C) × Steps is_honest held state_text does known old new step × (reply ≡ step.reply) × (answer ≡ step.message)
+      → (step : Step C) × Steps is_honest held state_text does input.before.bytes old new step × (reply ≡ step.reply) × (answer ≡ step.message) → IsUnfailed input
       → OnErr r (WritesFront output (response_text (Ok answer))) → r ≡ Err WriteFailed
-      → ServesFront is_honest held count save_fails state_text does known old new output
-  serves_front_of_step reply answer (Ok told) came front is = let wrong : true ≡ false = ap is_ok is in absurd (true≢false wrong)
-  serves_front_of_step reply answer (Err f) came front is =
+      → ServesFront is_honest held count save_fails state_text does input old new output
+  serves_front_of_step reply answer (Ok told) came unfailed front is = let wrong : true ≡ false = ap is_ok is in absurd (true≢false wrong)
+  serves_front_of_step reply answer (Err f) came unfailed front is =
       record {
         came = Ok came.0;
         exchange = came.1;
+        unfailed = unfailed;
         front = subst (λ m. WritesFront output (response_text (Ok m))) came.3 front;
       }
 
   -- the refusal was answered
-  pub serves_refusal : (start : ℕ) (input : Use) (e : Refused) (r : Result Served EdgeFault)
-      → IsUnread start input old new e ⊎ ((e ≢ ReadFailed) × StepsNot is_honest held count save_fails state_text does known old new e)
+  pub serves_refusal : (start : ℕ) (e : Refused) (r : Result Served EdgeFault)
+      → IsUnread start input old new e ⊎ ((e ≢ ReadFailed) × IsUnfailed input × StepsNot is_honest held count save_fails state_text does input.before.bytes old new e)
       → is_unread e ≡ false → IfOk r (λ told. told ≡ record { status = status_of e; refusal = Some e })
       → OnOk r (Writes output (response_text (Err e)))
-      → IfOk r (Serves is_honest held count save_fails state_text does known old new output)
-  serves_refusal start input e (Ok told) (inl unread) isnt is wrote = absurd (true≢false (sym (ap is_unread unread.is) ∙ isnt))
-  serves_refusal start input e (Ok told) (inr none) isnt is wrote =
-      record { came = Err e; exchange = none.1; written = wrote; told_of = is }
-  serves_refusal start input e (Err f) why isnt is wrote = tt
+      → IfOk r (Serves is_honest held count save_fails state_text does input old new output)
+  serves_refusal start e (Ok told) (inl unread) isnt is wrote = absurd (true≢false (sym (ap is_unread unread.is) ∙ isnt))
+  serves_refusal start e (Ok told) (inr none) isnt is wrote =
+      record { came = Err e; exchange = none.2; unfailed = none.1; written = wrote; told_of = is }
+  serves_refusal start e (Err f) why isnt is wrote = tt
 
-  pub serves_front_of_refusal : (start : ℕ) (input : Use) (e : Refused) (r : Result Served EdgeFault)
-      → IsUnread start input old new e ⊎ ((e ≢ ReadFailed) × StepsNot is_honest held count save_fails state_text does known old new e)
+  pub serves_front_of_refusal : (start : ℕ) (e : Refused) (r : Result Served EdgeFault)
+      → IsUnread start input old new e ⊎ ((e ≢ ReadFailed) × IsUnfailed input × StepsNot is_honest held count save_fails state_text does input.before.bytes old new e)
       → is_unread e ≡ false → OnErr r (WritesFront output (response_text (Err e))) → r ≡ Err WriteFailed
-      → ServesFront is_honest held count save_fails state_text does known old new output
-  serves_front_of_refusal start input e (Ok told) why isnt front is = absurd (true≢false (ap is_ok is))
-  serves_front_of_refusal start input e (Err f) (inl unread) isnt front is = absurd (true≢false (sym (ap is_unread unread.is) ∙ isnt))
-  serves_front_of_refusal start input e (Err f) (inr none) isnt front is =
-      record { came = Err e; exchange = none.1; front = front }
+      → ServesFront is_honest held count save_fails state_text does input old new output
+  serves_front_of_refusal start e (Ok told) why isnt front is = absurd (true≢false (ap is_ok is))
+  serves_front_of_refusal start e (Err f) (inl unread) isnt front is = absurd (true≢false (sym (ap is_unread unread.is) ∙ isnt))
+  serves_front_of_refusal start e (Err f) (inr none) isnt front is =
+      record { came = Err e; exchange = none.2; unfailed = none.1; front = front }
 
   -- nothing was, since a read failed
-  pub serves_none : (start : ℕ) (input : Use) (e : Refused)
-      → IsUnread start input old new e ⊎ ((e ≢ ReadFailed) × StepsNot is_honest held count save_fails state_text does known old new e)
+  pub serves_none : (start : ℕ) (e : Refused)
+      → IsUnread start input old new e ⊎ ((e ≢ ReadFailed) × IsUnfailed input × StepsNot is_honest held count save_fails state_text does input.before.bytes old new e)
       → is_unread e ≡ true → IsUntouched output → ServesNone start input output old new
-  serves_none start input e (inl unread) is same =
+  serves_none start e (inl unread) is same =
       record { failed = unread.failed; unstepped = unread.unstepped; unwritten = same }
-  serves_none start input e (inr none) is same = absurd (none.0 (unread_is e is))
+  serves_none start e (inr none) is same = absurd (none.0 (unread_is e is))

@@ -10,7 +10,7 @@ use Rattle.streams.specs.Streams.{IsUntouched, Use, Writes, WritesFront}
 use Rattle.streams.specs.declared.refused.Refused.{Refused}
 use Rattle.streams.specs.declared.refused.Refused.TheVariants.{Core, ReadFailed}
 use Rattle.http_message.specs.Message.{Carries, IsRefusedAs, is_refusal}
-use Rattle.http_message.specs.Reading.{HasFailedIn}
+use Rattle.http_message.specs.Reading.{HasFailedIn, IsUnfailed}
 use Rattle.http_message.specs.Status.{done_status, status_of}
 use Rattle.http_message.specs.Texts.{response_text}
 use Rattle.http_message.specs.declared.kind.Kind.TheVariants as kinds
@@ -93,21 +93,25 @@ served (Err e) = record { status = status_of e; refusal = Some e }
 
 -- ---- how it is served
 
--- the response to what came of the request is written, and this is told of it
+-- no read failed; the response to what came of the request is written, and this is told of it
 pub record Serves {C K : Type 0} (is_honest : K → Bool) (held : K → List ℕ) (count : K → ℕ)
     (save_fails : K → List ℕ → K → Type 0) (state_text : C → List ℕ) (does : Message → Step C)
-    (known : Option (List ℕ)) (old new : Held C K) (output : Use) (told : Served) : Type 0 where
+    (input : Use) (old new : Held C K) (output : Use) (told : Served) : Type 0 where
   pub came : Result (Step C) Refused
-  pub exchange : Exchanges is_honest held count save_fails state_text does known old new came
+  pub exchange :
+      Exchanges is_honest held count save_fails state_text does input.before.bytes old new came
+  pub unfailed : IsUnfailed input
   pub written : Writes output (response_text (answered came))
   pub told_of : told ≡ served came
 
 -- a write of the response failed: what came of the request is as if it had not
 pub record ServesFront {C K : Type 0} (is_honest : K → Bool) (held : K → List ℕ) (count : K → ℕ)
     (save_fails : K → List ℕ → K → Type 0) (state_text : C → List ℕ) (does : Message → Step C)
-    (known : Option (List ℕ)) (old new : Held C K) (output : Use) : Type 0 where
+    (input : Use) (old new : Held C K) (output : Use) : Type 0 where
   pub came : Result (Step C) Refused
-  pub exchange : Exchanges is_honest held count save_fails state_text does known old new came
+  pub exchange :
+      Exchanges is_honest held count save_fails state_text does input.before.bytes old new came
+  pub unfailed : IsUnfailed input
   pub front : WritesFront output (response_text (answered came))
 
 -- a read failed, or more were made than may be: nothing is stepped or written

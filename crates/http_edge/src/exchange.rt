@@ -1,8 +1,9 @@
 //! From a request to the step of a controller.
 
-ghost use Rattle.std.specs.Prelude.{◌≡◌, ◌≢◌, ◌⊎◌, ◌+◌, ◌≤◌, IfErr, IfOk};
+ghost use Rattle.std.specs.Prelude.{◌≡◌, ◌≢◌, ◌⊎◌, ◌+◌, ◌≤◌, IfErr, IfOk, OnOk};
 ghost use Rattle.std.specs.Option.{option_map};
 ghost use Rattle.serde_json.specs.Written.{compact_text};
+ghost use Rattle.http_message.specs.Reading.{IsUnfailed};
 ghost use Rattle.http_edge.specs.Exchange.{IsUnread, Steps, StepsNot};
 ghost use Rattle.stored_state.specs.Step.{Step, take_step};
 ghost use Rattle.streams.specs.Streams.{used};
@@ -30,10 +31,11 @@ pub(crate) fn exchange<R: Read, C: Controller, K: Keep>(
         (R.remaining reader.old.inner) kept.old kept.new step
         × (given.reply ≡ step.reply)
         × (option_map (λ b. b.items) given.answer ≡ step.message)) }
+    ensures unfailed { OnOk result (IsUnfailed (used R.remaining reader.old reader.new)) }
     ensures refused { IfErr result (λ e. IsUnread reader.old.calls
         (used R.remaining reader.old reader.new) kept.old kept.new e
-        ⊎ ((e ≢ ReadFailed) × StepsNot K.is_honest K.held K.count K.save_fails
-        (λ c. compact_text (C.state_data c))
+        ⊎ ((e ≢ ReadFailed) × IsUnfailed (used R.remaining reader.old reader.new)
+        × StepsNot K.is_honest K.held K.count K.save_fails (λ c. compact_text (C.state_data c))
         (λ m. take_step C.taken_reply C.taken_answer C.taken m at kept.old.controller)
         (R.remaining reader.old.inner) kept.old kept.new e)) }
     ensures bound { reader.new.calls ≤ reader.old.calls + MAX_READS }

@@ -1,7 +1,7 @@
 use streams::Refused;
 
 /// A response that was written.
-#[derive(Clone, Copy, Debug, PartialEq, Eq)]
+#[derive(Clone, Copy)]
 pub struct Served {
     /// The status of the response.
     pub status: u16,

@@ -87,10 +87,11 @@ fn answer_refusal<W: Write>(writer: &mut Counted<W>, refused: &Refused) -> Resul
 
 /// Serves one request over HTTP/1.1 (RFC 9112): reads it, hands the message that it carries to the
 /// controller, at a time in seconds since 1970, and writes the response once the step is saved,
-/// from when on it takes no memory. The connection is closed behind it. Gives up with `ReadFailed`
-/// where a read failed or `MAX_READS` were made, and with `WriteFailed` where a write failed, took
-/// no byte or was interrupted; what the request, its message or its save is refused for is told by
-/// the response, whose statuses are our own.
+/// from when on it takes no memory. The response says that the connection is closed behind it,
+/// which is the caller's to do. Gives up with `ReadFailed` where a read failed or `MAX_READS` were
+/// made, and with `WriteFailed` where a write failed, took no byte or was interrupted. What the
+/// request, its message or its save is refused for is told by the response, whose statuses are our
+/// own.
 pub fn serve_one<R: Read, W: Write, C: Controller, K: Keep>(
     alloc: Global,
     reader: &mut Counted<R>,
@@ -101,7 +102,7 @@ pub fn serve_one<R: Read, W: Write, C: Controller, K: Keep>(
     ensures ok { IfOk result (Serves K.is_honest K.held K.count K.save_fails
         (λ c. compact_text (C.state_data c))
         (λ m. take_step C.taken_reply C.taken_answer C.taken m at kept.old.controller)
-        (R.remaining reader.old.inner) kept.old kept.new
+        (used R.remaining reader.old reader.new) kept.old kept.new
         (used W.contents writer.old writer.new)) }
     ensures unread { IsErrOf result ReadFailed → ServesNone reader.old.calls
         (used R.remaining reader.old reader.new) (used W.contents writer.old writer.new)
@@ -109,7 +110,7 @@ pub fn serve_one<R: Read, W: Write, C: Controller, K: Keep>(
     ensures unwritten { IsErrOf result WriteFailed → ServesFront K.is_honest K.held K.count
         K.save_fails (λ c. compact_text (C.state_data c))
         (λ m. take_step C.taken_reply C.taken_answer C.taken m at kept.old.controller)
-        (R.remaining reader.old.inner) kept.old kept.new
+        (used R.remaining reader.old reader.new) kept.old kept.new
         (used W.contents writer.old writer.new) }
     ensures bound { reader.new.calls ≤ reader.old.calls + MAX_READS }
 {

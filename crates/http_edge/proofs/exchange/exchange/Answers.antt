@@ -30,5 +30,6 @@ returns-clause-refused g c =
       never_unread g.K.Keep.is_honest g.K.Keep.held g.K.Keep.count g.K.Keep.save_fails (IsRefusalOf c.as_slice.result.now)
           (λ text. IsOfMessage c.as_slice.result.now (λ m. text ≡ compact_text (g.C.Controller.state_data (g.C.Controller.taken m c.args.at c.args.kept.now.controller))))
           c.args.kept.now c.take.new.self c.in-Err-take.refused c.in-Err-take.ensures.refused,
+      c.in-Ok.ensures.unfailed,
       inr (c.as_slice.result.now, subst (λ b. HasBody (g.R.Read.remaining c.args.reader.now.inner) b) (sym c.as_slice.ensures) c.in-Ok.ensures.ok, c.in-Err-take.ensures.refused),
     )
