@@ -13,11 +13,11 @@ use Rattle.http_message.specs.declared.kind.Kind.TheVariants as kinds
 use Rattle.stored_state.specs.Held.{GivesNothing, Held}
 use Rattle.stored_state.specs.Step.{IsSaved, Step}
 use Rattle.controller.specs.declared.reply.Reply.{Reply}
-use Rattle.streams.specs.Streams.{IsUntouched, Writes, WritesFront}
+use Rattle.streams.specs.Streams.{Writes, WritesFront}
 use Rattle.http_message.specs.Status.{done_status, status_of}
 use Rattle.http_message.specs.Texts.{response_text}
 use Rattle.http_message.specs.Reading.{IsUnfailed}
-use Rattle.http_edge.specs.Exchange.{IsUnread, Serves, ServesFront, ServesNone, Steps, StepsNot, is_unread, refusal_in}
+use Rattle.http_edge.specs.Exchange.{IsUnread, Serves, ServesFront, Steps, StepsNot, is_unread, refusal_in}
 use Rattle.http_edge.specs.declared.edge_fault.EdgeFault.{EdgeFault}
 use Rattle.http_edge.specs.declared.edge_fault.EdgeFault.TheVariants.{WriteFailed}
 use Rattle.http_edge.specs.declared.served.Served.{Served}
@@ -53,10 +53,6 @@ not_read h l n sf t does start u old e unread =
     (λ failed. inl (record { is = failed.0; failed = failed.1; unstepped = refl }))
     (λ memory. inr (not_memory e memory.0, memory.1, inl (inr memory.0, refl))) fault)
     unread
-
-unread_is : (e : Refused) → is_unread e ≡ true → e ≡ ReadFailed
-unread_is ReadFailed is = refl
-unread_is _ is = let wrong : false ≡ true = is in cc
 
 -- ---- how it is served
 
@@ -109,11 +105,3 @@ module _ {C K : Type 0} (is_honest : K → Bool) (held : K → List ℕ) (count 
   serves_front_of_refusal start e (Err f) (inl unread) isnt front is = absurd (true≢false (sym (ap is_unread unread.is) ∙ isnt))
   serves_front_of_refusal start e (Err f) (inr none) isnt front is =
       record { came = Err e; exchange = none.2; unfailed = none.1; front = front }
-
-  -- nothing was, since a read failed
-  pub serves_none : (start : ℕ) (e : Refused)
-      → IsUnread start input old new e ⊎ ((e ≢ ReadFailed) × IsUnfailed input × StepsNot is_honest held count save_fails state_text does input.before.bytes old new e)
-      → is_unread e ≡ true → IsUntouched output → ServesNone start input output old new
-  serves_none start e (inl unread) is same =
-      record { failed = unread.failed; unstepped = unread.unstepped; unwritten = same }
-  serves_none start e (inr none) is same = absurd (none.0 (unread_is e is))
