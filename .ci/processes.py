@@ -6,7 +6,9 @@ Each test runs the program in a folder of its own. The last line says how many p
 import json
 import os
 import random
+import re
 import shutil
+import socket
 import stat
 import subprocess
 import sys
@@ -258,6 +260,259 @@ def a_killed_command_leaves_the_old_or_the_new():
     print(f"  {kills} commands killed: {old} left the old state, {new} the new")
 
 
+# ---- controllers that are served
+
+
+class Served:
+    """A controller in a file that is served, on a port that stays where it is started again."""
+
+    def __init__(self, file, *options):
+        self.file = file
+        self.options = options
+        self.port = 0
+        self.start()
+
+    def start(self):
+        command = [PROGRAM, "serve", self.file, "--listen", f"127.0.0.1:{self.port}", *self.options]
+        with open(self.file + ".log", "ab") as log:
+            self.process = subprocess.Popen(command, stdout=subprocess.PIPE, stderr=log)
+        line = self.process.stdout.readline().decode()
+        assert line.startswith("Listening on 127.0.0.1:"), line
+        self.port = int(line.rsplit(":", 1)[1])
+
+    def kill(self):
+        self.process.kill()
+        self.process.wait()
+        self.process.stdout.close()
+
+    def url(self):
+        return f"http://127.0.0.1:{self.port}/jmf"
+
+    def connect(self):
+        return socket.create_connection(("127.0.0.1", self.port), timeout=30)
+
+    def log(self):
+        return content(self.file + ".log").decode()
+
+    def __enter__(self):
+        return self
+
+    def __exit__(self, *fault):
+        self.kill()
+
+
+def request(body, head=""):
+    """The bytes of a request that posts a body."""
+    return f"POST /jmf HTTP/1.1\r\nHost: h\r\n{head}Content-Length: {len(body)}\r\n\r\n{body}".encode()
+
+
+def response(connection):
+    """All that comes until the connection is closed."""
+    parts = []
+    while part := connection.recv(65536):
+        parts.append(part)
+    return b"".join(parts).decode()
+
+
+def asked(served, given):
+    """The status of the response to these bytes."""
+    with served.connect() as connection:
+        connection.sendall(given)
+        return int(response(connection).split(" ")[1])
+
+
+def order(name, given):
+    """The reply to an order, and the message that goes out."""
+    _, lines, told = run("order", name, "--at", AT, given=given)
+    wants(told, "")
+    return (lines.splitlines() + [""])[:2]
+
+
+def send(served, message):
+    """The answer to a message."""
+    status, answer, told = run("send", served.url(), given=message)
+    wants((status, told), (0, ""))
+    return answer
+
+
+def open_shop():
+    for name in ("mis", "press", "bindery"):
+        with open(os.path.join(EXAMPLES, "shop", name + ".json"), encoding="utf-8") as opening:
+            wants(run("new", name, given=opening.read()), (0, "", ""))
+
+
+def spawn(node, worker, names):
+    return json.dumps({"Order": "Spawn", "Node": node, "Worker": worker, "RW": names})
+
+
+def at_press(**edit):
+    return json.dumps({"Order": "Edit", "SpawnID": "S1", "Edit": edit})
+
+
+RESEND = json.dumps({"Order": "Resend", "SpawnID": "S2"})
+FINISH = json.dumps({"Order": "Finish", "SpawnID": "S1", "Status": "Completed"})
+
+
+def the_day(hand):
+    """The day of the brochure, where `hand` hands a controller a message. Answers the ticket."""
+    cover = order("mis", spawn("cover", "press", ["cover.sheets"]))[1]
+    order("mis", spawn("text", "press", ["text.sections"]))
+    text = order("mis", RESEND)[1]
+    for message in (cover, text, cover):
+        hand("press", message)
+    order("press", at_press(Edit="SetStatus", Node="cover.print", Status="Completed"))
+    order("press", at_press(Edit="SetResStatus", Resource="cover.sheets", Status="Available"))
+    back = order("press", FINISH)[1]
+    hand("mis", back)
+    hand("mis", back)
+    finish = order("mis", spawn("finish", "bindery", ["brochures"]))[1]
+    hand("bindery", finish)
+    # The times of messages are those of the clock.
+    return re.sub(r"\d{10}", "T", run("show", "mis")[1])
+
+
+def a_day_over_the_network():
+    open_shop()
+    by_hand = the_day(lambda name, message: run("take", name, "--at", AT, given=message))
+    for name in ("mis", "press", "bindery"):
+        os.remove(name)
+    open_shop()
+    with Served("mis") as mis, Served("press") as press, Served("bindery") as bindery:
+        shop = {"mis": mis, "press": press, "bindery": bindery}
+        wants(the_day(lambda name, message: send(shop[name], message)), by_hand)
+        wants([line.split()[2] for line in press.log().splitlines()], 3 * ["200"])
+
+
+def a_slow_client_is_cut_off():
+    open_shop()
+    message = order("mis", spawn("cover", "press", ["cover.sheets"]))[1]
+    with Served("press", "--limit", "2") as press, press.connect() as slow:
+        start = time.monotonic()
+        slow.sendall(b"POST /jmf HTTP/1.1\r\nHost: h\r\n")
+        other = subprocess.Popen([PROGRAM, "send", press.url()], stdin=subprocess.PIPE,
+                                 stdout=subprocess.PIPE)
+        other.stdin.write(message.encode())
+        other.stdin.close()
+        # The file is free while a client drips.
+        wants(run("show", "press")[0], 0)
+        while time.monotonic() - start < 10:
+            try:
+                slow.sendall(b"x")
+            except OSError:
+                break
+            time.sleep(0.1)
+        assert 1.5 < time.monotonic() - start < 6, "cut off at another time"
+        assert other.stdout.read() and other.wait() == 0
+        wants([line.split(" ", 2)[2] for line in press.log().splitlines()], ["no request", "200"])
+
+
+def many_clients_at_once():
+    open_shop()
+    message = order("mis", spawn("cover", "press", ["cover.sheets"]))[1]
+    garbage = [b"", b"\x00" * 9000, b"GET / HTTP/1.1\r\nHost: h\r\n\r\n", request("{}")]
+    wanted = {1: 400, 2: 405, 3: 400}
+    with Served("press", "--limit", "2") as press:
+        clients = []
+        for number in range(128):
+            kind = number % 8
+            clients.append((kind, press.connect()))
+            clients[-1][1].sendall(garbage[kind] if kind < 4 else request(message))
+            if kind == 0:
+                clients[-1][1].close()
+        for kind, client in clients:
+            if kind:
+                status = int(response(client).split(" ")[1])
+                client.close()
+                wants(status, wanted.get(kind, 200))
+    wants(len(run("show", "press")[1].splitlines()), 1)
+
+
+def an_early_answer_comes_to_the_client():
+    begin()
+    with Served("mis") as mis:
+        wants(asked(mis, b"PUT / HTTP/1.1\r\nHost: h\r\nContent-Length: 300000\r\n\r\n" + 300000 * b"x"), 405)
+        wants(asked(mis, b"POST / HTTP/1.1\r\nHost: h\r\n\r\n"), 411)
+        wants(asked(mis, b"POST / HTTP/1.1\r\nHost: h\r\nContent-Length: 2000000\r\n\r\n" + 400000 * b"x"), 413)
+        wants(asked(mis, request("", "Transfer-Encoding: chunked\r\n")), 501)
+
+
+def what_cannot_be_served_is_told():
+    wants(run("serve", "mis", "--listen", "127.0.0.1:0"), (4, "", "Refused 59 LoadFailed\n"))
+    with open("mis", "w", encoding="utf-8") as file:
+        file.write("{}")
+    wants(run("serve", "mis", "--listen", "127.0.0.1:0")[0], 4)
+    os.remove("mis")
+    begin()
+    wants(run("serve", "mis", "--listen", "nowhere")[::2], (4, "Refused 61 NoConnection\n"))
+    with Served("mis", "--requests", "2") as mis:
+        os.rename("mis", "away")
+        wants(asked(mis, request("{}")), 503)
+        os.rename("away", "mis")
+        wants(asked(mis, request("{}")), 400)
+        wants(mis.process.wait(), 0)
+
+
+def what_cannot_be_sent_is_told():
+    no_url = "isn't of the form http://host[:port]/path"
+    for url in ("press", "ftp://press/jmf", "http://press/jmf?a=b", "http://a:b@press/jmf"):
+        status, text, told = run("send", url, given="{}")
+        assert (status, text) == (2, "") and no_url in told, told
+    with socket.socket() as free:
+        free.bind(("127.0.0.1", 0))
+        closed = f"http://127.0.0.1:{free.getsockname()[1]}/jmf"
+        wants(run("send", closed, given="{}"), (4, "", "Refused 61 NoConnection\n"))
+    wants(run("send", "http://127.0.0.1:1/jmf", "nofile"), (4, "", "Refused 55 ReadFailed\n"))
+    wants(run("send", "http://127.0.0.1:1/jmf", given=1048577 * " "), (3, "", "Refused 53 TooLarge\n"))
+    begin()
+    with Served("mis") as mis:
+        wants(run("send", mis.url(), given="{"), (1, "", "Refused by the controller: 400\n"))
+
+
+def a_killed_server_merges_once():
+    """Each server is killed ten times at random while it is sent a message."""
+    open_shop()
+    chance = random.Random(11)
+    answers = kills = 0
+    with Served("press") as press, Served("mis") as mis:
+        start = time.monotonic()
+        run("send", press.url(), given="{}")
+        took = time.monotonic() - start
+        for number, node in enumerate(("cover", "text")):
+            names = {"cover": ["cover.sheets"], "text": ["text.sections"]}[node]
+            message = order("mis", spawn(node, "press", names))[1]
+            back = None
+            for served in (press, mis):
+                for _ in range(10):
+                    sending = subprocess.Popen([PROGRAM, "send", served.url()], stdin=subprocess.PIPE,
+                                               stdout=subprocess.DEVNULL, stderr=subprocess.DEVNULL)
+                    sending.stdin.write((back or message).encode())
+                    sending.stdin.close()
+                    # At a moment of the message, or behind its end: a step takes longer than none.
+                    time.sleep(4 * took * chance.random())
+                    served.kill()
+                    kills += 1
+                    answers += sending.wait() == 0
+                    served.start()
+                send(served, back or message)
+                if served is press:
+                    finish = {"Order": "Finish", "SpawnID": f"S{number + 1}", "Status": "Completed"}
+                    back = order("press", json.dumps(finish))[1]
+    ticket = run("show", "mis")[1]
+    wants([ticket.count('"Merged"'), "S3" in ticket], [2, False])
+    assert 0 < answers < kills, answers
+    print(f"  {kills} servers killed, {answers} messages answered before")
+
+
+def orders_beside_a_server_lose_nothing():
+    begin()
+    with Served("mis") as mis:
+        for number in range(40):
+            wants(order("mis", attribute(f"A{number}"))[0], "Edited")
+            wants(asked(mis, request("{}")), 400)
+    shown = json.loads(run("show", "mis")[1])
+    wants(sorted(shown["Attr"]), sorted(f"A{number}" for number in range(40)))
+
+
 TESTS = [
     a_step_is_held_where_its_lines_cannot_be_written,
     a_folder_holds_no_controller,
@@ -272,6 +527,14 @@ TESTS = [
     a_command_that_waits_is_not_in_the_way,
     the_day_of_the_brochure,
     a_killed_command_leaves_the_old_or_the_new,
+    a_day_over_the_network,
+    a_slow_client_is_cut_off,
+    many_clients_at_once,
+    an_early_answer_comes_to_the_client,
+    what_cannot_be_served_is_told,
+    what_cannot_be_sent_is_told,
+    a_killed_server_merges_once,
+    orders_beside_a_server_lose_nothing,
 ]
 
 

@@ -4,7 +4,7 @@ use crate::case::{Case, number_in};
 use http_edge::{Counted, Served, receive, send, serve_one};
 use keepers::{FileKeep, Keep, Locks};
 use std::alloc::{AllocError, Global};
-use stored_state::{Controller, Kept, Opened, open_any};
+use stored_state::{Kept, Opened, Stored, open_any};
 use streams::{Refused, refused_line};
 
 /// Appends a line with the refusal of a request, if there was one, and one with the status of the
@@ -18,7 +18,7 @@ fn push_served(alloc: Global, lines: &mut Vec<u8>, served: &Served) -> Result<()
 }
 
 /// Serves a request; none where it has no response.
-fn serve_kept<C: Controller, K: Keep>(
+fn serve_kept<C: Stored, K: Keep>(
     alloc: Global,
     kept: &mut Kept<C, K>,
     at: u64,

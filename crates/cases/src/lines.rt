@@ -7,9 +7,11 @@ use crate::program::program_answer;
 use keepers::Locks;
 use std::alloc::{AllocError, Global};
 use std::io::{self, Read, Write};
+use std::net::Net;
+use std::time::Clock;
 
 /// Writes what comes of each line of the input, after the whole input was read.
-pub fn write_answers<R: Locks, I: Read, W: Write>(
+pub fn write_answers<R: Locks + Net + Clock, I: Read, W: Write>(
     rt: &R,
     alloc: Global,
     reader: &mut I,
@@ -30,7 +32,7 @@ fn without_end(lines: &[u8]) -> &[u8] {
 }
 
 /// Appends what comes of a line.
-fn push_answer<R: Locks>(
+fn push_answer<R: Locks + Net + Clock>(
     rt: &R,
     alloc: Global,
     output: &mut Vec<u8>,
@@ -45,7 +47,11 @@ fn push_answer<R: Locks>(
 }
 
 /// What comes of a case.
-fn answer<R: Locks>(rt: &R, alloc: Global, case: &Case) -> Result<Vec<u8>, AllocError> {
+fn answer<R: Locks + Net + Clock>(
+    rt: &R,
+    alloc: Global,
+    case: &Case,
+) -> Result<Vec<u8>, AllocError> {
     if let Some(answer) = exchange_answer(rt, alloc, case)? {
         return Ok(answer);
     }

@@ -10,24 +10,31 @@ use stored_state::{Opened, open_any};
 use streams::Refused;
 use ticket_tree::{Duplicate, Id, Refusal};
 
-/// `holders FILE ID ..`: who holds each id, and whether the master may change it.
-pub fn holders<R: Locks>(
+/// `holders FILE ID ..`: who holds each id, and whether the master may change it. `marked FILE`:
+/// the ticket with a copy of its marks, as a value.
+pub fn line_in<R: Locks>(
     rt: &R,
     alloc: Global,
+    word: &str,
     file: &str,
     ids: &[String],
 ) -> Result<Vec<u8>, Refused> {
     match open_any(alloc, FileKeep::new(rt, alloc, file))? {
-        Opened::Master(kept) => Ok(holders_line(alloc, kept.controller(), ids)?),
+        Opened::Master(kept) => Ok(line_for(alloc, word, kept.controller(), ids)?),
         Opened::Worker(_) => Err(Refused::Core(Refusal::NotProfile)),
     }
 }
 
-/// `marked FILE`: the ticket with a copy of its marks, as a value.
-pub fn marked<R: Locks>(rt: &R, alloc: Global, file: &str) -> Result<Vec<u8>, Refused> {
-    match open_any(alloc, FileKeep::new(rt, alloc, file))? {
-        Opened::Master(kept) => Ok(marked_line(alloc, kept.controller())?),
-        Opened::Worker(_) => Err(Refused::Core(Refusal::NotProfile)),
+/// The line that a word asks for.
+fn line_for(
+    alloc: Global,
+    word: &str,
+    master: &Master,
+    ids: &[String],
+) -> Result<Vec<u8>, Refusal> {
+    match word {
+        "holders" => holders_line(alloc, master, ids),
+        _ => marked_line(alloc, master),
     }
 }
 

@@ -2,9 +2,11 @@
 
 use crate::case::Case;
 use crate::{files, forms, masters, places, trees};
+use jmf_message::Message;
 use keepers::Locks;
 use std::alloc::{AllocError, Global};
 use streams::{Refused, refused_line};
+use ticket_tree::{Edit, Part, Ticket};
 
 /// What comes of a case whose first word the program doesn't have: a line, or the refusal's. None
 /// of any other case.
@@ -17,43 +19,44 @@ pub fn other_answer<R: Locks>(
         return Ok(None);
     };
     match called(rt, alloc, word.as_str(), words, case.input.as_slice()) {
-        Ok(answer) => Ok(answer),
-        Err(refused) => Ok(Some(Vec::from_slice(alloc, refused_line(refused).as_bytes())?)),
+        None => Ok(None),
+        Some(Ok(answer)) => Ok(Some(answer)),
+        Some(Err(refused)) => Ok(Some(Vec::from_slice(alloc, refused_line(refused).as_bytes())?)),
     }
 }
 
-/// What comes of a word that the program doesn't have.
+/// What comes of a word that the program doesn't have; none of any other.
 fn called<R: Locks>(
     rt: &R,
     alloc: Global,
     word: &str,
     words: &[String],
     input: &[u8],
-) -> Result<Option<Vec<u8>>, Refused> {
-    let answer = match (word, words) {
-        ("file", [file]) => files::put(rt, alloc, file.as_str(), input)?,
-        ("text", [file]) => files::text(rt, alloc, file.as_str())?,
-        ("holders", [file, ids @ ..]) => masters::holders(rt, alloc, file.as_str(), ids)?,
-        ("marked", [file]) => masters::marked(rt, alloc, file.as_str())?,
-        ("below" | "subtree" | "home", ids) => places::place(alloc, word, ids, input)?,
-        ("tree", rows) => trees::tree(alloc, rows)?,
-        ("part_tree", rows) => trees::part_tree(alloc, rows)?,
-        (_, []) => return form_again(alloc, word, input),
-        _ => return Ok(None),
-    };
-    Ok(Some(answer))
+) -> Option<Result<Vec<u8>, Refused>> {
+    match (word, words) {
+        ("file", [file]) => Some(files::put(rt, alloc, file.as_str(), input)),
+        ("text", [file]) => Some(files::text(rt, alloc, file.as_str())),
+        ("holders", [file, ids @ ..]) => {
+            Some(masters::line_in(rt, alloc, word, file.as_str(), ids))
+        }
+        ("marked", [file]) => Some(masters::line_in(rt, alloc, word, file.as_str(), &[])),
+        ("below" | "subtree" | "home", ids) => Some(places::place(alloc, word, ids, input)),
+        ("tree", rows) => Some(trees::tree(alloc, rows)),
+        ("part_tree", rows) => Some(trees::part_tree(alloc, rows)),
+        (_, []) => form_again(alloc, word, input),
+        _ => None,
+    }
 }
 
 /// What is written of a form for a word that stands alone; none for any other word.
-fn form_again(alloc: Global, word: &str, input: &[u8]) -> Result<Option<Vec<u8>>, Refused> {
-    let answer = match word {
-        "value" => forms::value(alloc, input)?,
-        "ticket" => forms::ticket(alloc, input)?,
-        "change" => forms::change(alloc, input)?,
-        "part" => forms::part(alloc, input)?,
-        "message" => forms::message(alloc, input)?,
-        "id" => forms::id(alloc, input)?,
-        _ => return Ok(None),
-    };
-    Ok(Some(answer))
+fn form_again(alloc: Global, word: &str, input: &[u8]) -> Option<Result<Vec<u8>, Refused>> {
+    match word {
+        "value" => Some(forms::value(alloc, input)),
+        "ticket" => Some(forms::again::<Ticket>(alloc, input)),
+        "change" => Some(forms::again::<Edit>(alloc, input)),
+        "part" => Some(forms::again::<Part>(alloc, input)),
+        "message" => Some(forms::sent_again::<Message>(alloc, input)),
+        "id" => Some(forms::id_line::<Message>(alloc, input)),
+        _ => None,
+    }
 }

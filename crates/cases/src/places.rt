@@ -9,12 +9,12 @@ use ticket_tree::{Id, Refusal, Ticket};
 pub fn place(alloc: Global, word: &str, ids: &[String], text: &[u8]) -> Result<Vec<u8>, Refused> {
     let ticket = ticket_of(alloc, &value_of(alloc, text)?)?;
     let line = match (word, ids) {
-        ("below", [lower, upper]) => below(alloc, &ticket, lower.as_str(), upper.as_str())?,
-        ("subtree", [id]) => subtree(alloc, &ticket, id.as_str())?,
-        ("home", [id]) => home(alloc, &ticket, id.as_str())?,
-        _ => return Err(Refused::Core(Refusal::NotProfile)),
+        ("below", [lower, upper]) => below(alloc, &ticket, lower.as_str(), upper.as_str()),
+        ("subtree", [id]) => subtree(alloc, &ticket, id.as_str()),
+        ("home", [id]) => home(alloc, &ticket, id.as_str()),
+        _ => Err(Refusal::NotProfile),
     };
-    Ok(line.into_bytes())
+    Ok(line?.into_bytes())
 }
 
 /// Whether the first node is the second or below it.

@@ -1,13 +1,19 @@
 //! The program over a reader and writers in memory.
 
 use crate::case::Case;
-use jdf_commands::run_words;
+use jdf_net::run_words;
 use keepers::Locks;
 use std::alloc::{AllocError, Global};
+use std::net::Net;
+use std::time::Clock;
 use streams::Counted;
 
 /// What the program writes for a case, what it tells, and its exit status.
-pub fn program_answer<R: Locks>(rt: &R, alloc: Global, case: &Case) -> Result<Vec<u8>, AllocError> {
+pub fn program_answer<R: Locks + Net + Clock>(
+    rt: &R,
+    alloc: Global,
+    case: &Case,
+) -> Result<Vec<u8>, AllocError> {
     let mut reader = Counted::new(case.input.as_slice());
     let mut writer = Counted::new(Vec::new(alloc));
     let mut faults = Counted::new(Vec::new(alloc));

@@ -1,10 +1,11 @@
-//! Messages between controllers (JMF; JDF 1.5, 5): a part that goes out, a part that comes back,
-//! and the answer to either.
+//! What all controllers share (JMF; JDF 1.5, 5): the messages between them, a part that goes out,
+//! a part that comes back and the answer to either; and their steps.
 #![tactic(auto)]
 
 pub mod answering;
 mod body;
 mod command;
+mod controller;
 mod done;
 mod message;
 mod outcome;
@@ -13,6 +14,7 @@ mod reply;
 
 pub use body::Body;
 pub use command::Command;
+pub use controller::Controller;
 pub use done::Done;
 pub use message::Message;
 pub use outcome::Outcome;

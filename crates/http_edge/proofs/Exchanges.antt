@@ -11,7 +11,7 @@ use Rattle.http_message.specs.Message.{is_refusal}
 use Rattle.http_message.specs.Reading as reading
 use Rattle.http_message.specs.declared.kind.Kind.TheVariants as kinds
 use Rattle.stored_state.specs.Held.{GivesNothing, Held}
-use Rattle.stored_state.specs.Step.{IsSaved, Step}
+use Rattle.stored_state.specs.Step.{IsSaved, TextStep}
 use Rattle.controller.specs.declared.reply.Reply.{Reply}
 use Rattle.streams.specs.Streams.{Writes, WritesFront}
 use Rattle.http_message.specs.Status.{done_status, status_of}
@@ -23,7 +23,7 @@ use Rattle.http_edge.specs.declared.edge_fault.EdgeFault.TheVariants.{WriteFaile
 use Rattle.http_edge.specs.declared.served.Served.{Served}
 
 -- a step is saved where the keeper holds the state that it leaves
-pub saved : {C K : Type 0} (is_honest : K → Bool) (held : K → List ℕ) (state_text : C → List ℕ) (step : Step C) (old new : Held C K) → new.controller ≡ step.after → new.stale ≡ false → is_honest new.keep ≡ is_honest old.keep → (is_honest old.keep ≡ true → held new.keep ≡ state_text new.controller) → IsSaved is_honest held state_text step new
+pub saved : {C K : Type 0} (is_honest : K → Bool) (held : K → List ℕ) (state_text : C → List ℕ) (step : TextStep C) (old new : Held C K) → new.controller ≡ step.next → new.stale ≡ false → is_honest new.keep ≡ is_honest old.keep → (is_honest old.keep ≡ true → held new.keep ≡ state_text new.controller) → IsSaved is_honest held state_text step new
 saved is_honest held state_text step old new after fresh honest holds =
     record { after = after; fresh = fresh; holds = λ h. holds (sym honest ∙ h) ∙ ap state_text after }
 
@@ -43,7 +43,7 @@ not_memory : (e : Refused) → e ≡ Core Memory → e ≢ ReadFailed
 not_memory e is same = let no : Core Memory ≡ ReadFailed = sym is ∙ same in cc
 
 -- why a request isn't read
-pub not_read : {C K : Type 0} (is_honest : K → Bool) (held : K → List ℕ) (count : K → ℕ) (save_fails : K → List ℕ → K → Type 0) (state_text : C → List ℕ) (does : Message → Step C) (start : ℕ) (u : Use) (old : Held C K) (e : Refused)
+pub not_read : {C K : Type 0} (is_honest : K → Bool) (held : K → List ℕ) (count : K → ℕ) (save_fails : K → List ℕ → K → Type 0) (state_text : C → List ℕ) (does : Message → TextStep C) (start : ℕ) (u : Use) (old : Held C K) (e : Refused)
     → reading.IsUnread kinds.Request start u e
     → IsUnread start u old old e ⊎ ((e ≢ ReadFailed) × IsUnfailed u × StepsNot is_honest held count save_fails state_text does u.before.bytes old old e)
 not_read h l n sf t does start u old e unread =
@@ -56,10 +56,10 @@ not_read h l n sf t does start u old e unread =
 
 -- ---- how it is served
 
-module _ {C K : Type 0} (is_honest : K → Bool) (held : K → List ℕ) (count : K → ℕ) (save_fails : K → List ℕ → K → Type 0) (state_text : C → List ℕ) (does : Message → Step C) (input : Use) (old new : Held C K) (output : Use) where
+module _ {C K : Type 0} (is_honest : K → Bool) (held : K → List ℕ) (count : K → ℕ) (save_fails : K → List ℕ → K → Type 0) (state_text : C → List ℕ) (does : Message → TextStep C) (input : Use) (old new : Held C K) (output : Use) where
   -- the step was answered
   pub serves_step : (reply : Result Reply Refusal) (answer : Option (List ℕ)) (r : Result Served EdgeFault)
-      → (step : Step C) × Steps is_honest held state_text does input.before.bytes old new step × (reply ≡ step.reply) × (answer ≡ step.message) → IsUnfailed input
+      → (step : TextStep C) × Steps is_honest held state_text does input.before.bytes old new step × (reply ≡ step.reply) × (answer ≡ step.sent) → IsUnfailed input
       → IfOk r (λ told. told ≡ record { status = done_status; refusal = refusal_in reply })
       → OnOk r (Writes output (response_text (Ok answer)))
       → IfOk r (Serves is_honest held count save_fails state_text does input old new output)
@@ -74,7 +74,7 @@ module _ {C K : Type 0} (is_honest : K → Bool) (held : K → List ℕ) (count 
   serves_step reply answer (Err f) came unfailed is wrote = tt
 
   pub serves_front_of_step : (reply : Result Reply Refusal) (answer : Option (List ℕ)) (r : Result Served EdgeFault)
-      → (step : Step C) × Steps is_honest held state_text does input.before.bytes old new step × (reply ≡ step.reply) × (answer ≡ step.message) → IsUnfailed input
+      → (step : TextStep C) × Steps is_honest held state_text does input.before.bytes old new step × (reply ≡ step.reply) × (answer ≡ step.sent) → IsUnfailed input
       → OnErr r (WritesFront output (response_text (Ok answer))) → r ≡ Err WriteFailed
       → ServesFront is_honest held count save_fails state_text does input old new output
   serves_front_of_step reply answer (Ok told) came unfailed front is = let wrong : true ≡ false = ap is_ok is in absurd (true≢false wrong)

@@ -1,6 +1,7 @@
 -- A request to a controller beside its keeper: what comes of it, and what it is answered.
 use Rattle.std.specs.Prelude.{◌≡◌, ◌⊎◌, ℕ, Bool, true, false, List, Option, Some, None, IfSome}
 use Rattle.std.specs.Prelude.{Result, Ok, Err}
+use Rattle.std.specs.Option.{option_map}
 use Rattle.ticket_items.specs.declared.refusal.Refusal.TheVariants.{Memory}
 use Rattle.controller.specs.declared.message.Message.{Message}
 use Rattle.controller.specs.declared.reply.Reply.{Reply}
@@ -16,7 +17,8 @@ use Rattle.http_message.specs.Texts.{response_text}
 use Rattle.http_message.specs.declared.kind.Kind.TheVariants as kinds
 use Rattle.stored_state.specs.Held.{GivesNothing, Held}
 use Rattle.stored_state.specs.Kept.{IsOfMessage}
-use Rattle.stored_state.specs.Step.{IsSaved, IsTaken, Step}
+use Rattle.stored_state.specs.Step.{IsSaved, IsTaken, TextStep}
+use Rattle.stored_state.specs.declared.taken_bytes.TakenBytes.{TakenBytes}
 use Rattle.http_edge.specs.declared.served.Served.{Served}
 
 -- ---- what comes of a request
@@ -27,8 +29,8 @@ HasBody known body = IfSome known (λ input. Carries kinds.Request input 0 body)
 
 -- the message that the request carries is one step, which is saved
 pub record Steps {C K : Type 0} (is_honest : K → Bool) (held : K → List ℕ)
-    (state_text : C → List ℕ) (does : Message → Step C) (known : Option (List ℕ))
-    (old new : Held C K) (step : Step C) : Type 0 where
+    (state_text : C → List ℕ) (does : Message → TextStep C) (known : Option (List ℕ))
+    (old new : Held C K) (step : TextStep C) : Type 0 where
   pub body : List ℕ
   pub carried : HasBody known body
   pub taken : IsTaken body does step
@@ -45,13 +47,13 @@ IsNoRequest known e =
 -- why there is no step: the request isn't read, which changes nothing; or of the message that it
 -- carries nothing is given out
 abbrev pub StepsNot : {C K : Type 0} → (K → Bool) → (K → List ℕ) → (K → ℕ)
-    → (K → List ℕ → K → Type 0) → (C → List ℕ) → (Message → Step C) → Option (List ℕ)
+    → (K → List ℕ → K → Type 0) → (C → List ℕ) → (Message → TextStep C) → Option (List ℕ)
     → Held C K → Held C K → Refused → Type 0
 StepsNot is_honest held count save_fails state_text does known old new e =
     (IsNoRequest known e × (new ≡ old))
     ⊎ ((body : List ℕ) × HasBody known body
     × GivesNothing is_honest held count save_fails (IsUndecoded body)
-    (λ text. IsOfMessage body (λ m. text ≡ state_text (does m).after)) old new e)
+    (λ text. IsOfMessage body (λ m. text ≡ state_text (does m).next)) old new e)
 
 -- whether this says that a read failed
 abbrev pub is_unread : Refused → Bool
@@ -67,8 +69,8 @@ pub record IsUnread {C K : Type 0} (start : ℕ) (input : Use) (old new : Held C
 
 -- what comes of a request: a step, or why there is none
 abbrev pub Exchanges : {C K : Type 0} → (K → Bool) → (K → List ℕ) → (K → ℕ)
-    → (K → List ℕ → K → Type 0) → (C → List ℕ) → (Message → Step C) → Option (List ℕ)
-    → Held C K → Held C K → Result (Step C) Refused → Type 0
+    → (K → List ℕ → K → Type 0) → (C → List ℕ) → (Message → TextStep C) → Option (List ℕ)
+    → Held C K → Held C K → Result (TextStep C) Refused → Type 0
 Exchanges is_honest held count save_fails state_text does known old new (Ok step) =
     Steps is_honest held state_text does known old new step
 Exchanges is_honest held count save_fails state_text does known old new (Err e) =
@@ -77,8 +79,8 @@ Exchanges is_honest held count save_fails state_text does known old new (Err e) 
 -- ---- what it is answered
 
 -- the text of the answer, if there is one, or why there is no step
-abbrev pub answered : {C : Type 0} → Result (Step C) Refused → Result (Option (List ℕ)) Refused
-answered (Ok step) = Ok step.message
+abbrev pub answered : {C : Type 0} → Result (TextStep C) Refused → Result (Option (List ℕ)) Refused
+answered (Ok step) = Ok step.sent
 answered (Err e) = Err e
 
 -- the refusal of a message by the controller, if it is one
@@ -87,17 +89,26 @@ refusal_in (Ok reply) = None
 refusal_in (Err e) = Some (Core e)
 
 -- what is told of a request: the status of its response, and the refusal that was met
-abbrev pub served : {C : Type 0} → Result (Step C) Refused → Served
+abbrev pub served : {C : Type 0} → Result (TextStep C) Refused → Served
 served (Ok step) = record { status = done_status; refusal = refusal_in step.reply }
 served (Err e) = record { status = status_of e; refusal = Some e }
+
+-- the same of a message whose texts were made
+abbrev pub answer_in : Result TakenBytes Refused → Result (Option (List ℕ)) Refused
+answer_in (Ok taken) = Ok (option_map (λ text. text.items) taken.answer)
+answer_in (Err e) = Err e
+
+abbrev pub told_of : Result TakenBytes Refused → Served
+told_of (Ok taken) = record { status = done_status; refusal = refusal_in taken.reply }
+told_of (Err e) = record { status = status_of e; refusal = Some e }
 
 -- ---- how it is served
 
 -- no read failed; the response to what came of the request is written, and this is told of it
 pub record Serves {C K : Type 0} (is_honest : K → Bool) (held : K → List ℕ) (count : K → ℕ)
-    (save_fails : K → List ℕ → K → Type 0) (state_text : C → List ℕ) (does : Message → Step C)
+    (save_fails : K → List ℕ → K → Type 0) (state_text : C → List ℕ) (does : Message → TextStep C)
     (input : Use) (old new : Held C K) (output : Use) (told : Served) : Type 0 where
-  pub came : Result (Step C) Refused
+  pub came : Result (TextStep C) Refused
   pub exchange :
       Exchanges is_honest held count save_fails state_text does input.before.bytes old new came
   pub unfailed : IsUnfailed input
@@ -106,9 +117,9 @@ pub record Serves {C K : Type 0} (is_honest : K → Bool) (held : K → List ℕ
 
 -- a write of the response failed: what came of the request is as if it had not
 pub record ServesFront {C K : Type 0} (is_honest : K → Bool) (held : K → List ℕ) (count : K → ℕ)
-    (save_fails : K → List ℕ → K → Type 0) (state_text : C → List ℕ) (does : Message → Step C)
+    (save_fails : K → List ℕ → K → Type 0) (state_text : C → List ℕ) (does : Message → TextStep C)
     (input : Use) (old new : Held C K) (output : Use) : Type 0 where
-  pub came : Result (Step C) Refused
+  pub came : Result (TextStep C) Refused
   pub exchange :
       Exchanges is_honest held count save_fails state_text does input.before.bytes old new came
   pub unfailed : IsUnfailed input

@@ -1,13 +1,15 @@
 //! A controller over HTTP: one request, one step of the controller beside its keeper, one response.
 #![tactic(auto)]
 
+mod answering;
 mod edge_fault;
 mod exchange;
 mod served;
 mod serving;
 
+pub use answering::respond;
 pub use edge_fault::EdgeFault;
-pub use http_message::{Received, receive, send};
+pub use http_message::{Received, read_request, receive, send};
 pub use served::Served;
 pub use serving::serve_one;
 pub use streams::Counted;

@@ -1,15 +1,27 @@
 -- Messages, computed.
-use Rattle.std.proofs.Common.{◌≡◌, ℕ, List, ◌++◌, length, codes, Ok, Err, Some, None, refl}
+use Rattle.std.proofs.Common.{◌≡◌, ℕ, true, false, List, ◌++◌, length, codes, Ok, Err, Some, None, refl}
 use Rattle.std.specs.Fmt.{digits}
 use Rattle.streams.specs.declared.refused.Refused.TheVariants.{NotPost}
-use Rattle.http_message.specs.Texts.{request_text, response_text, parts_text, status_text}
+use Rattle.http_message.specs.Texts.{is_word, request_text, request_to, response_text, parts_text, status_text}
 
 -- the request that posts an empty object
 pub empty_object : request_text (codes "{}")
     ≡ codes "POST /jmf HTTP/1.1\r\nHost: 127.0.0.1\r\nContent-Type: application/json\r\n"
     ++ codes "Content-Length: 2\r\nConnection: close\r\n\r\n{}"
-unfolding request_text digits
+unfolding request_to digits
 empty_object = refl
+
+-- the request that posts it to another host
+pub elsewhere : request_to (codes "press:8010") (codes "/jmf/17") (codes "{}")
+    ≡ codes "POST /jmf/17 HTTP/1.1\r\nHost: press:8010\r\nContent-Type: application/json\r\n"
+    ++ codes "Content-Length: 2\r\nConnection: close\r\n\r\n{}"
+unfolding request_to digits
+elsewhere = refl
+
+-- words, and texts that are none
+pub words : (is_word (codes "press:8010") ≡ true) × (is_word (codes "a b") ≡ false)
+    × (is_word (codes "a\r\nb") ≡ false) × (is_word (codes "") ≡ false)
+words = (refl, refl, refl, refl)
 
 -- the response to a request that isn't POST
 pub not_post : response_text (Err NotPost)

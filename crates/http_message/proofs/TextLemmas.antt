@@ -3,7 +3,7 @@ use Rattle.std.proofs.Common.{◌≡◌, ℕ, List, [], ◌++◌, length, codes,
 use Rattle.std.proofs.lemmas.List.{append-nil}
 use Rattle.http.specs.StatusCode.{code_digits}
 use Rattle.http_message.specs.Status.{phrase_of}
-use Rattle.http_message.specs.Texts.{last_lines, request_text, parts_text, status_line, status_text}
+use Rattle.http_message.specs.Texts.{last_lines, request_to, parts_text, status_line, status_text}
 
 -- the last pieces of a message
 abbrev pub last_pieces : List ℕ → List ℕ → List ℕ
@@ -21,15 +21,22 @@ last_pieces-lines digits body is =
     let lines = regroup (decimal (length body)) (codes "\r\n") (codes "Connection: close\r\n") (codes "\r\n") body in
     subst (λ d. last_pieces d body ≡ last_lines body) (sym is) (ap (λ l. codes "Content-Length: " ++ l) lines)
 
+regroup_request : (post target version line before host type rest : List ℕ)
+    → post ++ (target ++ (((version ++ line) ++ before) ++ (host ++ (line ++ (type ++ rest)))))
+    ≡ (((((post ++ target) ++ version) ++ line) ++ ((before ++ host) ++ line)) ++ type) ++ rest
+regroup_request post target version line before host type rest = simp append_assoc
+
 -- the pieces of a request
-pub request_text-pieces : (digits body : List ℕ) → digits ≡ decimal (length body)
-    → codes "POST /jmf HTTP/1.1\r\nHost: 127.0.0.1\r\n"
-    ++ (codes "Content-Type: application/json\r\n" ++ last_pieces digits body)
-    ≡ request_text body
-unfolding request_text
-request_text-pieces digits body is =
-    let first = codes "POST /jmf HTTP/1.1\r\nHost: 127.0.0.1\r\nContent-Type: application/json\r\n" in
-    ap (λ last. first ++ last) (last_pieces-lines digits body is)
+pub request_to-pieces : (host target digits body : List ℕ) → digits ≡ decimal (length body)
+    → codes "POST " ++ (target ++ (codes " HTTP/1.1\r\nHost: " ++ (host ++ (codes "\r\n"
+    ++ (codes "Content-Type: application/json\r\n" ++ last_pieces digits body)))))
+    ≡ request_to host target body
+unfolding request_to
+request_to-pieces host target digits body is =
+    ap (λ last. codes "POST " ++ (target ++ (codes " HTTP/1.1\r\nHost: " ++ (host ++ (codes "\r\n"
+    ++ (codes "Content-Type: application/json\r\n" ++ last)))))) (last_pieces-lines digits body is)
+    ∙ regroup_request (codes "POST ") target (codes " HTTP/1.1") (codes "\r\n") (codes "Host: ") host
+    (codes "Content-Type: application/json\r\n") (last_lines body)
 
 regroup_line : (start code space phrase end rest : List ℕ)
     → start ++ (code ++ (space ++ (phrase ++ (end ++ rest))))

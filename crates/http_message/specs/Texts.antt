@@ -1,5 +1,7 @@
 -- The texts of a request and of a response.
-use Rattle.std.specs.Prelude.{ℕ, List, [], ◌++◌, length, codes, decimal}
+use Rattle.std.specs.Prelude.{◌&&◌, ◌==◌, ℕ, Bool, List, [], ◌++◌, length, codes, decimal, not}
+use Rattle.std.specs.Char.{is_ascii_graphic}
+use Rattle.std.specs.List.{list_all}
 use Rattle.std.specs.Prelude.{Option, Some, None, Result, Ok, Err, option_map}
 use Rattle.std.specs.Borrow.{Bor}
 use Rattle.http.specs.StatusCode.{code_digits}
@@ -23,11 +25,19 @@ length_line body = head_line (codes "Content-Length: " ++ decimal (length body))
 abbrev pub last_lines : List ℕ → List ℕ
 last_lines body = length_line body ++ head_line (codes "Connection: close") ++ head_line [] ++ body
 
--- the request that posts a body
-unfoldable pub request_text : List ℕ → List ℕ
-request_text body =
-    head_line (codes "POST /jmf HTTP/1.1") ++ head_line (codes "Host: 127.0.0.1") ++ type_line
-    ++ last_lines body
+-- one word of visible ASCII, as a host and a target are
+abbrev pub is_word : List ℕ → Bool
+is_word text = not (length text == 0) && list_all is_ascii_graphic text
+
+-- the request that posts a body to a target of a host
+unfoldable pub request_to : List ℕ → List ℕ → List ℕ → List ℕ
+request_to host target body =
+    head_line (codes "POST " ++ target ++ codes " HTTP/1.1") ++ head_line (codes "Host: " ++ host)
+    ++ type_line ++ last_lines body
+
+-- the request that posts a body to a controller of this machine
+abbrev pub request_text : List ℕ → List ℕ
+request_text = request_to (codes "127.0.0.1") (codes "/jmf")
 
 -- the first line of a response
 abbrev pub status_line : List ℕ → List ℕ → List ℕ

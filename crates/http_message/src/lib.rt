@@ -27,5 +27,5 @@ pub use looking::{MAX_FIELDS, MAX_HEAD_BYTES};
 pub use reading::{MAX_READS, read_request, receive};
 pub use received::Received;
 pub use response::write_response;
-pub use sending::send;
+pub use sending::{is_word, send, send_to};
 pub use status::status_of;

@@ -1,8 +1,9 @@
-//! `jdf_cli edit` and `jdf_cli world` work on what comes on standard input; `jdf_cli new`, `order`,
-//! `take` and `show` keep a controller in a file. `jdf_cli --help` shows each.
+//! `jdf_cli edit`, `jdf_cli world` and `jdf_cli loop` work on what comes on standard input;
+//! `jdf_cli new`, `order`, `take` and `show` keep a controller in a file. `jdf_cli --help` shows
+//! each.
 #![tactic(auto)]
 
-use jdf_commands::{NO_CALL, run_words};
+use jdf_net::{NO_CALL, run_words};
 use std::alloc::AllocError;
 use std::io::{ErrorKind, Result, Write};
 use std::process::ExitCode;

@@ -4,11 +4,12 @@ use Rattle.ticket_items.specs.declared.refusal.Refusal.{Refusal}
 use Rattle.jmf_message.specs.Decoded.{IsRefusalOf}
 use Rattle.jdf_words.specs.declared.call.Call.{Call}
 use Rattle.jdf_words.specs.declared.call.Call.TheVariants.{Edit, World, New, Order, Take, Show}
+use Rattle.jdf_words.specs.declared.call.Call.TheVariants.{Loop, Serve, Send}
 use Rattle.keepers.specs.InFile.{Fails, InFile}
 use Rattle.stored_state.specs.Opened.{AnyController}
 use Rattle.streams.specs.Ends.{EndsWith, IsFaultOf, IsOutputOf}
 use Rattle.streams.specs.Streams.{IsUntouched, Use}
-use Rattle.streams.specs.declared.refused.Refused.TheVariants.{LoadFailed}
+use Rattle.streams.specs.declared.refused.Refused.TheVariants.{LoadFailed, NoConnection}
 use Rattle.streams.specs.declared.fault.Fault.{Fault}
 use Rattle.streams.specs.declared.fault.Fault.TheVariants.{Device}
 use Rattle.jdf_commands.specs.EditCommand.Document as edit_document
@@ -60,6 +61,13 @@ IsOutputOfCall (Take file at) input text refused =
     DoesStep is_honest held (IsHanded at) (kept_in file.now) input text refused
 IsOutputOfCall (Show file) input text refused =
     IsUntouched input × Shows is_honest held (kept_in file.now) text refused
+IsOutputOfCall Loop input text refused = ⊥
+IsOutputOfCall (Serve file listen limit requests) input text refused = ⊥
+IsOutputOfCall (Send url file) input text refused = ⊥
+
+-- a call over the network isn't run over files alone, and nothing is read
+abbrev pub IsOfNetwork : Use → Fault → Type 0
+IsOfNetwork input fault = IsUntouched input × (fault ≡ Device NoConnection)
 
 -- why a call gives up
 abbrev pub IsFaultOfCall : Call → Use → Fault → Type 0
@@ -74,6 +82,9 @@ IsFaultOfCall (Take file at) input fault =
 IsFaultOfCall (Show file) input fault =
     IsNotLocked input fault
     ⊎ (IsUntouched input × ShowsNone is_honest held Fails (kept_in file.now) fault)
+IsFaultOfCall Loop input fault = IsOfNetwork input fault
+IsFaultOfCall (Serve file listen limit requests) input fault = IsOfNetwork input fault
+IsFaultOfCall (Send url file) input fault = IsOfNetwork input fault
 
 -- how a call ends: with what it writes, or with why it gives up
 abbrev pub EndsCall : Call → Use → Use → Use → ℕ → Type 0

@@ -2,4 +2,3 @@ pub mod EditCommand
 pub mod WorldCommand
 pub mod FileCommands
 pub mod Calls
-pub mod Words

@@ -1,17 +1,16 @@
-//! The calls of the program, over readers and writers: `edit`, `world`, and those that keep a
-//! controller in a file.
+//! The calls of the program that need no network, over readers and writers: `edit`, `world`, and
+//! those that keep a controller in a file.
 #![tactic(auto)]
 
 mod edit_command;
 mod file_commands;
 mod shown_master;
-mod words;
 mod world_command;
 
 pub use edit_command::run_edit;
 pub use file_commands::{
     Ordered, begin, new_output, order_kept, order_output, run_file, show_output, take_kept,
-    take_output, worker_text,
+    take_output, word_of, worker_text,
 };
-pub use words::{NO_CALL, run_words};
-pub use world_command::run_world;
+pub use shown_master::push_shown;
+pub use world_command::{push_line, run_world};

@@ -11,7 +11,7 @@ use ticket_tree::Refusal;
 
 /// Appends the text of a master's ticket, with the marks of what is out, and the end of its line.
 /// Refuses `Memory` alone.
-pub(crate) fn push_shown(alloc: Global, text: &mut Vec<u8>, master: &Master) -> Result<(), Refusal>
+pub fn push_shown(alloc: Global, text: &mut Vec<u8>, master: &Master) -> Result<(), Refusal>
     ensures ok { OnOk result (text.new.items ≡ text.old.items ++ master_text master.now) }
     ensures memory { IfErr result (λ e. e ≡ Memory) }
 {

@@ -5,3 +5,4 @@ mod command;
 mod world_output;
 
 pub use command::{WorldCommand, run_world};
+pub use world_output::push_line;

@@ -13,8 +13,8 @@ use Rattle.clap.specs.Walk.{Row, Rule, Text, answers_to, nothing_held, row_text,
 use Rattle.clap.specs.Values.{IsUnsignedIn}
 use Rattle.clap.specs.declared.builder.value_parser.ValueParser.TheVariants as parser
 use Rattle.clap.proofs.ValueTestLemmas.{accepts-Accepts}
-use Rattle.jdf_words.specs.Calls.{HasAt, HasFile, IsCall}
-use Rattle.jdf_words.specs.Commands.{at_rule, bare, command, file_rule, jdf}
+use Rattle.jdf_words.specs.Calls.{HasAt, HasFile, HasServing, HasText, IsCall}
+use Rattle.jdf_words.specs.Commands.{at_rule, bare, command, file_rule, jdf, send_rules, serve_rules}
 use Rattle.jdf_words.proofs.Walks.{AsksNoHelp, IsIn, IsMade, IsPlainRule, found_in, level_passed, made}
 
 -- an element that is found has what each has
@@ -62,6 +62,12 @@ filed name = leaf name (file_rule ∷ [])
 abbrev timed : Text → Shape
 timed name = leaf name (file_rule ∷ at_rule ∷ [])
 
+abbrev serving : Shape
+serving = leaf (codes "serve") serve_rules
+
+abbrev sending : Shape
+sending = leaf (codes "send") send_rules
+
 help_plain : (name : Text) (a : Rule) → IsIn a (leaf name []).rules → IsPlainRule a
 help_plain name a (inl is) = rw is (inr refl, refl)
 help_plain name a (inr none) = absurd none
@@ -75,6 +81,18 @@ timed_plain name a (inl is) = rw is (inl (refl, refl, refl), refl)
 timed_plain name a (inr (inl is)) = rw is (inl (refl, refl, refl), refl)
 timed_plain name a (inr (inr is)) = help_plain name a is
 
+serving_plain : (a : Rule) → IsIn a serving.rules → IsPlainRule a
+serving_plain a (inl is) = rw is (inl (refl, refl, refl), refl)
+serving_plain a (inr (inl is)) = rw is (inl (refl, refl, refl), refl)
+serving_plain a (inr (inr (inl is))) = rw is (inl (refl, refl, refl), refl)
+serving_plain a (inr (inr (inr (inl is)))) = rw is (inl (refl, refl, refl), refl)
+serving_plain a (inr (inr (inr (inr is)))) = help_plain (codes "serve") a is
+
+sending_plain : (a : Rule) → IsIn a sending.rules → IsPlainRule a
+sending_plain a (inl is) = rw is (inl (refl, refl, refl), refl)
+sending_plain a (inr (inl is)) = rw is (inl (refl, refl, refl), refl)
+sending_plain a (inr (inr is)) = help_plain (codes "send") a is
+
 none_missing : (missing : Bool) → check_kinds false false missing ≡ [] → missing ≡ false
 none_missing true e = cc
 none_missing false e = refl
@@ -83,10 +101,24 @@ there : (given : Bool) → not given ≡ false → given ≡ true
 there true e = refl
 there false e = cc
 
-file_given : (c : List Rule) (rows : List Row) → All (IsMade c) rows → is_given (codes "FILE") rows ≡ true → HasFile rows
-file_given c rows all given =
-    let row = given_row c (codes "FILE") rows all given in
+text_given : (c : List Rule) (id : Text) (rows : List Row) → All (IsMade c) rows → is_given id rows ≡ true → HasText id rows
+text_given c id rows all given =
+    let row = given_row c id rows all given in
     ap (λ o. is_some (option_and_then (λ (r : Row). slice_get r.values 0) o)) row.found
+
+-- what holds of each value that the rule of a name lets pass, holds of the value that is there
+value_holds : (c : List Rule) (id : Text) (P : Text → Type 0) (rows : List Row) → All (IsMade c) rows
+    → ((a : Rule) (text : Text) → IsIn a c → bytes_eq a.id id ≡ true → value_passes a text ≡ true → IfSome (row_text (made a text)) P)
+    → IfSome (option_and_then row_text (find (λ r. bytes_eq r.id id) rows)) P
+value_holds c id P rows all each = go (find (λ r. bytes_eq r.id id) rows) refl
+  where
+    go : (o : Option Row) → find (λ r. bytes_eq r.id id) rows ≡ o → IfSome (option_and_then row_text o) P
+    go None e = tt
+    go (Some r) e =
+        let made_row = found_holds (IsMade c) (λ r. bytes_eq r.id id) rows r e all in
+        let here = (found_in (λ r. bytes_eq r.id id) rows r e).1 in
+        let named = subst (λ (x : Row). bytes_eq x.id id ≡ true) made_row.4 here in
+        subst (λ x. IfSome (row_text x) P) (sym made_row.4) (each made_row.0 made_row.1 made_row.2 named made_row.3)
 
 -- only the rule of N is called so, and what passes it is a time
 at_passes : (name : Text) (a : Rule) (text : Text) → IsIn a (timed name).rules → bytes_eq a.id (codes "at") ≡ true → value_passes a text ≡ true
@@ -101,11 +133,50 @@ at_given name rows all given =
     let row = given_row (timed name).rules (codes "at") rows all given in
     subst (λ o. IsSomeAnd (option_and_then row_text o) (IsUnsignedIn 0 9999999999)) (sym row.found) (at_passes name row.rule row.text row.among row.named row.passes)
 
+-- only the rules of the limit and of the number of requests are called so
+limit_passes : (a : Rule) (text : Text) → IsIn a serving.rules → bytes_eq a.id (codes "limit") ≡ true → value_passes a text ≡ true
+    → IfSome (row_text (made a text)) (IsUnsignedIn 1 3600)
+limit_passes a text (inl is) named passes = let bad : false ≡ true = rw is at named in cc
+limit_passes a text (inr (inl is)) named passes = let bad : false ≡ true = rw is at named in cc
+limit_passes a text (inr (inr (inl is))) named passes = rw is (accepts-Accepts false (parser.Unsigned 1 3600) text (rw is at passes))
+limit_passes a text (inr (inr (inr (inl is)))) named passes = let bad : false ≡ true = rw is at named in cc
+limit_passes a text (inr (inr (inr (inr (inl is))))) named passes = let bad : false ≡ true = rw is at named in cc
+limit_passes a text (inr (inr (inr (inr (inr none))))) named passes = absurd none
+
+requests_passes : (a : Rule) (text : Text) → IsIn a serving.rules → bytes_eq a.id (codes "requests") ≡ true → value_passes a text ≡ true
+    → IfSome (row_text (made a text)) (IsUnsignedIn 1 18446744073709551615)
+requests_passes a text (inl is) named passes = let bad : false ≡ true = rw is at named in cc
+requests_passes a text (inr (inl is)) named passes = let bad : false ≡ true = rw is at named in cc
+requests_passes a text (inr (inr (inl is))) named passes = let bad : false ≡ true = rw is at named in cc
+requests_passes a text (inr (inr (inr (inl is)))) named passes =
+    rw is (accepts-Accepts false (parser.Unsigned 1 18446744073709551615) text (rw is at passes))
+requests_passes a text (inr (inr (inr (inr (inl is))))) named passes = let bad : false ≡ true = rw is at named in cc
+requests_passes a text (inr (inr (inr (inr (inr none))))) named passes = absurd none
+
+-- `serve` has its FILE and its ADDR, and `send` its URL
+serving_has : (words : List Text) → level_fault serving [] nothing_held words false [] ≡ []
+    → HasFile (rows_after serving.rules [] words) × HasServing (rows_after serving.rules [] words)
+serving_has words e =
+    let passed = level_passed serving serving_plain refl [] words false [] e in
+    let rows = rows_after serving.rules [] words in
+    let file = or_parts (not (is_given (codes "FILE") rows)) _ (none_missing _ passed.checks) in
+    let listen = or_parts (not (is_given (codes "listen") rows)) false file.1 in
+    let limit = value_holds serving.rules (codes "limit") (IsUnsignedIn 1 3600) rows passed.rows limit_passes in
+    let requests = value_holds serving.rules (codes "requests") (IsUnsignedIn 1 18446744073709551615) rows passed.rows requests_passes in (
+      text_given serving.rules (codes "FILE") _ passed.rows (there _ file.0),
+      (text_given serving.rules (codes "listen") _ passed.rows (there _ listen.0), limit, requests),
+    )
+
+sending_has : (words : List Text) → level_fault sending [] nothing_held words false [] ≡ [] → HasText (codes "URL") (rows_after sending.rules [] words)
+sending_has words e =
+    let passed = level_passed sending sending_plain refl [] words false [] e in
+    text_given sending.rules (codes "URL") _ passed.rows (there _ (or_parts _ false (none_missing _ passed.checks)).0)
+
 -- a command on a FILE has it, and a timed one its N too
 filed_has : (name : Text) (words : List Text) → level_fault (filed name) [] nothing_held words false [] ≡ [] → HasFile (rows_after (filed name).rules [] words)
 filed_has name words e =
     let passed = level_passed (filed name) (filed_plain name) refl [] words false [] e in
-    file_given (filed name).rules _ passed.rows (there _ (or_parts _ false (none_missing _ passed.checks)).0)
+    text_given (filed name).rules (codes "FILE") _ passed.rows (there _ (or_parts _ false (none_missing _ passed.checks)).0)
 
 timed_has : (name : Text) (words : List Text) → level_fault (timed name) [] nothing_held words false [] ≡ []
     → HasFile (rows_after (timed name).rules [] words) × HasAt (rows_after (timed name).rules [] words)
@@ -113,7 +184,7 @@ timed_has name words e =
     let passed = level_passed (timed name) (timed_plain name) refl [] words false [] e in
     let file = or_parts (not (is_given (codes "FILE") (rows_after (timed name).rules [] words))) _ (none_missing _ passed.checks) in
     let time = or_parts (not (is_given (codes "at") (rows_after (timed name).rules [] words))) false file.1 in (
-      file_given (timed name).rules _ passed.rows (there _ file.0),
+      text_given (timed name).rules (codes "FILE") _ passed.rows (there _ file.0),
       at_given name _ passed.rows (there _ time.0),
     )
 
@@ -138,24 +209,31 @@ not_help name same no_help = elim (or_cases (bytes_eq (codes "help") name) false
 command_has : (s : Shape) (name : Text) (words : List Text) → IsIn s (built jdf).subs → answers_to name (label_of s) ≡ true → AsksNoHelp (built jdf).top name
     → level_fault s [] nothing_held words false [] ≡ [] → IsCall (rows_at s words)
 unfolding jdf
-command_has s name words (inl is) answers no_help e = rw is (record { command = refl; file = λ bad. cc; at = λ bad. cc })
-command_has s name words (inr (inl is)) answers no_help e = rw is (record { command = refl; file = λ bad. cc; at = λ bad. cc })
-command_has s name words (inr (inr (inl is))) answers no_help e =
-    let has = filed_has (codes "new") words (rw is at e) in
-    rw is (record { command = refl; file = λ _. has; at = λ bad. cc })
+command_has s name words (inl is) answers no_help e = rw is (record { command = refl; file = λ bad. cc; at = λ bad. cc; serving = λ bad. cc; url = λ bad. cc })
+command_has s name words (inr (inl is)) answers no_help e = rw is (record { command = refl; file = λ bad. cc; at = λ bad. cc; serving = λ bad. cc; url = λ bad. cc })
+command_has s name words (inr (inr (inl is))) answers no_help e = rw is (record { command = refl; file = λ bad. cc; at = λ bad. cc; serving = λ bad. cc; url = λ bad. cc })
 command_has s name words (inr (inr (inr (inl is)))) answers no_help e =
-    let has = timed_has (codes "order") words (rw is at e) in
-    rw is (record { command = refl; file = λ _. has.0; at = λ _. has.1 })
+    let has = filed_has (codes "new") words (rw is at e) in
+    rw is (record { command = refl; file = λ _. has; at = λ bad. cc; serving = λ bad. cc; url = λ bad. cc })
 command_has s name words (inr (inr (inr (inr (inl is))))) answers no_help e =
-    let has = timed_has (codes "take") words (rw is at e) in
-    rw is (record { command = refl; file = λ _. has.0; at = λ _. has.1 })
+    let has = timed_has (codes "order") words (rw is at e) in
+    rw is (record { command = refl; file = λ _. has.0; at = λ _. has.1; serving = λ bad. cc; url = λ bad. cc })
 command_has s name words (inr (inr (inr (inr (inr (inl is)))))) answers no_help e =
-    let has = filed_has (codes "show") words (rw is at e) in
-    rw is (record { command = refl; file = λ _. has; at = λ bad. cc })
+    let has = timed_has (codes "take") words (rw is at e) in
+    rw is (record { command = refl; file = λ _. has.0; at = λ _. has.1; serving = λ bad. cc; url = λ bad. cc })
 command_has s name words (inr (inr (inr (inr (inr (inr (inl is))))))) answers no_help e =
+    let has = filed_has (codes "show") words (rw is at e) in
+    rw is (record { command = refl; file = λ _. has; at = λ bad. cc; serving = λ bad. cc; url = λ bad. cc })
+command_has s name words (inr (inr (inr (inr (inr (inr (inr (inl is)))))))) answers no_help e =
+    let has = serving_has words (rw is at e) in
+    rw is (record { command = refl; file = λ _. has.0; at = λ bad. cc; serving = λ _. has.1; url = λ bad. cc })
+command_has s name words (inr (inr (inr (inr (inr (inr (inr (inr (inl is))))))))) answers no_help e =
+    let has = sending_has words (rw is at e) in
+    rw is (record { command = refl; file = λ bad. cc; at = λ bad. cc; serving = λ bad. cc; url = λ _. has })
+command_has s name words (inr (inr (inr (inr (inr (inr (inr (inr (inr (inl is)))))))))) answers no_help e =
     let same : (bytes_eq (codes "help") name || false) ≡ true = rw is at answers in
     absurd (not_help name same no_help)
-command_has s name words (inr (inr (inr (inr (inr (inr (inr none))))))) answers no_help e = absurd none
+command_has s name words (inr (inr (inr (inr (inr (inr (inr (inr (inr (inr none)))))))))) answers no_help e = absurd none
 
 has_command : (has : Bool) → check_kinds (not has && false) (not has && true) false ≡ [] → has ≡ true
 has_command true e = refl

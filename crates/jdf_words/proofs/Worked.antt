@@ -1,8 +1,8 @@
 -- What clap makes of some lines of words, by computation.
-use Rattle.std.proofs.Common.{◌≡◌, [], ◌∷◌, List, Some, codes, false, refl, true}
+use Rattle.std.proofs.Common.{◌≡◌, [], ◌∷◌, List, None, Some, codes, false, refl, true}
 use Rattle.clap.specs.Words.{Text, subcommand_of, takes}
 use Rattle.clap.proofs.OnLiterals.{clap_on_literals}
-use Rattle.jdf_words.specs.Calls.{at_in, file_in, name_in}
+use Rattle.jdf_words.specs.Calls.{at_in, file_in, name_in, number_in, text_in}
 use Rattle.jdf_words.specs.Commands.{jdf}
 
 -- ---- words that are taken, and what they call for
@@ -20,6 +20,13 @@ world = codes "world" ∷ []
 world_is : (takes jdf world ≡ true) × (name_in (subcommand_of jdf world) ≡ Some (codes "world"))
 unfolding jdf clap_on_literals
 world_is = (refl, refl)
+
+abbrev by_loop : List Text
+by_loop = codes "loop" ∷ []
+
+loop_is : (takes jdf by_loop ≡ true) × (name_in (subcommand_of jdf by_loop) ≡ Some (codes "loop"))
+unfolding jdf clap_on_literals
+loop_is = (refl, refl)
 
 abbrev new : List Text
 new = codes "new" ∷ codes "job.json" ∷ []
@@ -59,6 +66,39 @@ show_is : (takes jdf show ≡ true) × (name_in (subcommand_of jdf show) ≡ Som
 unfolding jdf clap_on_literals
 show_is = (refl, refl, refl)
 
+abbrev serve : List Text
+serve = codes "serve" ∷ codes "job.json" ∷ codes "--listen" ∷ codes "h:1" ∷ []
+
+serve_is : (takes jdf serve ≡ true) × (name_in (subcommand_of jdf serve) ≡ Some (codes "serve")) × (file_in (subcommand_of jdf serve) ≡ Some (codes "job.json"))
+    × (text_in (codes "listen") (subcommand_of jdf serve) ≡ Some (codes "h:1")) × (number_in (codes "limit") (subcommand_of jdf serve) ≡ None)
+    × (number_in (codes "requests") (subcommand_of jdf serve) ≡ None)
+unfolding jdf clap_on_literals
+serve_is = (refl, refl, refl, refl, refl, refl)
+
+-- options may stand before FILE, and the limit goes up to an hour
+abbrev bounded : List Text
+bounded = codes "serve" ∷ codes "--limit=3600" ∷ codes "--requests" ∷ codes "1" ∷ codes "--listen=h:1" ∷ codes "job.json" ∷ []
+
+bounded_is : (takes jdf bounded ≡ true) × (file_in (subcommand_of jdf bounded) ≡ Some (codes "job.json"))
+    × (number_in (codes "limit") (subcommand_of jdf bounded) ≡ Some 3600) × (number_in (codes "requests") (subcommand_of jdf bounded) ≡ Some 1)
+unfolding jdf clap_on_literals
+bounded_is = (refl, refl, refl, refl)
+
+abbrev send : List Text
+send = codes "send" ∷ codes "http://h/jmf" ∷ codes "message.json" ∷ []
+
+send_is : (takes jdf send ≡ true) × (name_in (subcommand_of jdf send) ≡ Some (codes "send"))
+    × (text_in (codes "URL") (subcommand_of jdf send) ≡ Some (codes "http://h/jmf")) × (file_in (subcommand_of jdf send) ≡ Some (codes "message.json"))
+unfolding jdf clap_on_literals
+send_is = (refl, refl, refl, refl)
+
+abbrev piped : List Text
+piped = codes "send" ∷ codes "http://h/jmf" ∷ []
+
+piped_is : (takes jdf piped ≡ true) × (file_in (subcommand_of jdf piped) ≡ None)
+unfolding jdf clap_on_literals
+piped_is = (refl, refl)
+
 -- ---- words that are not
 
 no_command : takes jdf (codes "frob" ∷ []) ≡ false
@@ -80,6 +120,26 @@ no_number = refl
 no_file : takes jdf (codes "show" ∷ []) ≡ false
 unfolding jdf clap_on_literals
 no_file = refl
+
+no_address : takes jdf (codes "serve" ∷ codes "job.json" ∷ []) ≡ false
+unfolding jdf clap_on_literals
+no_address = refl
+
+no_time_at_all : takes jdf (codes "serve" ∷ codes "job.json" ∷ codes "--listen=h:1" ∷ codes "--limit=0" ∷ []) ≡ false
+unfolding jdf clap_on_literals
+no_time_at_all = refl
+
+too_long : takes jdf (codes "serve" ∷ codes "job.json" ∷ codes "--listen=h:1" ∷ codes "--limit=3601" ∷ []) ≡ false
+unfolding jdf clap_on_literals
+too_long = refl
+
+no_requests : takes jdf (codes "serve" ∷ codes "job.json" ∷ codes "--listen=h:1" ∷ codes "--requests=0" ∷ []) ≡ false
+unfolding jdf clap_on_literals
+no_requests = refl
+
+no_url : takes jdf (codes "send" ∷ []) ≡ false
+unfolding jdf clap_on_literals
+no_url = refl
 
 one_more : takes jdf (codes "edit" ∷ codes "job.json" ∷ []) ≡ false
 unfolding jdf clap_on_literals

@@ -1,6 +1,7 @@
 -- What calls and faults say.
 use Rattle.std.specs.Prelude.{◌≡◌, ◌≢◌, ◌≤◌, ⊤, ℕ, List, Option, Some, codes, option_and_then}
-use Rattle.std.specs.Prelude.{[], ◌∷◌, ◌++◌, ◌||◌, Bool, IsSomeAnd, None, is_some, option_map, true}
+use Rattle.std.specs.Prelude.{[], ◌∷◌, ◌++◌, ◌||◌, Bool, IfSome, IsSomeAnd, None, is_some}
+use Rattle.std.specs.Prelude.{option_map, true, unwrap_or}
 use Rattle.std.specs.List.{list_any}
 use Rattle.std.specs.Str.{bytes_eq}
 use Rattle.std.specs.Str.Parse.{digits_value, without_leading_plus}
@@ -9,7 +10,8 @@ use Rattle.clap.specs.Words.{IsUnsignedIn, Row, Text, first_of, kind_of, one_of}
 use Rattle.clap.specs.declared.error.Error.{Error}
 use Rattle.clap.specs.declared.error.kind.ErrorKind.TheVariants.{OutOfMemory}
 use Rattle.jdf_words.specs.declared.call.Call.{Call}
-use Rattle.jdf_words.specs.declared.call.Call.TheVariants.{Edit, World, New, Order, Take, Show}
+use Rattle.jdf_words.specs.declared.call.Call.TheVariants.{Edit, World, Loop}
+use Rattle.jdf_words.specs.declared.call.Call.TheVariants.{New, Order, Take, Show, Serve, Send}
 use Rattle.jdf_words.specs.declared.call_fault.CallFault.{CallFault}
 use Rattle.jdf_words.specs.declared.call_fault.CallFault.TheVariants.{Clap, Memory}
 
@@ -17,58 +19,102 @@ use Rattle.jdf_words.specs.declared.call_fault.CallFault.TheVariants.{Clap, Memo
 abbrev pub name_in : Option (Text × List Row) → Option Text
 name_in = option_map (λ found. found.0)
 
--- its FILE
+-- its argument of a name, and its FILE
+abbrev pub text_in : Text → Option (Text × List Row) → Option Text
+text_in id = option_and_then (λ found. first_of id found.1)
+
 abbrev pub file_in : Option (Text × List Row) → Option Text
-file_in = option_and_then (λ found. first_of (codes "FILE") found.1)
+file_in = text_in (codes "FILE")
 
 -- the number that digits write
 abbrev pub number_of : Text → ℕ
 number_of text = digits_value 10 (without_leading_plus text)
 
--- its N
+-- its number of a name, and its time
+abbrev pub number_in : Text → Option (Text × List Row) → Option ℕ
+number_in id = option_and_then (λ found. option_map number_of (one_of id found.1))
+
 abbrev pub at_in : Option (Text × List Row) → Option ℕ
-at_in = option_and_then (λ found. option_map number_of (one_of (codes "at") found.1))
+at_in = number_in (codes "at")
+
+-- the number that stands in a text, where there is one, within all bounds that the text is in
+abbrev pub ReadsNumber : Option Text → Option ℕ → Type 0
+ReadsNumber text number = (low high : ℕ) → IfSome text (IsUnsignedIn low high)
+    → (number ≡ option_map number_of text) × IfSome number (λ n. (low ≤ n) × (n ≤ high))
 
 -- what was found is the command of this name, on this FILE at this N
 abbrev pub IsTimed : Text → Text → ℕ → Option (Text × List Row) → Type 0
 IsTimed name file at found = (name_in found ≡ Some name) × (file_in found ≡ Some file)
     × (at_in found ≡ Some at) × (at ≤ 9999999999)
 
+-- what was found is `serve`, on this FILE at this ADDR, with this limit, 5 where none is named, and
+-- this number of requests
+abbrev pub IsServe : Text → Text → ℕ → Option ℕ → Option (Text × List Row) → Type 0
+IsServe file listen limit requests found = (name_in found ≡ Some (codes "serve"))
+    × (file_in found ≡ Some file) × (text_in (codes "listen") found ≡ Some listen)
+    × (limit ≡ unwrap_or (number_in (codes "limit") found) 5) × (1 ≤ limit) × (limit ≤ 3600)
+    × (requests ≡ number_in (codes "requests") found) × IfSome requests (λ n. 1 ≤ n)
+
+-- what was found is `send`, to this URL, of the message in this FILE where one is named
+abbrev pub IsSend : Text → Option Text → Option (Text × List Row) → Type 0
+IsSend url file found = (name_in found ≡ Some (codes "send"))
+    × (text_in (codes "URL") found ≡ Some url) × (file_in found ≡ file)
+
 -- a command that wants FILE, and N
 abbrev pub wants_file : Text → Bool
 wants_file name = list_any (bytes_eq name)
-    (codes "new" ∷ codes "order" ∷ codes "take" ∷ codes "show" ∷ [])
+    (codes "new" ∷ codes "order" ∷ codes "take" ∷ codes "show" ∷ codes "serve" ∷ [])
 
 abbrev pub wants_at : Text → Bool
 wants_at name = list_any (bytes_eq name) (codes "order" ∷ codes "take" ∷ [])
 
 -- one of the commands
 abbrev pub is_command : Text → Bool
-is_command name = list_any (bytes_eq name) (codes "edit" ∷ codes "world" ∷ []) || wants_file name
+is_command name = list_any (bytes_eq name)
+    (codes "edit" ∷ codes "world" ∷ codes "loop" ∷ codes "send" ∷ []) || wants_file name
 
--- FILE is among the arguments that were found, and N, which is a time
+-- an argument of this name is among those that were found; FILE is
+abbrev pub HasText : Text → List Row → Type 0
+HasText id rows = is_some (first_of id rows) ≡ true
+
 abbrev pub HasFile : List Row → Type 0
-HasFile rows = is_some (first_of (codes "FILE") rows) ≡ true
+HasFile = HasText (codes "FILE")
 
+-- an option of this name isn't among them, or is a number within bounds
+abbrev pub IsWithin : Text → ℕ → ℕ → List Row → Type 0
+IsWithin id low high rows = IfSome (one_of id rows) (IsUnsignedIn low high)
+
+-- N is among them, which is a time
 abbrev pub HasAt : List Row → Type 0
 HasAt rows = IsSomeAnd (one_of (codes "at") rows) (IsUnsignedIn 0 9999999999)
+
+-- what `serve` wants beside FILE is among them
+abbrev pub HasServing : List Row → Type 0
+HasServing rows = HasText (codes "listen") rows × IsWithin (codes "limit") 1 3600 rows
+    × IsWithin (codes "requests") 1 18446744073709551615 rows
 
 -- what was found is one of the commands, with what it wants
 pub record IsCall (found : Text × List Row) : Type 0 where
   pub command : is_command found.0 ≡ true
   pub file : wants_file found.0 ≡ true → HasFile found.1
   pub at : wants_at found.0 ≡ true → HasAt found.1
+  pub serving : bytes_eq found.0 (codes "serve") ≡ true → HasServing found.1
+  pub url : bytes_eq found.0 (codes "send") ≡ true → HasText (codes "URL") found.1
 
--- the call is what was found: the name of the command, its FILE and its N
+-- the call is what was found: the name of the command and its arguments
 abbrev pub Means : Call → Option (Text × List Row) → Type 0
 Means Edit found = name_in found ≡ Some (codes "edit")
 Means World found = name_in found ≡ Some (codes "world")
+Means Loop found = name_in found ≡ Some (codes "loop")
 Means (New file) found =
     (name_in found ≡ Some (codes "new")) × (file_in found ≡ Some file.now)
 Means (Order file at) found = IsTimed (codes "order") file.now at found
 Means (Take file at) found = IsTimed (codes "take") file.now at found
 Means (Show file) found =
     (name_in found ≡ Some (codes "show")) × (file_in found ≡ Some file.now)
+Means (Serve file listen limit requests) found =
+    IsServe file.now listen.now limit requests found
+Means (Send url file) found = IsSend url.now (option_map (λ path. path.now) file) found
 
 -- the fault says what clap's error says: that memory ran out, or else that error itself
 abbrev pub TellsOf : Error → CallFault → Type 0

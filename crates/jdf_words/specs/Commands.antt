@@ -1,5 +1,5 @@
 -- The commands of the program and their arguments, as `clap` is told of them.
-use Rattle.std.specs.Prelude.{List, [], ◌∷◌, Some, codes, true, false}
+use Rattle.std.specs.Prelude.{ℕ, List, [], ◌∷◌, Some, codes, true, false}
 use Rattle.clap.specs.Words.{App, Rule, Shape, Text, new_rule}
 use Rattle.clap.specs.Simple.{new_shape}
 use Rattle.clap.specs.declared.builder.value_parser.ValueParser.TheVariants as parser
@@ -8,14 +8,46 @@ use Rattle.clap.specs.declared.builder.value_parser.ValueParser.TheVariants as p
 abbrev pub file_rule : Rule
 file_rule = record (new_rule (codes "FILE")) { required = true }
 
+-- an option `--name`, which takes a text
+abbrev pub option_rule : Text → Rule
+option_rule name = record (new_rule name) { long = Some name; value_names = 1 }
+
+-- an option that takes a whole number within bounds
+abbrev pub number_rule : Text → ℕ → ℕ → Rule
+number_rule name low high =
+    record (option_rule name) { parser = Some (parser.Unsigned low high) }
+
 -- `--at N`, which has to be there: a whole number of at most ten digits
 abbrev pub at_rule : Rule
-at_rule = record (new_rule (codes "at")) {
-  long = Some (codes "at");
-  required = true;
-  value_names = 1;
-  parser = Some (parser.Unsigned 0 9999999999);
-}
+at_rule = record (number_rule (codes "at") 0 9999999999) { required = true }
+
+-- `--listen ADDR`, any text, which has to be there
+abbrev pub listen_rule : Rule
+listen_rule = record (option_rule (codes "listen")) { required = true }
+
+-- `--limit SECONDS`, up to an hour
+abbrev pub limit_rule : Rule
+limit_rule = number_rule (codes "limit") 1 3600
+
+-- `--requests N`, any number but 0
+abbrev pub requests_rule : Rule
+requests_rule = number_rule (codes "requests") 1 18446744073709551615
+
+-- what `serve` takes
+abbrev pub serve_rules : List Rule
+serve_rules = file_rule ∷ listen_rule ∷ limit_rule ∷ requests_rule ∷ []
+
+-- URL, any text, which has to be there
+abbrev pub url_rule : Rule
+url_rule = record (new_rule (codes "URL")) { required = true }
+
+-- FILE, any text
+abbrev pub message_rule : Rule
+message_rule = new_rule (codes "FILE")
+
+-- what `send` takes
+abbrev pub send_rules : List Rule
+send_rules = url_rule ∷ message_rule ∷ []
 
 -- the command of a name with these arguments
 abbrev pub command : Text → List Rule → Shape
@@ -38,9 +70,12 @@ jdf = record {
   top = record bare.top { is_leaf = false };
   subs = command (codes "edit") []
       ∷ command (codes "world") []
+      ∷ command (codes "loop") []
       ∷ command (codes "new") (file_rule ∷ [])
       ∷ command (codes "order") (file_rule ∷ at_rule ∷ [])
       ∷ command (codes "take") (file_rule ∷ at_rule ∷ [])
       ∷ command (codes "show") (file_rule ∷ [])
+      ∷ command (codes "serve") serve_rules
+      ∷ command (codes "send") send_rules
       ∷ [];
 }

@@ -5,6 +5,9 @@ pub enum Call<'a> {
     Edit,
     /// A shop as a whole and what happens in it, which come on standard input.
     World,
+    /// A shop as a whole and what happens in it, which come on standard input, its messages sent
+    /// over the machine's own network.
+    Loop,
     /// A new controller, kept in a file.
     New {
         /// The path of the file.
@@ -28,5 +31,23 @@ pub enum Call<'a> {
     Show {
         /// The path of the file.
         file: &'a str,
+    },
+    /// The controller that is kept in a file, which answers over the network.
+    Serve {
+        /// The path of the file.
+        file: &'a str,
+        /// The address to listen on, as a host and a port.
+        listen: &'a str,
+        /// The longest time for a connection, in seconds, from 1 to 3,600.
+        limit: u64,
+        /// How many connections to answer, at least 1. `None`: no end.
+        requests: Option<u64>,
+    },
+    /// A message for a controller that answers over the network.
+    Send {
+        /// The address of the controller, as a URL.
+        url: &'a str,
+        /// The path of the message. `None`: it comes on standard input.
+        file: Option<&'a str>,
     },
 }

@@ -1,8 +1,10 @@
 //! The commands of the program and their arguments, as `clap` is told of them.
 
-ghost use Rattle.std.specs.Prelude.{◌≡◌, [], ◌∷◌, IfOk, false};
+ghost use Rattle.std.specs.Prelude.{◌≡◌, [], ◌∷◌, IfOk, codes, false};
 ghost use Rattle.clap.specs.Words.{app_of, rule_of};
 ghost use Rattle.jdf_words.specs.Commands.{alone, at_rule, bare, command, file_rule, jdf};
+ghost use Rattle.jdf_words.specs.Commands.{limit_rule, listen_rule, message_rule, requests_rule};
+ghost use Rattle.jdf_words.specs.Commands.{send_rules, serve_rules, url_rule};
 
 use crate::help::{self, Help};
 use clap::{Arg, Command};
@@ -31,6 +33,60 @@ fn at_argument<'a>(alloc: Global) -> Arg<'a>
         .help("The time, in whole seconds since the beginning of 1970")
 }
 
+/// `--listen ADDR`, which has to be there.
+fn listen_argument<'a>(alloc: Global) -> Arg<'a>
+    ensures rule { rule_of result ≡ listen_rule }
+    ensures local { result.global ≡ false }
+{
+    Arg::new(alloc, "listen")
+        .long("listen")
+        .required(true)
+        .value_name("ADDR")
+        .help("The address to listen on, as 127.0.0.1:8010")
+}
+
+/// `--limit SECONDS`.
+fn limit_argument<'a>(alloc: Global) -> Arg<'a>
+    ensures rule { rule_of result ≡ limit_rule }
+    ensures local { result.global ≡ false }
+{
+    Arg::new(alloc, "limit")
+        .long("limit")
+        .value_name("SECONDS")
+        .value_parser(clap::value_parser!(u64).range(1..=3600))
+        .help("The longest time for a connection, from 1 to 3600 seconds; 5 if none is named")
+}
+
+/// `--requests N`.
+fn requests_argument<'a>(alloc: Global) -> Arg<'a>
+    ensures rule { rule_of result ≡ requests_rule }
+    ensures local { result.global ≡ false }
+{
+    Arg::new(alloc, "requests")
+        .long("requests")
+        .value_name("N")
+        .value_parser(clap::value_parser!(u64).range(1..))
+        .help("How many connections to answer; no end if none is named")
+}
+
+/// URL, which has to be there.
+fn url_argument<'a>(alloc: Global) -> Arg<'a>
+    ensures rule { rule_of result ≡ url_rule }
+    ensures local { result.global ≡ false }
+{
+    Arg::new(alloc, "URL").required(true).help(
+        "The address of the controller, as http://127.0.0.1:8010/jmf",
+    )
+}
+
+/// FILE, which may be there.
+fn message_argument<'a>(alloc: Global) -> Arg<'a>
+    ensures rule { rule_of result ≡ message_rule }
+    ensures local { result.global ≡ false }
+{
+    Arg::new(alloc, "FILE").help("The file that the message is in; standard input if none is named")
+}
+
 /// A command with no argument.
 fn plain_command<'a>(alloc: Global, name: &'a str, help: Help) -> Command<'a>
     ensures { app_of result ≡ alone (command name.entry.now []) }
@@ -57,6 +113,25 @@ fn timed_command<'a>(alloc: Global, name: &'a str, help: Help) -> Result<Command
     file_command(alloc, name, help)?.arg(at_argument(alloc))
 }
 
+/// The command that serves a FILE.
+fn serve_command<'a>(alloc: Global) -> Result<Command<'a>, AllocError>
+    ensures { IfOk result (λ made. app_of made ≡ alone (command (codes "serve") serve_rules)) }
+{
+    file_command(alloc, "serve", help::SERVE)?
+        .arg(listen_argument(alloc))?
+        .arg(limit_argument(alloc))?
+        .arg(requests_argument(alloc))
+}
+
+/// The command that sends to a URL.
+fn send_command<'a>(alloc: Global) -> Result<Command<'a>, AllocError>
+    ensures { IfOk result (λ made. app_of made ≡ alone (command (codes "send") send_rules)) }
+{
+    plain_command(alloc, "send", help::SEND)
+        .arg(url_argument(alloc))?
+        .arg(message_argument(alloc))
+}
+
 /// The program before it has commands: its words come without its name, and name a command.
 fn bare<'a>(alloc: Global) -> Result<Command<'a>, AllocError>
     ensures { IfOk result (λ made. app_of made ≡ bare) }
@@ -76,8 +151,11 @@ pub(crate) fn jdf<'a>(alloc: Global) -> Result<Command<'a>, AllocError>
     bare(alloc)?
         .subcommand(plain_command(alloc, "edit", help::EDIT))?
         .subcommand(plain_command(alloc, "world", help::WORLD))?
+        .subcommand(plain_command(alloc, "loop", help::LOOP))?
         .subcommand(file_command(alloc, "new", help::NEW)?)?
         .subcommand(timed_command(alloc, "order", help::ORDER)?)?
         .subcommand(timed_command(alloc, "take", help::TAKE)?)?
-        .subcommand(file_command(alloc, "show", help::SHOW)?)
+        .subcommand(file_command(alloc, "show", help::SHOW)?)?
+        .subcommand(serve_command(alloc)?)?
+        .subcommand(send_command(alloc)?)
 }

@@ -13,17 +13,20 @@ pub(crate) struct Help {
 
 /// What the program is for.
 pub(crate) const PROGRAM: &str = "Keeps the tickets of a print shop: edits one, \
-    runs a whole shop, or runs one controller.\n\
+    runs a whole shop, or runs one controller, by hand or over the network.\n\
     With no word at all it edits a ticket, as `jdf_cli edit` does.";
 
 /// A line of words for each command.
 pub(crate) const EXAMPLES: &str = "Examples:\n  \
     jdf_cli edit < brochure.json\n  \
     jdf_cli world < shop.json\n  \
+    jdf_cli loop < shop.json\n  \
     jdf_cli new mis.json < start.json\n  \
     jdf_cli order mis.json --at 1767225600 < order.json\n  \
     jdf_cli take press.json --at 1767225605 < message.json\n  \
-    jdf_cli show mis.json";
+    jdf_cli show mis.json\n  \
+    jdf_cli serve press.json --listen 127.0.0.1:8010\n  \
+    jdf_cli send http://127.0.0.1:8010/jmf message.json";
 
 pub(crate) const EDIT: Help = Help {
     about: "Edits a ticket: reads it and its edits, prints a line for each edit and the ticket",
@@ -40,6 +43,15 @@ pub(crate) const WORLD: Help = Help {
         Reads from standard input the script of a shop. Prints a line for each event, and then\n\
         the master's ticket.",
     example: "Example:\n  jdf_cli world < shop.json",
+};
+
+pub(crate) const LOOP: Help = Help {
+    about: "Runs a shop over the network: reads its script, prints what `world` prints",
+    long_about: "Runs a whole shop, a master and its workers, over the machine's own network.\n\n\
+        Reads from standard input the script of a shop. Each message is sent over HTTP to a\n\
+        controller that listens on 127.0.0.1. Prints a line for each event, and then the\n\
+        master's ticket, as `world` does.",
+    example: "Example:\n  jdf_cli loop < shop.json",
 };
 
 pub(crate) const NEW: Help = Help {
@@ -70,4 +82,22 @@ pub(crate) const SHOW: Help = Help {
         Reads nothing from standard input. Prints a master's ticket, or a line for each part\n\
         that a worker has.",
     example: "Example:\n  jdf_cli show mis.json",
+};
+
+pub(crate) const SERVE: Help = Help {
+    about: "Serves a controller: prints where it listens, and answers messages over HTTP",
+    long_about: "Serves the controller that is kept in FILE: listens on ADDR, and answers each\n\
+        message that comes over HTTP.\n\n\
+        Reads nothing from standard input. Prints the address that it listens on, and on\n\
+        standard error a line for each request. Port 0 stands for any port that is free.\n\
+        `order`, `take` and `show` may go on beside it.",
+    example: "Example:\n  jdf_cli serve press.json --listen 127.0.0.1:8010",
+};
+
+pub(crate) const SEND: Help = Help {
+    about: "Sends a message: reads it, sends it to a controller over HTTP, prints the answer",
+    long_about: "Sends a message over HTTP to the controller that listens at URL.\n\n\
+        Reads the message from FILE, or from standard input where no FILE is named. Prints the\n\
+        answer.",
+    example: "Example:\n  jdf_cli send http://127.0.0.1:8010/jmf message.json",
 };

@@ -1,10 +1,12 @@
 //! The call that words stand for.
 
-ghost use Rattle.std.specs.Prelude.{◌≡◌, ◌≢◌, ◌≤◌, [], IfErr, IfOk, IsOk, IsSomeAnd, MatchResult};
-ghost use Rattle.std.specs.Prelude.{Some, codes, map, option_map, string_bytes, true};
+ghost use Rattle.std.specs.Prelude.{◌≡◌, ◌≢◌, ◌≤◌, [], IfErr, IfOk, IfSome, IsOk, IsSomeAnd};
+ghost use Rattle.std.specs.Prelude.{MatchResult, Some, codes, map, option_map, string_bytes, true};
+ghost use Rattle.std.specs.Prelude.{unwrap_or};
 ghost use Rattle.clap.specs.Words.{fault_of, found_of, rows_of, subcommand_of, subcommand_rows_of};
 ghost use Rattle.clap.specs.Words.{first_of, one_of, takes};
-ghost use Rattle.jdf_words.specs.Calls.{HasAt, HasFile, IsCall, Means, Tells, number_of};
+ghost use Rattle.jdf_words.specs.Calls.{HasAt, HasFile, HasServing, HasText, IsCall, Means};
+ghost use Rattle.jdf_words.specs.Calls.{IsWithin, ReadsNumber, Tells, number_of};
 ghost use Rattle.jdf_words.specs.Commands.{jdf};
 ghost use Rattle.jdf_words.specs.declared.call.Call.TheVariants.{Edit};
 ghost use Rattle.jdf_words.specs.declared.call_fault.CallFault.TheVariants.{Memory};
@@ -15,12 +17,27 @@ use crate::commands;
 use clap::ArgMatches;
 use std::alloc::Global;
 
+/// The argument of a name among those that were found, where it is there.
+fn text_in<'a>(found: &ArgMatches<'a>, id: &str) -> Option<&'a str>
+    ensures { option_map (λ text. text.now) result
+        ≡ first_of id.now (rows_of (found_of found.now)) }
+{
+    found.get_str(id)
+}
+
 /// FILE among the arguments that were found.
 fn file_in<'a>(found: &ArgMatches<'a>) -> &'a str
     requires { HasFile (rows_of (found_of found.now)) }
     ensures { first_of (codes "FILE") (rows_of (found_of found.now)) ≡ Some result.now }
 {
-    found.get_str("FILE").unwrap()
+    text_in(found, "FILE").unwrap()
+}
+
+/// The number of a name among the arguments that were found, where it is there.
+fn number_in(found: &ArgMatches<'_>, id: &str) -> Option<u64>
+    ensures { ReadsNumber (one_of id.now (rows_of (found_of found.now))) result }
+{
+    found.get_one::<u64>(id)
 }
 
 /// N among the arguments that were found.
@@ -30,7 +47,53 @@ fn at_in(found: &ArgMatches<'_>) -> u64
         ≡ Some result }
     ensures time { result ≤ 9999999999 }
 {
-    found.get_one::<u64>("at").unwrap()
+    number_in(found, "at").unwrap()
+}
+
+/// SECONDS among the arguments that were found, 5 where they aren't there.
+fn limit_in(found: &ArgMatches<'_>) -> u64
+    requires { IsWithin (codes "limit") 1 3600 (rows_of (found_of found.now)) }
+    ensures number { result ≡ unwrap_or
+        (option_map number_of (one_of (codes "limit") (rows_of (found_of found.now)))) 5 }
+    ensures least { 1 ≤ result }
+    ensures most { result ≤ 3600 }
+{
+    number_in(found, "limit").unwrap_or(5)
+}
+
+/// The number of requests among the arguments that were found, where it is there.
+fn requests_in(found: &ArgMatches<'_>) -> Option<u64>
+    requires { IsWithin (codes "requests") 1 18446744073709551615 (rows_of (found_of found.now)) }
+    ensures number { result
+        ≡ option_map number_of (one_of (codes "requests") (rows_of (found_of found.now))) }
+    ensures least { IfSome result (λ n. 1 ≤ n) }
+{
+    number_in(found, "requests")
+}
+
+/// The call of `serve` with these arguments.
+fn serve_of<'a>(found: &ArgMatches<'a>) -> Call<'a>
+    requires file { HasFile (rows_of (found_of found.now)) }
+    requires serving { HasServing (rows_of (found_of found.now)) }
+    ensures { Means result (Some (codes "serve", rows_of (found_of found.now))) }
+{
+    Call::Serve {
+        file: file_in(found),
+        listen: text_in(found, "listen").unwrap(),
+        limit: limit_in(found),
+        requests: requests_in(found),
+    }
+}
+
+/// The call of `send` with these arguments.
+fn send_of<'a>(found: &ArgMatches<'a>) -> Call<'a>
+    requires { HasText (codes "URL") (rows_of (found_of found.now)) }
+    ensures { Means result (Some (codes "send", rows_of (found_of found.now))) }
+{
+    Call::Send {
+        url: text_in(found, "URL").unwrap(),
+        file: text_in(found, "FILE"),
+    }
 }
 
 /// The call for the command of this name with these arguments.
@@ -41,6 +104,7 @@ fn call_of<'a>(name: &str, found: &ArgMatches<'a>) -> Call<'a>
     match name {
         "edit" => Call::Edit,
         "world" => Call::World,
+        "loop" => Call::Loop,
         "new" => Call::New {
             file: file_in(found),
         },
@@ -55,6 +119,8 @@ fn call_of<'a>(name: &str, found: &ArgMatches<'a>) -> Call<'a>
         "show" => Call::Show {
             file: file_in(found),
         },
+        "serve" => serve_of(found),
+        "send" => send_of(found),
         _ => unreachable!(),
     }
 }
@@ -69,10 +135,12 @@ fn call_in<'a>(matches: &ArgMatches<'a>) -> Call<'a>
 }
 
 /// The call that the words of the command line stand for, which come without the program's name.
-/// No word at all is `edit`; any others are read by `clap`, as `edit`, `world`, `new FILE`,
-/// `order FILE --at N`, `take FILE --at N` or `show FILE`. FILE is any text, N a whole number of
-/// seconds since 1970 of at most 9,999,999,999. Other words, and those that ask for help, are
-/// answered with `clap`'s fault.
+/// No word at all is `edit`; any others are read by `clap`, as `edit`, `world`, `loop`,
+/// `new FILE`, `order FILE --at N`, `take FILE --at N`, `show FILE`,
+/// `serve FILE --listen ADDR [--limit SECONDS] [--requests COUNT]` or `send URL [FILE]`. FILE, ADDR
+/// and URL are any text, N a whole number of seconds since 1970 of at most 9,999,999,999, SECONDS
+/// one from 1 to 3,600, 5 where it isn't there, and COUNT one of at least 1. Other words, and those
+/// that ask for help, are answered with `clap`'s fault.
 pub fn command_of<'a>(alloc: Global, words: &'a [String]) -> Result<Call<'a>, CallFault>
     ensures edit { words.entry.now ≡ [] → IsOk result }
     ensures named { IfOk result (λ call. (words.entry.now ≡ [] → call ≡ Edit)

@@ -15,4 +15,6 @@ pub mod Merging
 pub mod Passing
 pub mod Kept
 pub mod KeptStored
+pub mod NeverMemory
+pub mod Sends
 mod Worked

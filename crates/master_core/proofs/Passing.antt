@@ -66,11 +66,7 @@ pub no_refusal : (o : Option Refusal) (b : Bool) → b ≡ is_some o → b ≡ f
 no_refusal None b told e = refl
 no_refusal (Some r) b told e = cc
 
--- what holds where the first went well, and of what is answered then, holds of the answer of both
-pub ok_of_both : {X Y E : Type 0} {P Q : Type 0} (first : Result X E) (y : Y) (both : Result Y E) → both ≡ result_and first (Ok y) → OnOk first P → (P → Q) → OnOk both Q
-ok_of_both {Q = Q} (Ok x) y both is p f = subst (λ r. OnOk r Q) (sym is) (f p)
-ok_of_both {Q = Q} (Err e) y both is p f = subst (λ r. OnOk r Q) (sym is) tt
-
-pub answer_of_both : {X Y E : Type 0} (P : Y → Type 0) (first : Result X E) (y : Y) (both : Result Y E) → both ≡ result_and first (Ok y) → P y → IfOk both P
-answer_of_both P (Ok x) y both is p = subst (λ r. IfOk r P) (sym is) p
-answer_of_both P (Err e) y both is p = subst (λ r. IfOk r P) (sym is) tt
+-- what follows where the first went well holds of the answer of both
+pub of_both : {X Y E : Type 0} {P : Type 0} (Q : Y → Type 0) (first : Result X E) (y : Y) (both : Result Y E) → both ≡ result_and first (Ok y) → OnOk first P → (P → Q y) → IfOk both Q
+of_both Q (Ok x) y both is p f = subst (λ r. IfOk r Q) (sym is) (f p)
+of_both Q (Err e) y both is p f = subst (λ r. IfOk r Q) (sym is) tt

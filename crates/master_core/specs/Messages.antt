@@ -11,6 +11,7 @@ use Rattle.ticket_rows.specs.Copies.{with_copies}
 use Rattle.ticket_rows.specs.Ticket.{IsValid, first_of, unless}
 use Rattle.ticket_tree.specs.Part.{Copied}
 use Rattle.controller.specs.Reply.{answer_to, refused_or, spawn_in, told_of}
+use Rattle.controller.specs.Step.{Step}
 use Rattle.controller.specs.declared.body.Body.{Body}
 use Rattle.controller.specs.declared.body.Body.TheVariants.{Submit, Return, Answer}
 use Rattle.controller.specs.declared.command.Command.{Command}
@@ -118,3 +119,14 @@ taken_result m w = told_of (take_refusal m w) (end_of m.body)
 -- the answer to a message: to a command from the master to its sender, and to an answer none
 abbrev pub taken_answer : Message → ℕ → Known → Option Message
 taken_answer m at w = answer_to w.name m at (taken_result m w)
+
+-- ---- the step
+
+-- the master's step on a message at a time
+abbrev pub take_step : Message → ℕ → Known → Step Known Message
+take_step m at w =
+    record {
+      reply = taken_reply m w;
+      sent = taken_answer m at w;
+      next = after_taking m at w;
+    }

@@ -1,7 +1,7 @@
 -- What a master does with an order: why it is refused, and else what becomes of the ticket and of
 -- the records, what is replied and what goes out.
 use Rattle.std.specs.Prelude.{ℕ, List, [], ◌∷◌, ◌++◌, if◌then◌else◌}
-use Rattle.std.specs.Prelude.{Option, Some, None, is_some}
+use Rattle.std.specs.Prelude.{Option, Some, None, is_some, Ok}
 use Rattle.std.specs.Option.{option_map, option_map_or}
 use Rattle.ticket_items.specs.Ids.{mem}
 use Rattle.ticket_items.specs.declared.edit.Edit.{Edit}
@@ -10,6 +10,7 @@ use Rattle.ticket_items.specs.declared.refusal.Refusal.TheVariants.{NotHeld, Not
 use Rattle.ticket_rows.specs.Edit.{edited, lookups, target}
 use Rattle.ticket_rows.specs.EditRefusal.{later_refusal, unknown_refusal}
 use Rattle.ticket_rows.specs.Ticket.{Job, first_of, unless}
+use Rattle.controller.specs.Step.{Step, unless_refused}
 use Rattle.controller.specs.declared.body.Body.TheVariants.{Submit}
 use Rattle.controller.specs.declared.message.Message.{Message}
 use Rattle.controller.specs.declared.reply.Reply.{Reply}
@@ -99,3 +100,11 @@ order_message (order.Spawn node worker rw) at w =
     (next_record w node worker rw at))
 order_message (order.Resend s) at w =
     option_map (submit_of w.name w.ticket) (record_of w.records s)
+
+-- ---- the step
+
+-- the master's step on an order at a time
+abbrev pub order_step : Order → ℕ → Known → Step Known Message
+order_step o at w =
+    unless_refused (order_refusal o w) w
+    (record { reply = Ok (order_reply o w); sent = order_message o at w; next = ordered o at w })

@@ -4,6 +4,7 @@
 mod editing;
 pub mod laws;
 mod master;
+mod master_controller;
 mod names;
 mod order;
 mod ordering;

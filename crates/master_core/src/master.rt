@@ -33,9 +33,10 @@ impl Model for Master {
 
 impl Master {
     ghost use Rattle.std.specs.Prelude.{◌≡◌, ◌⊎◌, ◌∷◌, true, false, [], Err, OnOk, OnErr};
-    ghost use Rattle.std.specs.Prelude.{IfOk, IfErr, IfNone, IfSome, IsErrOf, IsOk};
+    ghost use Rattle.std.specs.Prelude.{IfOk, IfErr, IsErrOf, IsOk};
     ghost use Rattle.ticket_items.specs.Ids.{are_distinct};
     ghost use Rattle.controller.specs.Reply.{is_answer};
+    ghost use Rattle.controller.specs.Step.{done_step, outcome_step};
     ghost use Rattle.spawn.specs.Marking as marking;
     ghost use Rattle.master_core.specs.Master as master;
     ghost use Rattle.master_core.specs.Master.{IsKept};
@@ -176,14 +177,13 @@ impl Master {
     /// to send once more as `NotOut` where no spawn that is out has the number. Then refuses
     /// `Memory`. A refusal changes nothing.
     pub fn order(&mut self, alloc: Global, order: Order, at: u64) -> Result<Done, Refusal>
-        ensures state { OnOk result (self.new ≡ orders.ordered order at self.old) }
-        ensures reply { IfOk result (λ done. done.reply ≡ orders.order_reply order self.old) }
-        ensures message { IfOk result
-            (λ done. done.message ≡ orders.order_message order at self.old) }
+        ensures ok { IfOk result
+            (λ done. done_step done self.new ≡ orders.order_step order at self.old) }
         ensures err { OnErr result (self.new ≡ self.old) }
-        ensures refused { IfSome (orders.order_refusal order self.old) (λ e. result ≡ Err e) }
-        ensures memory { IfNone (orders.order_refusal order self.old)
-            (IfErr result (λ e. e ≡ Refusal.Memory)) }
+        ensures refused { IfErr (orders.order_step order at self.old).reply
+            (λ e. result ≡ Err e) }
+        ensures memory { IfOk (orders.order_step order at self.old).reply
+            (λ _. IfErr result (λ e. e ≡ Refusal.Memory)) }
     {
         do_order(
             alloc,
@@ -205,11 +205,8 @@ impl Master {
     /// in before. A command is answered, refused or not; an answer isn't, and takes no memory.
     /// Where memory runs out nothing is changed.
     pub fn take(&mut self, alloc: Global, message: Message, at: u64) -> Result<Outcome, AllocError>
-        ensures state { OnOk result (self.new ≡ messages.after_taking message at self.old) }
-        ensures reply { IfOk result
-            (λ outcome. outcome.reply ≡ messages.taken_reply message self.old) }
-        ensures answer { IfOk result
-            (λ outcome. outcome.answer ≡ messages.taken_answer message at self.old) }
+        ensures ok { IfOk result
+            (λ outcome. outcome_step outcome self.new ≡ messages.take_step message at self.old) }
         ensures err { OnErr result (self.new ≡ self.old) }
         ensures answers { is_answer message.body ≡ true → IsOk result }
     {

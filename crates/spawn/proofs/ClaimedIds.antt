@@ -56,13 +56,13 @@ below_at true rows n p valid e own =
 below_at false rows n p valid e own =
     none_found (below n) (places rows) p.id p (none_below n [] rows refl (mem-node_ids rows n ∙ e)) own ∙ ap (λ rs. mem p.id (ids rs)) (sym (unknown_rows rows n valid e))
 
-below_rows : (rows : List NodeRow) (n : List ℕ) (p : Place) → IsValid rows
+pub below_rows : (rows : List NodeRow) (n : List ℕ) (p : Place) → IsValid rows
     → place_at (places rows) p.id ≡ Some p → below n p ≡ mem p.id (ids (rows_below rows n))
 below_rows rows n p valid own = below_at (has_node rows n) rows n p valid refl own
 
 -- ---- who holds it
 
-holds_same : (rows : List NodeRow) (r : SpawnRec) (p : Place) → IsValid rows
+pub holds_same : (rows : List NodeRow) (r : SpawnRec) (p : Place) → IsValid rows
     → place_at (places rows) p.id ≡ Some p → holds p r ≡ (is_out r && claims_id rows r p.id)
 holds_same rows r p valid own = ap (λ b. is_out r && (b || mem p.id r.rw)) (below_rows rows r.node p valid own)
 

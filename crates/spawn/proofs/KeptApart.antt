@@ -73,7 +73,7 @@ no_holder : (o : Option SpawnRec) → option_map (λ r. NotHeld r.id) o ≡ None
 no_holder None e = refl
 no_holder (Some r) e = cc
 
-free : (rows : List NodeRow) (recs : List SpawnRec) (number : ℕ) (n : List ℕ) (ids : List (List ℕ))
+pub free : (rows : List NodeRow) (recs : List SpawnRec) (number : ℕ) (n : List ℕ) (ids : List (List ℕ))
     → spawn_refusal rows recs number n ids ≡ None
     → winner (is_claimed n ids) recs (places rows) ≡ None
 free rows recs number n ids none = no_holder (winner (is_claimed n ids) recs (places rows)) (unheld (has_node rows n) (is_some (up (node_places rows) n)) _ _ _ (is_spawn_number number) none)
@@ -83,7 +83,7 @@ wider true b c h go = refl
 wider false b c h go = go h
 
 -- what the new record claims was asked for
-wanted_too : (rows : List NodeRow) (number : ℕ) (n worker : List ℕ) (ids : List (List ℕ)) (time : ℕ)
+pub wanted_too : (rows : List NodeRow) (number : ℕ) (n worker : List ℕ) (ids : List (List ℕ)) (time : ℕ)
     (p : Place)
     → holds p (new_record rows number n worker ids time) ≡ true → is_claimed n ids p ≡ true
 wanted_too rows number n worker ids time p held =

@@ -39,3 +39,6 @@ pub mod ApartMore
 pub mod ClaimedIds
 pub mod BelowRoot
 pub mod StandingSets
+pub mod Holdings
+pub mod HoldingsEdited
+pub mod HoldingsKept

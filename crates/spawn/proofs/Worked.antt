@@ -1,6 +1,6 @@
 -- The definitions computed on a small job: a product with paper and sheets in its pool, whose
 -- printing takes paper and makes sheets, and whose cutting takes the sheets.
-use Rattle.std.proofs.Common.{◌≡◌, ℕ, true, false, List, [], ◌∷◌, map, Some, None, refl}
+use Rattle.std.proofs.Common.{◌≡◌, ℕ, true, false, List, [], ◌∷◌, ◌++◌, map, Some, None, refl}
 use Rattle.std.specs.Fmt.{digits}
 use Rattle.std.specs.List.{filter}
 use Rattle.std.specs.Prelude.{codes}
@@ -8,6 +8,7 @@ use Rattle.ticket_rows.specs.Place.{below, places, resource, row_in}
 use Rattle.ticket_rows.specs.Ticket.{Job}
 use Rattle.ticket_tree.specs.PartView.{cut, part_row, part_thing}
 use Rattle.ticket_items.specs.declared.audit.Audit.TheVariants.{Spawned}
+use Rattle.ticket_items.specs.declared.edit.Edit.TheVariants.{AddNode}
 use Rattle.ticket_items.specs.declared.link.Link.{Link}
 use Rattle.ticket_items.specs.declared.node_row.NodeRow.{NodeRow}
 use Rattle.ticket_items.specs.declared.refusal.Refusal.TheVariants.{UnknownNode, IsRoot}
@@ -17,6 +18,8 @@ use Rattle.ticket_items.specs.declared.resource.Resource.{Resource}
 use Rattle.ticket_items.specs.declared.spawn_status.SpawnStatus.TheVariants.{SpawnedRO, SpawnedRW}
 use Rattle.ticket_items.specs.declared.usage.Usage.TheVariants.{Input, Output}
 use Rattle.spawn.specs.Claim.{ids_of, linked_outside, claim}
+use Rattle.spawn.specs.Holdings.{Holdings, claim_given, held_by, table, without_last}
+use Rattle.spawn.specs.HoldingsLaws.{edited_holdings}
 use Rattle.spawn.specs.Marking.{marks}
 use Rattle.spawn.specs.Parts.{part_for}
 use Rattle.spawn.specs.Spawning.{spawn_refusal, new_record, spawned}
@@ -183,6 +186,49 @@ first_merged : marks told (record first { phase = Merged } ∷ second ∷ []) �
   resources = record { id = codes "r2"; status = SpawnedRO; spawn_ids = 2 ∷ [] } ∷ [];
 }
 first_merged = refl
+
+-- ---- holders by id
+
+abbrev all_ids : List (List ℕ)
+all_ids = codes "n0" ∷ codes "n1" ∷ codes "n2" ∷ codes "r1" ∷ codes "r2" ∷ codes "n9" ∷ []
+
+both_held : map (held_by (table told (first ∷ second ∷ []))) all_ids
+    ≡ Some Master ∷ Some (Spawn 1) ∷ Some (Spawn 2) ∷ Some Master ∷ Some (Spawn 1) ∷ None ∷ []
+both_held = refl
+
+-- the same, a spawn at a time
+both_given : claim_given told second (Spawn 2) (claim_given told first (Spawn 1) (table rows []))
+    ≡ table told (first ∷ second ∷ [])
+both_given = refl
+
+-- and once the first is merged
+first_given_back : claim_given told first Master (table told (first ∷ second ∷ []))
+    ≡ table told (record first { phase = Merged } ∷ second ∷ [])
+first_given_back = refl
+
+-- of two claims that share something, the first of the records has it
+shared_claim : map (held_by (table told (first ∷ record second { rw = codes "r2" ∷ []; ro = [] } ∷ []))) all_ids
+    ≡ map (held_by (table told (first ∷ second ∷ []))) all_ids
+shared_claim = refl
+
+folding : Holdings → Holdings
+folding = edited_holdings (AddNode (codes "n0") (codes "n3") (codes "Folding") (codes "p3") (codes "Waiting"))
+
+folding_held : held_by (folding (table told (first ∷ second ∷ []))) (codes "n3") ≡ Some Master
+unfolding folding
+folding_held = refl
+
+-- an id is added, and is taken out again
+added : Holdings
+added = table told (first ∷ second ∷ []) ++ (codes "n4", Master) ∷ []
+
+added_held : held_by added (codes "n4") ≡ Some Master
+unfolding added
+added_held = refl
+
+unadded_held : held_by (without_last added) (codes "n4") ≡ None
+unfolding added
+unadded_held = refl
 
 -- ---- what was stored
 

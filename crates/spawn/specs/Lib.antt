@@ -12,3 +12,5 @@ pub mod Stored
 pub mod Walk
 pub mod OutTables
 pub mod ClaimSet
+pub mod Holdings
+pub mod HoldingsLaws

@@ -1,6 +1,7 @@
 //! Laws of the words that the contracts of this crate use. Each function does nothing: its contract
 //! is the law.
 
+ghost use Rattle.spawn.specs.HoldingsLaws as holdings;
 ghost use Rattle.spawn.specs.Laws as law;
 ghost use Rattle.spawn.specs.Stored.{StandingIsATest};
 
@@ -57,4 +58,15 @@ pub fn rows_below_a_node_have_its_places()
 /// no two of them claim one thing.
 pub fn whether_records_stand_well_is_a_test()
     ensures { StandingIsATest }
+{}
+
+/// Holders that are those of a ticket and its records go on to be so: an edit of what the master
+/// holds adds its new id, a spawn gives its claim to it, and a merge gives the claim back. An id
+/// that an edit may add isn't among them, and once added it is what `unadd` takes out.
+pub fn holders_are_kept_in_step()
+    ensures edits { holdings.EditKeepsTable }
+    ensures new { holdings.AddedIsNew }
+    ensures unadded { holdings.LastIsTakenOut }
+    ensures spawns { holdings.SpawnKeepsTable }
+    ensures merges { holdings.MergeKeepsTable }
 {}

@@ -1,3 +1,1 @@
 pub mod Loading
-pub mod NeverMemory
-pub mod Sendable

@@ -4,17 +4,16 @@ ghost use Rattle.std.specs.Option.{option_map};
 ghost use Rattle.serde_json.specs.Written.{compact_text};
 ghost use Rattle.ticket_items.specs.declared.refusal.Refusal.TheVariants.{Memory};
 ghost use Rattle.jmf_message.specs.Decoded.{IsRefusalOf as IsUndecoded};
-ghost use Rattle.controller.specs.Reply.{refused_or};
 ghost use Rattle.controller.specs.Words.{may_be_sent};
 ghost use Rattle.keepers.specs.Keeper.{CountRose};
 ghost use Rattle.stored_state.specs.Held.{GivesNothing, HoldsSame, IsNotLoaded};
 ghost use Rattle.stored_state.specs.Held.{IsNotSaved, IsReadAs, StepGivesNothing};
-ghost use Rattle.stored_state.specs.Kept.{IsOfMessage, message_text, unless_refused};
+ghost use Rattle.stored_state.specs.Kept.{IsOfMessage, message_text};
 ghost use Rattle.streams.specs.declared.refused.Refused.TheVariants.{Core, LoadFailed};
 ghost use Rattle.streams.specs.declared.refused.Refused.TheVariants.{SaveFailed, Stale};
 
 use crate::order_bytes::OrderBytes;
-use crate::stored_controller::Controller;
+use crate::stored::Stored;
 use crate::storing::{load, save, save_step, state_text};
 use crate::taken_bytes::TakenBytes;
 use controller::{Done, Message, Outcome};
@@ -29,13 +28,13 @@ use ticket_tree::Refusal;
 /// is given out. Once a step could not be saved it is stale: another state may be held than is
 /// shown, and until it is loaded again no order and no message is taken.
 #[derive(Drop)]
-pub struct Kept<C: Controller, K: Keep> {
+pub struct Kept<C: Stored, K: Keep> {
     controller: C,
     keep: K,
     stale: bool,
 }
 
-impl<C: Controller, K: Keep> Model for Kept<C, K> {
+impl<C: Stored, K: Keep> Model for Kept<C, K> {
     ghost use Rattle.stored_state.specs.Held.{Held};
 
     ghost Value = { Held C K };
@@ -47,7 +46,7 @@ impl<C: Controller, K: Keep> Model for Kept<C, K> {
     } };
 }
 
-impl<C: Controller, K: Keep> Kept<C, K> {
+impl<C: Stored, K: Keep> Kept<C, K> {
     /// A controller beside the keeper that holds its state.
     pub(crate) fn fresh(controller: C, keep: K) -> Kept<C, K>
         ensures { result ≡ record { controller = controller; keep = keep; stale = false } }
@@ -133,14 +132,11 @@ impl<C: Controller, K: Keep> Kept<C, K> {
     /// from then on.
     pub fn order(&mut self, alloc: Global, order: C::Order, at: u64) -> Result<OrderBytes, Refused>
         ensures reply { IfOk result (λ given. given.reply
-            ≡ refused_or (C.order_refusal order self.old.controller)
-            (C.order_reply order self.old.controller)) }
+            ≡ (C.order_step order at self.old.controller).reply) }
         ensures message { IfOk result (λ given. option_map (λ b. b.items) given.message
-            ≡ option_map message_text (unless_refused (C.order_refusal order self.old.controller)
-            None (C.order_message order at self.old.controller))) }
+            ≡ option_map message_text (C.order_step order at self.old.controller).sent) }
         ensures state { OnOk result (self.new.controller
-            ≡ unless_refused (C.order_refusal order self.old.controller) self.old.controller
-            (C.ordered order at self.old.controller)) }
+            ≡ (C.order_step order at self.old.controller).next) }
         ensures fresh { OnOk result (self.new.stale ≡ false) }
         ensures held { OnOk result (K.is_honest self.old.keep ≡ true →
             K.held self.new.keep ≡ compact_text (C.state_data self.new.controller)) }
@@ -151,8 +147,7 @@ impl<C: Controller, K: Keep> Kept<C, K> {
         ensures counted { K.count self.old.keep ≤ K.count self.new.keep }
         ensures refused { IfErr result (GivesNothing K.is_honest K.held K.count K.save_fails
             (λ e. e ≡ Memory) (λ text. text ≡ compact_text (C.state_data
-            (unless_refused (C.order_refusal order self.old.controller) self.old.controller
-            (C.ordered order at self.old.controller)))) self.old self.new) }
+            (C.order_step order at self.old.controller).next)) self.old self.new) }
     {
         if self.stale {
             drop(order);
@@ -222,10 +217,10 @@ impl<C: Controller, K: Keep> Kept<C, K> {
     /// `SaveFailed`, it is stale from then on.
     pub fn take(&mut self, alloc: Global, bytes: &[u8], at: u64) -> Result<TakenBytes, Refused>
         ensures ok { IfOk result (λ given. IsOfMessage bytes.now (λ m.
-            (self.new.controller ≡ C.taken m at self.old.controller)
-            × (given.reply ≡ C.taken_reply m self.old.controller)
+            (self.new.controller ≡ (C.take_step m at self.old.controller).next)
+            × (given.reply ≡ (C.take_step m at self.old.controller).reply)
             × (option_map (λ b. b.items) given.answer
-            ≡ option_map message_text (C.taken_answer m at self.old.controller)))) }
+            ≡ option_map message_text (C.take_step m at self.old.controller).sent))) }
         ensures fresh { OnOk result (self.new.stale ≡ false) }
         ensures held { OnOk result (K.is_honest self.old.keep ≡ true →
             K.held self.new.keep ≡ compact_text (C.state_data self.new.controller)) }
@@ -236,7 +231,7 @@ impl<C: Controller, K: Keep> Kept<C, K> {
         ensures counted { K.count self.old.keep ≤ K.count self.new.keep }
         ensures refused { IfErr result (GivesNothing K.is_honest K.held K.count K.save_fails
             (IsUndecoded bytes.now) (λ text. IsOfMessage bytes.now (λ m. text
-            ≡ compact_text (C.state_data (C.taken m at self.old.controller))))
+            ≡ compact_text (C.state_data (C.take_step m at self.old.controller).next)))
             self.old self.new) }
     {
         if self.stale {
@@ -253,11 +248,12 @@ impl<C: Controller, K: Keep> Kept<C, K> {
         message: Message,
         at: u64,
     ) -> Result<TakenBytes, Refused>
-        ensures state { OnOk result (self.new.controller ≡ C.taken message at self.old.controller) }
+        ensures state { OnOk result
+            (self.new.controller ≡ (C.take_step message at self.old.controller).next) }
         ensures reply { IfOk result
-            (λ given. given.reply ≡ C.taken_reply message self.old.controller) }
+            (λ given. given.reply ≡ (C.take_step message at self.old.controller).reply) }
         ensures answer { IfOk result (λ given. option_map (λ b. b.items) given.answer
-            ≡ option_map message_text (C.taken_answer message at self.old.controller)) }
+            ≡ option_map message_text (C.take_step message at self.old.controller).sent) }
         ensures fresh { OnOk result (self.new.stale ≡ false) }
         ensures held { OnOk result (K.is_honest self.old.keep ≡ true →
             K.held self.new.keep ≡ compact_text (C.state_data self.new.controller)) }
@@ -266,7 +262,7 @@ impl<C: Controller, K: Keep> Kept<C, K> {
         ensures honest { K.is_honest self.new.keep ≡ K.is_honest self.old.keep }
         ensures counted { K.count self.old.keep ≤ K.count self.new.keep }
         ensures refused { IfErr result (StepGivesNothing K.is_honest K.held K.count K.save_fails
-            (compact_text (C.state_data (C.taken message at self.old.controller)))
+            (compact_text (C.state_data (C.take_step message at self.old.controller).next))
             self.old self.new) }
     {
         let Outcome { reply, answer } = self.controller.take(alloc, message, at)?;

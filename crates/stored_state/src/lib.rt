@@ -3,18 +3,19 @@
 
 mod kept;
 mod kind;
-mod master_controller;
 mod opened;
 mod order_bytes;
-mod stored_controller;
+mod stored;
+mod stored_master;
+mod stored_worker;
 mod storing;
 mod taken_bytes;
-mod worker_controller;
 
+pub use controller::Controller;
 pub use kept::Kept;
 pub use kind::{Kind, kind_of};
 pub use opened::{Opened, open_any};
 pub use order_bytes::OrderBytes;
-pub use stored_controller::Controller;
+pub use stored::Stored;
 pub use streams::Refused;
 pub use taken_bytes::TakenBytes;

@@ -6,7 +6,7 @@ ghost use Rattle.stored_state.specs.Opened.{any_state_read, controller_in, is_st
 
 use crate::kept::Kept;
 use crate::kind::{Kind, kind_of};
-use crate::stored_controller::Controller;
+use crate::stored::Stored;
 use crate::storing::load_value;
 use keepers::Keep;
 use master_core::Master;

@@ -12,7 +12,7 @@ ghost use Rattle.stored_state.specs.Held.{IsReadAs, IsTextOf};
 ghost use Rattle.stored_state.specs.Kept.{message_text as text_sent};
 ghost use Rattle.streams.specs.declared.refused.Refused.TheVariants.{LoadFailed};
 
-use crate::stored_controller::Controller;
+use crate::stored::Stored;
 use controller::Message;
 use jmf_message::encode;
 use json_profile::{text_of, value_of};
@@ -23,10 +23,7 @@ use streams::Refused;
 use ticket_tree::Refusal;
 
 /// The text of a controller's state. Refuses `Memory` alone.
-pub(crate) fn state_text<C: Controller>(
-    alloc: Global,
-    controller: &C,
-) -> Result<Vec<u8>, AllocError>
+pub(crate) fn state_text<C: Stored>(alloc: Global, controller: &C) -> Result<Vec<u8>, AllocError>
     ensures text { IfOk result (λ b. b.items ≡ compact_text (C.state_data controller.now)) }
     ensures again { IfOk result (λ b. IsReadAs C.state_read b.items (Ok controller.now)) }
 {
@@ -47,7 +44,7 @@ fn message_text(alloc: Global, message: &Option<Message>) -> Result<Option<Vec<u
 }
 
 /// Saves a controller's state, once the text of the message that goes out is made too.
-pub(crate) fn save_step<C: Controller, K: Keep>(
+pub(crate) fn save_step<C: Stored, K: Keep>(
     alloc: Global,
     controller: &C,
     keep: &mut K,
@@ -119,7 +116,7 @@ pub(crate) fn load_value<K: Keep>(alloc: Global, keep: &mut K) -> Result<Value, 
 }
 
 /// The controller whose state a keeper holds.
-pub(crate) fn load<C: Controller, K: Keep>(alloc: Global, keep: &mut K) -> Result<C, Refused>
+pub(crate) fn load<C: Stored, K: Keep>(alloc: Global, keep: &mut K) -> Result<C, Refused>
     ensures ok { IfOk result (λ c. K.is_honest keep.old ≡ true →
         IsReadAs C.state_read (K.held keep.old) (Ok c)) }
     ensures held { HoldsSame K.is_honest K.held keep.old keep.new }

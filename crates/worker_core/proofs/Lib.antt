@@ -5,5 +5,7 @@ pub mod Kept
 pub mod Places
 pub mod OrderLaws
 pub mod MessageLaws
+pub mod NeverMemory
+pub mod Sends
 mod Worked
 pub mod KeptStored

@@ -1,7 +1,7 @@
 -- What a worker does with an order: why it is refused, and else what becomes of the entries, what
 -- is replied and what goes out.
 use Rattle.std.specs.Prelude.{ℕ, ◌&&◌, ◌||◌, Bool, not, List, [], ◌∷◌, if◌then◌else◌, Option, Some}
-use Rattle.std.specs.Prelude.{None, is_some}
+use Rattle.std.specs.Prelude.{None, is_some, Ok}
 use Rattle.std.specs.Option.{option_map, option_map_or}
 use Rattle.ticket_items.specs.Ids.{mem}
 use Rattle.ticket_items.specs.Resource.{resource_ids}
@@ -17,6 +17,7 @@ use Rattle.ticket_rows.specs.Homes.{has_resource}
 use Rattle.ticket_rows.specs.PartEdit.{part_lookups}
 use Rattle.ticket_rows.specs.Ticket.{first_of, has_node, unless}
 use Rattle.ticket_tree.specs.Part.{Copied, edited_part}
+use Rattle.controller.specs.Step.{Step, unless_refused}
 use Rattle.controller.specs.declared.body.Body.TheVariants.{Return}
 use Rattle.controller.specs.declared.message.Message.{Message}
 use Rattle.controller.specs.declared.reply.Reply.{Reply}
@@ -127,3 +128,11 @@ order_message (order.Finish s how) at w =
     option_map (λ entry. return_of w.name w.master (finished_entry how at entry))
     (entry_of w.entries s)
 order_message (order.Resend s) at w = option_map (return_of w.name w.master) (entry_of w.entries s)
+
+-- ---- the step
+
+-- the worker's step on an order at a time
+abbrev pub order_step : Order → ℕ → Known → Step Known Message
+order_step o at w =
+    unless_refused (order_refusal o w.entries) w
+    (record { reply = Ok (order_reply o); sent = order_message o at w; next = ordered o at w })

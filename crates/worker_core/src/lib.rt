@@ -12,6 +12,7 @@ mod stage;
 mod stored;
 mod taking;
 mod worker;
+mod worker_controller;
 
 pub use end::End;
 pub use entry::Entry;

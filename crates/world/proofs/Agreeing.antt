@@ -5,7 +5,8 @@ use Rattle.world.specs.Running as running
 use Rattle.world.specs.Shop.{Shop}
 use Rattle.world.specs.ShopSteps.{Tag}
 use Rattle.world.specs.Showing.{shop_shown, tag_of}
-use Rattle.world.specs.Step.{Step, StepOrWord}
+use Rattle.controller.specs.Step.{Step}
+use Rattle.world.specs.Step.{StepOrWord}
 
 -- they reply the same, send the same, and lead to the same
 abbrev pub Agrees : Step Controllers Message → Step Shop Tag → Type 0

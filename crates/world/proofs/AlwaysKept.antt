@@ -41,8 +41,12 @@ use Rattle.world.specs.Controllers.{Controllers, is_named, worker_of}
 use Rattle.world.specs.Happening.{after, after_all, master_takes, receiver_takes, settled, step_of, worker_takes}
 use Rattle.world.specs.Messages.{AreRecorded, IsInOrder}
 use Rattle.world.specs.State.{IsKept, State, message_at}
-use Rattle.world.specs.Step.{Step, unless_refused}
-use Rattle.world.specs.Stepping.{master_moved, ordered_master, ordered_worker, taken_by_master, taken_by_worker, worker_moved}
+use Rattle.controller.specs.Step.{Step, unless_refused}
+use Rattle.master_core.specs.Orders.{order_step as ordered_master}
+use Rattle.worker_core.specs.Orders.{order_step as ordered_worker}
+use Rattle.master_core.specs.Messages.{take_step as taken_by_master}
+use Rattle.worker_core.specs.Messages.{take_step as taken_by_worker}
+use Rattle.world.specs.Stepping.{master_moved, worker_moved}
 use Rattle.world_items.specs.declared.event.Event.{Event}
 use Rattle.world_items.specs.declared.stop.Stop.{Stop}
 use Rattle.world_items.specs.declared.what.What.{What}

@@ -1,33 +1,23 @@
--- A step by what an order was answered with is the step of the definitions.
-use Rattle.std.proofs.Common.{◌≡◌, Option, Some, None, Result, Ok, Err, IfOk, IfErr, IfNone, IfSome, OnOk, OnErr, ap, refl}
+-- What is told of an order is the step that the controller made of it.
+use Rattle.std.proofs.Common.{◌≡◌, ◌∙◌, Result, Ok, Err, IfOk, IfErr, OnOk, OnErr, ap, sym, refl}
 use Rattle.ticket_items.specs.declared.refusal.Refusal.{Refusal}
 use Rattle.ticket_items.specs.declared.refusal.Refusal.TheVariants.{Memory}
 use Rattle.controller.specs.declared.done.Done.{Done}
 use Rattle.controller.specs.declared.message.Message.{Message}
-use Rattle.controller.specs.declared.reply.Reply.{Reply}
+use Rattle.controller.proofs.Answered.{refused_step}
+use Rattle.controller.specs.Step.{Step, done_step, outcome_step, refused}
 use Rattle.world.specs.Settling.{settled_state}
-use Rattle.world.specs.Step.{unless_refused}
-use Rattle.world.specs.Stepping.{came_out, told}
+use Rattle.world.specs.Stepping.{told}
 use Rattle.world_items.specs.declared.stop.Stop.{Stop}
 use Rattle.world_items.specs.declared.stop.Stop.TheVariants.{Run, BeforeSave, BeforeSend}
 
--- what is known of an order that was answered: of a state that it may change, and of its refusal
-pub record IsAnswered {S : Type 0} (o : Option Refusal) (done : Result Done Refusal) (reply : Reply) (message : Option Message) (old ordered next : S) : Type 0 where
-  pub state : OnOk done (next ≡ ordered)
-  pub reply_is : IfOk done (λ d. d.reply ≡ reply)
-  pub message_is : IfOk done (λ d. d.message ≡ message)
-  pub err : OnErr done (next ≡ old)
-  pub refused_is : IfSome o (λ e. done ≡ Err e)
-  pub memory : IfNone o (IfErr done (λ e. e ≡ Memory))
-  pub free : ¬ (done ≡ Err Memory)
-
-pub answered : {S : Type 0} (o : Option Refusal) (done : Result Done Refusal) (reply : Reply) (message : Option Message) (old ordered next : S) → IsAnswered o done reply message old ordered next
-    → came_out (told done) next ≡ unless_refused o old (record { reply = Ok reply; sent = message; next = ordered })
-answered None (Ok d) reply message old ordered next h = λ i. record { reply = Ok (h.reply_is i); sent = h.message_is i; next = h.state i }
-answered None (Err e) reply message old ordered next h = absurd (h.free (ap Err h.memory))
-answered (Some r) (Ok d) reply message old ordered next h = cc
-answered (Some r) (Err e) reply message old ordered next h =
-    λ i. came_out (told (h.refused_is i)) (h.err i)
+pub answered : {S : Type 0} (done : Result Done Refusal) (old new : S) (step : Step S Message)
+    → IfOk done (λ d. done_step d new ≡ step) → OnErr done (new ≡ old) → IfErr step.reply (λ r. done ≡ Err r)
+    → IfOk step.reply (λ _. IfErr done (λ e. e ≡ Memory)) → IfErr step.reply (λ r. step ≡ refused r old)
+    → ¬ (done ≡ Err Memory) → outcome_step (told done) new ≡ step
+answered (Ok d) old new step made same is memory idle free = made
+answered (Err e) old new step made same is memory idle free =
+    (λ i. outcome_step (told (Err e)) (same i)) ∙ sym (refused_step e old step is memory idle (λ m. free (ap Err m)))
 
 -- what holds of a result holds as more is known
 pub if_ok : {C E : Type 0} (P Q : C → Type 0) (r : Result C E) → IfOk r P → ((m : C) → P m → Q m) → IfOk r Q

@@ -17,7 +17,9 @@ use Rattle.world.specs.Messages.{IsInOrder}
 use Rattle.world.specs.ShopSteps.{replies}
 use Rattle.world.specs.Showing.{shop_shown}
 use Rattle.world.specs.State.{IsKept, State}
-use Rattle.world.specs.Stepping.{master_moved, taken_by_master, taken_by_worker, worker_moved}
+use Rattle.master_core.specs.Messages.{take_step as taken_by_master}
+use Rattle.worker_core.specs.Messages.{take_step as taken_by_worker}
+use Rattle.world.specs.Stepping.{master_moved, worker_moved}
 
 -- the answer that tells of a command
 abbrev pub answer : List ℕ → List ℕ → ℕ → Command → ℕ → Result QueueStatus ℕ → Message

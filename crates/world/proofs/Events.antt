@@ -42,7 +42,10 @@ use Rattle.world.specs.ShopSteps as shop
 use Rattle.world.specs.Showing.{shop_shown, shows, tag_in, tag_of}
 use Rattle.world.specs.State.{IsKept, State, message_at}
 use Rattle.world.specs.Step.{StepOrWord}
-use Rattle.world.specs.Stepping.{master_moved, ordered_master, ordered_worker, taken_by_worker, worker_moved}
+use Rattle.master_core.specs.Orders.{order_step as ordered_master}
+use Rattle.worker_core.specs.Orders.{order_step as ordered_worker}
+use Rattle.worker_core.specs.Messages.{take_step as taken_by_worker}
+use Rattle.world.specs.Stepping.{master_moved, worker_moved}
 use Rattle.world_items.specs.declared.event.Event.{Event}
 use Rattle.world_items.specs.declared.what.What.{What}
 use Rattle.world_items.specs.declared.what.What.TheVariants.{MasterOrder, WorkerOrder, Deliver, Restart}

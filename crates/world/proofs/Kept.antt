@@ -18,7 +18,7 @@ use Rattle.world.specs.Happening.{settled}
 use Rattle.world.specs.Messages.{AreInOrder, AreRecorded, HasComeBack, IsInOrder, IsRecorded}
 use Rattle.world.specs.Settling.{settled_messages, settled_state, with_sent}
 use Rattle.world.specs.State.{IsKept, State, state}
-use Rattle.world.specs.Step.{Step}
+use Rattle.controller.specs.Step.{Step}
 use Rattle.world.specs.Stepping.{master_moved}
 use Rattle.world_items.specs.declared.stop.Stop.{Stop}
 use Rattle.world_items.specs.declared.stop.Stop.TheVariants.{Run, BeforeSave, BeforeSend}

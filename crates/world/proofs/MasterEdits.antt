@@ -50,8 +50,9 @@ use Rattle.world.specs.ShopActs.{edited, with_new}
 use Rattle.world.specs.ShopSteps.{Tag, edit_refusal, master_does}
 use Rattle.world.specs.Showing.{entry_of_spawn, now_shown, row_at, shop_shown}
 use Rattle.world.specs.State.{IsKept, State}
-use Rattle.world.specs.Step.{Step, unless_refused}
-use Rattle.world.specs.Stepping.{master_moved, ordered_master}
+use Rattle.controller.specs.Step.{Step, unless_refused}
+use Rattle.master_core.specs.Orders.{order_step as ordered_master}
+use Rattle.world.specs.Stepping.{master_moved}
 
 -- ---- refusals
 

@@ -66,7 +66,8 @@ use Rattle.world.specs.ShopActs.{next_spawn, spawned, spawned_audit, told_above,
 use Rattle.world.specs.ShopSteps.{Submit, master_does, spawn_refusal}
 use Rattle.world.specs.Showing.{entry_of_spawn, now_shown, phase_shown, row_at, seen_shown, shop_shown, spawn_shown}
 use Rattle.world.specs.State.{IsKept, State}
-use Rattle.world.specs.Stepping.{master_moved, ordered_master}
+use Rattle.master_core.specs.Orders.{order_step as ordered_master}
+use Rattle.world.specs.Stepping.{master_moved}
 
 -- ---- refusals
 

@@ -18,7 +18,8 @@ use Rattle.world.specs.MergeAudits.{GoOn, above_of, audit_tells}
 use Rattle.world.specs.Shop.{Merged, Open, Rows, Shop, SpawnState, has_number, is_away, is_done, spawn_of}
 use Rattle.world.specs.ShopActs.{is_held_by, merged, merged_audit, put_in, taken, told_above}
 use Rattle.world.specs.ShopSteps.{Submit, Return, Tag, ToReturn, ToSubmit, message_comes, return_comes, sends, submit_comes}
-use Rattle.world.specs.Step.{Step, StepOrWord}
+use Rattle.controller.specs.Step.{Step}
+use Rattle.world.specs.Step.{StepOrWord}
 use Rattle.world_items.specs.declared.word.Word.TheVariants.{Did, NoMessage}
 
 -- ---- one that is put in

@@ -50,7 +50,8 @@ use Rattle.world.specs.ShopActs.{is_spawn}
 use Rattle.world.specs.ShopSteps.{Tag, edit_refusal, message_comes, worker_does}
 use Rattle.world.specs.Showing.{phase_shown, row_at, shop_shown, shows, spawn_shown}
 use Rattle.world.specs.State.{IsKept, State, message_at, opening}
-use Rattle.world.specs.Step.{Step, StepOrWord}
+use Rattle.controller.specs.Step.{Step}
+use Rattle.world.specs.Step.{StepOrWord}
 use Rattle.world_items.specs.declared.answer.Answer.{Answer}
 use Rattle.world_items.specs.declared.event.Event.{Event}
 use Rattle.world_items.specs.declared.stop.Stop.{Stop}

@@ -14,7 +14,8 @@ use Rattle.spawn.specs.declared.records.spawn_rec.SpawnRec.{SpawnRec}
 use Rattle.ticket_tree.specs.Part.{Copied}
 use Rattle.worker_core.specs.Worker as worker
 use Rattle.worker_core.specs.Messages as worker_messages
-use Rattle.world.specs.Stepping.{taken_by_master, taken_by_worker}
+use Rattle.master_core.specs.Messages.{take_step as taken_by_master}
+use Rattle.worker_core.specs.Messages.{take_step as taken_by_worker}
 
 -- ---- the master
 

@@ -38,8 +38,13 @@ use Rattle.world.specs.Laws.{EachIsMergedOnce}
 use Rattle.world.specs.Messages.{IsInOrder}
 use Rattle.world.specs.Once.{AreMergedOnce, TellsMerge}
 use Rattle.world.specs.State.{IsKept, State, message_at}
-use Rattle.world.specs.Step.{Step, unless_refused, word_of}
-use Rattle.world.specs.Stepping.{master_moved, ordered_master, ordered_worker, taken_by_master, taken_by_worker, worker_moved}
+use Rattle.controller.specs.Step.{Step, unless_refused}
+use Rattle.world.specs.Step.{word_of}
+use Rattle.master_core.specs.Orders.{order_step as ordered_master}
+use Rattle.worker_core.specs.Orders.{order_step as ordered_worker}
+use Rattle.master_core.specs.Messages.{take_step as taken_by_master}
+use Rattle.worker_core.specs.Messages.{take_step as taken_by_worker}
+use Rattle.world.specs.Stepping.{master_moved, worker_moved}
 use Rattle.world_items.specs.declared.answer.Answer.{Answer}
 use Rattle.world_items.specs.declared.event.Event.{Event}
 use Rattle.world_items.specs.declared.stop.Stop.{Stop}

@@ -29,7 +29,8 @@ use Rattle.world.specs.MergeAudits.{above_of}
 use Rattle.world.specs.Shop.{Done, Shop, SpawnState, has_number, is_open, next_number, spawn_of}
 use Rattle.world.specs.ShopActs.{edited, finished, next_spawn, sent_out, spawned, spawned_audit, worked}
 use Rattle.world.specs.ShopSteps.{Return, Submit, Tag, edit_refusal, is_held, is_taken_by, is_to_read, master_does, not_held, replies, resend_refusal, sends, spawn_refusal, spawn_worked, work_refusal, worker_does}
-use Rattle.world.specs.Step.{Step, refused, unless_refused, word_of}
+use Rattle.controller.specs.Step.{Step, refused, unless_refused}
+use Rattle.world.specs.Step.{word_of}
 use Rattle.world_items.specs.declared.word.Word.TheVariants.{Did, Refused}
 
 -- a step of a shop tells of a merge in its audits as often as in its word

@@ -56,8 +56,9 @@ use Rattle.world.specs.ShopActs as acts
 use Rattle.world.specs.ShopSteps as shop
 use Rattle.world.specs.Showing.{entry_of_spawn, now_shown, phase_shown, row_at, seen_shown, shop_shown, spawn_shown, tag_of}
 use Rattle.world.specs.State.{IsKept, State}
-use Rattle.world.specs.Step.{Step}
-use Rattle.world.specs.Stepping.{master_moved, taken_by_master}
+use Rattle.controller.specs.Step.{Step}
+use Rattle.master_core.specs.Messages.{take_step as taken_by_master}
+use Rattle.world.specs.Stepping.{master_moved}
 use Rattle.world_items.specs.declared.word.Word.TheVariants.{NoMessage}
 
 -- ---- what is put in

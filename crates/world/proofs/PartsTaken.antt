@@ -44,8 +44,9 @@ use Rattle.world.specs.ShopActs.{in_phase, taken}
 use Rattle.world.specs.ShopSteps as shop
 use Rattle.world.specs.Showing.{entry_of_spawn, phase_shown, row_at, seen_shown, shop_shown, spawn_shown, tag_of}
 use Rattle.world.specs.State.{IsKept, State}
-use Rattle.world.specs.Step.{Step}
-use Rattle.world.specs.Stepping.{taken_by_worker, worker_moved}
+use Rattle.controller.specs.Step.{Step}
+use Rattle.worker_core.specs.Messages.{take_step as taken_by_worker}
+use Rattle.world.specs.Stepping.{worker_moved}
 use Rattle.world_items.specs.declared.word.Word.TheVariants.{NoMessage}
 
 -- the message that brings a part to a worker

@@ -20,8 +20,9 @@ use Rattle.world.specs.Shop.{Done, Open, has_number, is_out, spawn_of}
 use Rattle.world.specs.ShopSteps.{Submit, master_does, sends}
 use Rattle.world.specs.Showing.{phase_shown, shop_shown, spawn_shown}
 use Rattle.world.specs.State.{IsKept, State}
-use Rattle.world.specs.Step.{unless_refused}
-use Rattle.world.specs.Stepping.{master_moved, ordered_master}
+use Rattle.controller.specs.Step.{unless_refused}
+use Rattle.master_core.specs.Orders.{order_step as ordered_master}
+use Rattle.world.specs.Stepping.{master_moved}
 
 -- ---- by the master
 

@@ -16,7 +16,8 @@ use Rattle.world.specs.Messages.{IsInOrder}
 use Rattle.world.specs.Settling.{answer_without_step}
 use Rattle.world.specs.State.{IsKept, State, message_at}
 use Rattle.world.specs.Step.{StepOrWord}
-use Rattle.world.specs.Stepping.{taken_by_worker, worker_moved}
+use Rattle.worker_core.specs.Messages.{take_step as taken_by_worker}
+use Rattle.world.specs.Stepping.{worker_moved}
 use Rattle.world_items.specs.declared.stop.Stop.{Stop}
 use Rattle.world_items.specs.declared.stop.Stop.TheVariants.{Run, BeforeSave, BeforeSend}
 use Rattle.world_items.specs.declared.word.Word.TheVariants.{NoMessage, Stopped}

@@ -18,8 +18,9 @@ use Rattle.world.specs.Shop.{Shop}
 use Rattle.world.specs.ShopSteps.{Tag, spawn_worked, worker_does}
 use Rattle.world.specs.Showing.{shop_shown, spawn_shown}
 use Rattle.world.specs.State.{IsKept, State}
-use Rattle.world.specs.Step.{Step, refused, unless_refused}
-use Rattle.world.specs.Stepping.{ordered_worker, worker_moved}
+use Rattle.controller.specs.Step.{Step, refused, unless_refused}
+use Rattle.worker_core.specs.Orders.{order_step as ordered_worker}
+use Rattle.world.specs.Stepping.{worker_moved}
 
 -- steps that are the same agree as these do
 pub agrees_as : (c : Controllers) (v : worker.Known) (one two : Step worker.Known Message) (p q : Step Shop Tag) → one ≡ two → p ≡ q → Agrees (worker_moved c v two) q → Agrees (worker_moved c v one) p

@@ -46,8 +46,9 @@ use Rattle.world.specs.ShopActs.{is_held_by, worked}
 use Rattle.world.specs.ShopSteps as steps
 use Rattle.world.specs.Showing.{now_shown, phase_shown, row_at, seen_shown, shop_shown, spawn_shown}
 use Rattle.world.specs.State.{IsKept, State}
-use Rattle.world.specs.Step.{Step, unless_refused}
-use Rattle.world.specs.Stepping.{ordered_worker, worker_moved}
+use Rattle.controller.specs.Step.{Step, unless_refused}
+use Rattle.worker_core.specs.Orders.{order_step as ordered_worker}
+use Rattle.world.specs.Stepping.{worker_moved}
 
 -- ---- an entry that is open
 

@@ -16,7 +16,7 @@ use Rattle.world.proofs.Kept.{Keeps, settled_kept}
 use Rattle.world.specs.Happening.{settled}
 use Rattle.world.specs.Settling.{settled_messages, settled_state}
 use Rattle.world.specs.State.{IsKept, is_named, state, with_worker, worker_of}
-use Rattle.world.specs.Step.{Step}
+use Rattle.controller.specs.Step.{Step}
 use Rattle.world.specs.Stepping.{worker_moved}
 use Rattle.world_items.specs.declared.stop.Stop.{Stop}
 use Rattle.world_items.specs.declared.stop.Stop.TheVariants.{Run, BeforeSave, BeforeSend}

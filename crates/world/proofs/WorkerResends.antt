@@ -18,8 +18,9 @@ use Rattle.world.specs.Shop.{Shop, is_open}
 use Rattle.world.specs.ShopSteps.{Return, Tag, sends, spawn_worked, worker_does}
 use Rattle.world.specs.Showing.{phase_shown, shop_shown, spawn_shown}
 use Rattle.world.specs.State.{IsKept, State}
-use Rattle.world.specs.Step.{Step, refused, unless_refused}
-use Rattle.world.specs.Stepping.{ordered_worker, worker_moved}
+use Rattle.controller.specs.Step.{Step, refused, unless_refused}
+use Rattle.worker_core.specs.Orders.{order_step as ordered_worker}
+use Rattle.world.specs.Stepping.{worker_moved}
 
 -- the work on the spawn that is shown is open just if it is on its entry
 open_either : (out here : Bool) → (out ≡ false → here ≡ false) → (out && here) ≡ here

@@ -11,8 +11,12 @@ use Rattle.world.specs.Running as running
 use Rattle.world.specs.Running.{Machine}
 use Rattle.world.specs.State.{Controllers, State, is_controller, message_at, worker_of}
 use Rattle.world.specs.Step.{StepOrWord}
-use Rattle.world.specs.Stepping.{master_moved, ordered_master, ordered_worker}
-use Rattle.world.specs.Stepping.{taken_by_master, taken_by_worker, worker_moved}
+use Rattle.master_core.specs.Orders.{order_step as ordered_master}
+use Rattle.worker_core.specs.Orders.{order_step as ordered_worker}
+use Rattle.world.specs.Stepping.{master_moved}
+use Rattle.master_core.specs.Messages.{take_step as taken_by_master}
+use Rattle.worker_core.specs.Messages.{take_step as taken_by_worker}
+use Rattle.world.specs.Stepping.{worker_moved}
 use Rattle.world_items.specs.declared.answer.Answer.{Answer}
 use Rattle.world_items.specs.declared.event.Event.{Event}
 use Rattle.world_items.specs.declared.stop.Stop.{Stop}

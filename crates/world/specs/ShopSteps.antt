@@ -32,7 +32,8 @@ use Rattle.worker_core.specs.declared.order.Order.TheVariants as to_worker
 use Rattle.world.specs.Shop.{Shop, SpawnState, has_number, is_away, is_done, is_open, is_out}
 use Rattle.world.specs.Shop.{next_number, spawn_of}
 use Rattle.world.specs.ShopActs.{edited, finished, is_held_by, merged, spawned, taken, worked}
-use Rattle.world.specs.Step.{Step, StepOrWord, refused, unless_refused}
+use Rattle.controller.specs.Step.{Step, refused, unless_refused}
+use Rattle.world.specs.Step.{StepOrWord}
 use Rattle.world_items.specs.declared.word.Word.TheVariants.{NoMessage}
 
 -- a message that was sent, without what it says: a part goes out, or comes back, or either is

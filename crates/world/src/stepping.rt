@@ -9,11 +9,9 @@ ghost use Rattle.world.specs.Stepping as stepping;
 ghost use Rattle.world_items.specs.declared.stop.Stop.TheVariants.{BeforeSave};
 
 use crate::settling::settle;
-use controller::{Done, Message, Outcome};
-use master_core::Master;
+use controller::{Controller, Done, Message, Outcome};
 use std::alloc::{AllocError, Global};
 use ticket_tree::Refusal;
-use worker_core::Worker;
 use world_items::{Answer, Stop, Word};
 
 /// What is told of an order that was answered so. Where memory ran out no step was made.
@@ -39,23 +37,23 @@ fn told_of(done: Result<Done, Refusal>) -> Result<Outcome, AllocError>
     }
 }
 
-/// A master is told to do something. Where memory runs out nothing is changed.
-pub fn master_is_told(
+/// A controller is told to do something. Where memory runs out nothing is changed.
+pub fn is_told<C: Controller>(
     alloc: Global,
-    stored: &mut Master,
+    stored: &mut C,
     messages: &mut Vec<Message>,
-    order: master_core::Order,
+    order: C::Order,
     at: u64,
     stop: Stop,
 ) -> Result<Answer, AllocError>
     ensures answer { IfOk result (λ a. a ≡ settling.settled_answer stop messages.old.items
-        (steps.word_of (stepping.ordered_master order at stored.old).reply)
-        (stepping.ordered_master order at stored.old).sent) }
+        (steps.word_of (C.order_step order at stored.old).reply)
+        (C.order_step order at stored.old).sent) }
     ensures stored { OnOk result (stored.new ≡ settling.settled_state stop stored.old
-        (stepping.ordered_master order at stored.old).next) }
+        (C.order_step order at stored.old).next) }
     ensures messages { OnOk result (messages.new.items
         ≡ settling.settled_messages stop messages.old.items
-        (stepping.ordered_master order at stored.old).sent) }
+        (C.order_step order at stored.old).sent) }
     ensures err_stored { OnErr result (stored.new ≡ stored.old) }
     ensures err_messages { OnErr result (messages.new.items ≡ messages.old.items) }
     ensures lost { stop ≡ BeforeSave → IsOk result }
@@ -69,82 +67,23 @@ pub fn master_is_told(
     Ok(settle(messages, outcome, stop))
 }
 
-/// A message comes to a master. Where memory runs out nothing is changed.
-pub fn master_takes(
+/// A message comes to a controller. Where memory runs out nothing is changed.
+pub fn takes<C: Controller>(
     alloc: Global,
-    stored: &mut Master,
+    stored: &mut C,
     messages: &mut Vec<Message>,
     message: Message,
     at: u64,
     stop: Stop,
 ) -> Result<Answer, AllocError>
     ensures answer { IfOk result (λ a. a ≡ settling.settled_answer stop messages.old.items
-        (steps.word_of (stepping.taken_by_master message at stored.old).reply)
-        (stepping.taken_by_master message at stored.old).sent) }
+        (steps.word_of (C.take_step message at stored.old).reply)
+        (C.take_step message at stored.old).sent) }
     ensures stored { OnOk result (stored.new ≡ settling.settled_state stop stored.old
-        (stepping.taken_by_master message at stored.old).next) }
+        (C.take_step message at stored.old).next) }
     ensures messages { OnOk result (messages.new.items
         ≡ settling.settled_messages stop messages.old.items
-        (stepping.taken_by_master message at stored.old).sent) }
-    ensures err_stored { OnErr result (stored.new ≡ stored.old) }
-    ensures err_messages { OnErr result (messages.new.items ≡ messages.old.items) }
-{
-    if stop == Stop::BeforeSave {
-        drop(message);
-        return Ok(Answer::without_step(Word::Stopped));
-    }
-    messages.reserve(1)?;
-    let outcome = stored.take(alloc, message, at)?;
-    Ok(settle(messages, outcome, stop))
-}
-
-/// A worker is told to do something. Where memory runs out nothing is changed.
-pub fn worker_is_told(
-    alloc: Global,
-    stored: &mut Worker,
-    messages: &mut Vec<Message>,
-    order: worker_core::Order,
-    at: u64,
-    stop: Stop,
-) -> Result<Answer, AllocError>
-    ensures answer { IfOk result (λ a. a ≡ settling.settled_answer stop messages.old.items
-        (steps.word_of (stepping.ordered_worker order at stored.old).reply)
-        (stepping.ordered_worker order at stored.old).sent) }
-    ensures stored { OnOk result (stored.new ≡ settling.settled_state stop stored.old
-        (stepping.ordered_worker order at stored.old).next) }
-    ensures messages { OnOk result (messages.new.items
-        ≡ settling.settled_messages stop messages.old.items
-        (stepping.ordered_worker order at stored.old).sent) }
-    ensures err_stored { OnErr result (stored.new ≡ stored.old) }
-    ensures err_messages { OnErr result (messages.new.items ≡ messages.old.items) }
-    ensures lost { stop ≡ BeforeSave → IsOk result }
-{
-    if stop == Stop::BeforeSave {
-        drop(order);
-        return Ok(Answer::without_step(Word::Stopped));
-    }
-    messages.reserve(1)?;
-    let outcome = told_of(stored.order(alloc, order, at))?;
-    Ok(settle(messages, outcome, stop))
-}
-
-/// A message comes to a worker. Where memory runs out nothing is changed.
-pub fn worker_takes(
-    alloc: Global,
-    stored: &mut Worker,
-    messages: &mut Vec<Message>,
-    message: Message,
-    at: u64,
-    stop: Stop,
-) -> Result<Answer, AllocError>
-    ensures answer { IfOk result (λ a. a ≡ settling.settled_answer stop messages.old.items
-        (steps.word_of (stepping.taken_by_worker message at stored.old).reply)
-        (stepping.taken_by_worker message at stored.old).sent) }
-    ensures stored { OnOk result (stored.new ≡ settling.settled_state stop stored.old
-        (stepping.taken_by_worker message at stored.old).next) }
-    ensures messages { OnOk result (messages.new.items
-        ≡ settling.settled_messages stop messages.old.items
-        (stepping.taken_by_worker message at stored.old).sent) }
+        (C.take_step message at stored.old).sent) }
     ensures err_stored { OnErr result (stored.new ≡ stored.old) }
     ensures err_messages { OnErr result (messages.new.items ≡ messages.old.items) }
 {

@@ -131,7 +131,7 @@ impl World {
         ensures unmade { happening.is_made stop (happening.master_step order at self.old) ≡ false
             → IsOk result }
     {
-        stepping::master_is_told(alloc, &mut self.master, &mut self.messages, order, at, stop)
+        stepping::is_told(alloc, &mut self.master, &mut self.messages, order, at, stop)
     }
 
     /// The worker of a name is told to do something.
@@ -159,7 +159,7 @@ impl World {
             }
             Some(place) => {
                 let stored = &mut self.workers[place];
-                stepping::worker_is_told(alloc, stored, &mut self.messages, order, at, stop)
+                stepping::is_told(alloc, stored, &mut self.messages, order, at, stop)
             }
         }
     }
@@ -180,7 +180,7 @@ impl World {
             ≡ happening.settled stop self.old (happening.master_takes message at self.old)) }
         ensures err { OnErr result (self.new ≡ self.old) }
     {
-        stepping::master_takes(
+        stepping::takes(
             alloc,
             &mut self.master,
             &mut self.messages,
@@ -212,7 +212,7 @@ impl World {
             }
             Some(place) => {
                 let stored = &mut self.workers[place];
-                stepping::worker_takes(alloc, stored, &mut self.messages, message, at, stop)
+                stepping::takes(alloc, stored, &mut self.messages, message, at, stop)
             }
         }
     }

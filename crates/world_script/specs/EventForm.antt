@@ -1,6 +1,6 @@
 -- The form of an event of a script, and the event that JSON data is. The ids, names and texts of a
 -- draft may be any bytes, and a SpawnID any text.
-use Rattle.std.specs.Prelude.{ℕ, ◌&&◌, Bool, true, List, [], ◌∷◌, codes, if◌then◌else◌, Option}
+use Rattle.std.specs.Prelude.{ℕ, ◌&&◌, Bool, true, false, List, [], ◌∷◌, codes, if◌then◌else◌, Option}
 use Rattle.std.specs.Prelude.{Some, None}
 use Rattle.std.specs.Option.{option_map}
 use Rattle.std.specs.Str.{bytes_eq}
@@ -105,3 +105,13 @@ event_has_names e = what_has_names e.what
 
 abbrev pub event_has_texts : Event → Bool
 event_has_texts e = what_has_texts e.what
+
+-- ---- stops
+
+-- no controller stops
+abbrev pub is_run : Stop → Bool
+is_run Run = true
+is_run _ = false
+
+abbrev pub event_runs : Event → Bool
+event_runs e = is_run e.stop

@@ -1,5 +1,6 @@
 -- A script: a shop, and what happens in it.
-use Rattle.std.specs.Prelude.{ℕ, ◌&&◌, Bool, List, [], ◌∷◌, codes, Option, Some, Result, Err}
+use Rattle.std.specs.Prelude.{ℕ, ◌&&◌, Bool, List, [], ◌∷◌, codes, if◌then◌else◌, Option, Some}
+use Rattle.std.specs.Prelude.{Result, Err}
 use Rattle.std.specs.List.{list_all}
 use Rattle.std.specs.Option.{option_map_or}
 use Rattle.serde_json.specs.Data.{Data}
@@ -14,6 +15,7 @@ use Rattle.controller_form.specs.Openings.ShopForm.{RawShop, shop_draft, shop_fa
 use Rattle.controller_form.specs.Openings.ShopForm.{shop_has_texts}
 use Rattle.world_items.specs.declared.event.Event.{Event}
 use Rattle.world_script.specs.EventForm.{event_form, event_has_names, event_has_texts}
+use Rattle.world_script.specs.EventForm.{event_runs}
 use Rattle.world_script.specs.declared.script.Script.{Script}
 
 -- ---- by members and their kinds alone
@@ -50,6 +52,10 @@ script_has_texts s = shop_has_texts s.shop && list_all event_has_texts s.events
 abbrev pub script_fault : RawScript → Option Refusal
 script_fault s = checked_fault (script_has_names s) (script_has_texts s) (shop_fault s.shop)
 
+-- whether no controller stops at any event
+abbrev pub runs_on : RawScript → Bool
+runs_on s = list_all event_runs s.events
+
 -- ---- what data and bytes are read as
 
 -- the script of a draft
@@ -67,6 +73,12 @@ abbrev pub script_read : Data → Result Script Refusal
 script_read d =
     option_map_or (λ s. sound (script_fault s) (script_of s)) (script_draft d) (Err NotProfile)
 
+-- the same, of a script in which no controller stops: a stop is refused by its form
+abbrev pub running_script_read : Data → Result Script Refusal
+running_script_read d =
+    option_map_or (λ s. if runs_on s then sound (script_fault s) (script_of s) else Err NotProfile)
+    (script_draft d) (Err NotProfile)
+
 -- the bytes are JSON that is read so
 abbrev pub IsReadAs : List ℕ → Result Script Refusal → Type 0
 IsReadAs b answer = bytes.IsReadAs script_read b answer
@@ -74,3 +86,10 @@ IsReadAs b answer = bytes.IsReadAs script_read b answer
 -- why bytes are refused: no JSON, the first refusal of their data, or memory ran out
 abbrev pub IsRefusalOf : List ℕ → Refusal → Type 0
 IsRefusalOf b e = bytes.IsRefusalOf script_read b e
+
+-- the same, of a script in which no controller stops
+abbrev pub IsReadAsRunning : List ℕ → Result Script Refusal → Type 0
+IsReadAsRunning b answer = bytes.IsReadAs running_script_read b answer
+
+abbrev pub IsRefusalOfRunning : List ℕ → Refusal → Type 0
+IsRefusalOfRunning b e = bytes.IsRefusalOf running_script_read b e

@@ -48,6 +48,13 @@ impl<'a> EventDraft<'a> {
         self.what.has_texts()
     }
 
+    /// Whether no controller stops at it.
+    pub fn runs(&self) -> bool
+        ensures { result ≡ form.event_runs (drafted_event self.now) }
+    {
+        self.stop == Stop::Run
+    }
+
     /// The event. Refuses `Memory` alone.
     pub fn build(&self, alloc: Global) -> Result<Event, Refusal>
         requires names { form.event_has_names (drafted_event self.now) ≡ true }

@@ -7,6 +7,7 @@ ghost use Rattle.json_items.specs.Listed.{each};
 ghost use Rattle.json_source.specs.Read.{Gives};
 ghost use Rattle.world_script.specs.DraftedEvent.{drafted_event, drafted_events};
 ghost use Rattle.world_script.specs.EventForm.{event_form, event_has_names, event_has_texts};
+ghost use Rattle.world_script.specs.EventForm.{event_runs};
 
 use crate::event_draft::EventDraft;
 use serde_json::Value;
@@ -44,6 +45,13 @@ pub fn have_texts(drafts: &[EventDraft<'_>]) -> bool
     ensures { result ≡ list_all (λ d. event_has_texts (drafted_event d)) drafts.now }
 {
     drafts.iter().all(|draft| draft.has_texts())
+}
+
+/// Whether no controller stops at any.
+pub fn run_on(drafts: &[EventDraft<'_>]) -> bool
+    ensures { result ≡ list_all (λ d. event_runs (drafted_event d)) drafts.now }
+{
+    drafts.iter().all(|draft| draft.runs())
 }
 
 /// The events of drafts whose names and texts are valid. Refuses `Memory` alone.

@@ -12,5 +12,5 @@ mod stop_word;
 mod what_draft;
 
 pub use answer::answer_text;
-pub use read::script_of;
+pub use read::{running_script_of, script_of};
 pub use script::Script;

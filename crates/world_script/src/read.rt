@@ -3,7 +3,8 @@
 ghost use Rattle.std.specs.Prelude.{Ok, IfOk, IfErr};
 ghost use Rattle.serde_json.specs.View.{view};
 ghost use Rattle.json_items.specs.Judged.{Answers};
-ghost use Rattle.world_script.specs.Script.{IsReadAs, IsRefusalOf, script_read};
+ghost use Rattle.world_script.specs.Script.{IsReadAs, IsReadAsRunning, IsRefusalOf};
+ghost use Rattle.world_script.specs.Script.{IsRefusalOfRunning, running_script_read, script_read};
 
 use crate::script::Script;
 use crate::script_draft::ScriptDraft;
@@ -31,4 +32,25 @@ pub fn script_of(alloc: Global, bytes: &[u8]) -> Result<Script, Refusal>
 {
     let value = value_of(alloc, bytes)?;
     script_in(alloc, &value)
+}
+
+/// The script that a value is, in which no controller stops, or its first refusal.
+fn running_script_in(alloc: Global, value: &Value) -> Result<Script, Refusal>
+    ensures { Answers result (running_script_read (view value.now)) }
+{
+    let draft = ScriptDraft::of(alloc, value)?;
+    if !draft.runs_on() {
+        return Err(Refusal::NotProfile);
+    }
+    draft.build(alloc)
+}
+
+/// The script that bytes are, in which no controller stops. Refuses what `script_of` does, and
+/// where a controller stops, also at a restart, `NotProfile`.
+pub fn running_script_of(alloc: Global, bytes: &[u8]) -> Result<Script, Refusal>
+    ensures ok { IfOk result (λ script. IsReadAsRunning bytes.now (Ok script)) }
+    ensures refused { IfErr result (IsRefusalOfRunning bytes.now) }
+{
+    let value = value_of(alloc, bytes)?;
+    running_script_in(alloc, &value)
 }

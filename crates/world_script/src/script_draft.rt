@@ -1,5 +1,5 @@
 use crate::event_draft::EventDraft;
-use crate::event_drafts::{build_events, event_drafts, have_names, have_texts};
+use crate::event_drafts::{build_events, event_drafts, have_names, have_texts, run_on};
 use crate::script::Script;
 use controller_form::{Shop, ShopDraft};
 use json_items::{Checked, Drafts, only};
@@ -15,6 +15,7 @@ pub struct ScriptDraft<'a> {
 }
 
 impl<'a> ScriptDraft<'a> {
+    ghost use Rattle.std.specs.Prelude.{◌≡◌};
     ghost use Rattle.serde_json.specs.View.{view};
     ghost use Rattle.json_shapes.specs.Read.{Gives};
     ghost use Rattle.world_script.specs.DraftedEvent.{drafted_events};
@@ -44,6 +45,14 @@ impl<'a> ScriptDraft<'a> {
         let items = list.as_array().ok_or(Refusal::NotProfile)?;
         let drafts = event_drafts(alloc, master, items.as_slice())?;
         Ok(Drafts::new(drafts))
+    }
+
+    /// Whether no controller stops at any of its events.
+    #[tactic(auto, using(json_items::proofs::Tests::all_mapped))]
+    pub fn runs_on(&self) -> bool
+        ensures { result ≡ form.runs_on (drafted_script self.now) }
+    {
+        run_on(self.events.as_slice())
     }
 }
 

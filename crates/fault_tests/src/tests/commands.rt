@@ -2,7 +2,7 @@
 
 use super::fakes::{Sink, Source};
 use super::texts::{NO_ENTRY, OPEN_ENTRY, SUBMIT};
-use jdf_commands::run_words;
+use jdf_net::run_words;
 use std::alloc::{AllocError, Global};
 use std::fs;
 use std::io::ErrorKind;

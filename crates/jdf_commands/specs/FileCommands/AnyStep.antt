@@ -3,15 +3,11 @@ use Rattle.std.specs.Prelude.{ℕ, List}
 use Rattle.serde_json.specs.Written.{compact_text}
 use Rattle.ticket_items.specs.declared.refusal.Refusal.{Refusal}
 use Rattle.json_profile.specs.ReadAs.{IsRefusalOf}
-use Rattle.master_core.specs.Master as master
 use Rattle.master_core.specs.Messages as master_messages
 use Rattle.master_core.specs.Orders as master_orders
-use Rattle.master_core.specs.declared.order.Order.{Order as MasterOrder}
 use Rattle.worker_core.specs.Messages as worker_messages
 use Rattle.worker_core.specs.Orders as worker_orders
-use Rattle.worker_core.specs.Worker as worker
-use Rattle.worker_core.specs.declared.order.Order.{Order as WorkerOrder}
-use Rattle.controller.specs.declared.message.Message.{Message}
+use Rattle.controller.specs.Step.{leading}
 use Rattle.controller_form.specs.Orders.MasterForm.{master_order_read}
 use Rattle.controller_form.specs.Orders.WorkerForm.{worker_order_read}
 use Rattle.controller_form.specs.States.MasterForm.{master_state_data}
@@ -20,7 +16,7 @@ use Rattle.stored_state.specs.Held.{Held}
 use Rattle.stored_state.specs.Opened.{AnyController, of_master, of_worker}
 use Rattle.stored_state.specs.declared.opened.Opened.{Opened}
 use Rattle.stored_state.specs.declared.opened.Opened.TheVariants as opened
-use Rattle.jdf_commands.specs.FileCommands.Step.{IsOfOrder, IsTaken, Step, order_step, take_step}
+use Rattle.jdf_commands.specs.FileCommands.Step.{IsOfOrder, IsTaken, TextStep, in_text}
 
 -- ---- controllers of any kind
 
@@ -39,40 +35,14 @@ abbrev pub held_in : {K : Type 0} → Opened K → Held AnyController K
 held_in (opened.Master kept) = held_as of_master kept
 held_in (opened.Worker kept) = held_as of_worker kept
 
--- a step as one of a controller of any kind
-abbrev pub any_step : {C : Type 0} → (C → AnyController) → Step C → Step AnyController
-any_step any s = record { reply = s.reply; message = s.message; after = any s.after }
-
--- ---- the steps of a master and of a worker
-
-abbrev pub master_ordered : MasterOrder → ℕ → master.Known → Step master.Known
-master_ordered o at m =
-    order_step master_orders.order_refusal master_orders.order_reply master_orders.order_message
-    master_orders.ordered o at m
-
-abbrev pub worker_ordered : WorkerOrder → ℕ → worker.Known → Step worker.Known
-worker_ordered o at w =
-    order_step (λ x k. worker_orders.order_refusal x k.entries)
-    (λ x _. worker_orders.order_reply x) worker_orders.order_message worker_orders.ordered o at w
-
-abbrev pub master_taken : Message → ℕ → master.Known → Step master.Known
-master_taken m at k =
-    take_step master_messages.taken_reply master_messages.taken_answer master_messages.after_taking
-    m at k
-
-abbrev pub worker_taken : Message → ℕ → worker.Known → Step worker.Known
-worker_taken m at k =
-    take_step worker_messages.taken_reply worker_messages.taken_answer worker_messages.after_taking
-    m at k
-
 -- ---- the step that bytes are for a controller
 
 -- the step of a controller by the order that the bytes are, at a time
-abbrev pub IsOrdered : ℕ → List ℕ → AnyController → Step AnyController → Type 0
+abbrev pub IsOrdered : ℕ → List ℕ → AnyController → TextStep AnyController → Type 0
 IsOrdered at bytes (of_master m) step =
-    IsOfOrder master_order_read bytes (λ o. any_step of_master (master_ordered o at m)) step
+    IsOfOrder master_order_read bytes (λ o. leading of_master (in_text (master_orders.order_step o at m))) step
 IsOrdered at bytes (of_worker w) step =
-    IsOfOrder worker_order_read bytes (λ o. any_step of_worker (worker_ordered o at w)) step
+    IsOfOrder worker_order_read bytes (λ o. leading of_worker (in_text (worker_orders.order_step o at w))) step
 
 -- why the bytes are no order of a controller, or memory ran out
 abbrev pub IsNoOrder : List ℕ → AnyController → Refusal → Type 0
@@ -80,8 +50,8 @@ IsNoOrder bytes (of_master m) e = IsRefusalOf master_order_read bytes e
 IsNoOrder bytes (of_worker w) e = IsRefusalOf worker_order_read bytes e
 
 -- the step of a controller by the message that the bytes are, at a time
-abbrev pub IsHanded : ℕ → List ℕ → AnyController → Step AnyController → Type 0
+abbrev pub IsHanded : ℕ → List ℕ → AnyController → TextStep AnyController → Type 0
 IsHanded at bytes (of_master m) step =
-    IsTaken bytes (λ x. any_step of_master (master_taken x at m)) step
+    IsTaken bytes (λ x. leading of_master (in_text (master_messages.take_step x at m))) step
 IsHanded at bytes (of_worker w) step =
-    IsTaken bytes (λ x. any_step of_worker (worker_taken x at w)) step
+    IsTaken bytes (λ x. leading of_worker (in_text (worker_messages.take_step x at w))) step

@@ -13,11 +13,11 @@ use Rattle.jdf_commands.specs.FileCommands.AnyStep.{text_of}
 use Rattle.jdf_commands.specs.FileCommands.Beginning.{IsBegunAs, IsNotBegun}
 use Rattle.jdf_commands.specs.FileCommands.Opening.{IsLoaded, IsNotLoaded}
 use Rattle.jdf_commands.specs.FileCommands.Shown.{master_text, worker_text}
-use Rattle.jdf_commands.specs.FileCommands.Step.{GivesNoOutput, GivesOut, Step}
+use Rattle.jdf_commands.specs.FileCommands.Step.{GivesNoOutput, GivesOut, TextStep}
 
 -- which step the bytes are for a controller
 abbrev pub Steps : Type 1
-Steps = List ℕ → AnyController → Step AnyController → Type 0
+Steps = List ℕ → AnyController → TextStep AnyController → Type 0
 
 -- ---- a new controller
 

@@ -12,7 +12,7 @@ use Rattle.streams.specs.declared.refused.Refused.TheVariants.{Core}
 use Rattle.streams.specs.declared.fault.Fault.{Fault}
 use Rattle.streams.specs.declared.fault.Fault.TheVariants.{Input, Device}
 use Rattle.stored_state.specs.Held.{GivesNothing, Held}
-pub use Rattle.stored_state.specs.Step.{IsLeft, IsOfOrder, IsSaved, IsTaken, Step, order_step, take_step}
+pub use Rattle.stored_state.specs.Step.{IsLeft, IsOfOrder, IsSaved, IsTaken, TextStep, in_text}
 
 -- ---- what is written
 
@@ -31,16 +31,16 @@ text_line None = []
 text_line (Some text) = text ++ 10 ∷ []
 
 -- the line of the reply, and that of the text that goes out
-abbrev pub step_lines : {C : Type 0} → Step C → List ℕ
-step_lines step = reply_line step.reply ++ text_line step.message
+abbrev pub step_lines : {C : Type 0} → TextStep C → List ℕ
+step_lines step = reply_line step.reply ++ text_line step.sent
 
 -- ---- steps that are saved
 
 -- such a step was saved, its lines are written, and this tells whether it was refused
 pub record GivesOut {C K : Type 0} (is_honest : K → Bool) (held : K → List ℕ)
-    (state_text : C → List ℕ) (IsStep : Step C → Type 0) (new : Held C K) (text : List ℕ)
+    (state_text : C → List ℕ) (IsStep : TextStep C → Type 0) (new : Held C K) (text : List ℕ)
     (refused : Bool) : Type 0 where
-  pub step : Step C
+  pub step : TextStep C
   pub is_step : IsStep step
   pub saved : IsSaved is_honest held state_text step new
   pub lines : text ≡ step_lines step
@@ -53,8 +53,8 @@ fault_of other = Device other
 
 -- such a step was saved, and then memory ran out for its lines
 pub record IsUntold {C K : Type 0} (is_honest : K → Bool) (held : K → List ℕ)
-    (state_text : C → List ℕ) (IsStep : Step C → Type 0) (new : Held C K) : Type 0 where
-  pub step : Step C
+    (state_text : C → List ℕ) (IsStep : TextStep C → Type 0) (new : Held C K) : Type 0 where
+  pub step : TextStep C
   pub is_step : IsStep step
   pub saved : IsSaved is_honest held state_text step new
 
@@ -62,7 +62,7 @@ pub record IsUntold {C K : Type 0} (is_honest : K → Bool) (held : K → List �
 -- changes nothing; or memory ran out, or the keeper failed, in the step; or memory ran out once it
 -- was saved
 abbrev pub GivesNoOutput : {C K : Type 0} → (K → Bool) → (K → List ℕ) → (K → ℕ)
-    → (K → List ℕ → K → Type 0) → (C → List ℕ) → (Refusal → Type 0) → (Step C → Type 0)
+    → (K → List ℕ → K → Type 0) → (C → List ℕ) → (Refusal → Type 0) → (TextStep C → Type 0)
     → Held C K → Held C K → Fault → Type 0
 GivesNoOutput is_honest held count save_fails state_text Refuses IsStep old new fault =
     ((refused : CallRefused) × (fault ≡ fault_of refused)

@@ -12,16 +12,12 @@ use controller_form::{Opening, opening_of};
 use keepers::Keep;
 use std::alloc::Global;
 use std::io::Read;
-use stored_state::{Controller, Kept, Opened};
+use stored_state::{Kept, Opened, Stored};
 use streams::{Counted, Fault, Output, Refused, read_input};
 
 /// A controller beside its keeper, which holds its state from then on. Refuses as `Device`
 /// `SaveFailed`, and `Memory`.
-fn kept_of<C: Controller, K: Keep>(
-    alloc: Global,
-    controller: C,
-    keep: K,
-) -> Result<Kept<C, K>, Fault>
+fn kept_of<C: Stored, K: Keep>(alloc: Global, controller: C, keep: K) -> Result<Kept<C, K>, Fault>
     ensures ok { IfOk result (begins.IsBegun K.is_honest K.held
         (λ c. compact_text (C.state_data c)) keep controller) }
     ensures refused { IfErr result (begins.IsNotKept K.save_fails keep

@@ -12,12 +12,12 @@ use json_profile::value_of;
 use master_core::Master;
 use serde_json::Value;
 use std::alloc::Global;
-use stored_state::Controller;
+use stored_state::Stored;
 use ticket_tree::Refusal;
 use worker_core::Worker;
 
 /// A controller whose orders are read of JSON (our own).
-pub trait Ordered: Controller {
+pub trait Ordered: Stored {
     /// What JSON data is read as: an order, or the first refusal.
     ghost order_read: { Data → Result Self.Order RefusalSeen };
 

@@ -5,6 +5,7 @@ ghost use Rattle.serde_json.specs.Written.{compact_text};
 ghost use Rattle.jdf_commands.specs.FileCommands.AnyStep.{IsNoOrder, IsOrdered, held_in, text_of};
 ghost use Rattle.jdf_commands.specs.FileCommands.Commands.{DoesNoStep, DoesStep};
 ghost use Rattle.jdf_commands.specs.FileCommands.Step as steps;
+ghost use Rattle.stored_state.specs.Step.{in_text};
 ghost use Rattle.json_profile.specs.ReadAs.{IsRefusalOf};
 ghost use Rattle.streams.specs.Streams.{used};
 ghost use Rattle.ticket_items.specs.declared.refusal.Refusal.TheVariants.{Memory};
@@ -27,15 +28,13 @@ fn do_order<C: Ordered, K: Keep>(
 ) -> Result<Output, Fault>
     ensures ok { IfOk result (λ output. steps.GivesOut K.is_honest K.held
         (λ c. compact_text (C.state_data c))
-        (λ step. step ≡ steps.order_step C.order_refusal C.order_reply C.order_message C.ordered
-        order at kept.old.controller) kept.new output.text.items output.refused) }
+        (λ step. step ≡ in_text (C.order_step order at kept.old.controller)) kept.new output.text.items output.refused) }
     ensures stale { kept.old.stale ≡ true → IsErr result }
     ensures honest { K.is_honest kept.new.keep ≡ K.is_honest kept.old.keep }
     ensures counted { K.count kept.old.keep ≤ K.count kept.new.keep }
     ensures refused { IfErr result (steps.GivesNoOutput K.is_honest K.held K.count K.save_fails
         (λ c. compact_text (C.state_data c)) (λ e. e ≡ Memory)
-        (λ step. step ≡ steps.order_step C.order_refusal C.order_reply C.order_message C.ordered
-        order at kept.old.controller) kept.old kept.new) }
+        (λ step. step ≡ in_text (C.order_step order at kept.old.controller)) kept.old kept.new) }
 {
     match kept.order(alloc, order, at) {
         Ok(given) => step_output(alloc, given.reply, &given.message),
@@ -57,16 +56,14 @@ pub fn order_kept<C: Ordered, K: Keep>(
 ) -> Result<Output, Fault>
     ensures ok { IfOk result (λ output. steps.GivesOut K.is_honest K.held
         (λ c. compact_text (C.state_data c))
-        (steps.IsOfOrder C.order_read input.now (λ order. steps.order_step C.order_refusal
-        C.order_reply C.order_message C.ordered order at kept.old.controller))
+        (steps.IsOfOrder C.order_read input.now (λ order. in_text (C.order_step order at kept.old.controller)))
         kept.new output.text.items output.refused) }
     ensures stale { kept.old.stale ≡ true → IsErr result }
     ensures honest { K.is_honest kept.new.keep ≡ K.is_honest kept.old.keep }
     ensures counted { K.count kept.old.keep ≤ K.count kept.new.keep }
     ensures refused { IfErr result (steps.GivesNoOutput K.is_honest K.held K.count K.save_fails
         (λ c. compact_text (C.state_data c)) (IsRefusalOf C.order_read input.now)
-        (steps.IsOfOrder C.order_read input.now (λ order. steps.order_step C.order_refusal
-        C.order_reply C.order_message C.ordered order at kept.old.controller))
+        (steps.IsOfOrder C.order_read input.now (λ order. in_text (C.order_step order at kept.old.controller)))
         kept.old kept.new) }
 {
     match order_in::<C>(alloc, input) {

@@ -60,6 +60,9 @@ fn call_output<R: Locks, I: Read>(
             let _lock = locked(rt, file)?;
             show_output(alloc, FileKeep::new(rt, alloc, file))
         }
+        Call::Loop | Call::Serve { .. } | Call::Send { .. } => {
+            Err(Fault::Device(Refused::NoConnection))
+        }
     }
 }
 
@@ -69,7 +72,8 @@ fn call_output<R: Locks, I: Read>(
 /// status of the fault: 1 where memory ran out, 3 where the input was refused or has more bytes
 /// than `MAX_INPUT_BYTES`, 4 where a read or a write failed, where the controller could not be
 /// loaded or saved or what its file holds is refused, and where something is there already that a
-/// new controller is to be kept in.
+/// new controller is to be kept in. A call over the network is none of files alone: nothing is
+/// read, and it gives up as `NoConnection`, with status 4.
 ///
 /// While it works on the controller in a file it holds the file's lock, and waits for that: of two
 /// calls on one file, one comes after the other. A step is saved before anything of it is written.

@@ -15,7 +15,7 @@ use world_items::{Answer, Word};
 use world_script::answer_text;
 
 /// A reply or a refusal in a word.
-fn word_of(reply: Result<Reply, Refusal>) -> Word
+pub fn word_of(reply: Result<Reply, Refusal>) -> Word
     ensures { result ≡ steps.word_of reply }
 {
     match reply {

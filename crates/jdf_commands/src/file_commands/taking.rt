@@ -5,6 +5,7 @@ ghost use Rattle.serde_json.specs.Written.{compact_text};
 ghost use Rattle.jdf_commands.specs.FileCommands.AnyStep.{IsHanded, held_in, text_of};
 ghost use Rattle.jdf_commands.specs.FileCommands.Commands.{DoesNoStep, DoesStep};
 ghost use Rattle.jdf_commands.specs.FileCommands.Step as steps;
+ghost use Rattle.stored_state.specs.Step.{in_text};
 ghost use Rattle.jmf_message.specs.Decoded.{IsRefusalOf};
 ghost use Rattle.streams.specs.Streams.{used};
 
@@ -13,7 +14,7 @@ use crate::file_commands::step::{fault_of, step_output};
 use keepers::Keep;
 use std::alloc::Global;
 use std::io::Read;
-use stored_state::{Controller, Kept, Opened};
+use stored_state::{Kept, Opened, Stored};
 use streams::{Counted, Fault, Output, read_input};
 
 /// Gives a controller the message that the input is, at a time in seconds since 1970, and saves its
@@ -22,7 +23,7 @@ use streams::{Counted, Fault, Output, read_input};
 /// `Input` what the input is refused for, which changes nothing; as `Device` `Stale` while it is
 /// stale, and `SaveFailed`, from which on it is stale; and `Memory`: then nothing is changed, or it
 /// is stale from then on, or the step was saved, and only its lines could not be made.
-pub fn take_kept<C: Controller, K: Keep>(
+pub fn take_kept<C: Stored, K: Keep>(
     alloc: Global,
     kept: &mut Kept<C, K>,
     input: &[u8],
@@ -30,15 +31,13 @@ pub fn take_kept<C: Controller, K: Keep>(
 ) -> Result<Output, Fault>
     ensures ok { IfOk result (λ output. steps.GivesOut K.is_honest K.held
         (λ c. compact_text (C.state_data c))
-        (steps.IsTaken input.now (λ m. steps.take_step C.taken_reply C.taken_answer C.taken m at
-        kept.old.controller)) kept.new output.text.items output.refused) }
+        (steps.IsTaken input.now (λ m. in_text (C.take_step m at kept.old.controller))) kept.new output.text.items output.refused) }
     ensures stale { kept.old.stale ≡ true → IsErr result }
     ensures honest { K.is_honest kept.new.keep ≡ K.is_honest kept.old.keep }
     ensures counted { K.count kept.old.keep ≤ K.count kept.new.keep }
     ensures refused { IfErr result (steps.GivesNoOutput K.is_honest K.held K.count K.save_fails
         (λ c. compact_text (C.state_data c)) (IsRefusalOf input.now)
-        (steps.IsTaken input.now (λ m. steps.take_step C.taken_reply C.taken_answer C.taken m at
-        kept.old.controller)) kept.old kept.new) }
+        (steps.IsTaken input.now (λ m. in_text (C.take_step m at kept.old.controller))) kept.old kept.new) }
 {
     match kept.take(alloc, input, at) {
         Ok(given) => step_output(alloc, given.reply, &given.answer),

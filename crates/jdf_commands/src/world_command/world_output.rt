@@ -15,7 +15,7 @@ use world_items::{Answer, Event};
 use world_script::{Script, answer_text, script_of};
 
 /// Appends the line of an answer.
-fn push_line(alloc: Global, text: &mut Vec<u8>, answer: &Answer) -> Result<(), AllocError>
+pub fn push_line(alloc: Global, text: &mut Vec<u8>, answer: &Answer) -> Result<(), AllocError>
     ensures { OnOk result (text.new.items ≡ text.old.items ++ run.line_of answer.now) }
 {
     let words = answer_text(alloc, answer)?;

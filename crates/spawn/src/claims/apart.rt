@@ -21,7 +21,7 @@ use std::collections::BTreeSet;
 use ticket_tree::{Id, NodeRow, Ticket};
 
 /// The rows of a node and of those below it; none where the node is unknown.
-fn rows_below<'a>(ticket: &'a Ticket, node: &Id) -> &'a [NodeRow]
+pub fn rows_below<'a>(ticket: &'a Ticket, node: &Id) -> &'a [NodeRow]
     ensures rows { result.now ≡ parts.rows_below ticket.now.rows node.now }
     ensures valid { IsValid ticket.now.rows }
 {

@@ -4,7 +4,10 @@ use Rattle.jmf_message.specs.Decoded.{IsRefusalOf}
 use Rattle.controller_form.specs.States.MasterForm.{master_state_data}
 use Rattle.controller_form.specs.States.WorkerForm.{worker_state_data}
 use Rattle.stored_state.specs.Opened.{of_master, of_worker}
-use Rattle.jdf_commands.specs.FileCommands.AnyStep.{IsHanded, held_as, held_in, master_taken, text_of, worker_taken}
+use Rattle.jdf_commands.specs.FileCommands.AnyStep.{IsHanded, held_as, held_in, text_of}
+use Rattle.jdf_commands.specs.FileCommands.Step.{in_text}
+use Rattle.master_core.specs.Messages as master_messages
+use Rattle.worker_core.specs.Messages as worker_messages
 use Rattle.jdf_commands.specs.FileCommands.Step.{GivesNoOutput, GivesOut, IsTaken}
 use Rattle.jdf_commands.proofs.AnySteps.{any_given, any_not_given, any_taken}
 use Rattle.jdf_commands.proofs.file_commands.taking.take_opened.Goals as goal
@@ -13,30 +16,30 @@ pub returns-in-Master-clause-ok : goal.returns-in-Master-clause-ok
 returns-in-Master-clause-ok g c =
     subst (λ o. IfOk c.take_kept.result (λ out. GivesOut g.K.Keep.is_honest g.K.Keep.held text_of (IsHanded c.args.at c.args.input.now (held_in o).controller) (held_as of_master c.take_kept.new.kept) out.text.items out.refused)) (sym c.in-Master.is)
     (any_given of_master g.K.Keep.is_honest g.K.Keep.held (λ x. compact_text (master_state_data x)) text_of
-    (IsTaken c.args.input.now (λ m. master_taken m c.args.at c.in-Master.kept.controller))
+    (IsTaken c.args.input.now (λ m. in_text (master_messages.take_step m c.args.at c.in-Master.kept.controller)))
     (IsHanded c.args.at c.args.input.now (of_master c.in-Master.kept.controller)) c.take_kept.new.kept c.take_kept.result (λ x. refl)
-    (λ s is. any_taken of_master c.args.input.now (λ m. master_taken m c.args.at c.in-Master.kept.controller) s is) c.take_kept.ensures.ok)
+    (λ s is. any_taken of_master c.args.input.now (λ m. in_text (master_messages.take_step m c.args.at c.in-Master.kept.controller)) s is) c.take_kept.ensures.ok)
 
 pub returns-in-Master-clause-refused : goal.returns-in-Master-clause-refused
 returns-in-Master-clause-refused g c =
     subst (λ o. IfErr c.take_kept.result (GivesNoOutput g.K.Keep.is_honest g.K.Keep.held g.K.Keep.count g.K.Keep.save_fails text_of (IsRefusalOf c.args.input.now) (IsHanded c.args.at c.args.input.now (held_in o).controller) (held_in o) (held_as of_master c.take_kept.new.kept))) (sym c.in-Master.is)
     (any_not_given of_master g.K.Keep.is_honest g.K.Keep.held g.K.Keep.count g.K.Keep.save_fails (λ x. compact_text (master_state_data x)) text_of (IsRefusalOf c.args.input.now)
-    (IsTaken c.args.input.now (λ m. master_taken m c.args.at c.in-Master.kept.controller))
+    (IsTaken c.args.input.now (λ m. in_text (master_messages.take_step m c.args.at c.in-Master.kept.controller)))
     (IsHanded c.args.at c.args.input.now (of_master c.in-Master.kept.controller)) c.in-Master.kept c.take_kept.new.kept c.take_kept.result (λ x. refl)
-    (λ s is. any_taken of_master c.args.input.now (λ m. master_taken m c.args.at c.in-Master.kept.controller) s is) c.take_kept.ensures.refused)
+    (λ s is. any_taken of_master c.args.input.now (λ m. in_text (master_messages.take_step m c.args.at c.in-Master.kept.controller)) s is) c.take_kept.ensures.refused)
 
 pub returns-in-Worker-clause-ok : goal.returns-in-Worker-clause-ok
 returns-in-Worker-clause-ok g c =
     subst (λ o. IfOk c.take_kept-in-Worker.result (λ out. GivesOut g.K.Keep.is_honest g.K.Keep.held text_of (IsHanded c.args.at c.args.input.now (held_in o).controller) (held_as of_worker c.take_kept-in-Worker.new.kept) out.text.items out.refused)) (sym c.in-Worker.is)
     (any_given of_worker g.K.Keep.is_honest g.K.Keep.held (λ x. compact_text (worker_state_data x)) text_of
-    (IsTaken c.args.input.now (λ m. worker_taken m c.args.at c.in-Worker.kept.controller))
+    (IsTaken c.args.input.now (λ m. in_text (worker_messages.take_step m c.args.at c.in-Worker.kept.controller)))
     (IsHanded c.args.at c.args.input.now (of_worker c.in-Worker.kept.controller)) c.take_kept-in-Worker.new.kept c.take_kept-in-Worker.result (λ x. refl)
-    (λ s is. any_taken of_worker c.args.input.now (λ m. worker_taken m c.args.at c.in-Worker.kept.controller) s is) c.take_kept-in-Worker.ensures.ok)
+    (λ s is. any_taken of_worker c.args.input.now (λ m. in_text (worker_messages.take_step m c.args.at c.in-Worker.kept.controller)) s is) c.take_kept-in-Worker.ensures.ok)
 
 pub returns-in-Worker-clause-refused : goal.returns-in-Worker-clause-refused
 returns-in-Worker-clause-refused g c =
     subst (λ o. IfErr c.take_kept-in-Worker.result (GivesNoOutput g.K.Keep.is_honest g.K.Keep.held g.K.Keep.count g.K.Keep.save_fails text_of (IsRefusalOf c.args.input.now) (IsHanded c.args.at c.args.input.now (held_in o).controller) (held_in o) (held_as of_worker c.take_kept-in-Worker.new.kept))) (sym c.in-Worker.is)
     (any_not_given of_worker g.K.Keep.is_honest g.K.Keep.held g.K.Keep.count g.K.Keep.save_fails (λ x. compact_text (worker_state_data x)) text_of (IsRefusalOf c.args.input.now)
-    (IsTaken c.args.input.now (λ m. worker_taken m c.args.at c.in-Worker.kept.controller))
+    (IsTaken c.args.input.now (λ m. in_text (worker_messages.take_step m c.args.at c.in-Worker.kept.controller)))
     (IsHanded c.args.at c.args.input.now (of_worker c.in-Worker.kept.controller)) c.in-Worker.kept c.take_kept-in-Worker.new.kept c.take_kept-in-Worker.result (λ x. refl)
-    (λ s is. any_taken of_worker c.args.input.now (λ m. worker_taken m c.args.at c.in-Worker.kept.controller) s is) c.take_kept-in-Worker.ensures.refused)
+    (λ s is. any_taken of_worker c.args.input.now (λ m. in_text (worker_messages.take_step m c.args.at c.in-Worker.kept.controller)) s is) c.take_kept-in-Worker.ensures.refused)

@@ -6,7 +6,7 @@ use Rattle.world.proofs.Kept.{master_kept}
 use Rattle.world.proofs.Settled.{master_settled}
 use Rattle.world.specs.Happening.{master_takes, settled}
 use Rattle.world.specs.State.{State, state}
-use Rattle.world.specs.Stepping.{taken_by_master}
+use Rattle.master_core.specs.Messages.{take_step as taken_by_master}
 use Rattle.world.proofs.world.World.deliver_to_master.Goals as goal
 
 pub invariant_of-self : goal.invariant_of-self
@@ -15,11 +15,11 @@ invariant_of-self c =
     let there = subst (λ (v : State). Contains v.messages c.args.message) (sym c.self.view_is) c.requires.sent in
     let own = c.requires.own ∙ sym (ap (λ (v : State). v.controllers.master.name) c.self.view_is) in
     let keeps = master_takes_keeps c.args.message c.args.at w c.self.invariant there own in
-    master_kept c.master_takes.result c.args.stop w.controllers.master c.master_takes.new.stored w.controllers.workers w.messages c.master_takes.new.messages.items (taken_by_master c.args.message c.args.at w.controllers.master) c.master_takes.ensures.stored c.master_takes.ensures.messages c.master_takes.ensures.err_stored c.master_takes.ensures.err_messages c.self.invariant keeps
+    master_kept c.takes.result c.args.stop w.controllers.master c.takes.new.stored w.controllers.workers w.messages c.takes.new.messages.items (taken_by_master c.args.message c.args.at w.controllers.master) c.takes.ensures.stored c.takes.ensures.messages c.takes.ensures.err_stored c.takes.ensures.err_messages c.self.invariant keeps
 
 pub returns-clause-state : goal.returns-clause-state
 returns-clause-state c =
     let w : State = state c.self.inside.master c.self.inside.workers.items c.self.inside.messages.items in
-    on_ok _ _ _ c.master_takes.result c.master_takes.ensures.stored c.master_takes.ensures.messages (λ is sent.
-    master_settled c.args.stop w.controllers.master c.master_takes.new.stored w.controllers.workers w.messages c.master_takes.new.messages.items (taken_by_master c.args.message c.args.at w.controllers.master) is sent
+    on_ok _ _ _ c.takes.result c.takes.ensures.stored c.takes.ensures.messages (λ is sent.
+    master_settled c.args.stop w.controllers.master c.takes.new.stored w.controllers.workers w.messages c.takes.new.messages.items (taken_by_master c.args.message c.args.at w.controllers.master) is sent
     ∙ ap (λ (v : State). settled c.args.stop v (master_takes c.args.message c.args.at v)) c.self.view_is)

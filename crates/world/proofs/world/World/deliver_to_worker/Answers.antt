@@ -6,7 +6,7 @@ use Rattle.world.proofs.Settled.{found_answers, found_settles, none_answers, non
 use Rattle.world.proofs.WorkerPlaces.{StandsAt, found, found_own, kept_there, name_of, none_there, settled_there, stands_at}
 use Rattle.world.specs.Happening.{settled, settled_word, worker_takes}
 use Rattle.world.specs.State.{State, state, worker_of}
-use Rattle.world.specs.Stepping.{taken_by_worker}
+use Rattle.worker_core.specs.Messages.{take_step as taken_by_worker}
 use Rattle.world_items.specs.declared.word.Word.TheVariants.{NoMessage}
 use Rattle.world.proofs.world.World.deliver_to_worker.Goals as goal
 
@@ -20,7 +20,7 @@ invariant_of-self c =
     let own = found_own workers name c.in-Some.place x here in
     let there = subst (λ (v : State). Contains v.messages c.args.message) (sym c.self.view_is) c.requires.sent in
     let keeps = worker_takes_keeps c.args.message c.args.at w x c.self.invariant own there (sym (name_of workers name c.in-Some.place x here)) in
-    kept_there c.worker_takes.result c.args.stop w.controllers.master workers w.messages c.worker_takes.new.messages.items name c.in-Some.place x c.worker_takes.new.stored (taken_by_worker c.args.message c.args.at x) c.self.invariant here c.worker_takes.ensures.stored c.worker_takes.ensures.messages c.worker_takes.ensures.err_stored c.worker_takes.ensures.err_messages keeps
+    kept_there c.takes.result c.args.stop w.controllers.master workers w.messages c.takes.new.messages.items name c.in-Some.place x c.takes.new.stored (taken_by_worker c.args.message c.args.at x) c.self.invariant here c.takes.ensures.stored c.takes.ensures.messages c.takes.ensures.err_stored c.takes.ensures.err_messages keeps
 
 pub returns-in-None-clause-answer : goal.returns-in-None-clause-answer
 returns-in-None-clause-answer c =
@@ -42,7 +42,7 @@ returns-in-Some-clause-answer c =
     let name = c.args.message.receiver in
     let x = c.index_mut-stored.result.now in
     let here : StandsAt workers name c.in-Some.place x = stands_at workers c.as_slice.result.now name c.in-Some.place x c.as_slice.ensures.value (sym c.in-Some.ensures) c.index_mut-stored.ensures.value in
-    if_ok _ _ c.worker_takes.result c.worker_takes.ensures.answer (λ a e. e ∙ found_answers c.args.stop w (taken_by_worker c.args.message c.args.at) (NoMessage) (worker_of workers name) x (taken_by_worker c.args.message c.args.at x) (found workers name c.in-Some.place x here) refl
+    if_ok _ _ c.takes.result c.takes.ensures.answer (λ a e. e ∙ found_answers c.args.stop w (taken_by_worker c.args.message c.args.at) (NoMessage) (worker_of workers name) x (taken_by_worker c.args.message c.args.at x) (found workers name c.in-Some.place x here) refl
     ∙ ap (λ (v : State). settled_word c.args.stop v (worker_takes c.args.message c.args.at v)) c.self.view_is)
 
 pub returns-in-Some-clause-state : goal.returns-in-Some-clause-state
@@ -53,7 +53,7 @@ returns-in-Some-clause-state c =
     let x = c.index_mut-stored.result.now in
     let moved = taken_by_worker c.args.message c.args.at x in
     let here : StandsAt workers name c.in-Some.place x = stands_at workers c.as_slice.result.now name c.in-Some.place x c.as_slice.ensures.value (sym c.in-Some.ensures) c.index_mut-stored.ensures.value in
-    on_ok _ _ _ c.worker_takes.result c.worker_takes.ensures.stored c.worker_takes.ensures.messages (λ is sent.
-    settled_there c.args.stop w.controllers.master workers w.messages c.worker_takes.new.messages.items name c.in-Some.place x c.worker_takes.new.stored moved c.self.invariant here is sent
+    on_ok _ _ _ c.takes.result c.takes.ensures.stored c.takes.ensures.messages (λ is sent.
+    settled_there c.args.stop w.controllers.master workers w.messages c.takes.new.messages.items name c.in-Some.place x c.takes.new.stored moved c.self.invariant here is sent
     ∙ found_settles c.args.stop w (taken_by_worker c.args.message c.args.at) (NoMessage) (worker_of workers name) x moved (found workers name c.in-Some.place x here) refl
     ∙ ap (λ (v : State). settled c.args.stop v (worker_takes c.args.message c.args.at v)) c.self.view_is)

@@ -1,0 +1,40 @@
+-- One step, of a controller or of a shop.
+use Rattle.std.specs.Prelude.{Option, None, Result, Ok, Err}
+use Rattle.std.specs.Option.{option_map, option_map_or}
+use Rattle.ticket_items.specs.declared.refusal.Refusal.{Refusal}
+use Rattle.controller.specs.declared.done.Done.{Done}
+use Rattle.controller.specs.declared.message.Message.{Message}
+use Rattle.controller.specs.declared.outcome.Outcome.{Outcome}
+use Rattle.controller.specs.declared.reply.Reply.{Reply}
+
+-- what is replied, what is sent, and the state that it leads to
+pub record Step (S M : Type 0) : Type 0 where
+  pub reply : Result Reply Refusal
+  pub sent : Option M
+  pub next : S
+
+-- what is refused sends nothing, and changes nothing
+abbrev pub refused : {S M : Type 0} → Refusal → S → Step S M
+refused e s = record { reply = Err e; sent = None; next = s }
+
+-- the refusal, if there is one, or else the step
+abbrev pub unless_refused : {S M : Type 0} → Option Refusal → S → Step S M → Step S M
+unless_refused why s step = option_map_or (λ e. refused e s) why step
+
+-- the step, with what is made of its message, and with what is made of its state
+abbrev pub sending : {S M N : Type 0} → (M → N) → Step S M → Step S N
+sending f step =
+    record { reply = step.reply; sent = option_map f step.sent; next = step.next }
+
+abbrev pub leading : {S T M : Type 0} → (S → T) → Step S M → Step T M
+leading f step = record { reply = step.reply; sent = step.sent; next = f step.next }
+
+-- ---- as code tells of it
+
+-- the step of an order that was done so, and of a message that came out so
+abbrev pub done_step : {S : Type 0} → Done → S → Step S Message
+done_step done next = record { reply = Ok done.reply; sent = done.message; next = next }
+
+abbrev pub outcome_step : {S : Type 0} → Outcome → S → Step S Message
+outcome_step outcome next =
+    record { reply = outcome.reply; sent = outcome.answer; next = next }

@@ -1,0 +1,21 @@
+-- Calls over files.
+use Rattle.std.proofs.Common.{◌≡◌, ℕ, refl}
+use Rattle.jdf_commands.specs.Calls.{EndsCall}
+use Rattle.jdf_words.specs.declared.call.Call.{Call}
+use Rattle.jdf_words.specs.declared.call.Call.TheVariants.{Edit, World, Loop, New, Order, Take, Show, Serve, Send}
+use Rattle.streams.specs.Streams.{Use}
+use Rattle.jdf_net.specs.Words.{EndsAnyCall}
+
+-- a call that is none over the network ends as it does over files
+pub over_files : (call : Call) (input output told : Use) (status : ℕ) → (call ≡ Loop → ⊥)
+    → ((file : _) (listen : _) (limit : _) (requests : _) → call ≡ Serve file listen limit requests → ⊥)
+    → ((url : _) (file : _) → call ≡ Send url file → ⊥) → EndsCall call input output told status → EndsAnyCall call input output told status
+over_files Edit i o t s loops serves sends ends = ends
+over_files World i o t s loops serves sends ends = ends
+over_files Loop i o t s loops serves sends ends = absurd (loops refl)
+over_files (New file) i o t s loops serves sends ends = ends
+over_files (Order file at) i o t s loops serves sends ends = ends
+over_files (Take file at) i o t s loops serves sends ends = ends
+over_files (Show file) i o t s loops serves sends ends = ends
+over_files (Serve file listen limit requests) i o t s loops serves sends ends = absurd (serves file listen limit requests refl)
+over_files (Send url file) i o t s loops serves sends ends = absurd (sends url file refl)

@@ -1,0 +1,4 @@
+pub mod Taking
+mod AllEvents
+mod AnyCalls
+mod EventLines

@@ -1,0 +1,4 @@
+pub mod LoopCommand
+pub mod SendCommand
+pub mod ServeCommand
+pub mod Words

@@ -1,0 +1,4 @@
+pub mod EventLine
+pub mod Handing
+pub mod Run
+pub mod Shop

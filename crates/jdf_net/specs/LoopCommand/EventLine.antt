@@ -1,0 +1,24 @@
+-- The lines of events.
+use Rattle.std.specs.Prelude.{ℕ, Bool, false, true, List}
+use Rattle.std.specs.List.{flat_map, list_any}
+use Rattle.jdf_commands.specs.WorldCommand.Run as world_run
+use Rattle.streams.specs.Fault.{refused_line}
+use Rattle.streams.specs.declared.refused.Refused.TheVariants.{TooLarge}
+use Rattle.jdf_net.specs.declared.loop_command.event_line.EventLine.{EventLine}
+use Rattle.jdf_net.specs.declared.loop_command.event_line.EventLine.TheVariants.{Answered, Refused}
+
+-- the line of an event, and a line for each of several
+abbrev pub line_of : EventLine → List ℕ
+line_of (Answered a) = world_run.line_of a
+line_of (Refused e) = refused_line e
+
+abbrev pub lines : List EventLine → List ℕ
+lines told = flat_map line_of told
+
+-- whether a message was too large to be sent
+abbrev pub is_too_large : EventLine → Bool
+is_too_large (Refused TooLarge) = true
+is_too_large _ = false
+
+abbrev pub has_too_large : List EventLine → Bool
+has_too_large told = list_any (λ line. is_too_large line) told

@@ -1,0 +1,37 @@
+-- What comes of a message that is handed over.
+use Rattle.std.specs.Prelude.{◌≡◌, ◌⊎◌, ℕ, Bool, false, true, List, Option, None, Some, is_some}
+use Rattle.controller.specs.declared.message.Message.{Message}
+use Rattle.http_edge.specs.Exchange.{refusal_in}
+use Rattle.stored_state.specs.Held.{Held}
+use Rattle.stored_state.specs.Step.{IsSaved, TextStep}
+use Rattle.streams.specs.declared.refused.Refused.{Refused}
+use Rattle.streams.specs.declared.refused.Refused.TheVariants.{Core, LoadFailed, SaveFailed, Stale}
+use Rattle.ticket_items.specs.declared.refusal.Refusal.{Refusal}
+use Rattle.ticket_items.specs.declared.refusal.Refusal.TheVariants.{Memory}
+
+abbrev pub is_memory : Refusal → Bool
+is_memory Memory = true
+is_memory _ = false
+
+-- whether the run ends with a refusal of the receiver's: its state can't be saved or loaded, or
+-- memory ran out
+abbrev pub ends_run : Refused → Bool
+ends_run (Core e) = is_memory e
+ends_run SaveFailed = true
+ends_run Stale = true
+ends_run LoadFailed = true
+ends_run _ = false
+
+-- whether the run ends with what a response tells
+abbrev pub told_ends_run : Option Refused → Bool
+told_ends_run None = false
+told_ends_run (Some e) = ends_run e
+
+-- the receiver made one step, by some message, which is saved; or none, which is refused, and then
+-- it stands as it stood
+abbrev pub Takes : {C K : Type 0} → (K → Bool) → (K → List ℕ) → (C → List ℕ) → (Message → TextStep C)
+    → Held C K → Held C K → Option Refused → Type 0
+Takes is_honest held state_text does old new refusal =
+    ((m : Message) × IsSaved is_honest held state_text (does m) new
+    × (refusal ≡ refusal_in (does m).reply))
+    ⊎ ((new ≡ old) × (is_some refusal ≡ true))

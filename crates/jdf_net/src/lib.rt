@@ -1,0 +1,12 @@
+//! What the program does over the network: the one crate that opens sockets.
+#![tactic(auto)]
+
+mod loop_command;
+mod send_command;
+mod serve_command;
+mod words;
+
+pub use loop_command::run_loop;
+pub use send_command::run_send;
+pub use serve_command::{Service, run_serve};
+pub use words::{NO_CALL, run_words};

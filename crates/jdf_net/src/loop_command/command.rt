@@ -1,0 +1,95 @@
+//! The command `loop`.
+
+ghost use Rattle.std.specs.Prelude.{◌≡◌, length, IfErr, IfOk};
+ghost use Rattle.jdf_net.specs.LoopCommand.Run as run;
+ghost use Rattle.streams.specs.Ends.{IsFaultOf};
+ghost use Rattle.streams.specs.Streams.{used};
+ghost use Rattle.world_script.specs.Script.{IsRefusalOfRunning};
+
+use crate::loop_command::event_line::EventLine;
+use crate::loop_command::loopback::Loopback;
+use crate::loop_command::pushing::push;
+use crate::loop_command::shop::Shop;
+use crate::loop_command::written::written_of;
+use std::alloc::Global;
+use std::io::{Read, Write};
+use std::net::Net;
+use streams::{Counted, Fault, Output, Refused, finish, read_input};
+use ticket_tree::Refusal;
+use world_items::Event;
+use world_script::{Script, running_script_of};
+
+/// Lets events happen in a shop, in turn. Refuses what the run ends with.
+fn run_events<N: Net>(
+    loopback: &Loopback<'_, N>,
+    alloc: Global,
+    shop: &mut Shop,
+    events: Vec<Event>,
+) -> Result<Vec<EventLine>, Refused>
+    ensures each { IfOk result (λ told. length told.items ≡ length events.items) }
+{
+    let mut lines = Vec::with_capacity(alloc, events.len())?;
+    for event in events {
+        push(&mut lines, shop.step(loopback, alloc, event)?)?;
+    }
+    Ok(lines)
+}
+
+/// What is written for a script. Refuses what the run ends with.
+fn run_script<N: Net>(rt: &N, alloc: Global, script: Script) -> Result<Output, Refused>
+    ensures { IfOk result (λ output. run.IsRunOf script output.text.items output.refused) }
+{
+    let Script {
+        master,
+        workers,
+        ticket,
+        events,
+    } = script;
+    let loopback = Loopback::open(rt)?;
+    let mut shop = Shop::new(alloc, master, workers, ticket)?;
+    let lines = run_events(&loopback, alloc, &mut shop, events.into_vec())?;
+    Ok(written_of(alloc, lines.as_slice(), shop.master())?)
+}
+
+/// The script that is read. Refuses as `Input` what it is refused for, `TooLarge` more bytes than
+/// `MAX_INPUT_BYTES`, and `Memory`; as `Device` `ReadFailed`.
+fn read_script<I: Read>(alloc: Global, reader: &mut Counted<I>) -> Result<Script, Fault>
+    ensures ok { IfOk result (run.IsScript (used I.remaining reader.old reader.new)) }
+    ensures refused { IfErr result
+        (IsFaultOf IsRefusalOfRunning (used I.remaining reader.old reader.new)) }
+{
+    let input = read_input(alloc, reader)?;
+    Ok(running_script_of(alloc, input.as_slice())?)
+}
+
+/// What `loop` writes for the script that is read.
+fn loop_output<N: Net, I: Read>(
+    rt: &N,
+    alloc: Global,
+    reader: &mut Counted<I>,
+) -> Result<Output, Fault>
+    ensures ok { IfOk result (λ output. run.IsOutput (used I.remaining reader.old reader.new)
+        output.text.items output.refused) }
+    ensures refused { IfErr result (run.IsFault (used I.remaining reader.old reader.new)) }
+{
+    let script = read_script(alloc, reader)?;
+    match run_script(rt, alloc, script) {
+        Ok(output) => Ok(output),
+        Err(refused) => Err(Fault::Device(refused)),
+    }
+}
+
+/// Reads a script in which no controller stops, lets its events happen one after another, and
+/// writes what `world` writes for it.
+pub fn run_loop<N: Net, I: Read, W: Write, F: Write>(
+    rt: &N,
+    alloc: Global,
+    reader: &mut Counted<I>,
+    writer: &mut Counted<W>,
+    faults: &mut Counted<F>,
+) -> u8
+    ensures { run.EndsLoop (used I.remaining reader.old reader.new)
+        (used W.contents writer.old writer.new) (used F.contents faults.old faults.new) result }
+{
+    finish(loop_output(rt, alloc, reader), writer, faults)
+}

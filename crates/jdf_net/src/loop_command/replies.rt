@@ -1,0 +1,89 @@
+//! What a message is taken as, unless it is refused, by what its receiver knows before.
+
+ghost use Rattle.std.specs.Prelude.{◌≡◌};
+ghost use Rattle.std.specs.Option.{option_copied};
+ghost use Rattle.master_core.specs.Master as masters;
+ghost use Rattle.master_core.specs.Messages as master_messages;
+ghost use Rattle.worker_core.specs.Messages as worker_messages;
+ghost use Rattle.worker_core.specs.Worker as workers;
+
+use controller::{Body, QueueStatus, Reply};
+use master_core::Master;
+use spawn::SpawnRec;
+use ticket_tree::SpawnId;
+use worker_core::{Entry, Worker};
+
+/// The master's record of a spawn.
+fn record_of<'a>(master: &'a Master, spawn: SpawnId) -> Option<&'a SpawnRec>
+    ensures { option_copied result ≡ masters.record_of master.now.records spawn }
+{
+    master.records().iter().find(|record| record.id == spawn)
+}
+
+/// Whether a spawn of the master's is out.
+fn is_out(master: &Master, spawn: SpawnId) -> bool
+    ensures { result ≡ masters.is_spawn_out master.now.records spawn }
+{
+    match record_of(master, spawn) {
+        None => false,
+        Some(record) => record.is_out(),
+    }
+}
+
+/// What a master takes a message as, unless it refuses it.
+pub fn master_reply(master: &Master, body: &Body) -> Reply
+    ensures { result ≡ master_messages.take_reply body.now master.now }
+{
+    match body {
+        Body::Submit(part) => Reply::Noted(part.spawn_id()),
+        Body::Return(part) => {
+            if is_out(master, part.spawn_id()) {
+                Reply::Merged(part.spawn_id())
+            } else {
+                Reply::Already(part.spawn_id())
+            }
+        }
+        Body::Answer { spawn_id, .. } => Reply::Noted(*spawn_id),
+    }
+}
+
+/// The worker's entry of a spawn.
+fn entry_of<'a>(worker: &'a Worker, spawn: SpawnId) -> Option<&'a Entry>
+    ensures { option_copied result ≡ workers.entry_of worker.now.entries spawn }
+{
+    worker
+        .entries()
+        .iter()
+        .find(|entry| entry.part.spawn_id() == spawn)
+}
+
+/// What a worker takes an answer as.
+fn answer_reply(spawn: SpawnId, told: Result<QueueStatus, u16>) -> Reply
+    ensures { result ≡ worker_messages.answer_reply spawn told }
+{
+    match told {
+        Ok(_) => Reply::Acked(spawn),
+        Err(_) => Reply::Noted(spawn),
+    }
+}
+
+/// What a worker takes a message as, unless it refuses it.
+pub fn worker_reply(worker: &Worker, body: &Body) -> Reply
+    ensures { result ≡ worker_messages.take_reply body.now worker.now.entries }
+{
+    match body {
+        Body::Submit(part) => {
+            if entry_of(worker, part.spawn_id()).is_some() {
+                Reply::Again(part.spawn_id())
+            } else {
+                Reply::Taken(part.spawn_id())
+            }
+        }
+        Body::Return(part) => Reply::Already(part.spawn_id()),
+        Body::Answer {
+            spawn_id,
+            result,
+            ..
+        } => answer_reply(*spawn_id, *result),
+    }
+}

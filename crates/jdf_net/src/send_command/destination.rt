@@ -1,0 +1,58 @@
+//! Where a message is sent.
+
+ghost use Rattle.std.specs.Prelude.{◌≡◌, IfOk, IfSome, IsTrue};
+ghost use Rattle.jdf_net.specs.SendCommand.{FitsHead};
+
+use http_message::is_word;
+use std::alloc::{AllocError, Global};
+use std::io;
+use std::net::{Net, TcpStream};
+use streams::{Fault, Refused};
+use url::{Host, ParseError, Url};
+
+/// The port where a URL names none (RFC 9110).
+const HTTP_PORT: u16 = 80;
+
+/// Whether a URL names a host, a port and a path over HTTP, and nothing else.
+fn is_plain(url: &Url) -> bool {
+    url.scheme() == "http"
+        && url.username().is_empty()
+        && url.password().is_none()
+        && url.query().is_none()
+        && url.fragment().is_none()
+}
+
+/// Whether its host and its path can stand in a head.
+fn fits_head(url: &Url) -> bool
+    ensures { IsTrue result → FitsHead url.now }
+{
+    is_word(url.authority()) && is_word(url.path())
+}
+
+/// The URL that a text is, if a message can be sent there: `http://host[:port]/path`, with no user,
+/// query or fragment. Gives up for `Memory` alone.
+pub(crate) fn destination_of(alloc: Global, text: &str) -> Result<Option<Url>, Fault>
+    ensures { IfOk result (λ found. IfSome found FitsHead) }
+{
+    match Url::parse(alloc, text) {
+        Ok(url) => {
+            if is_plain(&url) && fits_head(&url) {
+                return Ok(Some(url));
+            }
+            Ok(None)
+        }
+        Err(ParseError::OutOfMemory) => Err(Fault::from(AllocError)),
+        Err(_) => Ok(None),
+    }
+}
+
+/// A connection to the host that a URL names.
+pub(crate) fn connect<R: Net>(rt: &R, url: &Url) -> io::Result<R::Stream> {
+    let port = url.port().unwrap_or(HTTP_PORT);
+    match url.host() {
+        Some(Host::Domain(name)) => TcpStream::connect(rt, (name, port)),
+        Some(Host::Ipv4(address)) => TcpStream::connect(rt, (address, port)),
+        Some(Host::Ipv6(address)) => TcpStream::connect(rt, (address, port)),
+        None => Err(io::ErrorKind::InvalidInput.into()),
+    }
+}

@@ -1,0 +1,119 @@
+//! The command, from a URL to its exit status.
+
+ghost use Rattle.std.specs.Prelude.{◌≡◌, ◌⊎◌, false, IfOk, IfErr};
+ghost use Rattle.jdf_net.specs.SendCommand.{EndsSend, answer_line};
+ghost use Rattle.streams.specs.Streams.{IsUntouched, used};
+ghost use Rattle.streams.specs.declared.refused.Refused.TheVariants.{Core};
+ghost use Rattle.streams.specs.declared.fault.Fault.TheVariants.{Input};
+ghost use Rattle.ticket_items.specs.declared.refusal.Refusal.TheVariants.{Memory};
+
+use crate::send_command::destination::destination_of;
+use crate::send_command::exchanging::{post, read_message};
+use http_message::Received;
+use std::alloc::{AllocError, Global};
+use std::io::{Read, Write};
+use std::net::Net;
+use std::rt::Files;
+use streams::{Counted, Fault, Output, finish};
+
+/// The status of a response to a message that was taken.
+const DONE: u16 = 200;
+
+/// What came of a message.
+#[derive(Drop)]
+enum Came {
+    /// The text is no URL that a message can be sent to.
+    NoUrl,
+    /// The controller answered with this status, and with no message.
+    Refused(u16),
+    /// The controller took the message, and this is its answer.
+    Answered(Vec<u8>),
+}
+
+/// The bytes of an answer.
+fn answer_of(alloc: Global, received: &Received) -> Result<Vec<u8>, AllocError> {
+    Vec::from_slice(alloc, received.body.as_slice())
+}
+
+/// Sends a message, and gives what came of it.
+fn sent<R: Files + Net, I: Read>(
+    rt: &R,
+    alloc: Global,
+    url: &str,
+    file: Option<&str>,
+    reader: &mut Counted<I>,
+) -> Result<Came, Fault> {
+    let url = match destination_of(alloc, url)? {
+        Some(url) => url,
+        None => return Ok(Came::NoUrl),
+    };
+    let message = read_message(rt, alloc, file, reader)?;
+    match post(rt, alloc, &url, message.as_slice()) {
+        Ok(received) if received.status == DONE => {
+            Ok(Came::Answered(answer_of(alloc, &received)?))
+        }
+        Ok(received) => Ok(Came::Refused(received.status)),
+        Err(refused) => Err(Fault::Device(refused)),
+    }
+}
+
+/// The text of an answer on a line, nothing if it has none.
+fn answer_output(mut answer: Vec<u8>) -> Result<Output, Fault>
+    ensures text { IfOk result (λ output. output.text.items ≡ answer_line answer.items) }
+    ensures accepted { IfOk result (λ output. output.refused ≡ false) }
+{
+    if !answer.is_empty() {
+        answer.push(b'\n')?;
+    }
+    Ok(Output {
+        text: answer,
+        refused: false,
+    })
+}
+
+/// Tells that a text is no URL that a message can be sent to. Answers the exit status.
+fn tell_no_url<F: Write>(url: &str, faults: &mut Counted<F>) -> u8
+    ensures { result ≡ 2 }
+{
+    let _ = writeln!(
+        faults,
+        "error: '{url}' isn't of the form http://host[:port]/path"
+    );
+    2
+}
+
+/// Tells the status that a message was refused with. Answers the exit status.
+fn tell_status<F: Write>(status: u16, faults: &mut Counted<F>) -> u8
+    ensures { result ≡ 1 }
+{
+    let _ = writeln!(faults, "Refused by the controller: {status}");
+    1
+}
+
+/// Sends the message that a file holds, or that comes on standard input where no file is named, to
+/// the controller that serves at a URL, `http://host[:port]/path`, and writes the text of its
+/// answer on a line, if it has one. Answers the exit status: 0 where the response is 200, and 1,
+/// which is told with the status, where it is another, and then nothing is written. For a text that
+/// is no such URL it reads and sends nothing, tells that, and answers 2. Where it gives up, it
+/// tells why and answers the status of the fault: 1 where memory ran out, 3 where the message has
+/// more bytes than `MAX_BODY_BYTES`, and it isn't sent; 4 where a file, a stream or the connection
+/// failed or the response isn't one, and then the message may have been taken.
+pub fn run_send<R: Files + Net, I: Read, W: Write, F: Write>(
+    rt: &R,
+    alloc: Global,
+    url: &str,
+    file: Option<&str>,
+    reader: &mut Counted<I>,
+    writer: &mut Counted<W>,
+    faults: &mut Counted<F>,
+) -> u8
+    ensures { EndsSend (used W.contents writer.old writer.new)
+        (used F.contents faults.old faults.new) result }
+{
+    match sent(rt, alloc, url, file, reader) {
+        Ok(Came::Answered(answer)) => finish(answer_output(answer), writer, faults),
+        Ok(Came::Refused(status)) => tell_status(status, faults),
+        Ok(Came::NoUrl) => tell_no_url(url, faults),
+        Err(fault) => finish(Err(fault), writer, faults),
+    }
+}

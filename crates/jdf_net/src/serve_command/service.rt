@@ -1,0 +1,12 @@
+/// What `serve` serves, and how.
+#[derive(Clone, Copy)]
+pub struct Service<'a> {
+    /// The path of the file that the controller is kept in.
+    pub file: &'a str,
+    /// The address to listen on, as a host and a port.
+    pub listen: &'a str,
+    /// The longest time for a connection, in seconds.
+    pub limit: u64,
+    /// How many connections to serve. `None`: no end.
+    pub requests: Option<u64>,
+}

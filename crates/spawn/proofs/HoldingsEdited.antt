@@ -1,0 +1,251 @@
+-- A table of holders that is kept in step with a ticket as the master edits it.
+use Rattle.std.proofs.Common.{◌≡◌, ◌∙◌, ℕ, ◌&&◌, ◌||◌, Bool, true, false, not, cond, List, [], ◌∷◌}
+use Rattle.std.proofs.Common.{◌++◌, map, Option, Some, None, is_some, refl, sym, ap}
+use Rattle.std.proofs.lemmas.Bool.{true≢false}
+use Rattle.std.proofs.lemmas.Slice.Eq.{bytes_eq-Decides}
+use Rattle.std.specs.List.{find, list_any}
+use Rattle.std.specs.Option.{option_map, option_map_or}
+use Rattle.std.specs.Str.{bytes_eq}
+use Rattle.ticket_items.proofs.Apart.{bytes_eq-symm}
+use Rattle.ticket_items.specs.Ids.{mem}
+use Rattle.ticket_rows.proofs.Reasons.{child_new, resource_new}
+use Rattle.ticket_rows.specs.Edit.{added_id, behind_last, edited_rows, refusal_of, target}
+use Rattle.ticket_rows.specs.Place.{Place, place_at, places}
+use Rattle.ticket_rows.specs.Ticket.{IsValid, ids}
+use Rattle.ticket_tree.proofs.ByKind.{found_by_kind}
+use Rattle.ticket_tree.proofs.OnPlaces.{stands_somewhere}
+use Rattle.ticket_tree.proofs.PlainEdits.{edit_of_places}
+use Rattle.ticket_tree.specs.PlainEdit.{plain_places, with_link}
+use Rattle.ticket_items.specs.declared.edit.Edit.{Edit}
+use Rattle.ticket_items.specs.declared.edit.Edit.TheVariants.{SetStatus, SetAttr, SetResStatus}
+use Rattle.ticket_items.specs.declared.edit.Edit.TheVariants.{SetResAttr, Note, AddNode}
+use Rattle.ticket_items.specs.declared.edit.Edit.TheVariants.{AddResource, AddLink}
+use Rattle.ticket_items.specs.declared.link.Link.{Link}
+use Rattle.ticket_items.specs.declared.node_row.NodeRow.{NodeRow}
+use Rattle.spawn.proofs.EditKeeps.{edit_keeps_claims}
+use Rattle.spawn.proofs.Lawful.{held_is_claimed, placed}
+use Rattle.spawn.proofs.Standing.{found_among, ids_apart}
+use Rattle.spawn.specs.Claim.{is_claimed}
+use Rattle.spawn.specs.Holdings.{Holdings, IsTable, held_by}
+use Rattle.spawn.specs.HoldingsLaws.{AddedIsNew, EditKeepsTable, edited_holdings}
+use Rattle.spawn.specs.Laws.{StandApart}
+use Rattle.spawn.specs.Records.{is_out}
+use Rattle.spawn.specs.Table.{holder_at, holder_of, holding, holds}
+use Rattle.spawn.specs.declared.tables.holder.Holder.{Holder}
+use Rattle.spawn.specs.declared.tables.holder.Holder.TheVariants.{Master, Spawn}
+use Rattle.spawn.specs.declared.records.spawn_rec.SpawnRec.{SpawnRec}
+
+-- ---- where something stands: its id and its path
+
+abbrev Spot : Type 0
+Spot = List ℕ × List (List ℕ)
+
+abbrev spot : Place → Spot
+spot p = (p.id, p.path)
+
+abbrev spot_at : List Place → List ℕ → Option Spot
+spot_at tree x = option_map spot (place_at tree x)
+
+-- who holds what stands there
+abbrev holder_there : List SpawnRec → Spot → Holder
+holder_there recs s = option_map_or (λ r. Spawn r.id) (find (λ r. is_out r && (mem r.node s.1 || mem s.0 r.rw)) recs) Master
+
+by_spot : (recs : List SpawnRec) (o : Option Place)
+    → option_map (holder_at recs) o ≡ option_map (holder_there recs) (option_map spot o)
+by_spot recs None = refl
+by_spot recs (Some p) = refl
+
+-- an id isn't the one that is added
+abbrev pub IsOld : Edit → List ℕ → Type 0
+IsOld e x = (i : List ℕ) → added_id e ≡ Some i → bytes_eq i x ≡ false
+
+behind_by : (x : List ℕ) (new q : Place) (tree rest : List Place) (b : Bool)
+    → bytes_eq new.id x ≡ false → place_at rest x ≡ place_at tree x
+    → place_at (cond b (q ∷ new ∷ tree) (q ∷ rest)) x ≡ place_at (q ∷ tree) x
+behind_by x new q tree rest true other go = ap (λ b. cond (bytes_eq q.id x) (Some q) (cond b (Some new) (place_at tree x))) other
+behind_by x new q tree rest false other go = ap (λ o. cond (bytes_eq q.id x) (Some q) o) go
+
+found_behind : (f : Place → Bool) (x : List ℕ) (new : Place) (tree : List Place)
+    → bytes_eq new.id x ≡ false → place_at (behind_last f new tree) x ≡ place_at tree x
+found_behind f x new [] other = ap (λ b. cond b (Some new) None) other
+found_behind f x new (q ∷ tree) other = behind_by x new q tree (behind_last f new tree) (f q && not (list_any f tree)) other (found_behind f x new tree other)
+
+found_one : (c : Bool) (p q : Place) (o later : Option Place) → spot p ≡ spot q
+    → option_map spot o ≡ option_map spot later
+    → option_map spot (cond c (Some p) o) ≡ option_map spot (cond c (Some q) later)
+found_one true p q o later same go = ap Some same
+found_one false p q o later same go = go
+
+linked_one : (b : Bool) (x : List ℕ) (link : Link) (q : Place) (xs ys : List Place)
+    → spot_at xs x ≡ spot_at ys x
+    → spot_at (cond b (record q { thing = with_link link q.thing }) q ∷ xs) x ≡ spot_at (q ∷ ys) x
+linked_one true x link q xs ys go = found_one (bytes_eq q.id x) (record q { thing = with_link link q.thing }) q (place_at xs x) (place_at ys x) refl go
+linked_one false x link q xs ys go = found_one (bytes_eq q.id x) q q (place_at xs x) (place_at ys x) refl go
+
+abbrev linked : List ℕ → Link → Place → Place
+linked n link p = cond (bytes_eq p.id n) (record p { thing = with_link link p.thing }) p
+
+linked_spot : (n x : List ℕ) (link : Link) (tree : List Place)
+    → spot_at (map (linked n link) tree) x ≡ spot_at tree x
+linked_spot n x link [] = refl
+linked_spot n x link (q ∷ tree) = linked_one (bytes_eq q.id n) x link q (map (linked n link) tree) tree (linked_spot n x link tree)
+
+-- what isn't new stands where it stood
+spot_stays : (e : Edit) (tree : List Place) (x : List ℕ) → IsOld e x
+    → spot_at (plain_places e tree) x ≡ spot_at tree x
+spot_stays (SetStatus n status) tree x old = refl
+spot_stays (SetAttr n name value) tree x old = refl
+spot_stays (SetResStatus y status) tree x old = refl
+spot_stays (SetResAttr y name value) tree x old = refl
+spot_stays (Note n text) tree x old = refl
+spot_stays (AddNode n id kind job_part status) tree x old = ap (option_map spot) (found_behind _ x _ tree (old id refl))
+spot_stays (AddResource n y) tree x old = ap (option_map spot) (found_behind _ x _ tree (old y.id refl))
+spot_stays (AddLink n link) tree x old = linked_spot n x link tree
+
+-- so it is held as it was
+pub holder_stays : (e : Edit) (at : ℕ) (rows : List NodeRow) (recs : List SpawnRec) (x : List ℕ)
+    → IsValid rows → refusal_of e rows ≡ None → IsOld e x
+    → holder_of (edited_rows e at rows) recs x ≡ holder_of rows recs x
+holder_stays e at rows recs x valid free old =
+    ap (λ tree. option_map (holder_at recs) (place_at tree x)) (edit_of_places e at rows valid free)
+    ∙ by_spot recs (place_at (plain_places e (places rows)) x)
+    ∙ ap (option_map (holder_there recs)) (spot_stays e (places rows) x old)
+    ∙ sym (by_spot recs (place_at (places rows) x))
+
+-- ---- the id that is added
+
+some_same : (i j : List ℕ) → Some i ≡ Some j → i ≡ j
+some_same i j e = ap (λ o. option_map_or (λ x. x) o i) e
+
+-- it stood nowhere
+pub new_nowhere : (e : Edit) (rows : List NodeRow) (i : List ℕ) → refusal_of e rows ≡ None
+    → added_id e ≡ Some i → mem i (ids rows) ≡ false
+new_nowhere (SetStatus n status) rows i free added = cc
+new_nowhere (SetAttr n name value) rows i free added = cc
+new_nowhere (SetResStatus x status) rows i free added = cc
+new_nowhere (SetResAttr x name value) rows i free added = cc
+new_nowhere (Note n text) rows i free added = cc
+new_nowhere (AddNode n id kind job_part status) rows i free added = ap (λ x. mem x (ids rows)) (sym (some_same id i added)) ∙ (child_new rows n id status free).2
+new_nowhere (AddResource n x) rows i free added = ap (λ y. mem y (ids rows)) (sym (some_same x.id i added)) ∙ resource_new rows n x free
+new_nowhere (AddLink n link) rows i free added = cc
+
+none_of : (o : Option Place) → is_some o ≡ false → o ≡ None
+none_of None e = refl
+none_of (Some p) e = cc
+
+no_place : (rows : List NodeRow) (x : List ℕ) → mem x (ids rows) ≡ false
+    → place_at (places rows) x ≡ None
+no_place rows x nowhere = none_of (place_at (places rows) x) (stands_somewhere rows x ∙ nowhere)
+
+pub added_is_new : AddedIsNew
+added_is_new rows recs e i h free added table =
+    table.same i ∙ ap (option_map (holder_at recs)) (no_place rows i (new_nowhere e rows i free added))
+
+-- now it stands
+own_by : (b here : Bool) (x : List ℕ) (new q : Place) (tree rest : List Place)
+    → bytes_eq q.id x ≡ here → bytes_eq new.id x ≡ true
+    → cond here (Some q) (place_at tree x) ≡ None
+    → (place_at tree x ≡ None → place_at rest x ≡ Some new)
+    → place_at (cond b (q ∷ new ∷ tree) (q ∷ rest)) x ≡ Some new
+own_by b true x new q tree rest e own none go = cc
+own_by true false x new q tree rest e own none go =
+    ap (λ c. cond c (Some q) (place_at (new ∷ tree) x)) e ∙ ap (λ c. cond c (Some new) (place_at tree x)) own
+own_by false false x new q tree rest e own none go = ap (λ c. cond c (Some q) (place_at rest x)) e ∙ go none
+
+own_behind : (f : Place → Bool) (x : List ℕ) (new : Place) (tree : List Place)
+    → bytes_eq new.id x ≡ true → place_at tree x ≡ None
+    → place_at (behind_last f new tree) x ≡ Some new
+own_behind f x new [] own none = ap (λ c. cond c (Some new) None) own
+own_behind f x new (q ∷ tree) own none =
+    own_by (f q && not (list_any f tree)) (bytes_eq q.id x) x new q tree (behind_last f new tree) refl own none (own_behind f x new tree own)
+
+abbrev Stands : List Place → List ℕ → Type 0
+Stands tree x = (p : Place) × (place_at tree x ≡ Some p)
+
+new_stands : (e : Edit) (tree : List Place) (i x : List ℕ) → added_id e ≡ Some i
+    → bytes_eq i x ≡ true → place_at tree x ≡ None → Stands (plain_places e tree) x
+new_stands (SetStatus n status) tree i x added own none = cc
+new_stands (SetAttr n name value) tree i x added own none = cc
+new_stands (SetResStatus y status) tree i x added own none = cc
+new_stands (SetResAttr y name value) tree i x added own none = cc
+new_stands (Note n text) tree i x added own none = cc
+new_stands (AddNode n id kind job_part status) tree i x added own none =
+    (_, own_behind _ x _ tree (ap (λ j. bytes_eq j x) (some_same id i added) ∙ own) none)
+new_stands (AddResource n y) tree i x added own none =
+    (_, own_behind _ x _ tree (ap (λ j. bytes_eq j x) (some_same y.id i added) ∙ own) none)
+new_stands (AddLink n link) tree i x added own none = cc
+
+-- no spawn claims it
+new_unheld : (e : Edit) (at : ℕ) (rows : List NodeRow) (recs : List SpawnRec) (x : List ℕ)
+    (p : Place) (o : Option SpawnRec)
+    → IsValid rows → StandApart rows recs → refusal_of e rows ≡ None
+    → holder_of rows recs (target e) ≡ Some Master → place_at (places rows) x ≡ None
+    → place_at (places (edited_rows e at rows)) x ≡ Some p → holding recs p ≡ o → o ≡ None
+new_unheld e at rows recs x p None valid apart free mine nowhere there held = refl
+new_unheld e at rows recs x p (Some r) valid apart free mine nowhere there held =
+    let parts = held_is_claimed recs r p held in
+    let place = placed (holds p) recs r held in
+    let claims = edit_keeps_claims rows recs e at valid free mine place.place r place.there parts.0 (apart.good place.place r place.there parts.0) in
+    let f = is_claimed r.node r.rw in
+    let before : place_at (places rows) x ≡ Some p = found_among f (places rows) x p (ids_apart rows valid) (ap (λ tree. place_at tree x) (sym claims.0) ∙ found_by_kind f (places (edited_rows e at rows)) x p parts.1 there) in
+    absurd (true≢false (ap is_some (sym before ∙ nowhere)))
+
+-- so the master holds it
+pub new_is_masters : (e : Edit) (at : ℕ) (rows : List NodeRow) (recs : List SpawnRec) (i x : List ℕ)
+    → IsValid rows → StandApart rows recs → refusal_of e rows ≡ None
+    → holder_of rows recs (target e) ≡ Some Master → added_id e ≡ Some i → bytes_eq i x ≡ true
+    → holder_of (edited_rows e at rows) recs x ≡ Some Master
+new_is_masters e at rows recs i x valid apart free mine added own =
+    let nowhere = no_place rows x (ap (λ y. mem y (ids rows)) (sym ((bytes_eq-Decides i x).0 own)) ∙ new_nowhere e rows i free added) in
+    let stands = new_stands e (places rows) i x added own nowhere in
+    let there = ap (λ tree. place_at tree x) (edit_of_places e at rows valid free) ∙ stands.1 in
+    ap (option_map (holder_at recs)) there
+    ∙ ap (λ o. Some (option_map_or (λ (r : SpawnRec). Spawn r.id) o Master)) (new_unheld e at rows recs x stands.0 (holding recs stands.0) valid apart free mine nowhere there refl)
+
+-- ---- one id more in a table
+
+pub pushed_other : (h : Holdings) (i x : List ℕ) (who : Holder) → bytes_eq i x ≡ false
+    → held_by (h ++ (i, who) ∷ []) x ≡ held_by h x
+pushed_other [] i x who other = ap (λ b. cond b (Some who) None) (bytes_eq-symm x i ∙ other)
+pushed_other (e ∷ h) i x who other = ap (λ o. cond (bytes_eq x e.0) (Some e.1) o) (pushed_other h i x who other)
+
+own_pushed_at : (here : Bool) (e : List ℕ × Holder) (h : Holdings) (i x : List ℕ) (who : Holder)
+    → bytes_eq x e.0 ≡ here → cond here (Some e.1) (held_by h x) ≡ None
+    → (held_by h x ≡ None → held_by (h ++ (i, who) ∷ []) x ≡ Some who)
+    → held_by (e ∷ h ++ (i, who) ∷ []) x ≡ Some who
+own_pushed_at true e h i x who own none go = cc
+own_pushed_at false e h i x who own none go = ap (λ b. cond b (Some e.1) (held_by (h ++ (i, who) ∷ []) x)) own ∙ go none
+
+pub pushed_own : (h : Holdings) (i x : List ℕ) (who : Holder) → bytes_eq i x ≡ true
+    → held_by h x ≡ None → held_by (h ++ (i, who) ∷ []) x ≡ Some who
+pushed_own [] i x who own none = ap (λ b. cond b (Some who) None) (bytes_eq-symm x i ∙ own)
+pushed_own (e ∷ h) i x who own none = own_pushed_at (bytes_eq x e.0) e h i x who refl none (pushed_own h i x who own)
+
+-- ---- the table after an edit
+
+same_by : (b : Bool) (e : Edit) (at : ℕ) (rows : List NodeRow) (recs : List SpawnRec) (h : Holdings)
+    (i x : List ℕ)
+    → IsValid rows → StandApart rows recs → refusal_of e rows ≡ None
+    → holder_of rows recs (target e) ≡ Some Master → IsTable rows recs h → added_id e ≡ Some i
+    → bytes_eq i x ≡ b
+    → held_by (h ++ (i, Master) ∷ []) x ≡ holder_of (edited_rows e at rows) recs x
+same_by true e at rows recs h i x valid apart free mine table added own =
+    let none = ap (held_by h) (sym ((bytes_eq-Decides i x).0 own)) ∙ added_is_new rows recs e i h free added table in
+    pushed_own h i x Master own none ∙ sym (new_is_masters e at rows recs i x valid apart free mine added own)
+same_by false e at rows recs h i x valid apart free mine table added other =
+    pushed_other h i x Master other ∙ table.same x
+    ∙ sym (holder_stays e at rows recs x valid free (λ j is. ap (λ k. bytes_eq k x) (some_same j i (sym is ∙ added)) ∙ other))
+
+same_at : (o : Option (List ℕ)) (e : Edit) (at : ℕ) (rows : List NodeRow) (recs : List SpawnRec)
+    (h : Holdings) (x : List ℕ)
+    → IsValid rows → StandApart rows recs → refusal_of e rows ≡ None
+    → holder_of rows recs (target e) ≡ Some Master → IsTable rows recs h → added_id e ≡ o
+    → held_by (edited_holdings e h) x ≡ holder_of (edited_rows e at rows) recs x
+same_at None e at rows recs h x valid apart free mine table added =
+    ap (λ o. held_by (option_map_or (λ i. h ++ (i, Master) ∷ []) o h) x) added ∙ table.same x ∙ sym (holder_stays e at rows recs x valid free (λ i is. cc))
+same_at (Some i) e at rows recs h x valid apart free mine table added =
+    ap (λ o. held_by (option_map_or (λ j. h ++ (j, Master) ∷ []) o h) x) added ∙ same_by (bytes_eq i x) e at rows recs h i x valid apart free mine table added refl
+
+pub edit_keeps_table : EditKeepsTable
+edit_keeps_table rows recs e at h valid apart free mine table =
+    record { same = λ x. same_at (added_id e) e at rows recs h x valid apart free mine table refl }

@@ -1,0 +1,34 @@
+-- What a worker sends may be sent: a part, or an answer with the number of a refusal.
+use Rattle.std.proofs.Common.{◌≡◌, ℕ, List, true, Option, Some, None, refl}
+use Rattle.std.specs.Option.{option_map}
+use Rattle.std.specs.Prelude.{IfSome}
+use Rattle.controller.proofs.Answered.{sends_so}
+use Rattle.controller.proofs.Sendable.{answers_sent, told}
+use Rattle.controller.specs.Reply.{spawn_in}
+use Rattle.controller.specs.Words.{may_be_sent}
+use Rattle.controller.specs.declared.message.Message.{Message}
+use Rattle.worker_core.specs.Messages.{after_taking, take_refusal, take_step, taken_result}
+use Rattle.worker_core.specs.Orders.{finished_entry, order_message, order_refusal, order_reply, order_step, ordered, return_of}
+use Rattle.worker_core.specs.Worker.{Known, entry_of, status_in}
+use Rattle.worker_core.specs.declared.entry.Entry.{Entry}
+use Rattle.worker_core.specs.declared.order.Order.{Order}
+use Rattle.worker_core.specs.declared.order.Order.TheVariants.{Edit, Finish, Resend}
+
+-- these may
+abbrev pub IsSendable : Option Message → Type 0
+IsSendable sent = IfSome sent (λ m. may_be_sent m.body ≡ true)
+
+returned : (name master : List ℕ) (f : Entry → Entry) (e : Option Entry) → IsSendable (option_map (λ entry. return_of name master (f entry)) e)
+returned name master f None = tt
+returned name master f (Some e) = refl
+
+message : (o : Order) (at' : ℕ) (w : Known) → IsSendable (order_message o at' w)
+message (Edit s e) at' w = tt
+message (Finish s how) at' w = returned w.name w.master (finished_entry how at') (entry_of w.entries s)
+message (Resend s) at' w = returned w.name w.master (λ entry. entry) (entry_of w.entries s)
+
+pub by_order : (o : Order) (at' : ℕ) (w : Known) → IsSendable (order_step o at' w).sent
+by_order o at' w = sends_so (order_refusal o w.entries) (order_reply o) (order_message o at' w) w (ordered o at' w) (λ m. may_be_sent m.body ≡ true) (message o at' w)
+
+pub by_message : (m : Message) (at' : ℕ) (w : Known) → IsSendable (take_step m at' w).sent
+by_message m at' w = answers_sent w.name m at' (taken_result m at' w) (told (take_refusal m w) (status_in (after_taking m at' w).entries (spawn_in m.body)))
