@@ -3,6 +3,7 @@
 
 Each test runs the program in a folder of its own. The last line says how many passed.
 """
+import contextlib
 import json
 import os
 import random
@@ -468,6 +469,28 @@ def what_cannot_be_sent_is_told():
         wants(run("send", mis.url(), given="{"), (1, "", "Refused by the controller: 400\n"))
 
 
+def a_silent_server_is_given_up():
+    """One that takes the message and says nothing, and one that drips its response, for 30 s."""
+    with socket.create_server(("127.0.0.1", 0)) as silent, socket.create_server(("127.0.0.1", 0)) as slow:
+        start = time.monotonic()
+        senders = [subprocess.Popen([PROGRAM, "send", f"http://127.0.0.1:{server.getsockname()[1]}/jmf"],
+                                    stdin=subprocess.PIPE, stdout=subprocess.PIPE, stderr=subprocess.PIPE)
+                   for server in (silent, slow)]
+        for sender in senders:
+            sender.stdin.write(b"{}")
+            sender.stdin.close()
+        drips = slow.accept()[0]
+        drips.sendall(b"HTTP/1.1 200 OK\r\nServer: ")
+        while senders[1].poll() is None and time.monotonic() - start < 60:
+            with contextlib.suppress(OSError):
+                drips.sendall(b"s")
+            time.sleep(0.5)
+        for sender in senders:
+            ended = (sender.wait(60), sender.stdout.read(), sender.stderr.read())
+            wants(ended, (4, b"", b"Refused 55 ReadFailed\n"))
+        assert 29 < time.monotonic() - start < 40
+
+
 def a_killed_server_merges_once():
     """Each server is killed ten times at random while it is sent a message."""
     open_shop()
@@ -503,6 +526,27 @@ def a_killed_server_merges_once():
     print(f"  {kills} servers killed, {answers} messages answered before")
 
 
+def an_order_goes_out_and_its_answer_is_taken():
+    open_shop()
+    cover = spawn("cover", "press", ["cover.sheets"])
+    finish = json.dumps({"Order": "Finish", "SpawnID": "S1", "Status": "Completed"})
+    with Served("press") as press, Served("mis") as mis:
+        given = ("order", "mis", "--at", AT, "--send", press.url())
+        wants(run(*given, given=cover), (0, "Spawned S1\nNoted S1\n", ""))
+        wants(run("show", "press")[1].split(" ")[:2], ["S1", "Open"])
+        given = ("order", "press", "--at", AT, "--send", mis.url())
+        wants(run(*given, given=finish), (0, "Finished S1\nAcked S1\n", ""))
+        wants(run(*given, given=finish)[:2], (1, "Refused 31 NotOpen\n"))
+    resend = json.dumps({"Order": "Resend", "SpawnID": "S1"})
+    wants(run(*given, given=resend), (4, "Sent S1\n", "Refused 61 NoConnection\n"))
+    with Served("bindery") as other:
+        given = ("order", "press", "--at", AT, "--send", other.url())
+        wants(run(*given, given=resend), (1, "Sent S1\nRefused 21 WrongSender\n", ""))
+        os.rename("bindery", "away")
+        told = "Refused by the controller: 503\n"
+        wants(run(*given, given=resend), (1, "Sent S1\n", told))
+
+
 def orders_beside_a_server_lose_nothing():
     begin()
     with Served("mis") as mis:
@@ -533,7 +577,9 @@ TESTS = [
     an_early_answer_comes_to_the_client,
     what_cannot_be_served_is_told,
     what_cannot_be_sent_is_told,
+    a_silent_server_is_given_up,
     a_killed_server_merges_once,
+    an_order_goes_out_and_its_answer_is_taken,
     orders_beside_a_server_lose_nothing,
 ]
 
@@ -555,14 +601,19 @@ def passes(test):
         shutil.rmtree(folder)
 
 
-def main():
-    shutil.copyfile(sys.argv[1], PROGRAM)
+def install(program):
+    shutil.copyfile(program, PROGRAM)
     os.chmod(PROGRAM, 0o755)
     os.chmod(os.path.dirname(PROGRAM), 0o755)
+
+
+def main():
+    install(sys.argv[1])
     passed = sum([passes(test) for test in TESTS])
     shutil.rmtree(os.path.dirname(PROGRAM))
     print(f"processes: {passed} passed, {len(TESTS) - passed} failed")
     sys.exit(passed != len(TESTS))
 
 
-main()
+if __name__ == "__main__":
+    main()

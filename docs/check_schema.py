@@ -32,7 +32,7 @@ INPUTS = {"": "editInput", "edit": "editInput", "world": "script", "new": "openi
 # Words of the driver alone, whose answer is one line, or none. The answer to any other is what the
 # program prints and tells, and its status on a line.
 ONE_LINE = {"text", "holders", "marked", "value", "ticket", "change", "part", "message", "id",
-            "tree", "part_tree", "below", "home", "subtree"}
+            "state", "tree", "part_tree", "below", "home", "subtree"}
 
 # How many lines the answer to `send` has behind its first: a head, and a body of one line.
 SENT_LINES = 6
@@ -48,9 +48,12 @@ def cases():
             continue
         words, text = (line.split("\t") + [""])[:2]
         word, *others = words.split(" ")
+        text = re.sub("%[0-9A-F]{2}", lambda byte: chr(int(byte.group()[1:], 16)), text)
+        if word == "cuts":
+            pass_cuts(others[0], len(text), answers)
+            continue
         before = held.get(others[0], "") if others else ""
         answer = answer_to(word, before, answers)
-        text = re.sub("%[0-9A-F]{2}", lambda byte: chr(int(byte.group()[1:], 16)), text)
         if word == "file" or (word == "new" and answer[-1] == "status 0"):
             held[others[0]] = text
         kind, text = input_of(word, text, before)
@@ -73,8 +76,17 @@ def answer_to(word, held, answers):
     return answer
 
 
+def pass_cuts(word, size, answers):
+    """Passes over what comes of the cuts of an input of this size."""
+    while not next(answers).endswith(f"..{size - 1}"):
+        answer_to(word, "", answers)
+    answer_to(word, "", answers)
+
+
 def input_of(word, text, held):
     """What the input of a case is, and the input: of `show`, the state that the file was given."""
+    if word == "state":
+        return "masterState" if '"Workers"' in text else "workerState", text
     whose = "master" if '"Workers"' in held else "worker"
     if word == "show" and '"Format"' in held:
         return whose + "State", held

@@ -1,9 +1,8 @@
 //! From the lines of the input to what comes of them.
 
+use crate::answers::answer;
 use crate::case::Case;
-use crate::exchanges::exchange_answer;
-use crate::other::other_answer;
-use crate::program::program_answer;
+use crate::cuts::cut_answers;
 use keepers::Locks;
 use std::alloc::{AllocError, Global};
 use std::io::{self, Read, Write};
@@ -42,21 +41,9 @@ fn push_answer<R: Locks + Net + Clock>(
         output.extend_from_slice(line)?;
         return output.push(b'\n').map_err(AllocError::from);
     }
-    let case = Case::of_line(alloc, line)?;
-    output.extend_from_slice(answer(rt, alloc, &case)?.as_slice())
-}
-
-/// What comes of a case.
-fn answer<R: Locks + Net + Clock>(
-    rt: &R,
-    alloc: Global,
-    case: &Case,
-) -> Result<Vec<u8>, AllocError> {
-    if let Some(answer) = exchange_answer(rt, alloc, case)? {
-        return Ok(answer);
-    }
-    match other_answer(rt, alloc, case)? {
-        Some(answer) => Ok(answer),
-        None => program_answer(rt, alloc, case),
-    }
+    let answers = match line.strip_prefix(b"cuts ") {
+        Some(line) => cut_answers(rt, alloc, line)?,
+        None => answer(rt, alloc, &Case::of_line(alloc, line)?)?,
+    };
+    output.extend_from_slice(answers.as_slice())
 }

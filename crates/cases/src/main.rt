@@ -6,10 +6,12 @@
 //! or begin with `#` are written as they are; the latter say what the cases below them are about.
 //!
 //! A few words more call what the program never does by itself; `other.rt` and `exchanges.rt` list
-//! them.
+//! them. `cuts` before the words of a case stands for that case with each cut of its input.
 #![tactic(auto)]
 
+mod answers;
 mod case;
+mod cuts;
 mod escapes;
 mod exchanges;
 mod files;
@@ -19,6 +21,7 @@ mod masters;
 mod other;
 mod places;
 mod program;
+mod states;
 mod trees;
 
 use crate::lines::write_answers;

@@ -1,7 +1,7 @@
 //! Words that the program doesn't have: files as they are, and calls that it never makes by itself.
 
 use crate::case::Case;
-use crate::{files, forms, masters, places, trees};
+use crate::{files, forms, masters, places, states, trees};
 use jmf_message::Message;
 use keepers::Locks;
 use std::alloc::{AllocError, Global};
@@ -55,6 +55,7 @@ fn form_again(alloc: Global, word: &str, input: &[u8]) -> Option<Result<Vec<u8>,
         "ticket" => Some(forms::again::<Ticket>(alloc, input)),
         "change" => Some(forms::again::<Edit>(alloc, input)),
         "part" => Some(forms::again::<Part>(alloc, input)),
+        "state" => Some(states::again(alloc, input)),
         "message" => Some(forms::sent_again::<Message>(alloc, input)),
         "id" => Some(forms::id_line::<Message>(alloc, input)),
         _ => None,

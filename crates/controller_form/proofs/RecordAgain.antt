@@ -20,7 +20,8 @@ use Rattle.json_items.specs.Shown.{nothing_shown}
 use Rattle.json_items.specs.declared.resources.marked_form.Marked.{Marked}
 use Rattle.json_source.specs.Read.{◌>>=◌}
 use Rattle.json_profile.proofs.PoolAgain.{resources_of-all_showing}
-use Rattle.controller_form.specs.States.RecordForm.{number_named, phase_named, phase_word, record_data, record_form}
+use Rattle.controller_form.specs.Orders.SpawnNamed.{spawn_named}
+use Rattle.controller_form.specs.States.RecordForm.{phase_named, phase_word, record_data, record_form}
 use Rattle.controller_form.specs.States.RecordForm.{spawn_has_names}
 use Rattle.controller_form.specs.declared.states.record_draft.StoredRecord.{StoredRecord}
 
@@ -36,7 +37,7 @@ bare_all : (rs : List Resource) → are_bare (all_showing nothing_shown rs) ≡ 
 bare_all [] = refl
 bare_all (r ∷ rs) = bare_all rs
 
-number_again : (n : ℕ) → is_spawn_number n ≡ true → number_named (spawn_text n) ≡ n
+number_again : (n : ℕ) → is_spawn_number n ≡ true → spawn_named (spawn_text n) ≡ n
 number_again n number = ap (λ o. unwrap_or o 0) (spawn_of-spawn_text n number)
 
 -- a record with these in the place of its own
@@ -51,7 +52,7 @@ with_read r phase ro rw n =
 pub record_again : (r : SpawnRec) → is_spawn_number r.id ≡ true → record_form (record_data r) ≡ Some (bare r)
 unfolding record_form
 record_again r number =
-    let n = number_named (spawn_text r.id) in
+    let n = spawn_named (spawn_text r.id) in
     let copies = all_showing nothing_shown r.ro in
     let ro_data = array (data_items raw_data copies) in
     ap (λ o. o >>= λ phase. list_form resource_draft ro_data >>= λ ro. list_form as_str (texts_data r.rw) >>= λ rw. Some (with_read r phase ro rw n)) (phase_again r.phase)

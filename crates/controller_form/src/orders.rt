@@ -1,7 +1,7 @@
 //! Orders as JSON, in our own profile: what a master and what a worker is told to do.
 
 mod master_order;
-mod spawn_named;
+pub(crate) mod spawn_named;
 mod worker_order;
 
 pub use master_order::{MasterOrderDraft, master_order_of};

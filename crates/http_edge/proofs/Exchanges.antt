@@ -1,6 +1,7 @@
 -- What comes of a request.
 use Rattle.std.proofs.Common.{◌≡◌, ◌≢◌, ◌∙◌, ◌⊎◌, ℕ, Bool, true, false, List, Option, Some, Result, Ok, Err, is_ok, IfOk, OnErr, OnOk, sym, ap, subst, refl, inl, inr, ⊎_elim}
 use Rattle.std.proofs.lemmas.Bool.{false_from_ne_true, true≢false}
+use Rattle.serde_json.specs.Data.{Data}
 use Rattle.controller.specs.declared.message.Message.{Message}
 use Rattle.ticket_items.specs.declared.refusal.Refusal.{Refusal}
 use Rattle.ticket_items.specs.declared.refusal.Refusal.TheVariants.{Memory}
@@ -56,13 +57,13 @@ not_read h l n sf t does start u old e unread =
 
 -- ---- how it is served
 
-module _ {C K : Type 0} (is_honest : K → Bool) (held : K → List ℕ) (count : K → ℕ) (save_fails : K → List ℕ → K → Type 0) (state_text : C → List ℕ) (does : Message → TextStep C) (input : Use) (old new : Held C K) (output : Use) where
+module _ {C K : Type 0} (is_honest : K → Bool) (held : K → List ℕ) (count : K → ℕ) (save_fails : K → List ℕ → K → Type 0) (state_text : C → List ℕ) (state_read : Data → Result C Refusal) (does : Message → TextStep C) (input : Use) (old new : Held C K) (output : Use) where
   -- the step was answered
   pub serves_step : (reply : Result Reply Refusal) (answer : Option (List ℕ)) (r : Result Served EdgeFault)
-      → (step : TextStep C) × Steps is_honest held state_text does input.before.bytes old new step × (reply ≡ step.reply) × (answer ≡ step.sent) → IsUnfailed input
+      → (step : TextStep C) × Steps is_honest held state_text state_read does input.before.bytes old new step × (reply ≡ step.reply) × (answer ≡ step.sent) → IsUnfailed input
       → IfOk r (λ told. told ≡ record { status = done_status; refusal = refusal_in reply })
       → OnOk r (Writes output (response_text (Ok answer)))
-      → IfOk r (Serves is_honest held count save_fails state_text does input old new output)
+      → IfOk r (Serves is_honest held count save_fails state_text state_read does input old new output)
   serves_step reply answer (Ok told) came unfailed is wrote =
       record {
         came = Ok came.0;
@@ -74,9 +75,9 @@ module _ {C K : Type 0} (is_honest : K → Bool) (held : K → List ℕ) (count 
   serves_step reply answer (Err f) came unfailed is wrote = tt
 
   pub serves_front_of_step : (reply : Result Reply Refusal) (answer : Option (List ℕ)) (r : Result Served EdgeFault)
-      → (step : TextStep C) × Steps is_honest held state_text does input.before.bytes old new step × (reply ≡ step.reply) × (answer ≡ step.sent) → IsUnfailed input
+      → (step : TextStep C) × Steps is_honest held state_text state_read does input.before.bytes old new step × (reply ≡ step.reply) × (answer ≡ step.sent) → IsUnfailed input
       → OnErr r (WritesFront output (response_text (Ok answer))) → r ≡ Err WriteFailed
-      → ServesFront is_honest held count save_fails state_text does input old new output
+      → ServesFront is_honest held count save_fails state_text state_read does input old new output
   serves_front_of_step reply answer (Ok told) came unfailed front is = let wrong : true ≡ false = ap is_ok is in absurd (true≢false wrong)
   serves_front_of_step reply answer (Err f) came unfailed front is =
       record {
@@ -91,7 +92,7 @@ module _ {C K : Type 0} (is_honest : K → Bool) (held : K → List ℕ) (count 
       → IsUnread start input old new e ⊎ ((e ≢ ReadFailed) × IsUnfailed input × StepsNot is_honest held count save_fails state_text does input.before.bytes old new e)
       → is_unread e ≡ false → IfOk r (λ told. told ≡ record { status = status_of e; refusal = Some e })
       → OnOk r (Writes output (response_text (Err e)))
-      → IfOk r (Serves is_honest held count save_fails state_text does input old new output)
+      → IfOk r (Serves is_honest held count save_fails state_text state_read does input old new output)
   serves_refusal start e (Ok told) (inl unread) isnt is wrote = absurd (true≢false (sym (ap is_unread unread.is) ∙ isnt))
   serves_refusal start e (Ok told) (inr none) isnt is wrote =
       record { came = Err e; exchange = none.2; unfailed = none.1; written = wrote; told_of = is }
@@ -100,7 +101,7 @@ module _ {C K : Type 0} (is_honest : K → Bool) (held : K → List ℕ) (count 
   pub serves_front_of_refusal : (start : ℕ) (e : Refused) (r : Result Served EdgeFault)
       → IsUnread start input old new e ⊎ ((e ≢ ReadFailed) × IsUnfailed input × StepsNot is_honest held count save_fails state_text does input.before.bytes old new e)
       → is_unread e ≡ false → OnErr r (WritesFront output (response_text (Err e))) → r ≡ Err WriteFailed
-      → ServesFront is_honest held count save_fails state_text does input old new output
+      → ServesFront is_honest held count save_fails state_text state_read does input old new output
   serves_front_of_refusal start e (Ok told) why isnt front is = absurd (true≢false (ap is_ok is))
   serves_front_of_refusal start e (Err f) (inl unread) isnt front is = absurd (true≢false (sym (ap is_unread unread.is) ∙ isnt))
   serves_front_of_refusal start e (Err f) (inr none) isnt front is =

@@ -2,6 +2,7 @@
 use Rattle.std.specs.Prelude.{◌≡◌, ◌⊎◌, ℕ, Bool, true, false, List, Option, Some, None, IfSome}
 use Rattle.std.specs.Prelude.{Result, Ok, Err}
 use Rattle.std.specs.Option.{option_map}
+use Rattle.serde_json.specs.Data.{Data}
 use Rattle.ticket_items.specs.declared.refusal.Refusal.TheVariants.{Memory}
 use Rattle.controller.specs.declared.message.Message.{Message}
 use Rattle.controller.specs.declared.reply.Reply.{Reply}
@@ -15,7 +16,7 @@ use Rattle.http_message.specs.Reading.{HasFailedIn, IsUnfailed}
 use Rattle.http_message.specs.Status.{done_status, status_of}
 use Rattle.http_message.specs.Texts.{response_text}
 use Rattle.http_message.specs.declared.kind.Kind.TheVariants as kinds
-use Rattle.stored_state.specs.Held.{GivesNothing, Held}
+use Rattle.stored_state.specs.Held.{GivesNothing, Held, IsReadAs}
 use Rattle.stored_state.specs.Kept.{IsOfMessage}
 use Rattle.stored_state.specs.Step.{IsSaved, IsTaken, TextStep}
 use Rattle.stored_state.specs.declared.taken_bytes.TakenBytes.{TakenBytes}
@@ -27,14 +28,17 @@ use Rattle.http_edge.specs.declared.served.Served.{Served}
 abbrev pub HasBody : Option (List ℕ) → List ℕ → Type 0
 HasBody known body = IfSome known (λ input. Carries kinds.Request input 0 body)
 
--- the message that the request carries is one step, which is saved
+-- the message that the request carries is one step, which is saved, and is read again as it was
 pub record Steps {C K : Type 0} (is_honest : K → Bool) (held : K → List ℕ)
-    (state_text : C → List ℕ) (does : Message → TextStep C) (known : Option (List ℕ))
-    (old new : Held C K) (step : TextStep C) : Type 0 where
+    (state_text : C → List ℕ) (state_read : Data → Result C Refusal)
+    (does : Message → TextStep C) (known : Option (List ℕ)) (old new : Held C K)
+    (step : TextStep C) : Type 0 where
   pub body : List ℕ
   pub carried : HasBody known body
   pub taken : IsTaken body does step
   pub saved : IsSaved is_honest held state_text step new
+  pub again :
+      is_honest new.keep ≡ true → IsReadAs state_read (held new.keep) (Ok new.controller)
   pub fresh : old.stale ≡ false
   pub honest : is_honest new.keep ≡ is_honest old.keep
 
@@ -69,11 +73,12 @@ pub record IsUnread {C K : Type 0} (start : ℕ) (input : Use) (old new : Held C
 
 -- what comes of a request: a step, or why there is none
 abbrev pub Exchanges : {C K : Type 0} → (K → Bool) → (K → List ℕ) → (K → ℕ)
-    → (K → List ℕ → K → Type 0) → (C → List ℕ) → (Message → TextStep C) → Option (List ℕ)
-    → Held C K → Held C K → Result (TextStep C) Refused → Type 0
-Exchanges is_honest held count save_fails state_text does known old new (Ok step) =
-    Steps is_honest held state_text does known old new step
-Exchanges is_honest held count save_fails state_text does known old new (Err e) =
+    → (K → List ℕ → K → Type 0) → (C → List ℕ) → (Data → Result C Refusal)
+    → (Message → TextStep C) → Option (List ℕ) → Held C K → Held C K
+    → Result (TextStep C) Refused → Type 0
+Exchanges is_honest held count save_fails state_text state_read does known old new (Ok step) =
+    Steps is_honest held state_text state_read does known old new step
+Exchanges is_honest held count save_fails state_text state_read does known old new (Err e) =
     StepsNot is_honest held count save_fails state_text does known old new e
 
 -- ---- what it is answered
@@ -106,22 +111,26 @@ told_of (Err e) = record { status = status_of e; refusal = Some e }
 
 -- no read failed; the response to what came of the request is written, and this is told of it
 pub record Serves {C K : Type 0} (is_honest : K → Bool) (held : K → List ℕ) (count : K → ℕ)
-    (save_fails : K → List ℕ → K → Type 0) (state_text : C → List ℕ) (does : Message → TextStep C)
-    (input : Use) (old new : Held C K) (output : Use) (told : Served) : Type 0 where
+    (save_fails : K → List ℕ → K → Type 0) (state_text : C → List ℕ)
+    (state_read : Data → Result C Refusal) (does : Message → TextStep C) (input : Use)
+    (old new : Held C K) (output : Use) (told : Served) : Type 0 where
   pub came : Result (TextStep C) Refused
   pub exchange :
-      Exchanges is_honest held count save_fails state_text does input.before.bytes old new came
+      Exchanges is_honest held count save_fails state_text state_read does input.before.bytes old
+      new came
   pub unfailed : IsUnfailed input
   pub written : Writes output (response_text (answered came))
   pub told_of : told ≡ served came
 
 -- a write of the response failed: what came of the request is as if it had not
 pub record ServesFront {C K : Type 0} (is_honest : K → Bool) (held : K → List ℕ) (count : K → ℕ)
-    (save_fails : K → List ℕ → K → Type 0) (state_text : C → List ℕ) (does : Message → TextStep C)
-    (input : Use) (old new : Held C K) (output : Use) : Type 0 where
+    (save_fails : K → List ℕ → K → Type 0) (state_text : C → List ℕ)
+    (state_read : Data → Result C Refusal) (does : Message → TextStep C) (input : Use)
+    (old new : Held C K) (output : Use) : Type 0 where
   pub came : Result (TextStep C) Refused
   pub exchange :
-      Exchanges is_honest held count save_fails state_text does input.before.bytes old new came
+      Exchanges is_honest held count save_fails state_text state_read does input.before.bytes old
+      new came
   pub unfailed : IsUnfailed input
   pub front : WritesFront output (response_text (answered came))
 

@@ -26,7 +26,7 @@ pub(crate) fn exchange<R: Read, C: Stored, K: Keep>(
     at: u64,
 ) -> Result<TakenBytes, Refused>
     ensures ok { IfOk result (λ given. (step : TextStep C)
-        × Steps K.is_honest K.held (λ c. compact_text (C.state_data c))
+        × Steps K.is_honest K.held (λ c. compact_text (C.state_data c)) C.state_read
         (λ m. in_text (C.take_step m at kept.old.controller))
         (R.remaining reader.old.inner) kept.old kept.new step
         × (given.reply ≡ step.reply)

@@ -47,7 +47,7 @@ pub fn serve_one<R: Read, W: Write, C: Stored, K: Keep>(
     at: u64,
 ) -> Result<Served, EdgeFault>
     ensures ok { IfOk result (Serves K.is_honest K.held K.count K.save_fails
-        (λ c. compact_text (C.state_data c))
+        (λ c. compact_text (C.state_data c)) C.state_read
         (λ m. in_text (C.take_step m at kept.old.controller))
         (used R.remaining reader.old reader.new) kept.old kept.new
         (used W.contents writer.old writer.new)) }
@@ -55,7 +55,7 @@ pub fn serve_one<R: Read, W: Write, C: Stored, K: Keep>(
         (used R.remaining reader.old reader.new) (used W.contents writer.old writer.new)
         kept.old kept.new }
     ensures unwritten { IsErrOf result WriteFailed → ServesFront K.is_honest K.held K.count
-        K.save_fails (λ c. compact_text (C.state_data c))
+        K.save_fails (λ c. compact_text (C.state_data c)) C.state_read
         (λ m. in_text (C.take_step m at kept.old.controller))
         (used R.remaining reader.old reader.new) kept.old kept.new
         (used W.contents writer.old writer.new) }

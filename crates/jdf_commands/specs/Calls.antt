@@ -4,7 +4,7 @@ use Rattle.ticket_items.specs.declared.refusal.Refusal.{Refusal}
 use Rattle.jmf_message.specs.Decoded.{IsRefusalOf}
 use Rattle.jdf_words.specs.declared.call.Call.{Call}
 use Rattle.jdf_words.specs.declared.call.Call.TheVariants.{Edit, World, New, Order, Take, Show}
-use Rattle.jdf_words.specs.declared.call.Call.TheVariants.{Loop, Serve, Send}
+use Rattle.jdf_words.specs.declared.call.Call.TheVariants.{Loop, SendOrder, Serve, Send}
 use Rattle.keepers.specs.InFile.{Fails, InFile}
 use Rattle.stored_state.specs.Opened.{AnyController}
 use Rattle.streams.specs.Ends.{EndsWith, IsFaultOf, IsOutputOf}
@@ -62,6 +62,7 @@ IsOutputOfCall (Take file at) input text refused =
 IsOutputOfCall (Show file) input text refused =
     IsUntouched input × Shows is_honest held (kept_in file.now) text refused
 IsOutputOfCall Loop input text refused = ⊥
+IsOutputOfCall (SendOrder file at url) input text refused = ⊥
 IsOutputOfCall (Serve file listen limit requests) input text refused = ⊥
 IsOutputOfCall (Send url file) input text refused = ⊥
 
@@ -83,6 +84,7 @@ IsFaultOfCall (Show file) input fault =
     IsNotLocked input fault
     ⊎ (IsUntouched input × ShowsNone is_honest held Fails (kept_in file.now) fault)
 IsFaultOfCall Loop input fault = IsOfNetwork input fault
+IsFaultOfCall (SendOrder file at url) input fault = IsOfNetwork input fault
 IsFaultOfCall (Serve file listen limit requests) input fault = IsOfNetwork input fault
 IsFaultOfCall (Send url file) input fault = IsOfNetwork input fault
 

@@ -13,7 +13,7 @@ mod taking;
 pub use beginning::{begin, new_output};
 pub use ordered::Ordered;
 pub use ordering::{order_kept, order_output};
-pub use run::run_file;
+pub use run::{call_output, run_file};
 pub use shown::{show_output, worker_text};
 pub use step::word_of;
 pub use taking::{take_kept, take_output};

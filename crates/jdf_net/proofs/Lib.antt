@@ -2,3 +2,7 @@ pub mod Taking
 mod AllEvents
 mod AnyCalls
 mod EventLines
+mod ShopKept
+mod ShopOpened
+mod ShopWorkers
+mod ShopOrders

@@ -1,4 +1,5 @@
 pub mod LoopCommand
+pub mod OrderCommand
 pub mod SendCommand
 pub mod ServeCommand
 pub mod Words

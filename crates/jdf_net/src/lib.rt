@@ -2,11 +2,14 @@
 #![tactic(auto)]
 
 mod loop_command;
+mod order_command;
 mod send_command;
 mod serve_command;
+mod until;
 mod words;
 
 pub use loop_command::run_loop;
+pub use order_command::{SendOrder, run_send_order};
 pub use send_command::run_send;
 pub use serve_command::{Service, run_serve};
 pub use words::{NO_CALL, run_words};

@@ -8,6 +8,7 @@ mod handing;
 mod loopback;
 mod pushing;
 mod replies;
+mod sent_texts;
 mod shop;
 mod written;
 

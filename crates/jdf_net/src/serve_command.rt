@@ -7,7 +7,6 @@ mod log;
 mod run;
 mod service;
 mod stepping;
-mod until;
 
 pub use run::run_serve;
 pub use service::Service;

@@ -5,6 +5,7 @@ ghost use Rattle.jdf_net.specs.Words.{EndsAnyCall, EndsWords};
 ghost use Rattle.streams.specs.Streams.{used};
 
 use crate::loop_command::run_loop;
+use crate::order_command::{SendOrder, run_send_order};
 use crate::send_command::run_send;
 use crate::serve_command::{Service, run_serve};
 use jdf_commands::run_file;
@@ -41,6 +42,10 @@ fn run_call<R: Locks + Net + Clock, I: Read, W: Write, F: Write>(
 {
     match call {
         Call::Loop => run_loop(rt, alloc, reader, writer, faults),
+        Call::SendOrder { file, at, url } => {
+            let order = SendOrder { file, at: *at, url };
+            run_send_order(rt, alloc, &order, reader, writer, faults)
+        }
         Call::Serve {
             file,
             listen,

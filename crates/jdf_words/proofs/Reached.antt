@@ -14,7 +14,7 @@ use Rattle.clap.specs.Values.{IsUnsignedIn}
 use Rattle.clap.specs.declared.builder.value_parser.ValueParser.TheVariants as parser
 use Rattle.clap.proofs.ValueTestLemmas.{accepts-Accepts}
 use Rattle.jdf_words.specs.Calls.{HasAt, HasFile, HasServing, HasText, IsCall}
-use Rattle.jdf_words.specs.Commands.{at_rule, bare, command, file_rule, jdf, send_rules, serve_rules}
+use Rattle.jdf_words.specs.Commands.{at_rule, bare, command, file_rule, jdf, order_rules, send_rules, serve_rules}
 use Rattle.jdf_words.proofs.Walks.{AsksNoHelp, IsIn, IsMade, IsPlainRule, found_in, level_passed, made}
 
 -- an element that is found has what each has
@@ -62,6 +62,9 @@ filed name = leaf name (file_rule ∷ [])
 abbrev timed : Text → Shape
 timed name = leaf name (file_rule ∷ at_rule ∷ [])
 
+abbrev ordering : Shape
+ordering = leaf (codes "order") order_rules
+
 abbrev serving : Shape
 serving = leaf (codes "serve") serve_rules
 
@@ -80,6 +83,12 @@ timed_plain : (name : Text) (a : Rule) → IsIn a (timed name).rules → IsPlain
 timed_plain name a (inl is) = rw is (inl (refl, refl, refl), refl)
 timed_plain name a (inr (inl is)) = rw is (inl (refl, refl, refl), refl)
 timed_plain name a (inr (inr is)) = help_plain name a is
+
+ordering_plain : (a : Rule) → IsIn a ordering.rules → IsPlainRule a
+ordering_plain a (inl is) = rw is (inl (refl, refl, refl), refl)
+ordering_plain a (inr (inl is)) = rw is (inl (refl, refl, refl), refl)
+ordering_plain a (inr (inr (inl is))) = rw is (inl (refl, refl, refl), refl)
+ordering_plain a (inr (inr (inr is))) = help_plain (codes "order") a is
 
 serving_plain : (a : Rule) → IsIn a serving.rules → IsPlainRule a
 serving_plain a (inl is) = rw is (inl (refl, refl, refl), refl)
@@ -132,6 +141,20 @@ at_given : (name : Text) (rows : List Row) → All (IsMade (timed name).rules) r
 at_given name rows all given =
     let row = given_row (timed name).rules (codes "at") rows all given in
     subst (λ o. IsSomeAnd (option_and_then row_text o) (IsUnsignedIn 0 9999999999)) (sym row.found) (at_passes name row.rule row.text row.among row.named row.passes)
+
+-- the same of an order
+order_at_passes : (a : Rule) (text : Text) → IsIn a ordering.rules → bytes_eq a.id (codes "at") ≡ true → value_passes a text ≡ true
+    → IsSomeAnd (row_text (made a text)) (IsUnsignedIn 0 9999999999)
+order_at_passes a text (inl is) named passes = let bad : false ≡ true = rw is at named in cc
+order_at_passes a text (inr (inl is)) named passes = rw is (accepts-Accepts false (parser.Unsigned 0 9999999999) text (rw is at passes))
+order_at_passes a text (inr (inr (inl is))) named passes = let bad : false ≡ true = rw is at named in cc
+order_at_passes a text (inr (inr (inr (inl is)))) named passes = let bad : false ≡ true = rw is at named in cc
+order_at_passes a text (inr (inr (inr (inr none)))) named passes = absurd none
+
+order_at_given : (rows : List Row) → All (IsMade ordering.rules) rows → is_given (codes "at") rows ≡ true → HasAt rows
+order_at_given rows all given =
+    let row = given_row ordering.rules (codes "at") rows all given in
+    subst (λ o. IsSomeAnd (option_and_then row_text o) (IsUnsignedIn 0 9999999999)) (sym row.found) (order_at_passes row.rule row.text row.among row.named row.passes)
 
 -- only the rules of the limit and of the number of requests are called so
 limit_passes : (a : Rule) (text : Text) → IsIn a serving.rules → bytes_eq a.id (codes "limit") ≡ true → value_passes a text ≡ true
@@ -188,6 +211,16 @@ timed_has name words e =
       at_given name _ passed.rows (there _ time.0),
     )
 
+ordering_has : (words : List Text) → level_fault ordering [] nothing_held words false [] ≡ []
+    → HasFile (rows_after ordering.rules [] words) × HasAt (rows_after ordering.rules [] words)
+ordering_has words e =
+    let passed = level_passed ordering ordering_plain refl [] words false [] e in
+    let file = or_parts (not (is_given (codes "FILE") (rows_after ordering.rules [] words))) _ (none_missing _ passed.checks) in
+    let time = or_parts (not (is_given (codes "at") (rows_after ordering.rules [] words))) false file.1 in (
+      text_given ordering.rules (codes "FILE") _ passed.rows (there _ file.0),
+      order_at_given _ passed.rows (there _ time.0),
+    )
+
 -- ---- the program
 
 top_plain : (a : Rule) → IsIn a (built jdf).top.rules → IsPlainRule a
@@ -216,7 +249,7 @@ command_has s name words (inr (inr (inr (inl is)))) answers no_help e =
     let has = filed_has (codes "new") words (rw is at e) in
     rw is (record { command = refl; file = λ _. has; at = λ bad. cc; serving = λ bad. cc; url = λ bad. cc })
 command_has s name words (inr (inr (inr (inr (inl is))))) answers no_help e =
-    let has = timed_has (codes "order") words (rw is at e) in
+    let has = ordering_has words (rw is at e) in
     rw is (record { command = refl; file = λ _. has.0; at = λ _. has.1; serving = λ bad. cc; url = λ bad. cc })
 command_has s name words (inr (inr (inr (inr (inr (inl is)))))) answers no_help e =
     let has = timed_has (codes "take") words (rw is at e) in

@@ -39,9 +39,17 @@ abbrev order : List Text
 order = codes "order" ∷ codes "job.json" ∷ codes "--at" ∷ codes "5" ∷ []
 
 order_is : (takes jdf order ≡ true) × (name_in (subcommand_of jdf order) ≡ Some (codes "order")) × (file_in (subcommand_of jdf order) ≡ Some (codes "job.json"))
-    × (at_in (subcommand_of jdf order) ≡ Some 5)
+    × (at_in (subcommand_of jdf order) ≡ Some 5) × (text_in (codes "send") (subcommand_of jdf order) ≡ None)
 unfolding jdf clap_on_literals
-order_is = (refl, refl, refl, refl)
+order_is = (refl, refl, refl, refl, refl)
+
+abbrev sent : List Text
+sent = codes "order" ∷ codes "job.json" ∷ codes "--at" ∷ codes "5" ∷ codes "--send" ∷ codes "http://h/jmf" ∷ []
+
+sent_is : (takes jdf sent ≡ true) × (name_in (subcommand_of jdf sent) ≡ Some (codes "order")) × (file_in (subcommand_of jdf sent) ≡ Some (codes "job.json"))
+    × (at_in (subcommand_of jdf sent) ≡ Some 5) × (text_in (codes "send") (subcommand_of jdf sent) ≡ Some (codes "http://h/jmf"))
+unfolding jdf clap_on_literals
+sent_is = (refl, refl, refl, refl, refl)
 
 -- N may stand before FILE, and go up to the last second
 abbrev last : List Text

@@ -12,6 +12,7 @@ use Rattle.clap.specs.declared.error.kind.ErrorKind.TheVariants.{OutOfMemory}
 use Rattle.jdf_words.specs.declared.call.Call.{Call}
 use Rattle.jdf_words.specs.declared.call.Call.TheVariants.{Edit, World, Loop}
 use Rattle.jdf_words.specs.declared.call.Call.TheVariants.{New, Order, Take, Show, Serve, Send}
+use Rattle.jdf_words.specs.declared.call.Call.TheVariants.{SendOrder}
 use Rattle.jdf_words.specs.declared.call_fault.CallFault.{CallFault}
 use Rattle.jdf_words.specs.declared.call_fault.CallFault.TheVariants.{Clap, Memory}
 
@@ -108,7 +109,10 @@ Means World found = name_in found ≡ Some (codes "world")
 Means Loop found = name_in found ≡ Some (codes "loop")
 Means (New file) found =
     (name_in found ≡ Some (codes "new")) × (file_in found ≡ Some file.now)
-Means (Order file at) found = IsTimed (codes "order") file.now at found
+Means (Order file at) found =
+    IsTimed (codes "order") file.now at found × (text_in (codes "send") found ≡ None)
+Means (SendOrder file at url) found =
+    IsTimed (codes "order") file.now at found × (text_in (codes "send") found ≡ Some url.now)
 Means (Take file at) found = IsTimed (codes "take") file.now at found
 Means (Show file) found =
     (name_in found ≡ Some (codes "show")) × (file_in found ≡ Some file.now)

@@ -21,6 +21,14 @@ number_rule name low high =
 abbrev pub at_rule : Rule
 at_rule = record (number_rule (codes "at") 0 9999999999) { required = true }
 
+-- `--send URL`, any text
+abbrev pub send_rule : Rule
+send_rule = option_rule (codes "send")
+
+-- what `order` takes
+abbrev pub order_rules : List Rule
+order_rules = file_rule ∷ at_rule ∷ send_rule ∷ []
+
 -- `--listen ADDR`, any text, which has to be there
 abbrev pub listen_rule : Rule
 listen_rule = record (option_rule (codes "listen")) { required = true }
@@ -72,7 +80,7 @@ jdf = record {
       ∷ command (codes "world") []
       ∷ command (codes "loop") []
       ∷ command (codes "new") (file_rule ∷ [])
-      ∷ command (codes "order") (file_rule ∷ at_rule ∷ [])
+      ∷ command (codes "order") order_rules
       ∷ command (codes "take") (file_rule ∷ at_rule ∷ [])
       ∷ command (codes "show") (file_rule ∷ [])
       ∷ command (codes "serve") serve_rules

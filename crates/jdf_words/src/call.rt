@@ -20,6 +20,16 @@ pub enum Call<'a> {
         /// The time of the order, in seconds since 1970.
         at: u64,
     },
+    /// An order to the controller that is kept in a file. What that sends goes to one that answers
+    /// over the network, and its answer is taken.
+    SendOrder {
+        /// The path of the file.
+        file: &'a str,
+        /// The time of the order and of the answer, in seconds since 1970.
+        at: u64,
+        /// The address of the other controller, as a URL.
+        url: &'a str,
+    },
     /// A message for the controller that is kept in a file.
     Take {
         /// The path of the file.

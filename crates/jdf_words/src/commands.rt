@@ -4,7 +4,8 @@ ghost use Rattle.std.specs.Prelude.{◌≡◌, [], ◌∷◌, IfOk, codes, false
 ghost use Rattle.clap.specs.Words.{app_of, rule_of};
 ghost use Rattle.jdf_words.specs.Commands.{alone, at_rule, bare, command, file_rule, jdf};
 ghost use Rattle.jdf_words.specs.Commands.{limit_rule, listen_rule, message_rule, requests_rule};
-ghost use Rattle.jdf_words.specs.Commands.{send_rules, serve_rules, url_rule};
+ghost use Rattle.jdf_words.specs.Commands.{order_rules, send_rule, send_rules, serve_rules};
+ghost use Rattle.jdf_words.specs.Commands.{url_rule};
 
 use crate::help::{self, Help};
 use clap::{Arg, Command};
@@ -31,6 +32,16 @@ fn at_argument<'a>(alloc: Global) -> Arg<'a>
         .value_name("N")
         .value_parser(clap::value_parser!(u64).range(0..=9_999_999_999))
         .help("The time, in whole seconds since the beginning of 1970")
+}
+
+/// `--send URL`.
+fn send_argument<'a>(alloc: Global) -> Arg<'a>
+    ensures rule { rule_of result ≡ send_rule }
+    ensures local { result.global ≡ false }
+{
+    Arg::new(alloc, "send").long("send").value_name("URL").help(
+        "The address of the controller that the message is sent to, which answers it",
+    )
 }
 
 /// `--listen ADDR`, which has to be there.
@@ -113,6 +124,13 @@ fn timed_command<'a>(alloc: Global, name: &'a str, help: Help) -> Result<Command
     file_command(alloc, name, help)?.arg(at_argument(alloc))
 }
 
+/// The command that gives an order.
+fn order_command<'a>(alloc: Global) -> Result<Command<'a>, AllocError>
+    ensures { IfOk result (λ made. app_of made ≡ alone (command (codes "order") order_rules)) }
+{
+    timed_command(alloc, "order", help::ORDER)?.arg(send_argument(alloc))
+}
+
 /// The command that serves a FILE.
 fn serve_command<'a>(alloc: Global) -> Result<Command<'a>, AllocError>
     ensures { IfOk result (λ made. app_of made ≡ alone (command (codes "serve") serve_rules)) }
@@ -153,7 +171,7 @@ pub(crate) fn jdf<'a>(alloc: Global) -> Result<Command<'a>, AllocError>
         .subcommand(plain_command(alloc, "world", help::WORLD))?
         .subcommand(plain_command(alloc, "loop", help::LOOP))?
         .subcommand(file_command(alloc, "new", help::NEW)?)?
-        .subcommand(timed_command(alloc, "order", help::ORDER)?)?
+        .subcommand(order_command(alloc)?)?
         .subcommand(timed_command(alloc, "take", help::TAKE)?)?
         .subcommand(file_command(alloc, "show", help::SHOW)?)?
         .subcommand(serve_command(alloc)?)?

@@ -65,8 +65,11 @@ pub(crate) const NEW: Help = Help {
 pub(crate) const ORDER: Help = Help {
     about: "Gives a controller an order: reads it, prints the reply and the message that goes out",
     long_about: "Gives the controller that is kept in FILE an order, at the time N.\n\n\
-        Reads from standard input the order. Prints the reply and the message that goes out.",
-    example: "Example:\n  jdf_cli order mis.json --at 1767225600 < order.json",
+        Reads from standard input the order. Prints the reply and the message that goes out.\n\n\
+        With --send, the message isn't printed, but sent over HTTP to the controller that listens\n\
+        at URL, and its answer is taken, at the time N as well. Prints the reply to each.",
+    example: "Examples:\n  jdf_cli order mis.json --at 1767225600 < order.json\n  \
+        jdf_cli order mis.json --at 1767225600 --send http://127.0.0.1:8010/jmf < order.json",
 };
 
 pub(crate) const TAKE: Help = Help {

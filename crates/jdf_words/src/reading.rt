@@ -71,6 +71,20 @@ fn requests_in(found: &ArgMatches<'_>) -> Option<u64>
     number_in(found, "requests")
 }
 
+/// The call of `order` with these arguments.
+fn order_of<'a>(found: &ArgMatches<'a>) -> Call<'a>
+    requires file { HasFile (rows_of (found_of found.now)) }
+    requires at { HasAt (rows_of (found_of found.now)) }
+    ensures { Means result (Some (codes "order", rows_of (found_of found.now))) }
+{
+    let file = file_in(found);
+    let at = at_in(found);
+    match text_in(found, "send") {
+        None => Call::Order { file, at },
+        Some(url) => Call::SendOrder { file, at, url },
+    }
+}
+
 /// The call of `serve` with these arguments.
 fn serve_of<'a>(found: &ArgMatches<'a>) -> Call<'a>
     requires file { HasFile (rows_of (found_of found.now)) }
@@ -108,10 +122,7 @@ fn call_of<'a>(name: &str, found: &ArgMatches<'a>) -> Call<'a>
         "new" => Call::New {
             file: file_in(found),
         },
-        "order" => Call::Order {
-            file: file_in(found),
-            at: at_in(found),
-        },
+        "order" => order_of(found),
         "take" => Call::Take {
             file: file_in(found),
             at: at_in(found),
@@ -136,7 +147,7 @@ fn call_in<'a>(matches: &ArgMatches<'a>) -> Call<'a>
 
 /// The call that the words of the command line stand for, which come without the program's name.
 /// No word at all is `edit`; any others are read by `clap`, as `edit`, `world`, `loop`,
-/// `new FILE`, `order FILE --at N`, `take FILE --at N`, `show FILE`,
+/// `new FILE`, `order FILE --at N [--send URL]`, `take FILE --at N`, `show FILE`,
 /// `serve FILE --listen ADDR [--limit SECONDS] [--requests COUNT]` or `send URL [FILE]`. FILE, ADDR
 /// and URL are any text, N a whole number of seconds since 1970 of at most 9,999,999,999, SECONDS
 /// one from 1 to 3,600, 5 where it isn't there, and COUNT one of at least 1. Other words, and those

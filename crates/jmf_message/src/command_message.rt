@@ -2,9 +2,8 @@ ghost use Rattle.std.specs.Prelude.{true};
 ghost use Rattle.jmf_message.specs.Again.{command_again};
 ghost use Rattle.jmf_message.specs.CommandForm as forms;
 
-use crate::any_text::AnyText;
 use crate::params::Params;
-use json_items::{Draft, Form, Written, put, under};
+use json_items::{AnyText, Form, Read, Written, only, put, two};
 use json_source::Source;
 use serde_json::{Map, Value};
 use std::alloc::{AllocError, Global};
@@ -35,8 +34,8 @@ impl CommandMessage {
     pub fn is_same(&self, other: &CommandMessage) -> bool
         ensures { result ≡ same_command self.now other.now }
     {
-        self.id.is_same(&other.id)
-            && self.kind.is_same(&other.kind)
+        self.id.as_str() == other.id.as_str()
+            && self.kind.as_str() == other.kind.as_str()
             && self.params.are_same(&other.params)
     }
 }
@@ -49,36 +48,17 @@ impl Form for CommandMessage {
     ghost has_texts = { λ _. true };
 }
 
-impl<'a> Draft<'a> for CommandMessage {
+impl<'a> Read<'a> for CommandMessage {
     type Whole = CommandMessage;
 
     ghost drafted = { λ command. command };
 
     #[tactic(auto, unfolding(crate::specs::CommandForm::command_form))]
     fn of<S: Source>(alloc: Global, value: &'a S) -> Result<CommandMessage, Refusal> {
-        if !value.has_only(COMMAND_MEMBERS) {
-            return Err(Refusal::NotProfile);
-        }
-        let id = under(alloc, value, "ID")?;
-        let kind = under(alloc, value, "Type")?;
+        only(value, COMMAND_MEMBERS)?;
+        let (id, kind) = two(alloc, value, "ID", "Type")?;
         let params = Params::among(alloc, value)?;
         Ok(CommandMessage { id, kind, params })
-    }
-
-    fn has_names(&self) -> bool {
-        true
-    }
-
-    fn has_texts(&self) -> bool {
-        true
-    }
-
-    fn build(&self, alloc: Global) -> Result<CommandMessage, Refusal> {
-        Ok(CommandMessage {
-            id: self.id.build(alloc)?,
-            kind: self.kind.build(alloc)?,
-            params: self.params.build(alloc)?,
-        })
     }
 }
 

@@ -1,6 +1,6 @@
 use crate::family::Family;
 use crate::jmf::Jmf;
-use json_items::{Draft, under};
+use json_items::{only, under};
 use json_profile::PartDraft;
 use json_source::Source;
 use serde_json::Value;
@@ -47,9 +47,7 @@ impl<'a> DocumentDraft<'a> {
     pub fn of(alloc: Global, value: &'a Value) -> Result<DocumentDraft<'a>, Refusal>
         ensures { Gives drafted_document result (forms.document_form (view value.now)) }
     {
-        if !value.has_only(&["JDF", "JMF"]) {
-            return Err(Refusal::NotProfile);
-        }
+        only(value, &["JDF", "JMF"])?;
         let jmf: Jmf = under(alloc, value, "JMF")?;
         let part = DocumentDraft::part_beside(alloc, &jmf.family, value)?;
         Ok(DocumentDraft { jmf, part })

@@ -14,11 +14,10 @@ ghost use Rattle.jmf_message.specs.Known.{IsKnown, IsWritten};
 ghost use Rattle.controller.specs.Words.{may_be_sent};
 ghost use Rattle.jmf_message.specs.Written as written;
 
-use crate::any_text::AnyText;
 use crate::jmf::Jmf;
 use crate::table::{VERSION, family_for};
 use controller::{Body, Message};
-use json_items::{put, put_value};
+use json_items::{AnyText, put, put_value};
 use json_profile::{part_value, text_of};
 use serde_json::{Map, Value};
 use std::alloc::{AllocError, Global};
@@ -33,10 +32,10 @@ fn jmf_for(alloc: Global, message: &Message) -> Result<Jmf, AllocError>
     let sender = message.sender.as_str();
     let receiver = message.receiver.as_str();
     Ok(Jmf {
-        receiver: AnyText::of_str(alloc, receiver)?,
-        sender: AnyText::of_str(alloc, sender)?,
+        receiver: AnyText::new(alloc, receiver)?,
+        sender: AnyText::new(alloc, sender)?,
         at: message.at,
-        version: AnyText::of_str(alloc, VERSION)?,
+        version: AnyText::new(alloc, VERSION)?,
         family: family_for(alloc, sender, &message.body)?,
     })
 }

@@ -1,6 +1,6 @@
 use crate::command_message::CommandMessage;
 use crate::response_message::ResponseMessage;
-use json_items::{Draft, put};
+use json_items::{Read, put};
 use json_source::Source;
 use serde_json::{Map, Value};
 use std::alloc::{AllocError, Global};
@@ -14,7 +14,7 @@ pub enum Family {
 }
 
 impl Family {
-    ghost use Rattle.std.specs.Prelude.{◌≡◌, IfOk, IfErr, OnOk};
+    ghost use Rattle.std.specs.Prelude.{◌≡◌, OnOk};
     ghost use Rattle.serde_json.specs.View.{members_view};
     ghost use Rattle.json_source.specs.Read.{Gives};
     ghost use Rattle.jmf_message.specs.JmfForm as forms;
@@ -45,17 +45,6 @@ impl Family {
         match self {
             Family::Command(message) => put(alloc, members, "Command", message),
             Family::Response(message) => put(alloc, members, "Response", message),
-        }
-    }
-
-    /// An equal message. Refuses `Memory` alone.
-    pub fn build(&self, alloc: Global) -> Result<Family, Refusal>
-        ensures ok { IfOk result (λ family. family ≡ self.now) }
-        ensures memory { IfErr result (λ e. e ≡ Refusal.Memory) }
-    {
-        match self {
-            Family::Command(message) => Ok(Family::Command(message.build(alloc)?)),
-            Family::Response(message) => Ok(Family::Response(message.build(alloc)?)),
         }
     }
 }

@@ -2,9 +2,8 @@ ghost use Rattle.std.specs.Prelude.{true};
 ghost use Rattle.jmf_message.specs.Again.{jmf_again};
 ghost use Rattle.jmf_message.specs.JmfForm as forms;
 
-use crate::any_text::AnyText;
 use crate::family::Family;
-use json_items::{Draft, Form, Written, put, under};
+use json_items::{AnyText, Form, Read, Written, only, put, two};
 use json_source::Source;
 use serde_json::{Map, Value};
 use std::alloc::{AllocError, Global};
@@ -39,20 +38,16 @@ impl Form for Jmf {
     ghost has_texts = { λ _. true };
 }
 
-impl<'a> Draft<'a> for Jmf {
+impl<'a> Read<'a> for Jmf {
     type Whole = Jmf;
 
     ghost drafted = { λ jmf. jmf };
 
     #[tactic(auto, unfolding(crate::specs::JmfForm::jmf_form))]
     fn of<S: Source>(alloc: Global, value: &'a S) -> Result<Jmf, Refusal> {
-        if !value.has_only(JMF_MEMBERS) {
-            return Err(Refusal::NotProfile);
-        }
-        let receiver = under(alloc, value, "ReceiverID")?;
-        let sender = under(alloc, value, "SenderID")?;
-        let at = under(alloc, value, "TimeStamp")?;
-        let version = under(alloc, value, "Version")?;
+        only(value, JMF_MEMBERS)?;
+        let (receiver, sender) = two(alloc, value, "ReceiverID", "SenderID")?;
+        let (at, version) = two(alloc, value, "TimeStamp", "Version")?;
         let family = Family::among(alloc, value)?;
         Ok(Jmf {
             receiver,
@@ -60,24 +55,6 @@ impl<'a> Draft<'a> for Jmf {
             at,
             version,
             family,
-        })
-    }
-
-    fn has_names(&self) -> bool {
-        true
-    }
-
-    fn has_texts(&self) -> bool {
-        true
-    }
-
-    fn build(&self, alloc: Global) -> Result<Jmf, Refusal> {
-        Ok(Jmf {
-            receiver: self.receiver.build(alloc)?,
-            sender: self.sender.build(alloc)?,
-            at: self.at,
-            version: self.version.build(alloc)?,
-            family: self.family.build(alloc)?,
         })
     }
 }

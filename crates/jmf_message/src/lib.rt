@@ -2,7 +2,6 @@
 //! both, as JMF in JSON.
 #![tactic(auto)]
 
-mod any_text;
 mod command_message;
 mod decoding;
 mod document_draft;

@@ -1,7 +1,7 @@
 use crate::return_params::ReturnParams;
 use crate::submission_params::SubmissionParams;
 use controller::Command;
-use json_items::{Draft, put};
+use json_items::{Read, put};
 use json_source::Source;
 use serde_json::{Map, Value};
 use std::alloc::{AllocError, Global};
@@ -15,7 +15,7 @@ pub enum Params {
 }
 
 impl Params {
-    ghost use Rattle.std.specs.Prelude.{◌≡◌, IfOk, IfErr, OnOk};
+    ghost use Rattle.std.specs.Prelude.{◌≡◌, OnOk};
     ghost use Rattle.serde_json.specs.View.{members_view};
     ghost use Rattle.json_source.specs.Read.{Gives};
     ghost use Rattle.jmf_message.specs.CommandForm as forms;
@@ -47,17 +47,6 @@ impl Params {
         match self {
             Params::Submission(params) => put(alloc, members, "QueueSubmissionParams", params),
             Params::Return(params) => put(alloc, members, "ReturnQueueEntryParams", params),
-        }
-    }
-
-    /// Equal params. Refuses `Memory` alone.
-    pub fn build(&self, alloc: Global) -> Result<Params, Refusal>
-        ensures ok { IfOk result (λ params. params ≡ self.now) }
-        ensures memory { IfErr result (λ e. e ≡ Refusal.Memory) }
-    {
-        match self {
-            Params::Submission(params) => Ok(Params::Submission(params.build(alloc)?)),
-            Params::Return(params) => Ok(Params::Return(params.build(alloc)?)),
         }
     }
 

@@ -2,8 +2,7 @@ ghost use Rattle.std.specs.Prelude.{true};
 ghost use Rattle.jmf_message.specs.Again.{entry_again};
 ghost use Rattle.jmf_message.specs.ResponseForm as forms;
 
-use crate::any_text::AnyText;
-use json_items::{Draft, Form, Written, put, under};
+use json_items::{AnyText, Form, Read, Written, only, put, two};
 use json_source::Source;
 use serde_json::{Map, Value};
 use std::alloc::{AllocError, Global};
@@ -25,7 +24,7 @@ impl QueueEntry {
     pub fn is_same(&self, other: &QueueEntry) -> bool
         ensures { result ≡ same_entry (Some self.now) (Some other.now) }
     {
-        self.id.is_same(&other.id) && self.status.is_same(&other.status)
+        self.id.as_str() == other.id.as_str() && self.status.as_str() == other.status.as_str()
     }
 }
 
@@ -37,34 +36,16 @@ impl Form for QueueEntry {
     ghost has_texts = { λ _. true };
 }
 
-impl<'a> Draft<'a> for QueueEntry {
+impl<'a> Read<'a> for QueueEntry {
     type Whole = QueueEntry;
 
     ghost drafted = { λ entry. entry };
 
     #[tactic(auto, unfolding(crate::specs::ResponseForm::entry_form))]
     fn of<S: Source>(alloc: Global, value: &'a S) -> Result<QueueEntry, Refusal> {
-        if !value.has_only(&["QueueEntryID", "Status"]) {
-            return Err(Refusal::NotProfile);
-        }
-        let id = under(alloc, value, "QueueEntryID")?;
-        let status = under(alloc, value, "Status")?;
+        only(value, &["QueueEntryID", "Status"])?;
+        let (id, status) = two(alloc, value, "QueueEntryID", "Status")?;
         Ok(QueueEntry { id, status })
-    }
-
-    fn has_names(&self) -> bool {
-        true
-    }
-
-    fn has_texts(&self) -> bool {
-        true
-    }
-
-    fn build(&self, alloc: Global) -> Result<QueueEntry, Refusal> {
-        Ok(QueueEntry {
-            id: self.id.build(alloc)?,
-            status: self.status.build(alloc)?,
-        })
     }
 }
 

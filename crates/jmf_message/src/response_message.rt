@@ -1,6 +1,6 @@
 //! Responses of JMF.
 
-ghost use Rattle.std.specs.Prelude.{◌≡◌, true, codes, IfOk, IfErr, OnOk};
+ghost use Rattle.std.specs.Prelude.{◌≡◌, true, codes, OnOk};
 ghost use Rattle.serde_json.specs.Find.{get};
 ghost use Rattle.serde_json.specs.View.{members_view};
 ghost use Rattle.json_source.specs.Read.{Gives};
@@ -8,9 +8,8 @@ ghost use Rattle.jmf_message.specs.Again.{response_again};
 ghost use Rattle.jmf_message.specs.ResponseForm as forms;
 ghost use Rattle.jmf_message.specs.Said.{same_entry, same_response};
 
-use crate::any_text::AnyText;
 use crate::queue_entry::QueueEntry;
-use json_items::{Draft, Form, Written, put, under};
+use json_items::{AnyText, Form, Read, Written, only, put, two, under};
 use json_source::Source;
 use serde_json::{Map, Value};
 use std::alloc::{AllocError, Global};
@@ -59,17 +58,6 @@ fn put_entry(
     }
 }
 
-/// An equal queue entry, if there is one. Refuses `Memory` alone.
-fn build_entry(alloc: Global, entry: &Option<QueueEntry>) -> Result<Option<QueueEntry>, Refusal>
-    ensures ok { IfOk result (λ built. built ≡ entry.now) }
-    ensures memory { IfErr result (λ e. e ≡ Refusal.Memory) }
-{
-    match entry {
-        Some(entry) => Ok(Some(entry.build(alloc)?)),
-        None => Ok(None),
-    }
-}
-
 /// Whether there are the same queue entries, or there is none.
 fn are_same_entries(entry: &Option<QueueEntry>, other: &Option<QueueEntry>) -> bool
     ensures { result ≡ same_entry entry.now other.now }
@@ -87,12 +75,12 @@ impl ResponseMessage {
     pub fn is_same(&self, other: &ResponseMessage) -> bool
         ensures { result ≡ same_response self.now other.now }
     {
-        self.id.is_same(&other.id)
+        self.id.as_str() == other.id.as_str()
             && are_same_entries(&self.entry, &other.entry)
             && self.reason == other.reason
             && self.code == other.code
-            && self.kind.is_same(&other.kind)
-            && self.reference.is_same(&other.reference)
+            && self.kind.as_str() == other.kind.as_str()
+            && self.reference.as_str() == other.reference.as_str()
     }
 }
 
@@ -104,22 +92,18 @@ impl Form for ResponseMessage {
     ghost has_texts = { λ _. true };
 }
 
-impl<'a> Draft<'a> for ResponseMessage {
+impl<'a> Read<'a> for ResponseMessage {
     type Whole = ResponseMessage;
 
     ghost drafted = { λ response. response };
 
     #[tactic(auto, unfolding(crate::specs::ResponseForm::response_form))]
     fn of<S: Source>(alloc: Global, value: &'a S) -> Result<ResponseMessage, Refusal> {
-        if !value.has_only(RESPONSE_MEMBERS) {
-            return Err(Refusal::NotProfile);
-        }
+        only(value, RESPONSE_MEMBERS)?;
         let id = under(alloc, value, "ID")?;
         let entry = entry_among(alloc, value)?;
-        let reason = under(alloc, value, "Reason")?;
-        let code = under(alloc, value, "ReturnCode")?;
-        let kind = under(alloc, value, "Type")?;
-        let reference = under(alloc, value, "refID")?;
+        let (reason, code) = two(alloc, value, "Reason", "ReturnCode")?;
+        let (kind, reference) = two(alloc, value, "Type", "refID")?;
         Ok(ResponseMessage {
             id,
             entry,
@@ -127,25 +111,6 @@ impl<'a> Draft<'a> for ResponseMessage {
             code,
             kind,
             reference,
-        })
-    }
-
-    fn has_names(&self) -> bool {
-        true
-    }
-
-    fn has_texts(&self) -> bool {
-        true
-    }
-
-    fn build(&self, alloc: Global) -> Result<ResponseMessage, Refusal> {
-        Ok(ResponseMessage {
-            id: self.id.build(alloc)?,
-            entry: build_entry(alloc, &self.entry)?,
-            reason: self.reason,
-            code: self.code,
-            kind: self.kind.build(alloc)?,
-            reference: self.reference.build(alloc)?,
         })
     }
 }

@@ -2,8 +2,7 @@ ghost use Rattle.std.specs.Prelude.{true};
 ghost use Rattle.jmf_message.specs.Again.{return_again};
 ghost use Rattle.jmf_message.specs.CommandForm as forms;
 
-use crate::any_text::AnyText;
-use json_items::{Draft, Form, Written, put, under};
+use json_items::{AnyText, Form, Read, Written, only, put, two};
 use json_source::Source;
 use serde_json::{Map, Value};
 use std::alloc::{AllocError, Global};
@@ -26,7 +25,7 @@ impl ReturnParams {
     pub fn are_same(&self, other: &ReturnParams) -> bool
         ensures { result ≡ same_params (Return self.now) (Return other.now) }
     {
-        self.entry.is_same(&other.entry) && self.url.is_same(&other.url)
+        self.entry.as_str() == other.entry.as_str() && self.url.as_str() == other.url.as_str()
     }
 }
 
@@ -38,34 +37,16 @@ impl Form for ReturnParams {
     ghost has_texts = { λ _. true };
 }
 
-impl<'a> Draft<'a> for ReturnParams {
+impl<'a> Read<'a> for ReturnParams {
     type Whole = ReturnParams;
 
     ghost drafted = { λ params. params };
 
     #[tactic(auto, unfolding(crate::specs::CommandForm::return_form))]
     fn of<S: Source>(alloc: Global, value: &'a S) -> Result<ReturnParams, Refusal> {
-        if !value.has_only(&["QueueEntryID", "URL"]) {
-            return Err(Refusal::NotProfile);
-        }
-        let entry = under(alloc, value, "QueueEntryID")?;
-        let url = under(alloc, value, "URL")?;
+        only(value, &["QueueEntryID", "URL"])?;
+        let (entry, url) = two(alloc, value, "QueueEntryID", "URL")?;
         Ok(ReturnParams { entry, url })
-    }
-
-    fn has_names(&self) -> bool {
-        true
-    }
-
-    fn has_texts(&self) -> bool {
-        true
-    }
-
-    fn build(&self, alloc: Global) -> Result<ReturnParams, Refusal> {
-        Ok(ReturnParams {
-            entry: self.entry.build(alloc)?,
-            url: self.url.build(alloc)?,
-        })
     }
 }
 

@@ -2,8 +2,7 @@ ghost use Rattle.std.specs.Prelude.{true};
 ghost use Rattle.jmf_message.specs.Again.{submission_again};
 ghost use Rattle.jmf_message.specs.CommandForm as forms;
 
-use crate::any_text::AnyText;
-use json_items::{Draft, Form, Written, put, under};
+use json_items::{AnyText, Form, Read, Written, only, put, two};
 use json_source::Source;
 use serde_json::{Map, Value};
 use std::alloc::{AllocError, Global};
@@ -28,10 +27,10 @@ impl SubmissionParams {
     pub fn are_same(&self, other: &SubmissionParams) -> bool
         ensures { result ≡ same_params (Submission self.now) (Submission other.now) }
     {
-        self.entry.is_same(&other.entry)
-            && self.return_jmf.is_same(&other.return_jmf)
-            && self.return_url.is_same(&other.return_url)
-            && self.url.is_same(&other.url)
+        self.entry.as_str() == other.entry.as_str()
+            && self.return_jmf.as_str() == other.return_jmf.as_str()
+            && self.return_url.as_str() == other.return_url.as_str()
+            && self.url.as_str() == other.url.as_str()
     }
 }
 
@@ -43,42 +42,21 @@ impl Form for SubmissionParams {
     ghost has_texts = { λ _. true };
 }
 
-impl<'a> Draft<'a> for SubmissionParams {
+impl<'a> Read<'a> for SubmissionParams {
     type Whole = SubmissionParams;
 
     ghost drafted = { λ params. params };
 
     #[tactic(auto, unfolding(crate::specs::CommandForm::submission_form))]
     fn of<S: Source>(alloc: Global, value: &'a S) -> Result<SubmissionParams, Refusal> {
-        if !value.has_only(&["QueueEntryID", "ReturnJMF", "ReturnURL", "URL"]) {
-            return Err(Refusal::NotProfile);
-        }
-        let entry = under(alloc, value, "QueueEntryID")?;
-        let return_jmf = under(alloc, value, "ReturnJMF")?;
-        let return_url = under(alloc, value, "ReturnURL")?;
-        let url = under(alloc, value, "URL")?;
+        only(value, &["QueueEntryID", "ReturnJMF", "ReturnURL", "URL"])?;
+        let (entry, return_jmf) = two(alloc, value, "QueueEntryID", "ReturnJMF")?;
+        let (return_url, url) = two(alloc, value, "ReturnURL", "URL")?;
         Ok(SubmissionParams {
             entry,
             return_jmf,
             return_url,
             url,
-        })
-    }
-
-    fn has_names(&self) -> bool {
-        true
-    }
-
-    fn has_texts(&self) -> bool {
-        true
-    }
-
-    fn build(&self, alloc: Global) -> Result<SubmissionParams, Refusal> {
-        Ok(SubmissionParams {
-            entry: self.entry.build(alloc)?,
-            return_jmf: self.return_jmf.build(alloc)?,
-            return_url: self.return_url.build(alloc)?,
-            url: self.url.build(alloc)?,
         })
     }
 }

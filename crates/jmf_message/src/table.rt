@@ -6,7 +6,6 @@ ghost use Rattle.ticket_items.specs.SpawnId.{spawn_text};
 ghost use Rattle.controller.specs.Words.{place_of};
 ghost use Rattle.jmf_message.specs.Written as written;
 
-use crate::any_text::AnyText;
 use crate::command_message::CommandMessage;
 use crate::family::Family;
 use crate::ids::{answer_id, command_id};
@@ -16,6 +15,7 @@ use crate::response_message::ResponseMessage;
 use crate::return_params::ReturnParams;
 use crate::submission_params::SubmissionParams;
 use controller::{Body, Command, QueueStatus};
+use json_items::AnyText;
 use std::alloc::{AllocError, Global};
 use ticket_tree::SpawnId;
 
@@ -30,7 +30,7 @@ fn spawn_word(alloc: Global, spawn: SpawnId) -> Result<AnyText, AllocError>
     ensures { IfOk result (λ text. text ≡ spawn_text spawn) }
 {
     let id = spawn.to_id(alloc)?;
-    AnyText::of_str(alloc, id.as_str())
+    AnyText::new(alloc, id.as_str())
 }
 
 /// Where a sender takes messages.
@@ -38,7 +38,7 @@ fn place(alloc: Global, sender: &str) -> Result<AnyText, AllocError>
     ensures { IfOk result (λ text. text ≡ place_of sender.now) }
 {
     let text = format!(in alloc; "jmf:{}", sender)?;
-    Ok(AnyText::new(text))
+    Ok(AnyText::from(text))
 }
 
 /// The params of a sender's SubmitQueueEntry of a spawn.
@@ -53,8 +53,8 @@ fn submission_params(
     Ok(SubmissionParams {
         entry: spawn_word(alloc, spawn)?,
         return_jmf: place(alloc, sender)?,
-        return_url: AnyText::of_str(alloc, NO_PLACE)?,
-        url: AnyText::of_str(alloc, NO_PLACE)?,
+        return_url: AnyText::new(alloc, NO_PLACE)?,
+        url: AnyText::new(alloc, NO_PLACE)?,
     })
 }
 
@@ -71,7 +71,7 @@ fn params_for(
         Command::Submit => Ok(Params::Submission(submission_params(alloc, sender, spawn)?)),
         Command::Return => Ok(Params::Return(ReturnParams {
             entry: spawn_word(alloc, spawn)?,
-            url: AnyText::of_str(alloc, NO_PLACE)?,
+            url: AnyText::new(alloc, NO_PLACE)?,
         })),
     }
 }
@@ -87,8 +87,8 @@ pub fn command_for(
 {
     let id = command_id(alloc, asked, spawn)?;
     Ok(CommandMessage {
-        id: AnyText::new(id),
-        kind: AnyText::of_str(alloc, asked.word())?,
+        id: AnyText::from(id),
+        kind: AnyText::new(alloc, asked.word())?,
         params: params_for(alloc, sender, asked, spawn)?,
     })
 }
@@ -99,7 +99,7 @@ fn entry_for(alloc: Global, spawn: SpawnId, status: QueueStatus) -> Result<Queue
 {
     Ok(QueueEntry {
         id: spawn_word(alloc, spawn)?,
-        status: AnyText::of_str(alloc, status.word())?,
+        status: AnyText::new(alloc, status.word())?,
     })
 }
 
@@ -117,12 +117,12 @@ fn response_with(
     let id = answer_id(alloc, asked, spawn)?;
     let reference = command_id(alloc, asked, spawn)?;
     Ok(ResponseMessage {
-        id: AnyText::new(id),
+        id: AnyText::from(id),
         entry,
         reason,
         code,
-        kind: AnyText::of_str(alloc, asked.word())?,
-        reference: AnyText::new(reference),
+        kind: AnyText::new(alloc, asked.word())?,
+        reference: AnyText::from(reference),
     })
 }
 

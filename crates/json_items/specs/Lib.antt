@@ -1,4 +1,5 @@
 pub mod Listed
+pub mod Members
 pub mod Judged
 pub mod Ancestors
 pub mod Audits

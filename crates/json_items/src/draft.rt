@@ -1,35 +1,24 @@
 ghost use Rattle.std.specs.Prelude.{◌≡◌, true, IfOk, IfErr};
-ghost use Rattle.json_source.specs.Read.{Gives};
 
-use crate::Form;
-use json_source::Source;
+use crate::Read;
 use std::alloc::Global;
 use ticket_items::Refusal;
 
-/// What a value is by its members and their kinds alone, before names and texts are checked.
-pub trait Draft<'a>: Drop {
-    /// What is built of the draft.
-    type Whole: Form;
-
-    /// The draft as a whole, with any bytes as its ids, names and texts.
-    ghost drafted: { Self → Self.Whole };
-
-    /// The draft that a value is. Refuses `NotProfile`, and `Memory`.
-    fn of<S: Source>(alloc: Global, value: &'a S) -> Result<Self, Refusal>
-        ensures { Gives drafted result (Self.Whole.form (S.content value.now)) };
-
+/// What is read of a whole that may have ids, names and texts, which are looked at before it is
+/// built.
+pub trait Draft<'a>: Read<'a> {
     /// Whether its ids and names are valid.
     fn has_names(&self) -> bool
-        ensures { result ≡ Self.Whole.has_names (drafted self.now) };
+        ensures { result ≡ Self.Whole.has_names (Self.drafted self.now) };
 
     /// Whether its texts are valid.
     fn has_texts(&self) -> bool
-        ensures { result ≡ Self.Whole.has_texts (drafted self.now) };
+        ensures { result ≡ Self.Whole.has_texts (Self.drafted self.now) };
 
     /// The whole. Refuses `Memory` alone.
     fn build(&self, alloc: Global) -> Result<Self::Whole, Refusal>
-        requires names { Self.Whole.has_names (drafted self.now) ≡ true }
-        requires texts { Self.Whole.has_texts (drafted self.now) ≡ true }
-        ensures ok { IfOk result (λ whole. whole ≡ drafted self.now) }
+        requires names { Self.Whole.has_names (Self.drafted self.now) ≡ true }
+        requires texts { Self.Whole.has_texts (Self.drafted self.now) ≡ true }
+        ensures ok { IfOk result (λ whole. whole ≡ Self.drafted self.now) }
         ensures memory { IfErr result (λ e. e ≡ Refusal.Memory) };
 }

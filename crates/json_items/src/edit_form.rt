@@ -11,8 +11,8 @@ ghost use Rattle.json_source.specs.Read.{Gives};
 
 use crate::resources::resource_form::put_resource;
 use crate::{
-    Borrowed, Draft, Form, LinkDraft, ResourceDraft, Written, only, put, put_text, text_under,
-    under,
+    Borrowed, Draft, Form, LinkDraft, Read, ResourceDraft, Written, build_two, only, put, put_text,
+    put_two, text_under, two, under,
 };
 use json_source::Source;
 use serde_json::{Map, Value};
@@ -67,8 +67,7 @@ fn set_status<'a, S: Source>(alloc: Global, value: &'a S) -> Result<EditDraft<'a
     ensures { Gives drafted_edit result (edits.set_status_draft (S.content value.now)) }
 {
     only(value, &["Edit", "Node", "Status"])?;
-    let node = under(alloc, value, "Node")?;
-    let status = under(alloc, value, "Status")?;
+    let (node, status) = two(alloc, value, "Node", "Status")?;
     Ok(EditDraft::SetStatus { node, status })
 }
 
@@ -78,11 +77,9 @@ fn set_attr<'a, S: Source>(alloc: Global, value: &'a S) -> Result<EditDraft<'a>,
     ensures { Gives drafted_edit result (edits.set_attr_draft (S.content value.now)) }
 {
     only(value, &["Edit", "Name", "Node", "Value"])?;
-    Ok(EditDraft::SetAttr {
-        name: under(alloc, value, "Name")?,
-        node: under(alloc, value, "Node")?,
-        value: under(alloc, value, "Value")?,
-    })
+    let (name, node) = two(alloc, value, "Name", "Node")?;
+    let value = under(alloc, value, "Value")?;
+    Ok(EditDraft::SetAttr { node, name, value })
 }
 
 /// A `SetResStatus`.
@@ -91,8 +88,7 @@ fn set_resource_status<'a, S: Source>(alloc: Global, value: &'a S) -> Result<Edi
     ensures { Gives drafted_edit result (edits.set_resource_status_draft (S.content value.now)) }
 {
     only(value, &["Edit", "Resource", "Status"])?;
-    let resource = under(alloc, value, "Resource")?;
-    let status = under(alloc, value, "Status")?;
+    let (resource, status) = two(alloc, value, "Resource", "Status")?;
     Ok(EditDraft::SetResStatus { resource, status })
 }
 
@@ -102,10 +98,12 @@ fn set_resource_attr<'a, S: Source>(alloc: Global, value: &'a S) -> Result<EditD
     ensures { Gives drafted_edit result (edits.set_resource_attr_draft (S.content value.now)) }
 {
     only(value, &["Edit", "Name", "Resource", "Value"])?;
+    let (name, resource) = two(alloc, value, "Name", "Resource")?;
+    let value = under(alloc, value, "Value")?;
     Ok(EditDraft::SetResAttr {
-        name: under(alloc, value, "Name")?,
-        resource: under(alloc, value, "Resource")?,
-        value: under(alloc, value, "Value")?,
+        resource,
+        name,
+        value,
     })
 }
 
@@ -115,8 +113,7 @@ fn note<'a, S: Source>(alloc: Global, value: &'a S) -> Result<EditDraft<'a>, Ref
     ensures { Gives drafted_edit result (edits.note_draft (S.content value.now)) }
 {
     only(value, &["Edit", "Node", "Text"])?;
-    let node = under(alloc, value, "Node")?;
-    let text = under(alloc, value, "Text")?;
+    let (node, text) = two(alloc, value, "Node", "Text")?;
     Ok(EditDraft::Note { node, text })
 }
 
@@ -127,12 +124,15 @@ fn add_node<'a, S: Source>(alloc: Global, value: &'a S) -> Result<EditDraft<'a>,
 {
     let names = ["Edit", "ID", "JobPartID", "Node", "Status", "Type"];
     only(value, &names)?;
+    let (id, job_part) = two(alloc, value, "ID", "JobPartID")?;
+    let (node, status) = two(alloc, value, "Node", "Status")?;
+    let kind = under(alloc, value, "Type")?;
     Ok(EditDraft::AddNode {
-        id: under(alloc, value, "ID")?,
-        job_part: under(alloc, value, "JobPartID")?,
-        node: under(alloc, value, "Node")?,
-        status: under(alloc, value, "Status")?,
-        kind: under(alloc, value, "Type")?,
+        node,
+        id,
+        kind,
+        job_part,
+        status,
     })
 }
 
@@ -155,8 +155,7 @@ fn add_link<'a, S: Source>(alloc: Global, value: &'a S) -> Result<EditDraft<'a>,
 {
     only(value, &["Edit", "Node", "Usage", "rRef"])?;
     let node = under(alloc, value, "Node")?;
-    let usage = under(alloc, value, "Usage")?;
-    let rref = under(alloc, value, "rRef")?;
+    let (usage, rref) = two(alloc, value, "Usage", "rRef")?;
     let link = LinkDraft { rref, usage };
     Ok(EditDraft::AddLink { node, link })
 }
@@ -170,28 +169,32 @@ fn build_setting(alloc: Global, draft: &EditDraft<'_>) -> Result<Edit, Refusal>
     ensures memory { IfErr result (λ e. e ≡ Refusal.Memory) }
 {
     match draft {
-        EditDraft::SetStatus { node, status } => Ok(Edit::SetStatus {
-            node: node.build(alloc)?,
-            status: status.build(alloc)?,
-        }),
-        EditDraft::SetAttr { node, name, value } => Ok(Edit::SetAttr {
-            node: node.build(alloc)?,
-            name: name.build(alloc)?,
-            value: value.build(alloc)?,
-        }),
-        EditDraft::SetResStatus { resource, status } => Ok(Edit::SetResStatus {
-            resource: resource.build(alloc)?,
-            status: status.build(alloc)?,
-        }),
+        EditDraft::SetStatus { node, status } => {
+            let (node, status) = build_two(alloc, node, status)?;
+            Ok(Edit::SetStatus { node, status })
+        }
+        EditDraft::SetAttr { node, name, value } => {
+            let (node, name) = build_two(alloc, node, name)?;
+            let value = value.build(alloc)?;
+            Ok(Edit::SetAttr { node, name, value })
+        }
+        EditDraft::SetResStatus { resource, status } => {
+            let (resource, status) = build_two(alloc, resource, status)?;
+            Ok(Edit::SetResStatus { resource, status })
+        }
         EditDraft::SetResAttr {
             resource,
             name,
             value,
-        } => Ok(Edit::SetResAttr {
-            resource: resource.build(alloc)?,
-            name: name.build(alloc)?,
-            value: value.build(alloc)?,
-        }),
+        } => {
+            let (resource, name) = build_two(alloc, resource, name)?;
+            let value = value.build(alloc)?;
+            Ok(Edit::SetResAttr {
+                resource,
+                name,
+                value,
+            })
+        }
         _ => unreachable!(),
     }
 }
@@ -204,7 +207,7 @@ impl Form for Edit {
     ghost has_texts = { edits.edit_has_texts };
 }
 
-impl<'a> Draft<'a> for EditDraft<'a> {
+impl<'a> Read<'a> for EditDraft<'a> {
     type Whole = Edit;
 
     ghost drafted = { drafted_edit };
@@ -223,7 +226,9 @@ impl<'a> Draft<'a> for EditDraft<'a> {
             _ => Err(Refusal::NotProfile),
         }
     }
+}
 
+impl<'a> Draft<'a> for EditDraft<'a> {
     fn has_names(&self) -> bool {
         match self {
             EditDraft::SetStatus { node, status } => node.has_names() && status.has_names(),
@@ -266,31 +271,36 @@ impl<'a> Draft<'a> for EditDraft<'a> {
 
     fn build(&self, alloc: Global) -> Result<Edit, Refusal> {
         match self {
-            EditDraft::Note { node, text } => Ok(Edit::Note {
-                node: node.build(alloc)?,
-                text: text.build(alloc)?,
-            }),
+            EditDraft::Note { node, text } => {
+                let (node, text) = build_two(alloc, node, text)?;
+                Ok(Edit::Note { node, text })
+            }
             EditDraft::AddNode {
                 node,
                 id,
                 kind,
                 job_part,
                 status,
-            } => Ok(Edit::AddNode {
-                node: node.build(alloc)?,
-                id: id.build(alloc)?,
-                kind: kind.build(alloc)?,
-                job_part: job_part.build(alloc)?,
-                status: status.build(alloc)?,
-            }),
-            EditDraft::AddResource { node, resource } => Ok(Edit::AddResource {
-                node: node.build(alloc)?,
-                resource: resource.build(alloc)?,
-            }),
-            EditDraft::AddLink { node, link } => Ok(Edit::AddLink {
-                node: node.build(alloc)?,
-                link: link.build(alloc)?,
-            }),
+            } => {
+                let (node, id) = build_two(alloc, node, id)?;
+                let (kind, job_part) = build_two(alloc, kind, job_part)?;
+                let status = status.build(alloc)?;
+                Ok(Edit::AddNode {
+                    node,
+                    id,
+                    kind,
+                    job_part,
+                    status,
+                })
+            }
+            EditDraft::AddResource { node, resource } => {
+                let (node, resource) = build_two(alloc, node, resource)?;
+                Ok(Edit::AddResource { node, resource })
+            }
+            EditDraft::AddLink { node, link } => {
+                let (node, link) = build_two(alloc, node, link)?;
+                Ok(Edit::AddLink { node, link })
+            }
             _ => build_setting(alloc, self),
         }
     }
@@ -344,8 +354,7 @@ fn put_rest(alloc: Global, members: &mut Map<String, Value>, edit: &Edit) -> Res
             put(alloc, members, "Status", status)
         }
         Edit::SetAttr { name, value, .. } | Edit::SetResAttr { name, value, .. } => {
-            put(alloc, members, "Name", name)?;
-            put(alloc, members, "Value", value)
+            put_two(alloc, members, "Name", name, "Value", value)
         }
         Edit::Note { text, .. } => put(alloc, members, "Text", text),
         Edit::AddNode {
@@ -355,15 +364,12 @@ fn put_rest(alloc: Global, members: &mut Map<String, Value>, edit: &Edit) -> Res
             status,
             ..
         } => {
-            put(alloc, members, "ID", id)?;
-            put(alloc, members, "JobPartID", job_part)?;
-            put(alloc, members, "Status", status)?;
-            put(alloc, members, "Type", kind)
+            put_two(alloc, members, "ID", id, "JobPartID", job_part)?;
+            put_two(alloc, members, "Status", status, "Type", kind)
         }
         Edit::AddResource { resource, .. } => put_resource(alloc, members, resource),
         Edit::AddLink { link, .. } => {
-            put(alloc, members, "Usage", &link.usage)?;
-            put(alloc, members, "rRef", &link.rref)
+            put_two(alloc, members, "Usage", &link.usage, "rRef", &link.rref)
         }
     }
 }

@@ -1,6 +1,6 @@
-//! Reading and writing a value as a whole.
+//! Reading and writing a value as a whole, and building wholes.
 
-ghost use Rattle.std.specs.Prelude.{◌≡◌, true, Some, Ok, IfOk, OnOk};
+ghost use Rattle.std.specs.Prelude.{◌≡◌, ◌&&◌, true, Some, Ok, IfOk, IfErr, OnOk};
 ghost use Rattle.serde_json.specs.View.{view};
 ghost use Rattle.json_items.specs.Judged.{Answers, first_fault, judged, sound};
 
@@ -40,4 +40,22 @@ pub fn written_value<T: Written>(alloc: Global, item: &T) -> Result<Value, Alloc
 {
     let value = item.value(alloc)?;
     Ok(value)
+}
+
+/// The wholes of two drafts whose names and texts are valid. Refuses `Memory` alone.
+pub fn build_two<'a, A: Draft<'a>, B: Draft<'a>>(
+    alloc: Global,
+    one: &A,
+    two: &B,
+) -> Result<(A::Whole, B::Whole), Refusal>
+    requires names { (A.Whole.has_names (A.drafted one.now)
+        && B.Whole.has_names (B.drafted two.now)) ≡ true }
+    requires texts { (A.Whole.has_texts (A.drafted one.now)
+        && B.Whole.has_texts (B.drafted two.now)) ≡ true }
+    ensures ok { IfOk result (λ built. built ≡ (A.drafted one.now, B.drafted two.now)) }
+    ensures memory { IfErr result (λ e. e ≡ Refusal.Memory) }
+{
+    let one = one.build(alloc)?;
+    let two = two.build(alloc)?;
+    Ok((one, two))
 }

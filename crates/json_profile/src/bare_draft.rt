@@ -1,6 +1,6 @@
 //! Resources by themselves, as they are read.
 
-use json_items::{Checked, Draft, MarkedDraft};
+use json_items::{Checked, Draft, MarkedDraft, Read};
 use serde_json::Value;
 use std::alloc::Global;
 use ticket_tree::{Refusal, Resource};
@@ -43,11 +43,11 @@ impl<'a> Checked for BareDraft<'a> {
     ghost made = { λ d. (drafted_marked d.marked).resource };
 
     fn has_names(&self) -> bool {
-        self.marked.has_names()
+        self.marked.resource.has_names()
     }
 
     fn has_texts(&self) -> bool {
-        self.marked.has_texts()
+        self.marked.resource.has_texts()
     }
 
     /// Refuses `ReservedStatus` where the draft shows something of spawns, and else `Memory`.

@@ -1,38 +1,20 @@
 -- What the tests of drafts say of their parts.
-use Rattle.std.proofs.Common.{◌≡◌, ◌&&◌, Bool, true, false, List, [], ◌∷◌, map, Option, Some, None, refl, sym, ap}
+use Rattle.std.proofs.Common.{◌≡◌, ◌&&◌, Bool, true, false, List, [], ◌∷◌, map, Option, Some, None, refl, ap}
 use Rattle.std.proofs.lemmas.Bool.{and_parts}
-use Rattle.std.proofs.lemmas.List.Folds.{list_all-map}
 use Rattle.std.specs.List.{list_all}
-use Rattle.ticket_items.specs.Names.{is_name, is_text}
+use Rattle.ticket_items.specs.Names.{is_text}
 use Rattle.ticket_rows.specs.Ticket.{IsValid, fault_of, first_of, unless}
 use Rattle.ticket_items.specs.declared.refusal.Refusal.{Refusal}
 use Rattle.ticket_items.specs.declared.refusal.Refusal.TheVariants.{NotATree, ReservedStatus, DuplicateId, TooDeep, UnresolvedLink}
 use Rattle.ticket_items.specs.declared.node_row.NodeRow.{NodeRow}
 use Rattle.ticket_items.specs.declared.resource.Resource.{Resource}
 use Rattle.json_shapes.specs.Draft.{RawTicket, resources_of, are_bare}
-use Rattle.json_shapes.specs.Form.{built_fault, node_has_names, pools_have_names, row_has_names, row_has_texts}
-use Rattle.json_shapes.specs.PoolForm.{resource_has_names, resource_has_texts, marked_has_names, marked_has_texts, link_has_names, audit_has_names, audit_has_texts, shows_nothing}
+use Rattle.json_shapes.specs.Form.{built_fault, pools_have_names, row_has_names, row_has_texts}
+use Rattle.json_shapes.specs.PoolForm.{resource_has_names, resource_has_texts, link_has_names, audit_has_names, audit_has_texts, shows_nothing}
 use Rattle.json_reader.specs.Drafted.{drafted_raw, drafted_resources, drafted_row, drafted_rows}
 use Rattle.json_reader.specs.DraftedPool.{drafted_resource, drafted_shown}
 use Rattle.json_reader.specs.declared.node_draft.NodeDraft.{NodeDraft}
 use Rattle.json_items.specs.declared.resources.marked_form.MarkedDraft.{MarkedDraft}
-
--- the id and the names of a row itself
-pub record NamesOfNode (r : NodeRow) : Type 0 where
-  pub id : is_name r.id ≡ true
-  pub kind : is_name r.kind ≡ true
-  pub job_part : is_name r.job_part ≡ true
-  pub status : is_name r.status ≡ true
-  pub attrs : list_all (λ p. is_name p.0) r.attrs ≡ true
-
-pub names_of_node : (r : NodeRow) → node_has_names r ≡ true → NamesOfNode r
-unfolding node_has_names
-names_of_node r h =
-    let first = and_parts _ _ h in
-    let second = and_parts _ _ first.0 in
-    let third = and_parts _ _ second.0 in
-    let fourth = and_parts _ _ third.0 in
-    record { id = fourth.0; kind = fourth.1; job_part = third.1; status = second.1; attrs = first.1 }
 
 -- the ids and the names in its pools
 pub record NamesOfPools (r : NodeRow) : Type 0 where
@@ -86,12 +68,6 @@ names_in_resources drafts = tested_resources resource_has_names drafts
 
 pub texts_in_resources : (drafts : List MarkedDraft) → list_all (λ d. resource_has_texts (drafted_resource d.resource)) drafts ≡ list_all resource_has_texts (resources_of (drafted_resources drafts))
 texts_in_resources drafts = tested_resources resource_has_texts drafts
-
-pub names_in_pool : (drafts : List MarkedDraft) → list_all marked_has_names (drafted_resources drafts) ≡ list_all resource_has_names (resources_of (drafted_resources drafts))
-names_in_pool drafts = sym (list_all-map resource_has_names (λ r. r.resource) (drafted_resources drafts))
-
-pub texts_in_pool : (drafts : List MarkedDraft) → list_all marked_has_texts (drafted_resources drafts) ≡ list_all resource_has_texts (resources_of (drafted_resources drafts))
-texts_in_pool drafts = sym (list_all-map resource_has_texts (λ r. r.resource) (drafted_resources drafts))
 
 pub bare_drafts : (drafts : List MarkedDraft) → list_all (λ d. shows_nothing (drafted_shown d.shown)) drafts ≡ are_bare (drafted_resources drafts)
 bare_drafts [] = refl

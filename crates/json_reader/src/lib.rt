@@ -19,5 +19,7 @@ mod tree_nodes;
 pub use checks::Checks;
 pub use found_ticket::FoundTicket;
 pub use part_draft::PartDraft;
-pub use resource_drafts::{build_resources, show_nothing};
+pub use resource_drafts::{
+    build_resources, resources_have_names, resources_have_texts, show_nothing,
+};
 pub use ticket_draft::TicketDraft;

@@ -1,6 +1,10 @@
 use crate::checks::Checks;
-use crate::resource_drafts::{build_resources, show_nothing};
-use json_items::{AttrsDraft, AuditDraft, Borrowed, Draft, Drafts, LinkDraft, MarkedDraft};
+use crate::resource_drafts::{
+    build_resources, resources_have_names, resources_have_texts, show_nothing,
+};
+use json_items::{
+    AttrsDraft, AuditDraft, Borrowed, Draft, Drafts, LinkDraft, MarkedDraft, build_two,
+};
 use std::alloc::Global;
 use ticket_tree::{Attrs, Id, Name, NodeRow, Refusal};
 
@@ -59,19 +63,23 @@ impl<'a> NodeDraft<'a> {
     }
 
     /// Whether the ids and names in its pools are valid.
-    #[tactic(auto, unfolding(json_shapes::specs::Form::pools_have_names), using(crate::proofs::Faults::names_in_pool))]
+    #[tactic(auto, unfolding(json_shapes::specs::Form::pools_have_names), using(crate::proofs::Faults::names_in_resources))]
     fn pools_have_names(&self) -> bool
         ensures { result ≡ pools_have_names (drafted_row self.now) }
     {
-        self.resources.has_names() && self.links.has_names() && self.audits.has_names()
+        resources_have_names(self.resources.as_slice())
+            && self.links.has_names()
+            && self.audits.has_names()
     }
 
     /// Whether all texts in it are valid.
-    #[tactic(auto, unfolding(json_shapes::specs::Form::row_has_texts), using(crate::proofs::Faults::texts_in_pool))]
+    #[tactic(auto, unfolding(json_shapes::specs::Form::row_has_texts), using(crate::proofs::Faults::texts_in_resources))]
     pub fn has_texts(&self) -> bool
         ensures { result ≡ row_has_texts (drafted_row self.now) }
     {
-        self.attrs.has_texts() && self.resources.has_texts() && self.audits.has_texts()
+        self.attrs.has_texts()
+            && resources_have_texts(self.resources.as_slice())
+            && self.audits.has_texts()
     }
 
     /// Whether its resources show nothing of spawns.
@@ -125,6 +133,7 @@ impl<'a> NodeDraft<'a> {
     }
 
     /// What the node has of its own. Refuses `Memory` alone.
+    #[tactic(auto, unfolding(json_shapes::specs::Form::node_has_names))]
     fn build_own(&self, alloc: Global) -> Result<NodeOwn, Refusal>
         requires names { node_has_names (drafted_row self.now) ≡ true }
         requires texts { list_all (λ p. is_text p.1) self.now.attrs ≡ true }
@@ -137,12 +146,15 @@ impl<'a> NodeDraft<'a> {
         }) }
         ensures memory { IfErr result (λ e. e ≡ Refusal.Memory) }
     {
+        let (id, kind) = build_two(alloc, &self.id, &self.kind)?;
+        let (job_part, status) = build_two(alloc, &self.job_part, &self.status)?;
+        let attrs = self.attrs.build(alloc)?;
         Ok(NodeOwn {
-            id: self.id.build(alloc)?,
-            kind: self.kind.build(alloc)?,
-            job_part: self.job_part.build(alloc)?,
-            status: self.status.build(alloc)?,
-            attrs: self.attrs.build(alloc)?,
+            id,
+            kind,
+            job_part,
+            status,
+            attrs,
         })
     }
 }

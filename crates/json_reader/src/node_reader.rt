@@ -8,7 +8,7 @@ ghost use Rattle.json_shapes.specs.Read.{Adds, Gives};
 ghost use Rattle.json_reader.specs.Drafted.{drafted_raw, drafted_rows};
 
 use crate::node_draft::NodeDraft;
-use json_items::{AttrsDraft, Drafts, under, under_or};
+use json_items::{AttrsDraft, Drafts, only, two, under_or};
 use json_source::Source;
 use serde_json::Value;
 use std::alloc::Global;
@@ -71,13 +71,9 @@ pub fn own_row<'a, S: Source>(
     ensures { Gives drafted_raw result
         (form.own_row (map (λ n. n.now) names.now) depth (S.content value.now)) }
 {
-    if !value.has_only(names) {
-        return Err(Refusal::NotProfile);
-    }
-    let id = under(alloc, value, "ID")?;
-    let job_part = under(alloc, value, "JobPartID")?;
-    let kind = under(alloc, value, "Type")?;
-    let status = under(alloc, value, "Status")?;
+    only(value, names)?;
+    let (id, job_part) = two(alloc, value, "ID", "JobPartID")?;
+    let (kind, status) = two(alloc, value, "Type", "Status")?;
     let attrs = under_or(alloc, value, "Attr", AttrsDraft::none(alloc))?;
     let resources = Drafts::under(alloc, value, "ResourcePool")?;
     let links = Drafts::under(alloc, value, "ResourceLinkPool")?;

@@ -1,9 +1,11 @@
 use crate::node_draft::NodeDraft;
 use crate::node_drafts::{build_rows, have_names, have_texts, part_nodes};
 use crate::part_pool::taken_nodes;
-use crate::resource_drafts::build_resources;
+use crate::resource_drafts::{build_resources, resources_have_names, resources_have_texts};
 use crate::taken_nodes::TakenNodes;
-use json_items::{AncestorDraft, AnyText, Borrowed, Checked, Draft, Drafts, MarkedDraft, under};
+use json_items::{
+    AncestorDraft, AnyText, Borrowed, Checked, Draft, Drafts, MarkedDraft, two, under,
+};
 use serde_json::Value;
 use std::alloc::Global;
 use ticket_tree::{Name, Part, Refusal, SpawnId};
@@ -35,8 +37,7 @@ impl<'a> PartDraft<'a> {
     pub fn of(alloc: Global, value: &'a Value) -> Result<PartDraft<'a>, Refusal>
         ensures { Gives drafted_part result (part_draft (view value.now)) }
     {
-        let job = under(alloc, value, "JobID")?;
-        let spawn: Borrowed<'a, AnyText> = under(alloc, value, "SpawnID")?;
+        let (job, spawn): (_, Borrowed<'a, AnyText>) = two(alloc, value, "JobID", "SpawnID")?;
         let ancestors = under(alloc, value, "AncestorPool")?;
         let rows = part_nodes(alloc, value)?;
         let TakenNodes { rows, rw, ro } = taken_nodes(rows, spawn.as_str())?;
@@ -65,21 +66,21 @@ impl<'a> PartDraft<'a> {
     }
 
     /// Whether the ids and names of its copies are valid.
-    #[tactic(auto, using(crate::proofs::Faults::names_in_pool))]
+    #[tactic(auto, using(crate::proofs::Faults::names_in_resources))]
     fn copies_have_names(&self) -> bool
         ensures { result ≡ form.copies_have_names
             (drafted_part self.now).rw (drafted_part self.now).ro }
     {
-        self.rw.has_names() && self.ro.has_names()
+        resources_have_names(self.rw.as_slice()) && resources_have_names(self.ro.as_slice())
     }
 
     /// Whether the texts of its copies are valid.
-    #[tactic(auto, using(crate::proofs::Faults::texts_in_pool))]
+    #[tactic(auto, using(crate::proofs::Faults::texts_in_resources))]
     fn copies_have_texts(&self) -> bool
         ensures { result ≡ form.copies_have_texts
             (drafted_part self.now).rw (drafted_part self.now).ro }
     {
-        self.rw.has_texts() && self.ro.has_texts()
+        resources_have_texts(self.rw.as_slice()) && resources_have_texts(self.ro.as_slice())
     }
 }
 

@@ -11,6 +11,22 @@ use json_items::{Draft, MarkedDraft};
 use std::alloc::Global;
 use ticket_tree::{Items, Refusal, Resources};
 
+/// Whether the ids and names of all resources are valid.
+pub fn resources_have_names(drafts: &[MarkedDraft<'_>]) -> bool
+    ensures { result
+        ≡ list_all (λ d. form.resource_has_names (drafted_resource d.resource)) drafts.now }
+{
+    drafts.iter().all(|draft| draft.resource.has_names())
+}
+
+/// Whether the texts of all resources are valid.
+pub fn resources_have_texts(drafts: &[MarkedDraft<'_>]) -> bool
+    ensures { result
+        ≡ list_all (λ d. form.resource_has_texts (drafted_resource d.resource)) drafts.now }
+{
+    drafts.iter().all(|draft| draft.resource.has_texts())
+}
+
 /// Whether all show nothing of spawns.
 pub fn show_nothing(drafts: &[MarkedDraft<'_>]) -> bool
     ensures { result ≡ list_all (λ d. form.shows_nothing (drafted_shown d.shown)) drafts.now }

@@ -4,8 +4,8 @@ use Rattle.ticket_items.specs.declared.refusal.Refusal.TheVariants.{WrongShape}
 use Rattle.ticket_rows.specs.Ticket.{Job, unless}
 use Rattle.ticket_tree.specs.Part.{Copied}
 use Rattle.spawn.specs.declared.records.spawn_rec.SpawnRec.{SpawnRec}
+use Rattle.merge.proofs.Fitting.{fits_part, part_fits}
 use Rattle.merge.specs.Alike.{is_fit}
-use Rattle.merge.specs.Laws.{FitsIsTested}
 use Rattle.merge.specs.Shape.{Fits}
 
 same_test : (b c : Bool) → (b ≡ true → c ≡ true) → (c ≡ true → b ≡ true) → b ≡ c
@@ -14,8 +14,8 @@ same_test false true to from = from refl
 same_test false false to from = refl
 
 -- what tells whether a part fits is the test of it
-pub fit_told : (b : Bool) (t : Job) (r : SpawnRec) (p : Copied) → FitsIsTested → (IsTrue b ↔ Fits t r p) → b ≡ is_fit t r p
-fit_told b t r p law tells = same_test b (is_fit t r p) (λ e. (law t r p).1 (tells.0 e)) (λ e. tells.1 ((law t r p).0 e))
+pub fit_told : (b : Bool) (t : Job) (r : SpawnRec) (p : Copied) → (IsTrue b ↔ Fits t r p) → b ≡ is_fit t r p
+fit_told b t r p tells = same_test b (is_fit t r p) (λ e. fits_part t r p (tells.0 e)) (λ e. tells.1 (part_fits t r p e))
 
 pub shape_refused : (out fit : Bool) → out ≡ true → fit ≡ false → Some WrongShape ≡ unless (not out || fit) WrongShape
 shape_refused true false o f = refl

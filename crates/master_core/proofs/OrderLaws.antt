@@ -8,7 +8,8 @@ use Rattle.spawn.specs.declared.records.spawn_rec.SpawnRec.{SpawnRec}
 use Rattle.master_core.proofs.Recorded.{found_last, found_still}
 use Rattle.master_core.proofs.Refusals.{edit_free, resend_free}
 use Rattle.master_core.specs.Laws.{EditIsOfHeld, NothingIsSent, SubmitIsOfRecord}
-use Rattle.master_core.specs.Master.{Known, is_masters, next_number, record_of}
+use Rattle.master_core.specs.Master.{Known, next_number, record_of}
+use Rattle.spawn.specs.Table.{is_masters}
 use Rattle.master_core.specs.Orders.{after_order, next_record, order_message, order_refusal, ordered, submit_of}
 use Rattle.master_core.specs.declared.order.Order.{Order}
 use Rattle.master_core.specs.declared.order.Order.TheVariants as order

@@ -5,14 +5,14 @@ use Rattle.std.specs.List.{All, find}
 use Rattle.std.specs.Option.{option_map_or}
 use Rattle.ticket_items.specs.Ids.{are_distinct, mem}
 use Rattle.ticket_rows.specs.Ticket.{IsValid, Job}
+use Rattle.spawn.specs.Holdings.{Holdings, IsTable}
 use Rattle.spawn.specs.Laws.{StandApart}
 use Rattle.spawn.specs.Records.{is_out}
 use Rattle.spawn.specs.Stored.{stands_in}
-use Rattle.spawn.specs.Table.{holder_of}
+use Rattle.spawn.specs.Table.{holder_of, is_masters}
 use Rattle.spawn.specs.declared.records.phase.Phase.TheVariants.{Merged}
 use Rattle.spawn.specs.declared.records.spawn_rec.SpawnRec.{SpawnRec}
 use Rattle.spawn.specs.declared.tables.holder.Holder.{Holder}
-use Rattle.spawn.specs.declared.tables.holder.Holder.TheVariants as held_by
 
 -- what a master knows: its name, its workers', its ticket, and the records of its spawns in the
 -- order in which they went out
@@ -54,11 +54,6 @@ with_merged s records = map (λ (r : SpawnRec). if is_of s r then merged_record 
 
 -- ---- who holds what
 
--- whether this holder is the master
-abbrev pub is_masters : Holder → Bool
-is_masters held_by.Master = true
-is_masters (held_by.Spawn s) = false
-
 -- who holds an id: a spawn that is out, or the master. One that isn't in the ticket has no holder
 abbrev pub holder : Known → List ℕ → Option Holder
 holder w x = holder_of w.ticket.rows w.records x
@@ -84,3 +79,8 @@ pub record IsKept (w : Known) : Type 0 where
   pub sent : All (λ r. mem r.worker w.workers ≡ true) w.records
   pub recorded : All (λ r. stands_in w.ticket.rows r ≡ true) w.records
   pub apart : StandApart w.ticket.rows w.records
+
+-- all that, and the table of holders beside it is that of the ticket and the records
+pub record IsInStep (w : Known) (h : Holdings) : Type 0 where
+  pub kept : IsKept w
+  pub table : IsTable w.ticket.rows w.records h

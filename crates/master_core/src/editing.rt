@@ -1,15 +1,21 @@
 //! What a master does with an edit of its ticket.
 
-ghost use Rattle.std.specs.Prelude.{◌≡◌, ℕ, List, OnOk, OnErr, IfOk, IfErr};
+ghost use Rattle.std.specs.Prelude.{◌≡◌, ℕ, List, None, Some, OnOk, OnErr, IfOk, IfErr};
 ghost use Rattle.std.specs.Prelude.{IfNone, IfSome};
+ghost use Rattle.std.specs.Option.{option_map, option_map_or};
 ghost use Rattle.ticket_rows.specs.Edit as edits;
+ghost use Rattle.ticket_rows.specs.Ticket.{IsValid};
+ghost use Rattle.spawn.specs.Holdings.{IsTable, held_by};
+ghost use Rattle.spawn.specs.HoldingsLaws.{edited_holdings};
+ghost use Rattle.spawn.specs.Laws.{StandApart};
+ghost use Rattle.spawn.specs.declared.records.spawn_rec.SpawnRec.{SpawnRec};
 ghost use Rattle.master_core.specs.Master as master;
 ghost use Rattle.master_core.specs.Orders as orders;
 
 use controller::{Done, Reply};
-use spawn::{Holder, SpawnRec, holder_of};
+use spawn::{Holder, Holders};
 use std::alloc::Global;
-use ticket_tree::{Edit, Id, Refusal, Ticket, target_of};
+use ticket_tree::{Duplicate, Edit, Id, Refusal, Ticket, target_of};
 
 /// Why what a holder has can't be changed by the master.
 fn held_refusal(holder: Holder) -> Option<Refusal>
@@ -22,28 +28,68 @@ fn held_refusal(holder: Holder) -> Option<Refusal>
 }
 
 /// Why the master can't change what has an id.
-fn not_held(ticket: &Ticket, records: &[SpawnRec], id: &Id) -> Option<Refusal>
-    ensures { (name : List ℕ) (workers : List (List ℕ)) → result
-        ≡ orders.not_held (master.known name workers ticket.now records.now) id.now }
+fn not_held(holders: &Holders, id: &Id) -> Option<Refusal>
+    ensures { result ≡ option_map_or orders.held_refusal (held_by holders.now id.now) None }
 {
-    match holder_of(ticket, records, id) {
+    match holders.get(id) {
         None => None,
         Some(holder) => held_refusal(holder),
     }
 }
 
 /// Why an edit is refused: the first reason that holds. Needs no memory.
-fn refusal_of(ticket: &Ticket, records: &[SpawnRec], edit: &Edit) -> Option<Refusal>
-    ensures { (name : List ℕ) (workers : List (List ℕ)) → result
-        ≡ orders.edit_refusal edit.now (master.known name workers ticket.now records.now) }
+fn refusal_of(ticket: &Ticket, holders: &Holders, edit: &Edit) -> Option<Refusal>
+    ensures { (name : List ℕ) (workers : List (List ℕ)) (records : List SpawnRec)
+        → IsTable ticket.now.rows records holders.now → result
+        ≡ orders.edit_refusal edit.now (master.known name workers ticket.now records) }
 {
     match ticket.check(edit) {
-        Ok(()) => not_held(ticket, records, target_of(edit)),
+        Ok(()) => not_held(holders, target_of(edit)),
         Err(refusal) => match refusal {
             Refusal::UnknownNode => Some(Refusal::UnknownNode),
             Refusal::UnknownResource => Some(Refusal::UnknownResource),
-            later => not_held(ticket, records, target_of(edit)).or(Some(later)),
+            later => not_held(holders, target_of(edit)).or(Some(later)),
         },
+    }
+}
+
+/// The id that an edit adds to the ticket.
+fn added_id(edit: &Edit) -> Option<&Id>
+    ensures { option_map (λ i. i.now) result ≡ edits.added_id edit.now }
+{
+    match edit {
+        Edit::AddNode { id, .. } => Some(id),
+        Edit::AddResource { resource, .. } => Some(&resource.id),
+        _ => None,
+    }
+}
+
+/// Does an edit that nothing is against at a time. The master holds the id that it adds.
+fn apply_held(
+    alloc: Global,
+    ticket: &mut Ticket,
+    holders: &mut Holders,
+    edit: Edit,
+    at: u64,
+) -> Result<(), Refusal>
+    requires free { edits.refusal_of edit ticket.old.rows ≡ None }
+    requires new { (i : List ℕ) → edits.added_id edit ≡ Some i → held_by holders.old i ≡ None }
+    ensures ok { OnOk result (ticket.new ≡ edits.edited edit at ticket.old) }
+    ensures holders { OnOk result (holders.new ≡ edited_holdings edit holders.old) }
+    ensures err { OnErr result (ticket.new ≡ ticket.old) }
+    ensures holders_stay { OnErr result (holders.new ≡ holders.old) }
+    ensures memory { IfErr result (λ e. e ≡ Refusal.Memory) }
+{
+    match added_id(&edit) {
+        None => ticket.apply(alloc, edit, at),
+        Some(id) => {
+            holders.add(id.copy(alloc)?)?;
+            let applied = ticket.apply(alloc, edit, at);
+            if applied.is_err() {
+                holders.unadd();
+            }
+            applied
+        }
     }
 }
 
@@ -51,28 +97,35 @@ fn refusal_of(ticket: &Ticket, records: &[SpawnRec], edit: &Edit) -> Option<Refu
 pub fn do_edit(
     alloc: Global,
     ticket: &mut Ticket,
-    records: &[SpawnRec],
+    holders: &mut Holders,
     edit: Edit,
     at: u64,
 ) -> Result<Done, Refusal>
+    requires { (records : List SpawnRec) × IsTable ticket.old.rows records holders.old }
     ensures ok { OnOk result (ticket.new ≡ edits.edited edit at ticket.old) }
+    ensures table { OnOk result ((records : List SpawnRec) → IsValid ticket.old.rows
+        → StandApart ticket.old.rows records → IsTable ticket.old.rows records holders.old
+        → IsTable ticket.new.rows records holders.new) }
     ensures reply { IfOk result (λ done. done.reply ≡ Reply.Edited) }
     ensures message { IfOk result (λ done. done.message ≡ None) }
     ensures err { OnErr result (ticket.new ≡ ticket.old) }
-    ensures refused { (name : List ℕ) (workers : List (List ℕ))
-        → IfSome (orders.edit_refusal edit (master.known name workers ticket.old records.now))
+    ensures holders_stay { OnErr result (holders.new ≡ holders.old) }
+    ensures refused { (name : List ℕ) (workers : List (List ℕ)) (records : List SpawnRec)
+        → IsTable ticket.old.rows records holders.old
+        → IfSome (orders.edit_refusal edit (master.known name workers ticket.old records))
         (λ e. result ≡ Err e) }
-    ensures memory { (name : List ℕ) (workers : List (List ℕ))
-        → IfNone (orders.edit_refusal edit (master.known name workers ticket.old records.now))
+    ensures memory { (name : List ℕ) (workers : List (List ℕ)) (records : List SpawnRec)
+        → IsTable ticket.old.rows records holders.old
+        → IfNone (orders.edit_refusal edit (master.known name workers ticket.old records))
         (IfErr result (λ e. e ≡ Refusal.Memory)) }
 {
-    match refusal_of(ticket, records, &edit) {
+    match refusal_of(ticket, holders, &edit) {
         Some(refusal) => {
             drop(edit);
             Err(refusal)
         }
         None => {
-            ticket.apply(alloc, edit, at)?;
+            apply_held(alloc, ticket, holders, edit, at)?;
             Ok(Done {
                 reply: Reply::Edited,
                 message: None,

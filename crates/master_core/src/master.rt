@@ -5,7 +5,7 @@ use crate::stored::is_master;
 use crate::taking;
 use crate::taking::take_unless;
 use controller::{Done, Message, Outcome};
-use spawn::{Holder, SpawnRec, marked};
+use spawn::{Holder, Holders, SpawnRec, marked};
 use std::alloc::{AllocError, Global};
 use std::marker::Model;
 use ticket_items::copies;
@@ -19,16 +19,18 @@ pub struct Master {
     workers: Ids,
     ticket: Ticket,
     records: Vec<SpawnRec>,
+    holders: Holders,
 }
 
 impl Model for Master {
-    ghost use Rattle.master_core.specs.Master.{IsKept, Known, known};
+    ghost use Rattle.master_core.specs.Master.{IsInStep, Known, known};
 
     ghost Value = { Known };
 
     ghost view = { λ a. known a.name a.workers a.ticket a.records.items };
 
-    ghost invariant = { λ a. IsKept (known a.name a.workers a.ticket a.records.items) };
+    ghost invariant = { λ a.
+        IsInStep (known a.name a.workers a.ticket a.records.items) a.holders };
 }
 
 impl Master {
@@ -57,6 +59,7 @@ impl Master {
         if !are_apart(alloc, &name, workers.as_slice())? {
             return Err(Refusal::SameName);
         }
+        let holders = Holders::of(alloc, &ticket, &[])?;
         // A ticket has valid rows.
         let _rows = ticket.rows();
         Ok(Master {
@@ -64,6 +67,7 @@ impl Master {
             workers,
             ticket,
             records: Vec::new(alloc),
+            holders,
         })
     }
 
@@ -100,11 +104,13 @@ impl Master {
         )? {
             return Err(Refusal::BadState);
         }
+        let holders = Holders::of(alloc, &ticket, records.as_slice())?;
         Ok(Master {
             name,
             workers,
             ticket,
             records,
+            holders,
         })
     }
 
@@ -146,7 +152,7 @@ impl Master {
     pub fn holder_of(&self, id: &Id) -> Option<Holder>
         ensures { result ≡ master.holder self.now id.now }
     {
-        spawn::holder_of(&self.ticket, self.records.as_slice(), id)
+        self.holders.get(id)
     }
 
     /// Whether it may change a node or a resource: it holds it. Needs no memory.
@@ -191,6 +197,7 @@ impl Master {
             self.workers.as_slice(),
             &mut self.ticket,
             &mut self.records,
+            &mut self.holders,
             order,
             at,
         )
@@ -215,7 +222,9 @@ impl Master {
         match taking::outcome_of(alloc, self, refusal, &message, at) {
             Ok(outcome) => {
                 let ticket = &mut self.ticket;
-                take_unless(refused, alloc, ticket, &mut self.records, message.body, at).and(Ok(
+                let records = &mut self.records;
+                let holders = &mut self.holders;
+                take_unless(refused, alloc, ticket, records, holders, message.body, at).and(Ok(
                     outcome,
                 ))
             }
@@ -238,6 +247,7 @@ impl Clone for Master {
             workers: self.workers.clone()?,
             ticket: self.ticket.clone()?,
             records: copies(*self.records.allocator(), self.records.as_slice())?,
+            holders: self.holders.clone()?,
         })
     }
 }

@@ -2,6 +2,8 @@
 
 ghost use Rattle.std.specs.Prelude.{◌≡◌, ◌++◌, ◌∷◌, [], true, false, None, Some, OnOk, OnErr};
 ghost use Rattle.std.specs.Prelude.{IfOk, IfErr, IfNone, IfSome};
+ghost use Rattle.ticket_rows.specs.Ticket.{IsValid};
+ghost use Rattle.spawn.specs.Holdings.{IsTable};
 ghost use Rattle.spawn.specs.Laws.{StandApart};
 ghost use Rattle.spawn.specs.Records.{IsGood, is_out};
 ghost use Rattle.spawn.specs.Spawning as spawning;
@@ -12,7 +14,7 @@ use crate::editing::do_edit;
 use crate::order::Order;
 use crate::records::{next_number, record_of};
 use controller::{Body, Done, Message, Reply};
-use spawn::{SpawnRec, may_spawn, part_for};
+use spawn::{Holders, SpawnRec, may_spawn, part_for, spawn_by_table};
 use std::alloc::{AllocError, Global};
 use ticket_items::is_among;
 use ticket_tree::{Duplicate, Id, Ids, Refusal, SpawnId, Ticket};
@@ -30,11 +32,14 @@ fn spawn_to(
     name: &Id,
     ticket: &mut Ticket,
     records: &mut Vec<SpawnRec>,
+    holders: &mut Holders,
     node: Id,
     worker: Id,
     rw: Ids,
     at: u64,
 ) -> Result<Done, Refusal>
+    requires valid { IsValid ticket.old.rows }
+    requires table { IsTable ticket.old.rows records.old.items holders.old }
     ensures ticket { OnOk result (ticket.new
         ≡ spawning.spawned ticket.old
         (spawning.new_record ticket.old.rows (master.next_number records.old.items)
@@ -49,8 +54,10 @@ fn spawn_to(
         ≡ Some (orders.submit_of name.now ticket.new
         (spawning.new_record ticket.old.rows (master.next_number records.old.items)
         node worker rw at))) }
+    ensures table { OnOk result (IsTable ticket.new.rows records.new.items holders.new) }
     ensures ticket_stays { OnErr result (ticket.new ≡ ticket.old) }
     ensures records_stay { OnErr result (records.new.items ≡ records.old.items) }
+    ensures holders_stay { OnErr result (holders.new ≡ holders.old) }
     ensures refused { IfSome (spawning.spawn_refusal ticket.old.rows records.old.items
         (master.next_number records.old.items) node rw) (λ e. result ≡ Err e) }
     ensures memory { IfNone (spawning.spawn_refusal ticket.old.rows records.old.items
@@ -62,7 +69,9 @@ fn spawn_to(
         let refused = may_spawn(ticket, records.as_slice(), number, &node, rw.as_slice()).err();
         return Err(refused.unwrap_or(Refusal::Memory));
     };
-    let (id, part) = spawn::spawn(alloc, ticket, records, number, node, worker, rw, at)?;
+    let (id, part) = spawn_by_table(
+        alloc, ticket, records, holders, number, node, worker, rw, at,
+    )?;
     let message = Message {
         sender,
         receiver,
@@ -116,18 +125,22 @@ fn record_out<'a>(records: &'a [SpawnRec], spawn: SpawnId) -> Result<&'a SpawnRe
     }
 }
 
-/// Does what the master of a name is told to do, that has these workers, ticket and records.
+/// Does what the master of a name is told to do, that has these workers, ticket and records, by
+/// which these hold what is there.
 pub fn do_order(
     alloc: Global,
     name: &Id,
     workers: &[Id],
     ticket: &mut Ticket,
     records: &mut Vec<SpawnRec>,
+    holders: &mut Holders,
     order: Order,
     at: u64,
 ) -> Result<Done, Refusal>
     requires numbered { master.IsNumbered records.old.items }
+    requires valid { IsValid ticket.old.rows }
     requires apart { StandApart ticket.old.rows records.old.items }
+    requires table { IsTable ticket.old.rows records.old.items holders.old }
     ensures state { OnOk result (master.known name.now workers.now ticket.new records.new.items
         ≡ orders.ordered order at
         (master.known name.now workers.now ticket.old records.old.items)) }
@@ -137,8 +150,10 @@ pub fn do_order(
     ensures message { IfOk result (λ done. done.message
         ≡ orders.order_message order at
         (master.known name.now workers.now ticket.old records.old.items)) }
+    ensures table { OnOk result (IsTable ticket.new.rows records.new.items holders.new) }
     ensures ticket_stays { OnErr result (ticket.new ≡ ticket.old) }
     ensures records_stay { OnErr result (records.new.items ≡ records.old.items) }
+    ensures holders_stay { OnErr result (holders.new ≡ holders.old) }
     ensures free { OnOk result (orders.order_refusal order
         (master.known name.now workers.now ticket.old records.old.items) ≡ None) }
     ensures refused { IfSome (orders.order_refusal order
@@ -148,12 +163,12 @@ pub fn do_order(
         (IfErr result (λ e. e ≡ Refusal.Memory)) }
 {
     match order {
-        Order::Edit(edit) => do_edit(alloc, ticket, records.as_slice(), edit, at),
+        Order::Edit(edit) => do_edit(alloc, ticket, holders, edit, at),
         Order::Spawn { node, worker, rw } => {
             if !is_among(workers, &worker) {
                 return Err(Refusal::UnknownWorker);
             }
-            spawn_to(alloc, name, ticket, records, node, worker, rw, at)
+            spawn_to(alloc, name, ticket, records, holders, node, worker, rw, at)
         }
         Order::Resend(spawn) => {
             let record = record_out(records.as_slice(), spawn)?;

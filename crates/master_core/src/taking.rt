@@ -6,6 +6,7 @@ ghost use Rattle.ticket_rows.specs.Copies.{with_copies};
 ghost use Rattle.ticket_rows.specs.Ticket.{IsValid};
 ghost use Rattle.ticket_tree.specs.Part.{Copied};
 ghost use Rattle.controller.specs.Reply as replies;
+ghost use Rattle.spawn.specs.Holdings.{IsTable, claim_given};
 ghost use Rattle.spawn.specs.Laws.{StandApart};
 ghost use Rattle.spawn.specs.Records.{IsGood, is_out};
 ghost use Rattle.spawn.specs.declared.records.spawn_rec.SpawnRec.{SpawnRec};
@@ -18,9 +19,8 @@ use crate::master::Master;
 use crate::records::{is_spawn_out, place_of, record_of};
 use controller::answering::{answer_to, spawn_in, told_of};
 use controller::{Body, Command, Message, Outcome, QueueStatus, Reply};
-use merge::laws::whether_a_part_fits_is_a_test;
-use merge::{fits, merge};
-use spawn::SpawnRec;
+use merge::{fits, merge_fitting};
+use spawn::{Holder, Holders, SpawnRec};
 use std::alloc::{AllocError, Global};
 use ticket_tree::{Part, Refusal, Ticket};
 
@@ -38,14 +38,6 @@ fn is_for_masters(body: &Body) -> bool
     }
 }
 
-/// Whether a part that comes back has the shape of what the ticket still has of the spawn.
-fn is_fit(ticket: &Ticket, spawn: &SpawnRec, part: &Part) -> bool
-    ensures { result ≡ alike.is_fit ticket.now spawn.now part.now }
-{
-    whether_a_part_fits_is_a_test();
-    fits(ticket, spawn, part)
-}
-
 /// Why what a message says of a spawn is refused.
 fn body_refusal(master: &Master, spawn: &SpawnRec, body: &Body) -> Option<Refusal>
     ensures { result ≡ messages.body_refusal body.now master.now spawn.now }
@@ -53,7 +45,7 @@ fn body_refusal(master: &Master, spawn: &SpawnRec, body: &Body) -> Option<Refusa
     match body {
         Body::Submit(_) => None,
         Body::Return(part) => {
-            if spawn.is_out() && !is_fit(master.ticket(), spawn, part) {
+            if spawn.is_out() && !fits(master.ticket(), spawn, part) {
                 Some(Refusal::WrongShape)
             } else {
                 None
@@ -157,29 +149,31 @@ pub fn outcome_of(
     Ok(Outcome { reply, answer })
 }
 
-/// Puts in a part that fits, of a spawn that is out.
+/// Puts in a part that fits, of a spawn that is out. The master then holds what the spawn claimed.
 fn put_in(
     alloc: Global,
     ticket: &mut Ticket,
     spawn: &mut SpawnRec,
+    holders: &mut Holders,
     part: Part,
     at: u64,
 ) -> Result<(), AllocError>
-    requires out { is_out spawn.old ≡ true }
     requires good { IsGood ticket.old.rows spawn.old }
     requires fits { alike.is_fit ticket.old spawn.old part ≡ true }
     ensures merged { OnOk result (ticket.new ≡ put ticket.old spawn.old part at) }
     ensures phase { OnOk result (spawn.new ≡ masters.merged_record spawn.old) }
+    ensures holders { OnOk result (holders.new
+        ≡ claim_given ticket.new.rows spawn.old Holder.Master holders.old) }
     ensures ticket_stays { OnErr result (ticket.new ≡ ticket.old) }
     ensures spawn_stays { OnErr result (spawn.new ≡ spawn.old) }
+    ensures holders_stay { OnErr result (holders.new ≡ holders.old) }
 {
-    whether_a_part_fits_is_a_test();
-    match merge(alloc, ticket, spawn, part, at) {
-        Ok(()) => Ok(()),
-        Err(refusal) => match refusal {
-            Refusal::Memory => Err(AllocError),
-            _ => unreachable!(),
-        },
+    match merge_fitting(alloc, ticket, spawn, part, at) {
+        Ok(()) => {
+            holders.set(ticket, spawn, Holder::Master);
+            Ok(())
+        }
+        Err(_) => Err(AllocError),
     }
 }
 
@@ -188,26 +182,31 @@ fn take_part(
     alloc: Global,
     ticket: &mut Ticket,
     records: &mut Vec<SpawnRec>,
+    holders: &mut Holders,
     part: Part,
     at: u64,
 ) -> Result<(), AllocError>
     requires numbered { masters.IsNumbered records.old.items }
+    requires valid { IsValid ticket.old.rows }
     requires apart { StandApart ticket.old.rows records.old.items }
+    requires table { IsTable ticket.old.rows records.old.items holders.old }
     requires fits { (r : SpawnRec) → masters.record_of records.old.items part.spawn_id ≡ Some r
         → is_out r ≡ true → alike.is_fit ticket.old r part ≡ true }
     ensures ok { (name : List ℕ) (workers : List (List ℕ)) → OnOk result
         (masters.known name workers ticket.new records.new.items
         ≡ messages.taken (Body.Return part) at
         (masters.known name workers ticket.old records.old.items)) }
+    ensures table { OnOk result (IsTable ticket.new.rows records.new.items holders.new) }
     ensures ticket_stays { OnErr result (ticket.new ≡ ticket.old) }
     ensures records_stay { OnErr result (records.new.items ≡ records.old.items) }
+    ensures holders_stay { OnErr result (holders.new ≡ holders.old) }
     ensures valid { IsValid (with_copies part.rows part.rw part.ro) }
 {
     // A part has valid rows.
     let _rows = part.rows();
     if is_spawn_out(records.as_slice(), part.spawn_id()) {
         let place = place_of(part.spawn_id());
-        put_in(alloc, ticket, &mut records[place], part, at)
+        put_in(alloc, ticket, &mut records[place], holders, part, at)
     } else {
         drop(part);
         Ok(())
@@ -219,25 +218,30 @@ fn take_body(
     alloc: Global,
     ticket: &mut Ticket,
     records: &mut Vec<SpawnRec>,
+    holders: &mut Holders,
     body: Body,
     at: u64,
 ) -> Result<(), AllocError>
     requires numbered { masters.IsNumbered records.old.items }
+    requires valid { IsValid ticket.old.rows }
     requires apart { StandApart ticket.old.rows records.old.items }
+    requires table { IsTable ticket.old.rows records.old.items holders.old }
     requires fits { (p : Copied) (r : SpawnRec) → body ≡ Body.Return p
         → masters.record_of records.old.items p.spawn_id ≡ Some r → is_out r ≡ true
         → alike.is_fit ticket.old r p ≡ true }
     ensures ok { (name : List ℕ) (workers : List (List ℕ)) → OnOk result
         (masters.known name workers ticket.new records.new.items
         ≡ messages.taken body at (masters.known name workers ticket.old records.old.items)) }
+    ensures table { OnOk result (IsTable ticket.new.rows records.new.items holders.new) }
     ensures ticket_stays { OnErr result (ticket.new ≡ ticket.old) }
     ensures records_stay { OnErr result (records.new.items ≡ records.old.items) }
+    ensures holders_stay { OnErr result (holders.new ≡ holders.old) }
     ensures valid { messages.IsValidBody body }
     ensures answers { replies.is_answer body ≡ true → IsOk result }
 {
     match body {
         Body::Submit(_) => Ok(()),
-        Body::Return(part) => take_part(alloc, ticket, records, part, at),
+        Body::Return(part) => take_part(alloc, ticket, records, holders, part, at),
         Body::Answer { .. } => Ok(()),
     }
 }
@@ -248,11 +252,14 @@ pub fn take_unless(
     alloc: Global,
     ticket: &mut Ticket,
     records: &mut Vec<SpawnRec>,
+    holders: &mut Holders,
     body: Body,
     at: u64,
 ) -> Result<(), AllocError>
     requires numbered { masters.IsNumbered records.old.items }
+    requires valid { IsValid ticket.old.rows }
     requires apart { StandApart ticket.old.rows records.old.items }
+    requires table { IsTable ticket.old.rows records.old.items holders.old }
     requires fits { refused ≡ false → (p : Copied) (r : SpawnRec) → body ≡ Body.Return p
         → masters.record_of records.old.items p.spawn_id ≡ Some r → is_out r ≡ true
         → alike.is_fit ticket.old r p ≡ true }
@@ -260,8 +267,10 @@ pub fn take_unless(
         (masters.known name workers ticket.new records.new.items
         ≡ if refused then masters.known name workers ticket.old records.old.items else
         messages.taken body at (masters.known name workers ticket.old records.old.items)) }
+    ensures table { OnOk result (IsTable ticket.new.rows records.new.items holders.new) }
     ensures ticket_stays { OnErr result (ticket.new ≡ ticket.old) }
     ensures records_stay { OnErr result (records.new.items ≡ records.old.items) }
+    ensures holders_stay { OnErr result (holders.new ≡ holders.old) }
     ensures valid { refused ≡ false → messages.IsValidBody body }
     ensures answers { replies.is_answer body ≡ true → IsOk result }
 {
@@ -269,6 +278,6 @@ pub fn take_unless(
         drop(body);
         Ok(())
     } else {
-        take_body(alloc, ticket, records, body, at)
+        take_body(alloc, ticket, records, holders, body, at)
     }
 }

@@ -11,5 +11,5 @@ mod parent;
 mod replacing;
 mod shape;
 
-pub use merging::merge;
+pub use merging::{merge, merge_fitting};
 pub use shape::fits;

@@ -52,6 +52,39 @@ fn tell(alloc: Global, ticket: &mut Ticket, spawn: &SpawnRec, at: u64) -> Result
     ticket.append(alloc, &parent, audit)
 }
 
+/// Merges a part that fits, as `merge` does, without asking whether it does. Refuses `Memory` alone,
+/// and then changes nothing.
+pub fn merge_fitting(
+    alloc: Global,
+    ticket: &mut Ticket,
+    spawn: &mut SpawnRec,
+    part: Part,
+    at: u64,
+) -> Result<(), Refusal>
+    requires good { IsGood ticket.old.rows spawn.old }
+    requires fits { Fits ticket.old spawn.old part }
+    ensures merged { OnOk result (ticket.new ≡ put ticket.old spawn.old part at) }
+    ensures phase { OnOk result (spawn.new ≡ record spawn.old { phase = Merged }) }
+    ensures ticket { OnErr result (ticket.new ≡ ticket.old) }
+    ensures spawn { OnErr result (spawn.new ≡ spawn.old) }
+    ensures memory { IfErr result (λ e. e ≡ Refusal.Memory) }
+{
+    // What their rows tell: both are valid.
+    let _rows = ticket.rows();
+    let _part_rows = part.rows();
+    match tell(alloc, ticket, spawn, at) {
+        Ok(()) => {
+            put_back(ticket, part);
+            spawn.phase = Phase::Merged;
+            Ok(())
+        }
+        Err(refusal) => {
+            drop(part);
+            Err(refusal)
+        }
+    }
+}
+
 /// Merges a part that comes back from a spawn that is out (JDF 1.5, 4.4): each of its nodes takes
 /// the place of the ticket's node of its id, at that one's depth, and each of its copies that may
 /// be changed the place of the resource of its id; its copies that may be read alone are let go. At
@@ -86,18 +119,5 @@ pub fn merge(
         drop(part);
         return Err(Refusal::WrongShape);
     }
-    // What their rows tell: both are valid.
-    let _rows = ticket.rows();
-    let _part_rows = part.rows();
-    match tell(alloc, ticket, spawn, at) {
-        Ok(()) => {
-            put_back(ticket, part);
-            spawn.phase = Phase::Merged;
-            Ok(())
-        }
-        Err(refusal) => {
-            drop(part);
-            Err(refusal)
-        }
-    }
+    merge_fitting(alloc, ticket, spawn, part, at)
 }

@@ -27,8 +27,7 @@ pub mod KeptApart
 pub mod SoundPart
 pub mod EditApart
 pub mod EditKeeps
-pub mod FirstInBoth
-pub mod Checked
+pub mod Tests
 pub mod Entries
 pub mod PartShows
 pub mod CutPlaces
@@ -42,3 +41,4 @@ pub mod StandingSets
 pub mod Holdings
 pub mod HoldingsEdited
 pub mod HoldingsKept
+pub mod HoldingsHeld

@@ -6,11 +6,10 @@ use Rattle.std.proofs.Common.{IfSome, nat_lt}
 use Rattle.std.proofs.lemmas.List.{length-reverse}
 use Rattle.std.proofs.lemmas.Bool.{lt-ltb, le-ltb}
 use Rattle.std.specs.Option.{option_map, option_map_or, option_and_then}
-use Rattle.ticket_tree.proofs.Plain.{no_fault_is_valid}
 use Rattle.ticket_tree.specs.Part.{copied}
 use Rattle.ticket_rows.specs.Copies.{with_copies}
 use Rattle.ticket_rows.specs.Place.{BoundsNodesBelow, node_places, parent, up}
-use Rattle.ticket_rows.specs.Ticket.{Job, IsValid, fault_of, has_node}
+use Rattle.ticket_rows.specs.Ticket.{Job, IsValid, has_node}
 use Rattle.ticket_items.specs.declared.node_row.NodeRow.{NodeRow}
 use Rattle.ticket_items.specs.declared.refusal.Refusal.{Refusal}
 use Rattle.ticket_items.specs.declared.refusal.Refusal.TheVariants.{Memory}
@@ -68,20 +67,13 @@ part_is t r from to depth valid bounds at found =
     let down = below_is rows r.node from to depth valid bounds at found ∙ ap (λ m. map (lifted m) (at.root ∷ at.inner)) (sym high) ∙ ap (map (lifted (length (above rows r.node)))) (sym (rows_below-around rows r.node valid at)) in
     ap (λ xs. copied t.job_id r.id xs (below_rows rows from to depth) (resources_among r.rw rows) r.ro) up ∙ ap (λ xs. copied t.job_id r.id (ancestors rows r.node) xs (resources_among r.rw rows) r.ro) down
 
-pub no_fault : (rows : List NodeRow) (r : SpawnRec) (from to depth : ℕ) → IsValid rows
+-- the part with its copies is valid
+pub part_stands : (rows : List NodeRow) (r : SpawnRec) (from to depth : ℕ) → IsValid rows
     → IsGood rows r → BoundsNodesBelow rows r.node from to → (at : Around rows r.node)
     → option_map (λ x. x.depth) (slice_get rows from) ≡ Some depth
-    → fault_of (with_copies (below_rows rows from to depth) (resources_among r.rw rows) r.ro) ≡ None
-no_fault rows r from to depth valid good bounds at found =
-    (no_fault_is_valid (with_copies (below_rows rows from to depth) (resources_among r.rw rows) r.ro)).1
-    (subst (λ rs. IsValid (with_copies rs (resources_among r.rw rows) r.ro)) (sym (below_is rows r.node from to depth valid bounds at found)) (part_valid rows r.node (resources_among r.rw rows) r.ro valid at (good_copies rows r valid good at)))
-
--- what has no fault is refused only where memory runs out
-pub memory_alone : {X : Type 0} (result : Result X Refusal) (fault : Option Refusal) → fault ≡ None
-    → IfErr result (λ e. (e ≡ Memory) ⊎ (fault ≡ Some e)) → IfErr result (λ e. e ≡ Memory)
-memory_alone (Ok x) fault none h = tt
-memory_alone (Err e) fault none (inl memory) = memory
-memory_alone (Err e) fault none (inr faulty) = cc
+    → IsValid (with_copies (below_rows rows from to depth) (resources_among r.rw rows) r.ro)
+part_stands rows r from to depth valid good bounds at found =
+    subst (λ rs. IsValid (with_copies rs (resources_among r.rw rows) r.ro)) (sym (below_is rows r.node from to depth valid bounds at found)) (part_valid rows r.node (resources_among r.rw rows) r.ro valid at (good_copies rows r valid good at))
 
 -- ---- a ticket at one of its nodes: what stands between the node's bounds, and whether it has a parent
 

@@ -11,6 +11,5 @@ pub mod Laws
 pub mod Stored
 pub mod Walk
 pub mod OutTables
-pub mod ClaimSet
 pub mod Holdings
 pub mod HoldingsLaws

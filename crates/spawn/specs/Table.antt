@@ -1,5 +1,5 @@
 -- Who holds what: the one table of holders, by the records of the spawns that are out.
-use Rattle.std.specs.Prelude.{ℕ, ◌&&◌, Bool, List, Option, Some, if◌then◌else◌}
+use Rattle.std.specs.Prelude.{ℕ, ◌&&◌, Bool, true, false, List, Option, Some, if◌then◌else◌}
 use Rattle.std.specs.List.{find}
 use Rattle.std.specs.Option.{option_map, option_map_or}
 use Rattle.ticket_rows.specs.Homes.{home_of}
@@ -31,3 +31,8 @@ holder_at recs p = option_map_or (λ r. Spawn r.id) (holding recs p) Master
 -- who holds an id. One that doesn't stand in the ticket has no holder
 abbrev pub holder_of : List NodeRow → List SpawnRec → List ℕ → Option Holder
 holder_of rows recs x = option_map (holder_at recs) (place_at (places rows) x)
+
+-- whether this holder is the master
+abbrev pub is_masters : Holder → Bool
+is_masters Master = true
+is_masters (Spawn s) = false

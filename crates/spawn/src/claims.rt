@@ -1,7 +1,6 @@
 pub mod above;
 pub mod apart;
 pub mod claim;
-pub mod claim_set;
 pub mod copies;
 pub mod id_set;
 pub mod links_outside;

@@ -15,6 +15,7 @@ pub use records::good::{are_good, is_good};
 pub use records::phase::Phase;
 pub use records::spawn_rec::SpawnRec;
 pub use records::standing::stand_in;
+pub use spawns::by_table::spawn_by_table;
 pub use spawns::refusing::may_spawn;
 pub use spawns::spawning::spawn;
 pub use tables::holder::Holder;

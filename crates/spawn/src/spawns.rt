@@ -1,3 +1,3 @@
-pub mod checking;
+pub mod by_table;
 pub mod refusing;
 pub mod spawning;

@@ -37,6 +37,8 @@ pub fn refusal_line(refusal: Refusal) -> &'static str
         Refusal::NotForWorkers => "Refused 34 NotForWorkers\n",
         Refusal::NotDone => "Refused 35 NotDone\n",
         Refusal::BadPart => "Refused 36 BadPart\n",
+        Refusal::Acknowledged => "Refused 37 Acknowledged\n",
+        Refusal::Declined => "Refused 38 Declined\n",
         Refusal::NotJson => "Refused 40 NotJson\n",
         Refusal::NotProfile => "Refused 41 NotProfile\n",
         Refusal::WrongMessage => "Refused 45 WrongMessage\n",

@@ -60,6 +60,10 @@ pub enum Refusal {
     NotDone,
     /// A part can't have come from a ticket.
     BadPart,
+    /// What a worker is to give back once more has come back, and the part is given up.
+    Acknowledged,
+    /// A worker declines the part: its master takes back what the worker hadn't begun.
+    Declined,
     /// The bytes are no JSON.
     NotJson,
     /// The JSON isn't of our profile's form.
@@ -110,6 +114,8 @@ impl Refusal {
             Refusal::NotForWorkers => 34,
             Refusal::NotDone => 35,
             Refusal::BadPart => 36,
+            Refusal::Acknowledged => 37,
+            Refusal::Declined => 38,
             Refusal::NotJson => 40,
             Refusal::NotProfile => 41,
             Refusal::WrongMessage => 45,
@@ -150,6 +156,8 @@ impl Refusal {
             Refusal::NotForWorkers => "NotForWorkers",
             Refusal::NotDone => "NotDone",
             Refusal::BadPart => "BadPart",
+            Refusal::Acknowledged => "Acknowledged",
+            Refusal::Declined => "Declined",
             Refusal::NotJson => "NotJson",
             Refusal::NotProfile => "NotProfile",
             Refusal::WrongMessage => "WrongMessage",

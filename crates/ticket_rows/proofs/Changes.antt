@@ -135,7 +135,7 @@ pub keeps-Note : (at : ℕ) (text : List ℕ)
     → KeepsTicket (λ r. record r { audits = r.audits ++ Notification at text ∷ [] })
 keeps-Note at text = record { id = λ r. refl; depth = λ r. refl; pool = λ r. refl; links = λ r. refl; status = λ r h. h }
 
-pool-kept : (x : List ℕ) (f : Resource → Resource) (pool : List Resource)
+pub pool-kept : (x : List ℕ) (f : Resource → Resource) (pool : List Resource)
     → ((y : Resource) → (f y).id ≡ y.id)
     → map (λ y. y.id) (with_item x f pool) ≡ map (λ y. y.id) pool
 pool-kept x f [] keeps = refl

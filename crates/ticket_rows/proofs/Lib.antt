@@ -1,10 +1,13 @@
 pub mod Alike
 pub mod AtHome
+pub mod AtPlaces
 pub mod Below
 pub mod Changes
 pub mod Copies
+pub mod EditedValid
 pub mod Growing
-pub mod LastPlaces
+pub mod IndexFollows
+pub mod IndexedNodes
 pub mod LinkWalk
 pub mod NewNode
 pub mod NewResource
@@ -13,4 +16,5 @@ pub mod OneRows
 pub mod PartEdits
 pub mod Reasons
 pub mod ResourcePlaces
+pub mod SpotsFound
 pub mod Table

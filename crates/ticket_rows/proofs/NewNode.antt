@@ -366,7 +366,7 @@ later_place true s r rows j e alone there found =
     absurd (true≢false (sym there ∙ ap (λ i. mem i (node_ids rows)) (sym ((bytes_eq-Decides s.id r.id).0 e)) ∙ alone))
 later_place false s r rows j e alone there found = ap (option_map suc) found
 
-own_place : (rows : List NodeRow) (j : ℕ) (r : NodeRow) → are_distinct (node_ids rows) ≡ true
+pub own_place : (rows : List NodeRow) (j : ℕ) (r : NodeRow) → are_distinct (node_ids rows) ≡ true
     → slice_get rows j ≡ Some r → position (λ t. bytes_eq t.id r.id) rows ≡ Some j
 own_place [] j r apart e = cc
 own_place (s ∷ rows) zero r apart e =
@@ -387,7 +387,7 @@ run_within_row : (b : Bool) (n m : ℕ) → n ≤ m → cond (not b) (1 + n) 0 �
 run_within_row true n m h = omega arith
 run_within_row false n m h = omega (arith, h)
 
-run_within : (d : ℕ) (rows : List NodeRow) → run_length d rows ≤ length rows
+pub run_within : (d : ℕ) (rows : List NodeRow) → run_length d rows ≤ length rows
 run_within d [] = omega arith
 run_within d (r ∷ rows) = run_within_row (nat_le r.depth d) (run_length d rows) (length rows) (run_within d rows)
 
@@ -426,7 +426,7 @@ inserted_child x new rows seen later k m s valid same behind found is count =
 
 -- ---- the whole
 
-room_at : (rows : List NodeRow) (x : List ℕ) (r : NodeRow) → row_of rows x ≡ Some r
+pub room_at : (rows : List NodeRow) (x : List ℕ) (r : NodeRow) → row_of rows x ≡ Some r
     → has_room rows x ≡ true → nat_lt r.depth max_depth ≡ true
 room_at rows x r found room = sym (ap (λ o. option_map_or (λ s. nat_lt s.depth max_depth) o false) found) ∙ room
 

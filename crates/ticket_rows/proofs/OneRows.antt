@@ -1,10 +1,12 @@
 -- The calls that change one row keep a ticket valid.
 use Rattle.std.proofs.Common.{◌≡◌, ℕ, Bool, true, false, not, cond, List, [], ◌∷◌, ◌++◌, map, Some}
-use Rattle.std.proofs.Common.{refl, sym, ap, ◌∙◌, subst}
+use Rattle.std.proofs.Common.{refl, sym, ap, ◌∙◌, subst, slice_get}
 use Rattle.std.proofs.lemmas.Bool.{and_parts, not-true}
 use Rattle.std.proofs.lemmas.Slice.Eq.{bytes_eq-Decides}
-use Rattle.std.specs.List.{find}
+use Rattle.std.specs.List.{find, position}
+use Rattle.std.specs.Option.{option_map}
 use Rattle.std.specs.Str.{bytes_eq}
+use Rattle.ticket_items.proofs.Places.{found_at_position, passes_at_position, same_found}
 use Rattle.ticket_items.proofs.AtKey.{at_key, at_key-none}
 use Rattle.ticket_rows.proofs.Changes.{KeepsTicket, IsValid-with_row, IsValid-with_resource}
 use Rattle.ticket_rows.proofs.NodePlaces.{node_ids_distinct}
@@ -13,7 +15,8 @@ use Rattle.ticket_items.specs.Resource.{with_item}
 use Rattle.ticket_items.specs.Ids.{mem, are_distinct}
 use Rattle.ticket_rows.specs.OneRow.{MayReplaceNode, replaced_node, replaced_resource}
 use Rattle.ticket_rows.specs.Place.{links_of}
-use Rattle.ticket_rows.specs.Ticket.{IsValid, is_reserved}
+use Rattle.ticket_rows.specs.Spots.{pool_of}
+use Rattle.ticket_rows.specs.Ticket.{IsValid, is_reserved, row_of}
 use Rattle.ticket_items.specs.declared.audit.Audit.{Audit}
 use Rattle.ticket_items.specs.declared.node_row.NodeRow.{NodeRow}
 use Rattle.ticket_items.specs.declared.resource.Resource.{Resource}
@@ -88,6 +91,17 @@ IsValid-replaced_node rows row may valid =
     (sym (at_key-same (λ r. r.id) row.id (λ r. record row { depth = r.depth }) (kept_row row) rows may.old may.there (node_ids_distinct rows valid.distinct)
     (λ named. kept_row-same row may.old (sym ((bytes_eq-Decides may.old.id row.id).0 named)) may.resources (ap links_of may.thing))))
     (IsValid-with_row row.id (kept_row row) rows (keeps-kept_row row may.status) valid)
+
+-- what stands at the place that was found has the same pool
+pub pool_at_position : (rows : List NodeRow) (row : NodeRow) (k : ℕ) → MayReplaceNode rows row
+    → position (λ r. bytes_eq r.id row.id) rows ≡ Some k
+    → option_map pool_of (slice_get rows k) ≡ Some (pool_of row)
+pool_at_position rows row k may found =
+    let at = found_at_position (λ r. bytes_eq r.id row.id) rows k found in
+    let r : NodeRow = at.0 in
+    let same : r ≡ may.old = same_found r may.old (row_of rows row.id) at.1 may.there in
+    ap (option_map pool_of) at.2 ∙ ap (λ i. Some (i, map (λ x. x.id) r.resources)) ((bytes_eq-Decides r.id row.id).0 (passes_at_position (λ s. bytes_eq s.id row.id) rows k r found at.2))
+    ∙ ap (λ is. Some (row.id, is)) (ap (λ t. map (λ x. x.id) t.resources) same ∙ sym may.resources)
 
 -- ---- a resource in the place of another
 

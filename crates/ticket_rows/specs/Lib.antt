@@ -8,3 +8,5 @@ pub mod EditRefusal
 pub mod Edit
 pub mod Copies
 pub mod OneRow
+pub mod ChangedRow
+pub mod Spots

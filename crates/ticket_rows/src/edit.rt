@@ -1,3 +1,4 @@
+pub mod at_place;
 pub mod edits;
 pub mod growing_edits;
 pub mod known_rows;
@@ -5,3 +6,4 @@ pub mod one_row;
 pub mod part_edits;
 pub mod setting_edits;
 pub mod target;
+mod walks;

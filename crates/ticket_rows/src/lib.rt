@@ -4,13 +4,16 @@
 
 pub mod distinct;
 mod edit;
-mod last_place;
+mod home_index;
+mod indexed_rows;
+mod node_index;
 pub mod pools;
 pub mod resolved;
 pub mod rows;
 mod rows_iter;
+mod spot;
 
 pub use edit::target::target_of;
 pub use edit::{edits, one_row, part_edits};
-pub use last_place::LastPlace;
+pub use indexed_rows::IndexedRows;
 pub use rows_iter::Rows;

@@ -1,11 +1,11 @@
 //! The resources of the nodes of a ticket, and where they are at home.
 
-ghost use Rattle.std.specs.Prelude.{◌≡◌, ◌||◌, true, drop};
+ghost use Rattle.std.specs.Prelude.{◌≡◌, ◌||◌, slice_get};
 ghost use Rattle.std.specs.List.{find, list_any, position};
 ghost use Rattle.std.specs.Option.{option_copied};
 ghost use Rattle.std.specs.Str.{bytes_eq};
 ghost use Rattle.ticket_rows.specs.Homes as homes;
-ghost use Rattle.ticket_items.specs.Ids.{are_distinct, mem};
+ghost use Rattle.ticket_items.specs.Ids.{mem};
 ghost use Rattle.ticket_rows.specs.Ticket.{ids};
 
 use ticket_items::{Id, NodeRow, Resource};
@@ -17,35 +17,12 @@ pub fn holds(pool: &[Resource], id: &Id) -> bool
     pool.iter().any(|resource| resource.id == *id)
 }
 
-/// Whether a resource of the pool has the id, at a place or behind it.
-pub(crate) fn holds_from(pool: &[Resource], id: &Id, from: usize) -> bool
-    ensures { result ≡ list_any (λ x. bytes_eq x.id id.now) (drop from pool.now) }
-{
-    match pool.get(from..) {
-        None => false,
-        Some(behind) => holds(behind, id),
-    }
-}
-
 /// Where the row stands in whose pool the resource of an id is.
 pub(crate) fn home_place(rows: &[NodeRow], id: &Id) -> Option<usize>
     ensures { result ≡ position (λ r. list_any (λ x. bytes_eq x.id id.now) r.resources) rows.now }
 {
     rows.iter()
         .position(|row| holds(row.resources.as_slice(), id))
-}
-
-/// Where the row stands in whose pool the resource of an id is, looked for from a row on and then
-/// in front of it.
-pub(crate) fn home_place_from(rows: &[NodeRow], id: &Id, from: usize) -> Option<usize>
-    requires { are_distinct (ids rows.now) ≡ true }
-    ensures { result ≡ position (λ r. list_any (λ x. bytes_eq x.id id.now) r.resources) rows.now }
-{
-    let (front, behind) = rows.split_at(from.min(rows.len()));
-    match home_place(behind, id) {
-        Some(place) => Some(front.len() + place),
-        None => home_place(front, id),
-    }
 }
 
 /// The resource of an id in the pool.
@@ -55,6 +32,13 @@ fn find_in<'a>(pool: &'a [Resource], id: &Id) -> Option<&'a Resource>
     pool.iter().find(|resource| resource.id == *id)
 }
 
+/// The resource at a place in the pool of a row.
+pub(crate) fn resource_at(row: &NodeRow, place: usize) -> Option<&Resource>
+    ensures { option_copied result ≡ slice_get row.now.resources place }
+{
+    row.resources.as_slice().get(place)
+}
+
 /// The resource of an id.
 pub fn resource<'a>(rows: &'a [NodeRow], id: &Id) -> Option<&'a Resource>
     ensures { option_copied result ≡ homes.resource_of rows.now id.now }
@@ -62,16 +46,6 @@ pub fn resource<'a>(rows: &'a [NodeRow], id: &Id) -> Option<&'a Resource>
     match home_place(rows, id) {
         None => None,
         Some(home) => find_in(rows[home].resources.as_slice(), id),
-    }
-}
-
-/// The id of the node in whose pool the resource of an id is.
-pub fn home_of<'a>(rows: &'a [NodeRow], id: &Id) -> Option<&'a Id>
-    ensures { option_copied result ≡ homes.home_of rows.now id.now }
-{
-    match home_place(rows, id) {
-        None => None,
-        Some(home) => Some(&rows[home].id),
     }
 }
 

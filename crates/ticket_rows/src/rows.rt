@@ -88,18 +88,6 @@ pub fn place_of(rows: &[NodeRow], id: &Id) -> Option<usize>
     rows.iter().position(|row| row.id == *id)
 }
 
-/// Where the row of a node stands, looked for from a place on and then in front of it.
-pub(crate) fn place_from(rows: &[NodeRow], id: &Id, from: usize) -> Option<usize>
-    requires { are_distinct (node_ids rows.now) ≡ true }
-    ensures { result ≡ position (λ r. bytes_eq r.id id.now) rows.now }
-{
-    let (front, behind) = rows.split_at(from.min(rows.len()));
-    match place_of(behind, id) {
-        Some(place) => Some(front.len() + place),
-        None => place_of(front, id),
-    }
-}
-
 /// Where the first row stands that is no deeper than `depth`.
 fn shallow_place(rows: &[NodeRow], depth: u32) -> Option<usize>
     ensures { result ≡ position (λ r. nat_le r.depth depth) rows.now }
@@ -125,33 +113,4 @@ pub(crate) fn run_end(rows: &[NodeRow], place: usize) -> usize
     ensures within { result ≤ length rows.now }
 {
     place + 1 + deeper_count(&rows[place + 1..], rows[place].depth)
-}
-
-/// Where the nodes below a node stand, itself among them: the first row, and the end.
-pub fn subtree(rows: &[NodeRow], id: &Id) -> Option<(usize, usize)>
-    requires { IsValid rows.now }
-    ensures found { IfSome result (λ b. BoundsNodesBelow rows.now id.now b.0 b.1) }
-    ensures known { is_some result ≡ has_node rows.now id.now }
-{
-    match place_of(rows, id) {
-        None => None,
-        Some(from) => {
-            let to = from + 1 + deeper_count(&rows[from + 1..], rows[from].depth);
-            Some((from, to))
-        }
-    }
-}
-
-/// Whether the node `lower` is `upper` or below it.
-pub fn is_below(rows: &[NodeRow], lower: &Id, upper: &Id) -> bool
-    requires { IsValid rows.now }
-    ensures { result ≡ tree.is_below (node_places rows.now) lower.now upper.now }
-{
-    match subtree(rows, upper) {
-        None => false,
-        Some((from, to)) => match place_of(rows, lower) {
-            None => false,
-            Some(place) => from <= place && place < to,
-        },
-    }
 }

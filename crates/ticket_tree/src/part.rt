@@ -111,14 +111,29 @@ impl Part {
             → result ≡ Err Refusal.ReservedStatus }
     {
         check_rows(alloc, rows.as_slice(), rw.as_slice(), ro.as_slice())?;
-        Ok(Part {
+        Ok(Part::known(job, spawn_id, ancestors, rows, rw, ro))
+    }
+
+    /// The same of nodes that are known to be valid with these copies.
+    pub fn known(
+        job: Name,
+        spawn_id: SpawnId,
+        ancestors: Ancestors,
+        rows: Vec<NodeRow>,
+        rw: Resources,
+        ro: Resources,
+    ) -> Part
+        requires { IsValid (with_copies rows.items rw ro) }
+        ensures { result ≡ part.copied job spawn_id ancestors rows.items rw ro }
+    {
+        Part {
             job,
             spawn_id,
             ancestors,
             rows,
             rw,
             ro,
-        })
+        }
     }
 
     /// The job's id.

@@ -1,9 +1,9 @@
 use std::alloc::{AllocError, Global};
 use std::marker::Model;
-use ticket_items::{Audit, Duplicate, Edit, Id, Name, NodeRow, Refusal, Resource, copies};
+use ticket_items::{Audit, Duplicate, Edit, Id, Name, NodeRow, Refusal, Resource};
 use ticket_rows::distinct::are_distinct;
 use ticket_rows::resolved::are_resolved;
-use ticket_rows::{LastPlace, Rows, edits, one_row, pools, rows};
+use ticket_rows::{IndexedRows, Rows, edits, one_row, rows};
 
 /// A job's ticket (JDF 1.5, 3.1): the job's id, and its nodes in preorder. Its rows are always a
 /// tree, no node's Status is `Spawned`, each id stands once among nodes and resources, no node is
@@ -11,8 +11,7 @@ use ticket_rows::{LastPlace, Rows, edits, one_row, pools, rows};
 #[derive(Drop)]
 pub struct Ticket {
     job: Name,
-    rows: Vec<NodeRow>,
-    last: LastPlace,
+    rows: IndexedRows,
 }
 
 impl Model for Ticket {
@@ -20,9 +19,9 @@ impl Model for Ticket {
 
     ghost Value = { Job };
 
-    ghost view = { λ a. record { job_id = a.job; rows = a.rows.items } };
+    ghost view = { λ a. record { job_id = a.job; rows = a.rows } };
 
-    ghost invariant = { λ a. IsValid a.rows.items };
+    ghost invariant = { λ a. IsValid a.rows };
 }
 
 impl Ticket {
@@ -66,11 +65,8 @@ impl Ticket {
         if !are_resolved(alloc, rows.as_slice())? {
             return Err(Refusal::UnresolvedLink);
         }
-        Ok(Ticket {
-            job,
-            rows,
-            last: LastPlace::front(),
-        })
+        let rows = IndexedRows::of(alloc, rows)?;
+        Ok(Ticket { job, rows })
     }
 
     /// The job's id.
@@ -93,21 +89,21 @@ impl Ticket {
         ensures found { option_copied result ≡ row_of self.now.rows id.now }
         ensures valid { IsValid self.now.rows }
     {
-        rows::node(self.rows.as_slice(), id)
+        self.rows.node(id)
     }
 
     /// The resource of an id.
     pub fn resource(&self, id: &Id) -> Option<&Resource>
         ensures { option_copied result ≡ resource_of self.now.rows id.now }
     {
-        pools::resource(self.rows.as_slice(), id)
+        self.rows.resource(id)
     }
 
     /// The node in whose pool the resource of an id is.
     pub fn home_of(&self, id: &Id) -> Option<&Id>
         ensures { option_copied result ≡ homes.home_of self.now.rows id.now }
     {
-        pools::home_of(self.rows.as_slice(), id)
+        self.rows.home_of(id)
     }
 
     /// Where the nodes below a node stand among the rows, itself the first of them: from where, and
@@ -116,14 +112,14 @@ impl Ticket {
         ensures found { IfSome result (λ b. BoundsNodesBelow self.now.rows id.now b.0 b.1) }
         ensures known { is_some result ≡ has_node self.now.rows id.now }
     {
-        rows::subtree(self.rows.as_slice(), id)
+        self.rows.subtree(id)
     }
 
     /// Whether `lower` is `upper` or stands below it; false where either is unknown.
     pub fn is_below(&self, lower: &Id, upper: &Id) -> bool
         ensures { result ≡ tree.is_below (node_places self.now.rows) lower.now upper.now }
     {
-        rows::is_below(self.rows.as_slice(), lower, upper)
+        self.rows.is_below(lower, upper)
     }
 
     /// Why `apply` would refuse an edit, memory aside: the first of these. `SetStatus`:
@@ -136,7 +132,7 @@ impl Ticket {
             (λ _. refusal_of edit.now self.now.rows ≡ None)
             (λ e. refusal_of edit.now self.now.rows ≡ Some e) }
     {
-        edits::check(self.rows.as_slice(), edit)
+        edits::check(&self.rows, edit)
     }
 
     /// Does an edit, at a time in seconds since 1970. Refuses what `check` says, which needs no
@@ -174,7 +170,7 @@ impl Ticket {
         requires { MayReplaceNode self.old.rows row }
         ensures { self.new ≡ record self.old { rows = replaced_node row self.old.rows } }
     {
-        one_row::replace_node(&mut self.rows, &mut self.last, row);
+        one_row::replace_node(&mut self.rows, row);
     }
 
     /// Puts a resource in the place of the one of its id, which has the same name and Class. Needs
@@ -183,7 +179,7 @@ impl Ticket {
         requires { MayReplaceResource self.old.rows resource }
         ensures { self.new ≡ record self.old { rows = replaced_resource resource self.old.rows } }
     {
-        one_row::replace_resource(&mut self.rows, &mut self.last, resource);
+        one_row::replace_resource(&mut self.rows, resource);
     }
 }
 
@@ -195,8 +191,7 @@ impl Clone for Ticket {
     fn clone(&self) -> Result<Ticket, AllocError> {
         Ok(Ticket {
             job: self.job.clone()?,
-            rows: copies(*self.rows.allocator(), self.rows.as_slice())?,
-            last: LastPlace::front(),
+            rows: self.rows.clone()?,
         })
     }
 }

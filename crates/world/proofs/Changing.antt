@@ -9,7 +9,7 @@ use Rattle.ticket_rows.specs.Place.{Place, place_at, places}
 use Rattle.spawn.proofs.Lawful.{claim_is_held, held_is_claimed, placed}
 use Rattle.spawn.specs.Claim.{is_claimed}
 use Rattle.spawn.specs.Records.{is_out}
-use Rattle.spawn.specs.Table.{holder_at, holding, holds}
+use Rattle.spawn.specs.Table.{holder_at, holding, holds, is_masters}
 use Rattle.spawn.specs.declared.records.spawn_rec.SpawnRec.{SpawnRec}
 use Rattle.spawn.specs.declared.tables.holder.Holder.{Holder}
 use Rattle.spawn.specs.declared.tables.holder.Holder.TheVariants.{Master, Spawn}
@@ -128,7 +128,7 @@ has_so w name s e x ok at held =
 
 -- ---- who may change
 
-masters : (o : Option Holder) → option_map_or master.is_masters o false ≡ true → o ≡ Some Master
+masters : (o : Option Holder) → option_map_or is_masters o false ≡ true → o ≡ Some Master
 masters None e = absurd (true≢false (sym e))
 masters (Some Master) e = refl
 masters (Some (Spawn s)) e = absurd (true≢false (sym e))
@@ -213,7 +213,7 @@ from_holds w name s x ok holds =
 pub holders_may_change : HoldersMayChange
 holders_may_change w by_master x ok =
     let o = master.holder w.controllers.master x in
-    (masters o, λ held. ap (λ h. option_map_or master.is_masters h false) held)
+    (masters o, λ held. ap (λ h. option_map_or is_masters h false) held)
 holders_may_change w (by_entry name s) x ok = (to_holds w name s x ok, from_holds w name s x ok)
 
 not_both : (o : Option Holder) (s : ℕ) → o ≡ Some Master → o ≡ Some (Spawn s) → ⊥

@@ -10,7 +10,7 @@ use Rattle.ticket_items.specs.declared.node_row.NodeRow.{NodeRow}
 use Rattle.ticket_items.specs.declared.resource.Resource.{Resource}
 use Rattle.ticket_items.specs.declared.spawn_status.SpawnStatus.TheVariants.{SpawnedRO, SpawnedRW}
 use Rattle.ticket_rows.specs.Place.{Place, Thing, fixed, fixed_at, nodes_in, places, resources_in}
-use Rattle.spawn.proofs.Checked.{any_mapped}
+use Rattle.spawn.proofs.Tests.{any_mapped}
 use Rattle.spawn.proofs.Chosen.{filter_as, filter_twice}
 use Rattle.spawn.specs.Claim.{ids_of, linked_ro}
 use Rattle.spawn.specs.Laws.{StandApart}

@@ -25,7 +25,7 @@ use Rattle.ticket_tree.proofs.PlainOneRow.{append_of_places, append_of_rows}
 use Rattle.ticket_tree.specs.PartView.{part_row}
 use Rattle.ticket_tree.specs.PlainEdit.{stands, touch}
 use Rattle.spawn.proofs.Among.{distinct_kept}
-use Rattle.spawn.proofs.Checked.{all_as}
+use Rattle.spawn.proofs.Tests.{all_as}
 use Rattle.spawn.proofs.Chosen.{AllOwn, all_own}
 use Rattle.spawn.proofs.GoodCopies.{reads_ids}
 use Rattle.spawn.proofs.Lawful.{claim_is_held, parent_is_masters, placed}

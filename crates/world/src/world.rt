@@ -64,12 +64,17 @@ impl World {
             return Err(Refusal::SameName);
         }
         let master = Master::new(alloc, name, workers, ticket)?;
-        let workers = new_workers(alloc, master.name(), master.workers())?;
-        Ok(World {
-            master,
-            workers,
-            messages: Vec::new(alloc),
-        })
+        match new_workers(alloc, master.name(), master.workers()) {
+            Ok(workers) => Ok(World {
+                master,
+                workers,
+                messages: Vec::new(alloc),
+            }),
+            Err(refusal) => {
+                drop(master);
+                Err(refusal)
+            }
+        }
     }
 
     /// The master. Its ticket, and what that shows of the spawns that are out, are those of the one

@@ -4,9 +4,9 @@ use Rattle.json_shapes.specs.Draft.{are_bare, resources_of}
 use Rattle.json_items.specs.DraftedResources.{drafted_marked}
 use Rattle.json_reader.specs.DraftedPart.{drafted_part}
 use Rattle.json_reader.specs.DraftedTicket.{drafted_ticket}
+use Rattle.controller_form.specs.Orders.SpawnNamed.{spawn_named}
 use Rattle.controller_form.specs.States.EntryForm.{RawEntry}
 use Rattle.controller_form.specs.States.MasterForm.{RawMaster}
-use Rattle.controller_form.specs.States.RecordForm.{number_named}
 use Rattle.controller_form.specs.States.WorkerForm.{RawWorker}
 use Rattle.controller_form.specs.declared.states.entry_draft.EntryDraft.{EntryDraft}
 use Rattle.controller_form.specs.declared.states.master_draft.MasterDraft.{MasterDraft}
@@ -19,7 +19,7 @@ abbrev pub drafted_record : RecordDraft → StoredRecord
 drafted_record d =
     record {
       spawn = record {
-        id = number_named d.spawn;
+        id = spawn_named d.spawn;
         node = d.node;
         worker = d.worker;
         at = d.at;

@@ -1,14 +1,14 @@
 -- The form of a spawn's record as it is stored. In a draft the ids and names may be any bytes, and
 -- the spawn's id any text.
 use Rattle.std.specs.Prelude.{ℕ, ◌&&◌, Bool, List, [], ◌∷◌, codes, if◌then◌else◌, Option}
-use Rattle.std.specs.Prelude.{Some, None, unwrap_or}
+use Rattle.std.specs.Prelude.{Some, None}
 use Rattle.std.specs.List.{list_all}
 use Rattle.std.specs.Option.{option_and_then}
 use Rattle.std.specs.Str.{bytes_eq}
 use Rattle.serde_json.specs.Data.{Data, no_members, member, number, unsigned, string, array, object}
 use Rattle.serde_json.specs.Find.{as_str, get}
 use Rattle.ticket_items.specs.Names.{is_name}
-use Rattle.ticket_items.specs.SpawnId.{is_spawn_number, spawn_of, spawn_text}
+use Rattle.ticket_items.specs.SpawnId.{is_spawn_number, spawn_text}
 use Rattle.spawn.specs.declared.records.phase.Phase.{Phase}
 use Rattle.spawn.specs.declared.records.phase.Phase.TheVariants.{Out, Merged}
 use Rattle.spawn.specs.declared.records.spawn_rec.SpawnRec.{SpawnRec}
@@ -18,13 +18,10 @@ use Rattle.json_items.specs.Resources.{all_showing, raw_data, resource_draft}
 use Rattle.json_items.specs.Resources.{resource_has_names, resource_has_texts}
 use Rattle.json_items.specs.Shown.{nothing_shown}
 use Rattle.json_source.specs.Read.{◌>>=◌, provided, has_only, number_under, text_under}
+use Rattle.controller_form.specs.Orders.SpawnNamed.{spawn_named}
 use Rattle.controller_form.specs.declared.states.record_draft.StoredRecord.{StoredRecord}
 
 -- ---- read, by members and their kinds alone
-
--- the number of the spawn that a text names, and 0, which is no spawn's, where it names none
-abbrev pub number_named : List ℕ → ℕ
-number_named text = unwrap_or (spawn_of text) 0
 
 abbrev pub phase_named : List ℕ → Option Phase
 phase_named word =
@@ -51,7 +48,7 @@ record_form d = do
   worker ← text_under (codes "Worker") d
   Some (record {
     spawn = record {
-      id = number_named spawn;
+      id = spawn_named spawn;
       node = node;
       worker = worker;
       at = at;
@@ -64,10 +61,14 @@ record_form d = do
 
 -- ---- ids, names and texts
 
--- whether its id is a spawn's, and all others and the names of its copies are valid
+-- whether its id is a spawn's, and all others but those of its copies to read are valid
+abbrev pub spawn_has_ids : SpawnRec → Bool
+spawn_has_ids r =
+    is_spawn_number r.id && is_name r.node && is_name r.worker && list_all is_name r.rw
+
+-- and the names of its copies are too
 unfoldable pub spawn_has_names : SpawnRec → Bool
-spawn_has_names r = is_spawn_number r.id && is_name r.node && is_name r.worker
-    && list_all is_name r.rw && list_all resource_has_names r.ro
+spawn_has_names r = spawn_has_ids r && list_all resource_has_names r.ro
 
 unfoldable pub spawn_has_texts : SpawnRec → Bool
 spawn_has_texts r = list_all resource_has_texts r.ro

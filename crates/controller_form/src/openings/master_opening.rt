@@ -2,7 +2,7 @@
 
 use crate::openings::opening::Opening;
 use crate::openings::shop_draft::ShopDraft;
-use json_items::{Checked, Draft, only};
+use json_items::{Checked, build_two, only};
 use master_core::Master;
 use serde_json::Value;
 use std::alloc::Global;
@@ -57,8 +57,7 @@ impl<'a> Checked for MasterOpening<'a> {
     /// what a resource shows of spawns.
     fn build_known(&self, alloc: Global) -> Result<Opening, Refusal> {
         let ticket = self.shop.ticket.build_known(alloc)?;
-        let name = self.shop.master.build(alloc)?;
-        let workers = self.shop.workers.build(alloc)?;
+        let (name, workers) = build_two(alloc, &self.shop.master, &self.shop.workers)?;
         Ok(Opening::Master(Master::new(alloc, name, workers, ticket)?))
     }
 }

@@ -1,5 +1,5 @@
 use crate::openings::shop::Shop;
-use json_items::{Borrowed, Checked, Draft, Drafts, under};
+use json_items::{Borrowed, Checked, Draft, Drafts, build_two, two};
 use json_profile::TicketDraft;
 use json_source::Source;
 use master_core::are_apart;
@@ -28,8 +28,7 @@ impl<'a> ShopDraft<'a> {
     pub fn of(alloc: Global, value: &'a Value) -> Result<ShopDraft<'a>, Refusal>
         ensures { Gives drafted_shop result (form.shop_draft (view value.now)) }
     {
-        let master = under(alloc, value, "Master")?;
-        let workers = under(alloc, value, "Workers")?;
+        let (master, workers) = two(alloc, value, "Master", "Workers")?;
         let ticket = ShopDraft::ticket(alloc, value)?;
         Ok(ShopDraft {
             master,
@@ -76,8 +75,7 @@ impl<'a> Checked for ShopDraft<'a> {
     /// what a resource shows of spawns.
     fn build_known(&self, alloc: Global) -> Result<Shop, Refusal> {
         let ticket = self.ticket.build_known(alloc)?;
-        let master = self.master.build(alloc)?;
-        let workers = self.workers.build(alloc)?;
+        let (master, workers) = build_two(alloc, &self.master, &self.workers)?;
         if !are_apart(alloc, &master, workers.as_slice())? {
             return Err(Refusal::SameName);
         }

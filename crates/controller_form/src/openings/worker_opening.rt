@@ -1,7 +1,7 @@
 //! What a worker is begun of.
 
 use crate::openings::opening::Opening;
-use json_items::{Borrowed, Checked, Draft, only, under};
+use json_items::{Borrowed, Checked, Draft, build_two, only, two};
 use serde_json::Value;
 use std::alloc::Global;
 use ticket_tree::{Id, Refusal};
@@ -26,8 +26,7 @@ impl<'a> WorkerOpening<'a> {
         ensures { Gives drafted_worker result (form.worker_draft (view value.now)) }
     {
         only(value, &["Master", "Worker"])?;
-        let master = under(alloc, value, "Master")?;
-        let name = under(alloc, value, "Worker")?;
+        let (master, name) = two(alloc, value, "Master", "Worker")?;
         Ok(WorkerOpening { name, master })
     }
 }
@@ -57,8 +56,7 @@ impl<'a> Checked for WorkerOpening<'a> {
 
     /// Refuses `SameName` where the two are equal; `Memory` may come before it.
     fn build_known(&self, alloc: Global) -> Result<Opening, Refusal> {
-        let name = self.name.build(alloc)?;
-        let master = self.master.build(alloc)?;
+        let (name, master) = build_two(alloc, &self.name, &self.master)?;
         Ok(Opening::Worker(Worker::new(alloc, name, master)?))
     }
 }

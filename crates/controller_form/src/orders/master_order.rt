@@ -8,8 +8,9 @@ ghost use Rattle.controller_form.specs.Orders.DraftedMasterOrder.{drafted_master
 ghost use Rattle.controller_form.specs.Orders.MasterForm as forms;
 
 use crate::orders::spawn_named::names_spawn;
-use json_items::{AnyText, Borrowed, Checked, Draft, Drafts, EditDraft, text_under, under};
-use json_source::Source;
+use json_items::{
+    AnyText, Borrowed, Checked, Draft, Drafts, EditDraft, build_two, only, text_under, two, under,
+};
 use master_core::Order;
 use serde_json::Value;
 use std::alloc::Global;
@@ -37,9 +38,7 @@ pub enum MasterOrderDraft<'a> {
 fn edit<'a>(alloc: Global, value: &'a Value) -> Result<MasterOrderDraft<'a>, Refusal>
     ensures { Gives drafted_master_order result (forms.edit_form (view value.now)) }
 {
-    if !value.has_only(&["Edit", "Order"]) {
-        return Err(Refusal::NotProfile);
-    }
+    only(value, &["Edit", "Order"])?;
     let edit = under(alloc, value, "Edit")?;
     Ok(MasterOrderDraft::Edit(edit))
 }
@@ -49,11 +48,8 @@ fn edit<'a>(alloc: Global, value: &'a Value) -> Result<MasterOrderDraft<'a>, Ref
 fn spawn<'a>(alloc: Global, value: &'a Value) -> Result<MasterOrderDraft<'a>, Refusal>
     ensures { Gives drafted_master_order result (forms.spawn_form (view value.now)) }
 {
-    if !value.has_only(&["Node", "Order", "RW", "Worker"]) {
-        return Err(Refusal::NotProfile);
-    }
-    let node = under(alloc, value, "Node")?;
-    let rw = under(alloc, value, "RW")?;
+    only(value, &["Node", "Order", "RW", "Worker"])?;
+    let (node, rw) = two(alloc, value, "Node", "RW")?;
     let worker = under(alloc, value, "Worker")?;
     Ok(MasterOrderDraft::Spawn { node, worker, rw })
 }
@@ -63,9 +59,7 @@ fn spawn<'a>(alloc: Global, value: &'a Value) -> Result<MasterOrderDraft<'a>, Re
 fn resend<'a>(alloc: Global, value: &'a Value) -> Result<MasterOrderDraft<'a>, Refusal>
     ensures { Gives drafted_master_order result (forms.resend_form (view value.now)) }
 {
-    if !value.has_only(&["Order", "SpawnID"]) {
-        return Err(Refusal::NotProfile);
-    }
+    only(value, &["Order", "SpawnID"])?;
     let spawn = under(alloc, value, "SpawnID")?;
     Ok(MasterOrderDraft::Resend(spawn))
 }
@@ -159,11 +153,9 @@ fn build_spawn(
     ensures ok { IfOk result (λ order. order ≡ Order.Spawn node.now worker.now rw.now) }
     ensures memory { IfErr result (λ e. e ≡ Refusal.Memory) }
 {
-    Ok(Order::Spawn {
-        node: node.build(alloc)?,
-        worker: worker.build(alloc)?,
-        rw: rw.build(alloc)?,
-    })
+    let (node, worker) = build_two(alloc, node, worker)?;
+    let rw = rw.build(alloc)?;
+    Ok(Order::Spawn { node, worker, rw })
 }
 
 /// The master's order that a value is: to edit its ticket, to send a node to a worker with copies

@@ -8,8 +8,7 @@ ghost use Rattle.controller_form.specs.Orders.DraftedWorkerOrder.{drafted_worker
 ghost use Rattle.controller_form.specs.Orders.WorkerForm as forms;
 
 use crate::orders::spawn_named::names_spawn;
-use json_items::{AnyText, Borrowed, Checked, Draft, EditDraft, text_under, under};
-use json_source::Source;
+use json_items::{AnyText, Borrowed, Checked, Draft, EditDraft, only, text_under, two, under};
 use serde_json::Value;
 use std::alloc::Global;
 use ticket_tree::{Refusal, SpawnId};
@@ -54,11 +53,8 @@ fn end_named(word: &str) -> Option<End>
 fn edit<'a>(alloc: Global, value: &'a Value) -> Result<WorkerOrderDraft<'a>, Refusal>
     ensures { Gives drafted_worker_order result (forms.edit_form (view value.now)) }
 {
-    if !value.has_only(&["Edit", "Order", "SpawnID"]) {
-        return Err(Refusal::NotProfile);
-    }
-    let edit = under(alloc, value, "Edit")?;
-    let spawn = under(alloc, value, "SpawnID")?;
+    only(value, &["Edit", "Order", "SpawnID"])?;
+    let (edit, spawn) = two(alloc, value, "Edit", "SpawnID")?;
     Ok(WorkerOrderDraft::Edit { spawn, edit })
 }
 
@@ -67,9 +63,7 @@ fn edit<'a>(alloc: Global, value: &'a Value) -> Result<WorkerOrderDraft<'a>, Ref
 fn finish<'a>(alloc: Global, value: &'a Value) -> Result<WorkerOrderDraft<'a>, Refusal>
     ensures { Gives drafted_worker_order result (forms.finish_form (view value.now)) }
 {
-    if !value.has_only(&["Order", "SpawnID", "Status"]) {
-        return Err(Refusal::NotProfile);
-    }
+    only(value, &["Order", "SpawnID", "Status"])?;
     let spawn = under(alloc, value, "SpawnID")?;
     let word = text_under(value, "Status").ok_or(Refusal::NotProfile)?;
     let end = end_named(word).ok_or(Refusal::NotProfile)?;
@@ -81,9 +75,7 @@ fn finish<'a>(alloc: Global, value: &'a Value) -> Result<WorkerOrderDraft<'a>, R
 fn resend<'a>(alloc: Global, value: &'a Value) -> Result<WorkerOrderDraft<'a>, Refusal>
     ensures { Gives drafted_worker_order result (forms.resend_form (view value.now)) }
 {
-    if !value.has_only(&["Order", "SpawnID"]) {
-        return Err(Refusal::NotProfile);
-    }
+    only(value, &["Order", "SpawnID"])?;
     let spawn = under(alloc, value, "SpawnID")?;
     Ok(WorkerOrderDraft::Resend { spawn })
 }

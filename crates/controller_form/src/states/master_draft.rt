@@ -6,8 +6,8 @@ ghost use Rattle.controller_form.specs.States.Drafted.{drafted_record};
 ghost use Rattle.controller_form.specs.States.MasterForm as form;
 ghost use Rattle.controller_form.specs.States.RecordForm.{record_has_names, record_has_texts};
 
-use crate::states::record_draft::RecordDraft;
-use json_items::{Borrowed, Checked, Draft, Drafts, only, under};
+use crate::states::record_draft::{RecordDraft, StoredRecord};
+use json_items::{Borrowed, Checked, Draft, Drafts, build_two, only, two, under};
 use json_profile::TicketDraft;
 use json_source::Source;
 use master_core::Master;
@@ -42,7 +42,8 @@ fn build_spawns(alloc: Global, records: &[RecordDraft<'_>]) -> Result<Vec<SpawnR
 {
     let mut spawns = Vec::with_capacity(alloc, records.len())?;
     for record in records {
-        spawns.push(record.build_spawn(alloc)?)?;
+        let StoredRecord { spawn, .. } = record.build(alloc)?;
+        spawns.push(spawn)?;
     }
     Ok(spawns)
 }
@@ -64,8 +65,7 @@ impl<'a> MasterDraft<'a> {
         ensures { Gives drafted_master result (form.master_draft (view value.now)) }
     {
         only(value, &["Name", "Spawns", "Ticket", "Workers"])?;
-        let name = under(alloc, value, "Name")?;
-        let records = under(alloc, value, "Spawns")?;
+        let (name, records) = two(alloc, value, "Name", "Spawns")?;
         let ticket = MasterDraft::ticket(alloc, value)?;
         let workers = under(alloc, value, "Workers")?;
         Ok(MasterDraft {
@@ -123,8 +123,7 @@ impl<'a> Checked for MasterDraft<'a> {
         }
         let ticket = self.ticket.build_known(alloc)?;
         let spawns = build_spawns(alloc, self.records.as_slice())?;
-        let name = self.name.build(alloc)?;
-        let workers = self.workers.build(alloc)?;
+        let (name, workers) = build_two(alloc, &self.name, &self.workers)?;
         Master::of_parts(alloc, name, workers, ticket, spawns)
     }
 }

@@ -1,14 +1,17 @@
 //! The records of a master's spawns, as they are read.
 
-ghost use Rattle.std.specs.Prelude.{◌≡◌, true, IfErr, IfOk};
-ghost use Rattle.ticket_items.specs.SpawnId.{is_spawn_number};
+ghost use Rattle.std.specs.Prelude.{◌≡◌};
 ghost use Rattle.json_source.specs.Read.{Gives};
 ghost use Rattle.controller_form.specs.States.Drafted.{drafted_record};
 ghost use Rattle.controller_form.specs.States.RecordForm as form;
 
+use crate::orders::spawn_named::names_spawn;
 use crate::states::phase_word::phase_named;
-use json_items::{AnyText, Borrowed, Draft, Drafts, Form, MarkedDraft, only, text_under, under};
-use json_reader::{build_resources, show_nothing};
+use json_items::{
+    AnyText, Borrowed, Draft, Drafts, Form, MarkedDraft, Read, build_two, only, text_under, two,
+    under,
+};
+use json_reader::{build_resources, resources_have_names, resources_have_texts, show_nothing};
 use json_source::Source;
 use spawn::{Phase, SpawnRec};
 use std::alloc::Global;
@@ -46,40 +49,24 @@ fn phase_under<S: Source>(value: &S) -> Result<Phase, Refusal>
     phase_named(word).ok_or(Refusal::NotProfile)
 }
 
-/// Whether a text names a spawn.
-fn names_spawn(text: &str) -> bool
-    ensures { result ≡ is_spawn_number (form.number_named text.now) }
-{
-    SpawnId::parse(text).is_ok()
-}
-
 impl<'a> RecordDraft<'a> {
+    /// Whether its id is a spawn's, and all other ids but those of its copies to read are valid.
+    #[tactic(auto, using(json_items::proofs::Tests::all_mapped))]
+    fn has_ids(&self) -> bool
+        ensures { result ≡ form.spawn_has_ids (drafted_record self.now).spawn }
+    {
+        names_spawn(self.spawn.as_str())
+            && self.node.has_names()
+            && self.worker.has_names()
+            && self.rw.has_names()
+    }
+
     /// Whether its copies to read show nothing of spawns.
     #[tactic(auto, using(json_items::proofs::Tests::all_mapped))]
     pub fn is_bare(&self) -> bool
         ensures { result ≡ (drafted_record self.now).bare }
     {
         show_nothing(self.ro.as_slice())
-    }
-
-    /// The record of a draft whose names and texts are valid. Refuses `Memory` alone.
-    #[tactic(auto, unfolding(crate::specs::States::RecordForm::spawn_has_names, crate::specs::States::RecordForm::spawn_has_texts))]
-    pub fn build_spawn(&self, alloc: Global) -> Result<SpawnRec, Refusal>
-        requires names { form.record_has_names (drafted_record self.now) ≡ true }
-        requires texts { form.record_has_texts (drafted_record self.now) ≡ true }
-        ensures ok { IfOk result (λ spawn. spawn ≡ (drafted_record self.now).spawn) }
-        ensures memory { IfErr result (λ e. e ≡ Refusal.Memory) }
-    {
-        let ro = build_resources(alloc, self.ro.as_slice())?;
-        Ok(SpawnRec {
-            id: SpawnId::parse(self.spawn.as_str())?,
-            node: self.node.build(alloc)?,
-            worker: self.worker.build(alloc)?,
-            at: self.at,
-            rw: self.rw.build(alloc)?,
-            ro,
-            phase: self.phase,
-        })
     }
 }
 
@@ -91,7 +78,7 @@ impl Form for StoredRecord {
     ghost has_texts = { form.record_has_texts };
 }
 
-impl<'a> Draft<'a> for RecordDraft<'a> {
+impl<'a> Read<'a> for RecordDraft<'a> {
     type Whole = StoredRecord;
 
     ghost drafted = { drafted_record };
@@ -99,12 +86,10 @@ impl<'a> Draft<'a> for RecordDraft<'a> {
     #[tactic(auto, unfolding(crate::specs::States::RecordForm::record_form))]
     fn of<S: Source>(alloc: Global, value: &'a S) -> Result<RecordDraft<'a>, Refusal> {
         only(value, RECORD_MEMBERS)?;
-        let at = under(alloc, value, "At")?;
-        let spawn = under(alloc, value, "ID")?;
+        let (at, spawn) = two(alloc, value, "At", "ID")?;
         let node = under(alloc, value, "Node")?;
         let phase = phase_under(value)?;
-        let ro = under(alloc, value, "RO")?;
-        let rw = under(alloc, value, "RW")?;
+        let (ro, rw) = two(alloc, value, "RO", "RW")?;
         let worker = under(alloc, value, "Worker")?;
         Ok(RecordDraft {
             spawn,
@@ -116,24 +101,35 @@ impl<'a> Draft<'a> for RecordDraft<'a> {
             phase,
         })
     }
+}
 
-    #[tactic(auto, unfolding(crate::specs::States::RecordForm::spawn_has_names), using(json_items::proofs::Tests::all_mapped))]
+impl<'a> Draft<'a> for RecordDraft<'a> {
+    #[tactic(auto, unfolding(crate::specs::States::RecordForm::spawn_has_names), using(crate::proofs::Copies::all_drafted))]
     fn has_names(&self) -> bool {
-        names_spawn(self.spawn.as_str())
-            && self.node.has_names()
-            && self.worker.has_names()
-            && self.rw.has_names()
-            && self.ro.has_names()
+        self.has_ids() && resources_have_names(self.ro.as_slice())
     }
 
-    #[tactic(auto, unfolding(crate::specs::States::RecordForm::spawn_has_texts), using(json_items::proofs::Tests::all_mapped))]
+    #[tactic(auto, unfolding(crate::specs::States::RecordForm::spawn_has_texts), using(crate::proofs::Copies::all_drafted))]
     fn has_texts(&self) -> bool {
-        self.ro.has_texts()
+        resources_have_texts(self.ro.as_slice())
     }
 
+    #[tactic(auto, unfolding(crate::specs::States::RecordForm::spawn_has_names, crate::specs::States::RecordForm::spawn_has_texts))]
     fn build(&self, alloc: Global) -> Result<StoredRecord, Refusal> {
+        let id = SpawnId::parse(self.spawn.as_str())?;
+        let (node, worker) = build_two(alloc, &self.node, &self.worker)?;
+        let rw = self.rw.build(alloc)?;
+        let ro = build_resources(alloc, self.ro.as_slice())?;
         Ok(StoredRecord {
-            spawn: self.build_spawn(alloc)?,
+            spawn: SpawnRec {
+                id,
+                node,
+                worker,
+                at: self.at,
+                rw,
+                ro,
+                phase: self.phase,
+            },
             bare: self.is_bare(),
         })
     }

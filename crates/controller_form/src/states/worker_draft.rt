@@ -2,7 +2,7 @@
 
 use crate::states::entry_draft::EntryDraft;
 use crate::states::entry_drafts::{build_entries, entry_drafts, have_names, have_texts};
-use json_items::{Borrowed, Checked, Draft, Drafts, only, under};
+use json_items::{Borrowed, Checked, Draft, Drafts, build_two, only, two};
 use serde_json::Value;
 use std::alloc::Global;
 use ticket_tree::{Id, Refusal};
@@ -34,8 +34,7 @@ impl<'a> WorkerDraft<'a> {
     {
         only(value, &["Entries", "Master", "Name"])?;
         let entries = WorkerDraft::entries(alloc, value)?;
-        let master = under(alloc, value, "Master")?;
-        let name = under(alloc, value, "Name")?;
+        let (master, name) = two(alloc, value, "Master", "Name")?;
         Ok(WorkerDraft {
             name,
             master,
@@ -83,8 +82,7 @@ impl<'a> Checked for WorkerDraft<'a> {
     /// `BadState` that stands in the draft; `Memory` may come before any.
     fn build_known(&self, alloc: Global) -> Result<Worker, Refusal> {
         let entries = build_entries(alloc, self.entries.as_slice())?;
-        let name = self.name.build(alloc)?;
-        let master = self.master.build(alloc)?;
+        let (name, master) = build_two(alloc, &self.name, &self.master)?;
         Worker::of_parts(alloc, name, master, entries)
     }
 }

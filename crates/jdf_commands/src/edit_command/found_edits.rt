@@ -11,7 +11,7 @@ ghost use Rattle.serde_json.specs.View.{items_of};
 ghost use Rattle.json_source.specs.Tree.{tree_data};
 ghost use Rattle.jdf_commands.specs.EditCommand.Found.{AddsEdits};
 
-use json_items::Draft;
+use json_items::{Draft, Read};
 use json_profile::{Checks, EditDraft};
 use json_source::{Source, Tree};
 use std::alloc::Global;

@@ -28,8 +28,8 @@ fn locked<R: Locks>(rt: &R, file: &str) -> Result<FileLock<R>, Fault>
     }
 }
 
-/// What a call writes.
-fn call_output<R: Locks, I: Read>(
+/// What a call writes. It refuses, and holds the file's lock, as `run_file` says.
+pub fn call_output<R: Locks, I: Read>(
     rt: &R,
     alloc: Global,
     call: Call<'_>,
@@ -60,7 +60,7 @@ fn call_output<R: Locks, I: Read>(
             let _lock = locked(rt, file)?;
             show_output(alloc, FileKeep::new(rt, alloc, file))
         }
-        Call::Loop | Call::Serve { .. } | Call::Send { .. } => {
+        Call::Loop | Call::SendOrder { .. } | Call::Serve { .. } | Call::Send { .. } => {
             Err(Fault::Device(Refused::NoConnection))
         }
     }

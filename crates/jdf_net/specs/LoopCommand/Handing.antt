@@ -1,6 +1,9 @@
 -- What comes of a message that is handed over.
 use Rattle.std.specs.Prelude.{◌≡◌, ◌⊎◌, ℕ, Bool, false, true, List, Option, None, Some, is_some}
+use Rattle.std.specs.Prelude.{Result, Ok}
+use Rattle.serde_json.specs.Data.{Data}
 use Rattle.controller.specs.declared.message.Message.{Message}
+use Rattle.json_profile.specs.ReadAs.{IsReadAs}
 use Rattle.http_edge.specs.Exchange.{refusal_in}
 use Rattle.stored_state.specs.Held.{Held}
 use Rattle.stored_state.specs.Step.{IsSaved, TextStep}
@@ -27,11 +30,13 @@ abbrev pub told_ends_run : Option Refused → Bool
 told_ends_run None = false
 told_ends_run (Some e) = ends_run e
 
--- the receiver made one step, by some message, which is saved; or none, which is refused, and then
--- it stands as it stood
-abbrev pub Takes : {C K : Type 0} → (K → Bool) → (K → List ℕ) → (C → List ℕ) → (Message → TextStep C)
-    → Held C K → Held C K → Option Refused → Type 0
-Takes is_honest held state_text does old new refusal =
+-- the receiver made one step, by some message, which is saved and is read again as it was; or none,
+-- which is refused, and then it stands as it stood
+abbrev pub Takes : {C K : Type 0} → (K → Bool) → (K → List ℕ) → (C → List ℕ)
+    → (Data → Result C Refusal) → (Message → TextStep C) → Held C K → Held C K → Option Refused
+    → Type 0
+Takes is_honest held state_text state_read does old new refusal =
     ((m : Message) × IsSaved is_honest held state_text (does m) new
+    × (is_honest new.keep ≡ true → IsReadAs state_read (held new.keep) (Ok new.controller))
     × (refusal ≡ refusal_in (does m).reply))
     ⊎ ((new ≡ old) × (is_some refusal ≡ true))

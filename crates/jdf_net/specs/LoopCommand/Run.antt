@@ -1,5 +1,5 @@
 -- What `loop` writes for a script, and why it gives up.
-use Rattle.std.specs.Prelude.{◌≡◌, ◌⊎◌, ℕ, Bool, List, ◌++◌, length, Ok}
+use Rattle.std.specs.Prelude.{◌≡◌, ◌⊎◌, ℕ, Bool, List, ◌++◌, Ok}
 use Rattle.jdf_commands.specs.FileCommands.Shown.{master_text}
 use Rattle.master_core.specs.Master as master
 use Rattle.streams.specs.Ends.{EndsWith, IsFaultOf}
@@ -10,6 +10,8 @@ use Rattle.streams.specs.declared.refused.Refused.{Refused}
 use Rattle.world_script.specs.Script.{IsReadAsRunning, IsRefusalOfRunning}
 use Rattle.world_script.specs.declared.script.Script.{Script}
 use Rattle.jdf_net.specs.LoopCommand.EventLine.{has_too_large, lines}
+use Rattle.jdf_net.specs.LoopCommand.Shop.{State, StepsAll, opening}
+use Rattle.world_items.specs.declared.event.Event.{Event}
 use Rattle.jdf_net.specs.declared.loop_command.event_line.EventLine.{EventLine}
 
 -- what is written of a run: its lines, and the text of the ticket that the master shows
@@ -18,12 +20,18 @@ pub record IsWritten (told : List EventLine) (shown : master.Known) (text : List
   pub written : text ≡ lines told ++ master_text shown
   pub status : refused ≡ has_too_large told
 
--- what is written for a script: a line for each event, and what its master shows at the end
-pub record IsRunOf (script : Script) (text : List ℕ) (refused : Bool) : Type 0 where
+-- what is written once events have happened in a shop in turn: a line for each, and what its master
+-- shows then
+pub record IsRunFrom (opening : State) (events : List Event) (text : List ℕ) (refused : Bool)
+    : Type 0 where
   pub told : List EventLine
-  pub each : length told ≡ length script.events
-  pub shown : master.Known
-  pub written : IsWritten told shown text refused
+  pub closing : State
+  pub steps : StepsAll events opening closing told
+  pub written : IsWritten told closing.master.controller text refused
+
+-- what is written for a script, whose events happen in its shop from the beginning on
+abbrev pub IsRunOf : Script → List ℕ → Bool → Type 0
+IsRunOf script = IsRunFrom (opening script.master script.workers script.ticket) script.events
 
 -- the input is read as this script, in which no controller stops
 pub record IsScript (input : Use) (script : Script) : Type 0 where

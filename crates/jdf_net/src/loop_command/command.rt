@@ -1,7 +1,8 @@
 //! The command `loop`.
 
-ghost use Rattle.std.specs.Prelude.{◌≡◌, length, IfErr, IfOk};
+ghost use Rattle.std.specs.Prelude.{IfErr, IfOk};
 ghost use Rattle.jdf_net.specs.LoopCommand.Run as run;
+ghost use Rattle.jdf_net.specs.LoopCommand.Shop.{StepsAll};
 ghost use Rattle.streams.specs.Ends.{IsFaultOf};
 ghost use Rattle.streams.specs.Streams.{used};
 ghost use Rattle.world_script.specs.Script.{IsRefusalOfRunning};
@@ -26,7 +27,7 @@ fn run_events<N: Net>(
     shop: &mut Shop,
     events: Vec<Event>,
 ) -> Result<Vec<EventLine>, Refused>
-    ensures each { IfOk result (λ told. length told.items ≡ length events.items) }
+    ensures { IfOk result (λ told. StepsAll events.items shop.old shop.new told.items) }
 {
     let mut lines = Vec::with_capacity(alloc, events.len())?;
     for event in events {
@@ -35,8 +36,26 @@ fn run_events<N: Net>(
     Ok(lines)
 }
 
-/// What is written for a script. Refuses what the run ends with.
-fn run_script<N: Net>(rt: &N, alloc: Global, script: Script) -> Result<Output, Refused>
+/// What is written of a shop in which these events happen. Refuses what the run ends with.
+fn written_after<N: Net>(
+    loopback: &Loopback<'_, N>,
+    alloc: Global,
+    shop: &mut Shop,
+    events: Vec<Event>,
+) -> Result<Output, Refused>
+    ensures { IfOk result (λ output. run.IsRunFrom shop.old events.items output.text.items
+        output.refused) }
+{
+    let lines = run_events(loopback, alloc, shop, events)?;
+    Ok(written_of(alloc, lines.as_slice(), shop.master())?)
+}
+
+/// What is written for a script whose messages are handed over so. Refuses what the run ends with.
+fn run_over<N: Net>(
+    loopback: &Loopback<'_, N>,
+    alloc: Global,
+    script: Script,
+) -> Result<Output, Refused>
     ensures { IfOk result (λ output. run.IsRunOf script output.text.items output.refused) }
 {
     let Script {
@@ -45,10 +64,30 @@ fn run_script<N: Net>(rt: &N, alloc: Global, script: Script) -> Result<Output, R
         ticket,
         events,
     } = script;
-    let loopback = Loopback::open(rt)?;
-    let mut shop = Shop::new(alloc, master, workers, ticket)?;
-    let lines = run_events(&loopback, alloc, &mut shop, events.into_vec())?;
-    Ok(written_of(alloc, lines.as_slice(), shop.master())?)
+    match Shop::new(alloc, master, workers, ticket) {
+        Ok(mut shop) => {
+            let written = written_after(loopback, alloc, &mut shop, events.into_vec());
+            drop(shop);
+            written
+        }
+        Err(refused) => {
+            drop(events);
+            Err(refused)
+        }
+    }
+}
+
+/// What is written for a script. Refuses what the run ends with.
+fn run_script<N: Net>(rt: &N, alloc: Global, script: Script) -> Result<Output, Refused>
+    ensures { IfOk result (λ output. run.IsRunOf script output.text.items output.refused) }
+{
+    match Loopback::open(rt) {
+        Ok(loopback) => run_over(&loopback, alloc, script),
+        Err(refused) => {
+            drop(script);
+            Err(refused)
+        }
+    }
 }
 
 /// The script that is read. Refuses as `Input` what it is refused for, `TooLarge` more bytes than

@@ -57,7 +57,7 @@ fn serve<S: Read + Write + OpenStream + Drop, C: Stored, K: Keep>(
     at: u64,
 ) -> Result<Option<Refused>, Refused>
     ensures { IfOk result (λ refusal. handing.Takes K.is_honest K.held
-        (λ c. compact_text (C.state_data c))
+        (λ c. compact_text (C.state_data c)) C.state_read
         (λ m. in_text (C.take_step m at kept.old.controller))
         kept.old kept.new refusal) }
 {
@@ -101,7 +101,7 @@ pub fn hand_over<N: Net, C: Stored, K: Keep>(
     at: u64,
 ) -> Result<Delivery, Refused>
     ensures { IfOk result (λ delivery. handing.Takes K.is_honest K.held
-        (λ c. compact_text (C.state_data c))
+        (λ c. compact_text (C.state_data c)) C.state_read
         (λ m. in_text (C.take_step m at kept.old.controller))
         kept.old kept.new delivery.refusal) }
 {

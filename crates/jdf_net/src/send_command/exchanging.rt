@@ -3,14 +3,20 @@
 ghost use Rattle.jdf_net.specs.SendCommand.{FitsHead};
 
 use crate::send_command::destination::connect;
+use crate::until::Until;
 use http_message::{MAX_BODY_BYTES, Received, receive, send_to};
 use std::alloc::Global;
 use std::fs;
 use std::io::Read;
 use std::net::Net;
 use std::rt::Files;
+use std::time::{Clock, Duration};
 use streams::{Counted, Fault, Refused, read_input};
 use url::Url;
+
+/// How many seconds an exchange may take: as long as a response to the longest body may need, and
+/// no longer than an operator waits.
+const EXCHANGE_SECONDS: u64 = 30;
 
 /// The message that a file holds, or that is what a reader has where no file is named. Gives up as
 /// `Device` with `ReadFailed`, also for a file that isn't there; as `Input` with `TooLarge`, which
@@ -34,9 +40,10 @@ pub(crate) fn read_message<R: Files, I: Read>(
     Ok(message)
 }
 
-/// Posts a message to a URL, and reads the response. Refuses `NoConnection`; `WriteFailed`; and
-/// what `receive` refuses the response for.
-pub(crate) fn post<R: Net>(
+/// Posts a message to a URL, and reads the response, for `EXCHANGE_SECONDS` at most. Refuses
+/// `NoConnection`, also where the clock can't be read; `WriteFailed`; and what `receive` refuses the
+/// response for.
+pub(crate) fn post<R: Net + Clock>(
     rt: &R,
     alloc: Global,
     url: &Url,
@@ -44,10 +51,13 @@ pub(crate) fn post<R: Net>(
 ) -> Result<Received, Refused>
     requires { FitsHead url.now }
 {
-    let mut stream = match connect(rt, url) {
-        Ok(stream) => Counted::new(stream),
-        Err(_) => return Err(Refused::NoConnection),
+    let Ok(stream) = connect(rt, url) else {
+        return Err(Refused::NoConnection);
     };
+    let Ok(stream) = Until::new(rt, stream, Duration::from_secs(EXCHANGE_SECONDS)) else {
+        return Err(Refused::NoConnection);
+    };
+    let mut stream = Counted::new(stream);
     send_to(&mut stream, url.authority(), url.path(), message)?;
     receive(alloc, &mut stream)
 }

@@ -14,10 +14,11 @@ use std::alloc::{AllocError, Global};
 use std::io::{Read, Write};
 use std::net::Net;
 use std::rt::Files;
+use std::time::Clock;
 use streams::{Counted, Fault, Output, finish};
 
 /// The status of a response to a message that was taken.
-const DONE: u16 = 200;
+pub(crate) const DONE: u16 = 200;
 
 /// What came of a message.
 #[derive(Drop)]
@@ -36,7 +37,7 @@ fn answer_of(alloc: Global, received: &Received) -> Result<Vec<u8>, AllocError> 
 }
 
 /// Sends a message, and gives what came of it.
-fn sent<R: Files + Net, I: Read>(
+fn sent<R: Files + Net + Clock, I: Read>(
     rt: &R,
     alloc: Global,
     url: &str,
@@ -72,7 +73,7 @@ fn answer_output(mut answer: Vec<u8>) -> Result<Output, Fault>
 }
 
 /// Tells that a text is no URL that a message can be sent to. Answers the exit status.
-fn tell_no_url<F: Write>(url: &str, faults: &mut Counted<F>) -> u8
+pub(crate) fn tell_no_url<F: Write>(url: &str, faults: &mut Counted<F>) -> u8
     ensures { result ≡ 2 }
 {
     let _ = writeln!(
@@ -83,7 +84,7 @@ fn tell_no_url<F: Write>(url: &str, faults: &mut Counted<F>) -> u8
 }
 
 /// Tells the status that a message was refused with. Answers the exit status.
-fn tell_status<F: Write>(status: u16, faults: &mut Counted<F>) -> u8
+pub(crate) fn tell_status<F: Write>(status: u16, faults: &mut Counted<F>) -> u8
     ensures { result ≡ 1 }
 {
     let _ = writeln!(faults, "Refused by the controller: {status}");
@@ -98,7 +99,7 @@ fn tell_status<F: Write>(status: u16, faults: &mut Counted<F>) -> u8
 /// tells why and answers the status of the fault: 1 where memory ran out, 3 where the message has
 /// more bytes than `MAX_BODY_BYTES`, and it isn't sent; 4 where a file, a stream or the connection
 /// failed or the response isn't one, and then the message may have been taken.
-pub fn run_send<R: Files + Net, I: Read, W: Write, F: Write>(
+pub fn run_send<R: Files + Net + Clock, I: Read, W: Write, F: Write>(
     rt: &R,
     alloc: Global,
     url: &str,

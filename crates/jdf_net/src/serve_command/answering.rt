@@ -1,7 +1,7 @@
 //! One request and its response.
 
 ghost use Rattle.std.specs.Prelude.{IfOk};
-ghost use Rattle.jdf_net.specs.ServeCommand.{Answers};
+ghost use Rattle.jdf_net.specs.ServeCommand.{Answers, IsDoneByStep};
 
 use crate::serve_command::stepping::take_in_file;
 use http_edge::{EdgeFault, Served, read_request, respond};
@@ -25,14 +25,17 @@ pub(crate) fn serve_request<R: Locks + Clock, T: Read + Write>(
     file: &str,
     stream: &mut Counted<T>,
 ) -> Result<Served, EdgeFault>
-    ensures { IfOk result Answers }
+    ensures told { IfOk result (Answers (T.remaining stream.old.inner) file.now) }
+    ensures done { IfOk result (IsDoneByStep (T.remaining stream.old.inner) file.now) }
 {
-    let came = match read_request(alloc, stream) {
-        Ok(body) => take_in_file(rt, alloc, file, body.as_slice()),
-        Err(Refused::ReadFailed) => return Err(EdgeFault::ReadFailed),
-        Err(refused) => Err(refused),
-    };
-    respond(stream, &came)
+    match read_request(alloc, stream) {
+        Ok(body) => {
+            let came = take_in_file(rt, alloc, file, body.as_slice());
+            respond(stream, &came)
+        }
+        Err(Refused::ReadFailed) => Err(EdgeFault::ReadFailed),
+        Err(refused) => respond(stream, &Err(refused)),
+    }
 }
 
 /// Whether a request was refused before its body was read.

@@ -3,7 +3,7 @@
 use crate::serve_command::answering::{drain, is_early, serve_request};
 use crate::serve_command::log::log;
 use crate::serve_command::stepping::now;
-use crate::serve_command::until::Until;
+use crate::until::Until;
 use http_edge::{EdgeFault, Served};
 use keepers::Locks;
 use std::alloc::Global;

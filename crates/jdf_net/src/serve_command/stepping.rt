@@ -1,9 +1,11 @@
 //! The step of a message, under the lock of the file.
 
-ghost use Rattle.std.specs.Prelude.{IfOk};
+ghost use Rattle.std.specs.Prelude.{◌≡◌, IfOk};
 ghost use Rattle.serde_json.specs.Written.{compact_text};
-ghost use Rattle.stored_state.specs.Step.{in_text};
-ghost use Rattle.jdf_net.specs.ServeCommand.{IsSavedAs};
+ghost use Rattle.stored_state.specs.Step.{IsTaken, in_text};
+ghost use Rattle.jdf_commands.specs.FileCommands.AnyStep.{IsHanded, held_in, text_of};
+ghost use Rattle.jdf_commands.specs.FileCommands.Opening.{IsLoaded};
+ghost use Rattle.jdf_net.specs.ServeCommand.{IsSavedAs, TakesHeld, TakesInFile};
 
 use keepers::{FileKeep, FileLock, Keep, Locks};
 use std::alloc::Global;
@@ -27,22 +29,56 @@ fn take_kept<C: Stored, K: Keep>(
     body: &[u8],
     at: u64,
 ) -> Result<TakenBytes, Refused>
-    ensures { IfOk result (IsSavedAs K.is_honest K.held (λ c. compact_text (C.state_data c))
-        (λ m. in_text (C.take_step m at kept.old.controller))
-        body.now kept.new) }
+    ensures saved { IfOk result (IsSavedAs K.is_honest K.held (λ c. compact_text (C.state_data c))
+        (IsTaken body.now (λ m. in_text (C.take_step m at kept.old.controller))) kept.new) }
+    ensures honest { K.is_honest kept.new.keep ≡ K.is_honest kept.old.keep }
 {
     kept.take(alloc, body, at)
 }
 
-/// Hands the controller that a keeper holds the message that a body is, at a time in seconds since
-/// 1970, and saves its state. Refuses `LoadFailed` where no controller is loaded, whatever for;
-/// else as `Kept::take` does.
-fn take_body<K: Keep>(alloc: Global, keep: K, body: &[u8], at: u64) -> Result<TakenBytes, Refused> {
+/// `take_kept` for a controller of any kind.
+fn take_opened<K: Keep>(
+    alloc: Global,
+    opened: &mut Opened<K>,
+    body: &[u8],
+    at: u64,
+) -> Result<TakenBytes, Refused>
+    ensures saved { IfOk result (IsSavedAs K.is_honest K.held text_of
+        (IsHanded at body.now (held_in opened.old).controller) (held_in opened.new)) }
+    ensures honest { K.is_honest (held_in opened.new).keep ≡ K.is_honest (held_in opened.old).keep }
+{
+    match opened {
+        Opened::Master(kept) => take_kept(alloc, kept, body, at),
+        Opened::Worker(kept) => take_kept(alloc, kept, body, at),
+    }
+}
+
+/// The controller whose state a keeper holds, beside the keeper. Refuses `LoadFailed` where none is
+/// loaded, whatever for.
+fn loaded<K: Keep>(alloc: Global, keep: K) -> Result<Opened<K>, Refused>
+    ensures { IfOk result (λ opened. IsLoaded K.is_honest K.held keep (held_in opened)) }
+{
     match open_any(alloc, keep) {
-        Ok(Opened::Master(mut kept)) => take_kept(alloc, &mut kept, body, at),
-        Ok(Opened::Worker(mut kept)) => take_kept(alloc, &mut kept, body, at),
+        Ok(opened) => Ok(opened),
         Err(_) => Err(Refused::LoadFailed),
     }
+}
+
+/// Hands the controller that a keeper holds the message that a body is, at a time in seconds since
+/// 1970, and saves its state. Gives what goes out, and the controller beside its keeper as it is
+/// then. Refuses `LoadFailed` where no controller is loaded; else as `Kept::take` does.
+fn take_body<K: Keep>(
+    alloc: Global,
+    keep: K,
+    body: &[u8],
+    at: u64,
+) -> Result<(TakenBytes, Opened<K>), Refused>
+    ensures { IfOk result (λ taken. TakesHeld K.is_honest K.held at body.now keep
+        (held_in taken.1) taken.0) }
+{
+    let mut opened = loaded(alloc, keep)?;
+    let given = take_opened(alloc, &mut opened, body, at)?;
+    Ok((given, opened))
 }
 
 /// Hands the controller that is kept in a file the message that a body is, at the time of the
@@ -54,15 +90,18 @@ pub(crate) fn take_in_file<R: Locks + Clock>(
     alloc: Global,
     file: &str,
     body: &[u8],
-) -> Result<TakenBytes, Refused> {
+) -> Result<TakenBytes, Refused>
+    ensures { IfOk result (TakesInFile file.now body.now) }
+{
     let _lock = match FileLock::take(rt, file) {
         Ok(lock) => lock,
         Err(_) => return Err(Refused::LoadFailed),
     };
-    match now(rt) {
-        Some(at) => take_body(alloc, FileKeep::new(rt, alloc, file), body, at),
-        None => Err(Refused::ReadFailed),
-    }
+    let Some(at) = now(rt) else {
+        return Err(Refused::ReadFailed);
+    };
+    let (given, _opened) = take_body(alloc, FileKeep::new(rt, alloc, file), body, at)?;
+    Ok(given)
 }
 
 /// Whether a controller can be loaded of a file. Refuses `LoadFailed`, what the file holds is

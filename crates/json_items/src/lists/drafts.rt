@@ -7,7 +7,7 @@ ghost use Rattle.serde_json.specs.View.{items_of};
 ghost use Rattle.json_items.specs.Listed.{each, pool_draft};
 ghost use Rattle.json_source.specs.Read.{Gives};
 
-use crate::{Draft, under_or};
+use crate::{Draft, Read, under_or};
 use json_source::Source;
 use std::alloc::{AllocError, Global};
 use std::marker::Model;
@@ -44,7 +44,7 @@ impl<D> Drafts<D> {
     }
 }
 
-impl<'a, D: Draft<'a>> Drafts<D> {
+impl<'a, D: Read<'a>> Drafts<D> {
     /// The drafts that the items are. Refuses what the first refused item is refused for, and
     /// `Memory`.
     pub fn of_items<S: Source>(alloc: Global, items: &'a [S]) -> Result<Drafts<D>, Refusal>
@@ -93,7 +93,7 @@ fn build_all<'a, D: Draft<'a>>(alloc: Global, drafts: &[D]) -> Result<Items<D::W
     Ok(Items::new(built))
 }
 
-impl<'a, D: Draft<'a>> Draft<'a> for Drafts<D> {
+impl<'a, D: Read<'a>> Read<'a> for Drafts<D> {
     type Whole = Items<D::Whole>;
 
     ghost drafted = { map D.drafted };
@@ -102,7 +102,9 @@ impl<'a, D: Draft<'a>> Draft<'a> for Drafts<D> {
         let items = value.items().ok_or(Refusal::NotProfile)?;
         Drafts::of_items(alloc, items)
     }
+}
 
+impl<'a, D: Draft<'a>> Draft<'a> for Drafts<D> {
     fn has_names(&self) -> bool {
         for draft in self.as_slice() {
             if !draft.has_names() {

@@ -40,6 +40,27 @@ pub fn put<T: Written>(
     put_value(alloc, members, name, value)
 }
 
+/// Puts two items under their names. Their names and texts are valid.
+pub fn put_two<T: Written, U: Written>(
+    alloc: Global,
+    members: &mut Map<String, Value>,
+    name: &str,
+    one: &T,
+    other_name: &str,
+    other: &U,
+) -> Result<(), AllocError>
+    ensures put { OnOk result (members_view members.new.entries
+        ≡ put other_name.now (U.written other.now)
+        (put name.now (T.written one.now) (members_view members.old.entries))) }
+    ensures names { OnOk result (T.has_names one.now ≡ true) }
+    ensures texts { OnOk result (T.has_texts one.now ≡ true) }
+    ensures other_names { OnOk result (U.has_names other.now ≡ true) }
+    ensures other_texts { OnOk result (U.has_texts other.now ≡ true) }
+{
+    put(alloc, members, name, one)?;
+    put(alloc, members, other_name, other)
+}
+
 /// A text as a value.
 pub fn text_value(alloc: Global, text: &str) -> Result<Value, AllocError>
     ensures { IfOk result (λ v. view v ≡ string text.now) }

@@ -2,7 +2,7 @@ ghost use Rattle.std.specs.Prelude.{true};
 ghost use Rattle.json_items.specs.Again.{ancestor_again};
 ghost use Rattle.json_items.specs.Ancestors as ancestors;
 
-use crate::{Borrowed, Draft, Form, Written, only, put, under};
+use crate::{Borrowed, Draft, Form, Read, Written, build_two, only, put, two};
 use json_source::Source;
 use serde_json::{Map, Value};
 use std::alloc::{AllocError, Global};
@@ -24,7 +24,7 @@ impl Form for Ancestor {
     ghost has_texts = { λ _. true };
 }
 
-impl<'a> Draft<'a> for AncestorDraft<'a> {
+impl<'a> Read<'a> for AncestorDraft<'a> {
     type Whole = Ancestor;
 
     ghost drafted = { λ d. record { node_id = d.node_id; job_part = d.job_part } };
@@ -32,11 +32,12 @@ impl<'a> Draft<'a> for AncestorDraft<'a> {
     #[tactic(auto, unfolding(crate::specs::Ancestors::ancestor_draft))]
     fn of<S: Source>(alloc: Global, value: &'a S) -> Result<AncestorDraft<'a>, Refusal> {
         only(value, &["JobPartID", "NodeID"])?;
-        let job_part = under(alloc, value, "JobPartID")?;
-        let node_id = under(alloc, value, "NodeID")?;
+        let (job_part, node_id) = two(alloc, value, "JobPartID", "NodeID")?;
         Ok(AncestorDraft { node_id, job_part })
     }
+}
 
+impl<'a> Draft<'a> for AncestorDraft<'a> {
     #[tactic(auto, unfolding(crate::specs::Ancestors::ancestor_has_names))]
     fn has_names(&self) -> bool {
         self.node_id.has_names() && self.job_part.has_names()
@@ -48,10 +49,8 @@ impl<'a> Draft<'a> for AncestorDraft<'a> {
 
     #[tactic(auto, unfolding(crate::specs::Ancestors::ancestor_has_names))]
     fn build(&self, alloc: Global) -> Result<Ancestor, Refusal> {
-        Ok(Ancestor {
-            node_id: self.node_id.build(alloc)?,
-            job_part: self.job_part.build(alloc)?,
-        })
+        let (node_id, job_part) = build_two(alloc, &self.node_id, &self.job_part)?;
+        Ok(Ancestor { node_id, job_part })
     }
 }
 

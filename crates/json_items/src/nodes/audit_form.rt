@@ -6,7 +6,10 @@ ghost use Rattle.serde_json.specs.View.{members_view};
 ghost use Rattle.json_items.specs.Again.{audit_again};
 ghost use Rattle.json_items.specs.Audits as audits;
 
-use crate::{Borrowed, Draft, Drafts, Form, Written, only, put, put_text, text_under, under};
+use crate::{
+    Borrowed, Draft, Drafts, Form, Read, Written, build_two, only, put, put_text, put_two,
+    text_under, two, under,
+};
 use json_source::Source;
 use serde_json::{Map, Value};
 use std::alloc::{AllocError, Global};
@@ -59,8 +62,7 @@ impl<'a> AuditDraft<'a> {
         ensures { Gives drafted_audit result (audits.notification_draft (S.content value.now)) }
     {
         only(value, &["Name", "Text", "TimeStamp"])?;
-        let text = under(alloc, value, "Text")?;
-        let at = under(alloc, value, "TimeStamp")?;
+        let (text, at) = two(alloc, value, "Text", "TimeStamp")?;
         Ok(AuditDraft::Notification { at, text })
     }
 
@@ -69,13 +71,16 @@ impl<'a> AuditDraft<'a> {
         ensures { Gives drafted_audit result (audits.spawned_draft (S.content value.now)) }
     {
         only(value, SPAWNED_MEMBERS)?;
+        let (spawn_id, status) = two(alloc, value, "NewSpawnID", "Status")?;
+        let (at, jref) = two(alloc, value, "TimeStamp", "jRef")?;
+        let (ro, rw) = two(alloc, value, "rRefsROCopied", "rRefsRWCopied")?;
         Ok(AuditDraft::Spawned {
-            spawn_id: under(alloc, value, "NewSpawnID")?,
-            status: under(alloc, value, "Status")?,
-            at: under(alloc, value, "TimeStamp")?,
-            jref: under(alloc, value, "jRef")?,
-            ro: under(alloc, value, "rRefsROCopied")?,
-            rw: under(alloc, value, "rRefsRWCopied")?,
+            at,
+            jref,
+            spawn_id,
+            ro,
+            rw,
+            status,
         })
     }
 
@@ -84,11 +89,13 @@ impl<'a> AuditDraft<'a> {
         ensures { Gives drafted_audit result (audits.merged_draft (S.content value.now)) }
     {
         only(value, MERGED_MEMBERS)?;
+        let (merge_id, at) = two(alloc, value, "MergeID", "TimeStamp")?;
+        let (jref, overwritten) = two(alloc, value, "jRef", "rRefsOverwritten")?;
         Ok(AuditDraft::Merged {
-            merge_id: under(alloc, value, "MergeID")?,
-            at: under(alloc, value, "TimeStamp")?,
-            jref: under(alloc, value, "jRef")?,
-            overwritten: under(alloc, value, "rRefsOverwritten")?,
+            at,
+            jref,
+            merge_id,
+            overwritten,
         })
     }
 }
@@ -101,7 +108,7 @@ impl Form for Audit {
     ghost has_texts = { audits.audit_has_texts };
 }
 
-impl<'a> Draft<'a> for AuditDraft<'a> {
+impl<'a> Read<'a> for AuditDraft<'a> {
     ghost use Rattle.json_items.specs.DraftedAudits.{drafted_audit};
 
     type Whole = Audit;
@@ -117,7 +124,9 @@ impl<'a> Draft<'a> for AuditDraft<'a> {
             _ => Err(Refusal::NotProfile),
         }
     }
+}
 
+impl<'a> Draft<'a> for AuditDraft<'a> {
     #[tactic(auto, unfolding(crate::specs::Audits::audit_has_names))]
     fn has_names(&self) -> bool {
         match self {
@@ -153,7 +162,7 @@ impl<'a> Draft<'a> for AuditDraft<'a> {
         }
     }
 
-    #[tactic(auto, unfolding(crate::specs::Audits::audit_has_texts), using(crate::proofs::Tests::all_true))]
+    #[tactic(auto, unfolding(crate::specs::Audits::audit_has_names, crate::specs::Audits::audit_has_texts), using(crate::proofs::Tests::all_true))]
     fn build(&self, alloc: Global) -> Result<Audit, Refusal> {
         match self {
             AuditDraft::Notification { at, text } => Ok(Audit::Notification {
@@ -167,25 +176,34 @@ impl<'a> Draft<'a> for AuditDraft<'a> {
                 ro,
                 rw,
                 status,
-            } => Ok(Audit::Spawned {
-                at: *at,
-                jref: jref.build(alloc)?,
-                spawn_id: spawn_id.build(alloc)?,
-                ro: ro.build(alloc)?,
-                rw: rw.build(alloc)?,
-                status: status.build(alloc)?,
-            }),
+            } => {
+                let (jref, spawn_id) = build_two(alloc, jref, spawn_id)?;
+                let (ro, rw) = build_two(alloc, ro, rw)?;
+                let status = status.build(alloc)?;
+                Ok(Audit::Spawned {
+                    at: *at,
+                    jref,
+                    spawn_id,
+                    ro,
+                    rw,
+                    status,
+                })
+            }
             AuditDraft::Merged {
                 at,
                 jref,
                 merge_id,
                 overwritten,
-            } => Ok(Audit::Merged {
-                at: *at,
-                jref: jref.build(alloc)?,
-                merge_id: merge_id.build(alloc)?,
-                overwritten: overwritten.build(alloc)?,
-            }),
+            } => {
+                let (jref, merge_id) = build_two(alloc, jref, merge_id)?;
+                let overwritten = overwritten.build(alloc)?;
+                Ok(Audit::Merged {
+                    at: *at,
+                    jref,
+                    merge_id,
+                    overwritten,
+                })
+            }
         }
     }
 }
@@ -206,8 +224,7 @@ fn put_audit(
     match audit {
         Audit::Notification { at, text } => {
             put_text(alloc, members, "Name", "Notification")?;
-            put(alloc, members, "Text", text)?;
-            put(alloc, members, "TimeStamp", at)
+            put_two(alloc, members, "Text", text, "TimeStamp", at)
         }
         Audit::Spawned {
             at,
@@ -218,12 +235,9 @@ fn put_audit(
             status,
         } => {
             put_text(alloc, members, "Name", "Spawned")?;
-            put(alloc, members, "NewSpawnID", spawn_id)?;
-            put(alloc, members, "Status", status)?;
-            put(alloc, members, "TimeStamp", at)?;
-            put(alloc, members, "jRef", jref)?;
-            put(alloc, members, "rRefsROCopied", ro)?;
-            put(alloc, members, "rRefsRWCopied", rw)
+            put_two(alloc, members, "NewSpawnID", spawn_id, "Status", status)?;
+            put_two(alloc, members, "TimeStamp", at, "jRef", jref)?;
+            put_two(alloc, members, "rRefsROCopied", ro, "rRefsRWCopied", rw)
         }
         Audit::Merged {
             at,
@@ -231,9 +245,8 @@ fn put_audit(
             merge_id,
             overwritten,
         } => {
-            put(alloc, members, "MergeID", merge_id)?;
             put_text(alloc, members, "Name", "Merged")?;
-            put(alloc, members, "TimeStamp", at)?;
+            put_two(alloc, members, "MergeID", merge_id, "TimeStamp", at)?;
             put(alloc, members, "jRef", jref)?;
             put(alloc, members, "rRefsOverwritten", overwritten)
         }

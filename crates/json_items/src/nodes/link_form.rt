@@ -2,7 +2,7 @@ ghost use Rattle.std.specs.Prelude.{true};
 ghost use Rattle.json_items.specs.Again.{link_again};
 ghost use Rattle.json_items.specs.Links as links;
 
-use crate::{Borrowed, Draft, Form, Written, only, put, under};
+use crate::{Borrowed, Draft, Form, Read, Written, only, put, two};
 use json_source::Source;
 use serde_json::{Map, Value};
 use std::alloc::{AllocError, Global};
@@ -24,7 +24,7 @@ impl Form for Link {
     ghost has_texts = { λ _. true };
 }
 
-impl<'a> Draft<'a> for LinkDraft<'a> {
+impl<'a> Read<'a> for LinkDraft<'a> {
     type Whole = Link;
 
     ghost drafted = { λ d. record { rref = d.rref; usage = d.usage } };
@@ -32,11 +32,12 @@ impl<'a> Draft<'a> for LinkDraft<'a> {
     #[tactic(auto, unfolding(crate::specs::Links::link_draft))]
     fn of<S: Source>(alloc: Global, value: &'a S) -> Result<LinkDraft<'a>, Refusal> {
         only(value, &["Usage", "rRef"])?;
-        let usage = under(alloc, value, "Usage")?;
-        let rref = under(alloc, value, "rRef")?;
+        let (usage, rref) = two(alloc, value, "Usage", "rRef")?;
         Ok(LinkDraft { rref, usage })
     }
+}
 
+impl<'a> Draft<'a> for LinkDraft<'a> {
     fn has_names(&self) -> bool {
         self.rref.has_names()
     }

@@ -9,7 +9,7 @@ ghost use Rattle.json_items.specs.Again.{attrs_again};
 ghost use Rattle.json_items.specs.Attributes as attributes;
 ghost use Rattle.json_source.specs.Read.{attrs_draft, lent_pairs};
 
-use crate::{Draft, Form, Word, Written, put_text};
+use crate::{Draft, Form, Read, Word, Written, put_text};
 use json_source::Source;
 use serde_json::{Map, Value};
 use std::alloc::{AllocError, Global};
@@ -95,7 +95,7 @@ impl Form for Attrs {
     ghost has_texts = { attributes.attrs_have_texts };
 }
 
-impl<'a> Draft<'a> for AttrsDraft<'a> {
+impl<'a> Read<'a> for AttrsDraft<'a> {
     type Whole = Attrs;
 
     ghost drafted = { λ attrs. attrs };
@@ -104,7 +104,9 @@ impl<'a> Draft<'a> for AttrsDraft<'a> {
         let pairs = value.texts(alloc)?;
         Ok(AttrsDraft { pairs })
     }
+}
 
+impl<'a> Draft<'a> for AttrsDraft<'a> {
     #[tactic(auto, using(crate::proofs::Tests::all_mapped))]
     fn has_names(&self) -> bool {
         are_names(self.pairs.as_slice())

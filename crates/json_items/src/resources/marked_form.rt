@@ -7,7 +7,7 @@ ghost use Rattle.json_items.specs.DraftedResources.{drafted_marked};
 ghost use Rattle.json_items.specs.Resources as resources;
 
 use crate::resources::resource_form::put_resource;
-use crate::{Draft, Form, ResourceDraft, Shown, ShownDraft, Written, only, put};
+use crate::{Form, Read, ResourceDraft, Shown, ShownDraft, Written, only, put};
 use json_source::Source;
 use serde_json::{Map, Value};
 use std::alloc::{AllocError, Global};
@@ -47,7 +47,7 @@ impl Form for Marked {
     ghost has_texts = { resources.marked_has_texts };
 }
 
-impl<'a> Draft<'a> for MarkedDraft<'a> {
+impl<'a> Read<'a> for MarkedDraft<'a> {
     type Whole = Marked;
 
     ghost drafted = { drafted_marked };
@@ -58,21 +58,6 @@ impl<'a> Draft<'a> for MarkedDraft<'a> {
         let resource = ResourceDraft::of(alloc, value)?;
         let shown = ShownDraft::of(alloc, value)?;
         Ok(MarkedDraft { resource, shown })
-    }
-
-    fn has_names(&self) -> bool {
-        self.resource.has_names()
-    }
-
-    fn has_texts(&self) -> bool {
-        self.resource.has_texts()
-    }
-
-    fn build(&self, alloc: Global) -> Result<Marked, Refusal> {
-        Ok(Marked {
-            resource: self.resource.build(alloc)?,
-            shown: self.shown.build(alloc)?,
-        })
     }
 }
 

@@ -7,7 +7,7 @@ ghost use Rattle.serde_json.specs.View.{members_view};
 ghost use Rattle.json_items.specs.DraftedResources.{drafted_resource};
 ghost use Rattle.json_items.specs.Resources as resources;
 
-use crate::{AttrsDraft, Borrowed, Draft, Form, put, under, under_or};
+use crate::{AttrsDraft, Borrowed, Draft, Form, Read, build_two, put, two, under_or};
 use json_source::Source;
 use serde_json::{Map, Value};
 use std::alloc::{AllocError, Global};
@@ -32,22 +32,27 @@ impl Form for Resource {
     ghost has_texts = { resources.resource_has_texts };
 }
 
-impl<'a> Draft<'a> for ResourceDraft<'a> {
+impl<'a> Read<'a> for ResourceDraft<'a> {
     type Whole = Resource;
 
     ghost drafted = { drafted_resource };
 
     #[tactic(auto, unfolding(crate::specs::Resources::own_resource))]
     fn of<S: Source>(alloc: Global, value: &'a S) -> Result<ResourceDraft<'a>, Refusal> {
+        let (class, id) = two(alloc, value, "Class", "ID")?;
+        let (name, status) = two(alloc, value, "Name", "Status")?;
+        let attrs = under_or(alloc, value, "Attr", AttrsDraft::none(alloc))?;
         Ok(ResourceDraft {
-            class: under(alloc, value, "Class")?,
-            id: under(alloc, value, "ID")?,
-            name: under(alloc, value, "Name")?,
-            status: under(alloc, value, "Status")?,
-            attrs: under_or(alloc, value, "Attr", AttrsDraft::none(alloc))?,
+            id,
+            name,
+            class,
+            status,
+            attrs,
         })
     }
+}
 
+impl<'a> Draft<'a> for ResourceDraft<'a> {
     #[tactic(auto, unfolding(crate::specs::Resources::resource_has_names))]
     fn has_names(&self) -> bool {
         self.id.has_names()
@@ -64,12 +69,15 @@ impl<'a> Draft<'a> for ResourceDraft<'a> {
 
     #[tactic(auto, unfolding(crate::specs::Resources::resource_has_names, crate::specs::Resources::resource_has_texts))]
     fn build(&self, alloc: Global) -> Result<Resource, Refusal> {
+        let (id, name) = build_two(alloc, &self.id, &self.name)?;
+        let (class, status) = build_two(alloc, &self.class, &self.status)?;
+        let attrs = self.attrs.build(alloc)?;
         Ok(Resource {
-            id: self.id.build(alloc)?,
-            name: self.name.build(alloc)?,
-            class: self.class.build(alloc)?,
-            status: self.status.build(alloc)?,
-            attrs: self.attrs.build(alloc)?,
+            id,
+            name,
+            class,
+            status,
+            attrs,
         })
     }
 }

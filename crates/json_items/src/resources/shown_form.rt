@@ -4,7 +4,7 @@ ghost use Rattle.std.specs.Prelude.{◌≡◌, ◌∷◌, [], true, IfOk};
 ghost use Rattle.json_items.specs.DraftedResources.{drafted_shown};
 ghost use Rattle.json_items.specs.Shown as shown;
 
-use crate::{AnyText, Borrowed, Draft, Drafts, Form, under_or};
+use crate::{AnyText, Borrowed, Drafts, Form, Read, under_or};
 use json_source::Source;
 use std::alloc::{AllocError, Global};
 use ticket_items::{Items, Refusal, SpawnStatus};
@@ -114,7 +114,7 @@ impl Form for Shown {
     ghost has_texts = { λ _. true };
 }
 
-impl<'a> Draft<'a> for ShownDraft<'a> {
+impl<'a> Read<'a> for ShownDraft<'a> {
     type Whole = Shown;
 
     ghost drafted = { drafted_shown };
@@ -125,23 +125,6 @@ impl<'a> Draft<'a> for ShownDraft<'a> {
             locked: under_or(alloc, value, "Locked", false)?,
             spawn_ids: Drafts::under(alloc, value, "SpawnIDs")?,
             spawn_status: under_or(alloc, value, "SpawnStatus", SpawnStatus::NotSpawned)?,
-        })
-    }
-
-    fn has_names(&self) -> bool {
-        true
-    }
-
-    fn has_texts(&self) -> bool {
-        true
-    }
-
-    #[tactic(auto, using(crate::proofs::Tests::all_true, crate::proofs::Tests::themselves))]
-    fn build(&self, alloc: Global) -> Result<Shown, Refusal> {
-        Ok(Shown {
-            locked: self.locked,
-            spawn_ids: self.spawn_ids.build(alloc)?,
-            spawn_status: self.spawn_status,
         })
     }
 }

@@ -3,13 +3,14 @@ ghost use Rattle.serde_json.specs.Data.{string};
 ghost use Rattle.serde_json.specs.Find.{as_str};
 ghost use Rattle.json_items.specs.Again.{text_again, text_itself};
 
-use crate::{Form, Word, Written, text_value};
+use crate::{Form, Read, Word, Written, text_value};
+use json_source::Source;
 use serde_json::Value;
 use std::alloc::{AllocError, Global};
 use std::marker::Model;
 use ticket_items::Refusal;
 
-/// Any text, such as the id of a spawn that a resource shows.
+/// Any text, such as the id of a spawn that a resource shows, or a word of a message.
 #[derive(Drop)]
 pub struct AnyText {
     text: String,
@@ -30,6 +31,23 @@ impl AnyText {
     {
         let text = String::from_str(alloc, text)?;
         Ok(AnyText { text })
+    }
+
+    /// Its characters.
+    pub fn as_str(&self) -> &str
+        ensures { result.now ≡ self.now }
+    {
+        self.text.as_str()
+    }
+}
+
+impl From<String> for AnyText {
+    ghost use Rattle.std.specs.Prelude.{◌≡◌, string_bytes};
+
+    ghost from_gives = { λ text any. any ≡ string_bytes text };
+
+    fn from(text: String) -> AnyText {
+        AnyText { text }
     }
 }
 
@@ -59,11 +77,22 @@ impl Word for AnyText {
     ghost read = { text_itself };
 }
 
+impl<'a> Read<'a> for AnyText {
+    type Whole = AnyText;
+
+    ghost drafted = { λ text. text };
+
+    fn of<S: Source>(alloc: Global, value: &'a S) -> Result<AnyText, Refusal> {
+        let text = value.text().ok_or(Refusal::NotProfile)?;
+        Ok(AnyText::new(alloc, text)?)
+    }
+}
+
 impl Written for AnyText {
     ghost written = { string };
 
     fn value(&self, alloc: Global) -> Result<Value, AllocError> {
-        text_value(alloc, self.text.as_str())
+        text_value(alloc, self.as_str())
     }
 
     ghost again = { text_again };

@@ -1,4 +1,4 @@
-use crate::{Draft, Word};
+use crate::{Draft, Read, Word};
 use json_source::Source;
 use serde_json::Value;
 use std::alloc::Global;
@@ -41,7 +41,7 @@ impl<'a, W> Borrowed<'a, W> {
     }
 }
 
-impl<'a, W: Word> Draft<'a> for Borrowed<'a, W> {
+impl<'a, W: Word> Read<'a> for Borrowed<'a, W> {
     type Whole = W;
 
     ghost drafted = { W.word };
@@ -50,7 +50,9 @@ impl<'a, W: Word> Draft<'a> for Borrowed<'a, W> {
         let text = value.text().ok_or(Refusal::NotProfile)?;
         Ok(Borrowed::new(text))
     }
+}
 
+impl<'a, W: Word> Draft<'a> for Borrowed<'a, W> {
     fn has_names(&self) -> bool {
         W::are_names(self.text)
     }

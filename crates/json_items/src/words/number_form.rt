@@ -1,4 +1,4 @@
-ghost use Rattle.std.specs.Prelude.{true, refl};
+ghost use Rattle.std.specs.Prelude.{true};
 ghost use Rattle.serde_json.specs.Data.{number, unsigned};
 ghost use Rattle.json_items.specs.Again.{number_again};
 ghost use Rattle.json_source.specs.Read.{number_of};
@@ -20,10 +20,6 @@ impl Plain for u64 {
     fn read<S: Source>(value: &S) -> Option<u64> {
         value.whole_number()
     }
-
-    ghost no_names = { λ _. refl };
-
-    ghost no_texts = { λ _. refl };
 }
 
 impl Written for u64 {

@@ -1,6 +1,6 @@
 //! The SpawnStatus of a resource (JDF 1.5, 3.8), by its word.
 
-ghost use Rattle.std.specs.Prelude.{◌≡◌, true, refl};
+ghost use Rattle.std.specs.Prelude.{◌≡◌, true};
 ghost use Rattle.json_items.specs.Again.{spawn_status_again};
 ghost use Rattle.json_items.specs.Shown as shown;
 
@@ -27,10 +27,6 @@ impl Plain for SpawnStatus {
             _ => None,
         }
     }
-
-    ghost no_names = { λ _. refl };
-
-    ghost no_texts = { λ _. refl };
 }
 
 impl Written for SpawnStatus {

@@ -1,4 +1,4 @@
-ghost use Rattle.std.specs.Prelude.{true, refl};
+ghost use Rattle.std.specs.Prelude.{true};
 ghost use Rattle.serde_json.specs.Data.{boolean};
 ghost use Rattle.serde_json.specs.Find.{as_bool};
 ghost use Rattle.json_items.specs.Again.{switch_again};
@@ -20,10 +20,6 @@ impl Plain for bool {
     fn read<S: Source>(value: &S) -> Option<bool> {
         value.truth()
     }
-
-    ghost no_names = { λ _. refl };
-
-    ghost no_texts = { λ _. refl };
 }
 
 impl Written for bool {

@@ -1,6 +1,6 @@
 //! The Usage of a link (JDF 1.5, 3.9), by its word.
 
-ghost use Rattle.std.specs.Prelude.{◌≡◌, true, refl};
+ghost use Rattle.std.specs.Prelude.{◌≡◌, true};
 ghost use Rattle.json_items.specs.Again.{usage_again};
 ghost use Rattle.json_items.specs.Links as links;
 
@@ -26,10 +26,6 @@ impl Plain for Usage {
             _ => None,
         }
     }
-
-    ghost no_names = { λ _. refl };
-
-    ghost no_texts = { λ _. refl };
 }
 
 impl Written for Usage {

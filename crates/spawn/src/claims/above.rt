@@ -17,7 +17,7 @@ fn go_to<'a>(way: &mut Vec<&'a NodeRow>, row: &'a NodeRow) -> Result<(), AllocEr
 }
 
 /// The nodes on the way to the last of these rows, from the root on.
-pub fn way_to<'a>(alloc: Global, rows: &'a [NodeRow]) -> Result<Vec<&'a NodeRow>, AllocError>
+fn way_to<'a>(alloc: Global, rows: &'a [NodeRow]) -> Result<Vec<&'a NodeRow>, AllocError>
     ensures { IfOk result (λ v. map (λ s. s.now) v.items ≡ parts.way_from [] rows.now) }
 {
     let mut way = Vec::new(alloc);

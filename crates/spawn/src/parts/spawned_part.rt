@@ -1,9 +1,9 @@
 //! The part that goes out with a spawn.
 
-ghost use Rattle.std.specs.Prelude.{◌≡◌, ◌⊎◌, ◌-◌, [], true, map, take, Some, IfOk, IfErr};
+ghost use Rattle.std.specs.Prelude.{◌≡◌, ◌-◌, [], true, map, take, IfOk, IfErr};
 ghost use Rattle.ticket_tree.specs.Part.{copied};
 ghost use Rattle.ticket_rows.specs.Copies.{with_copies};
-ghost use Rattle.ticket_rows.specs.Ticket.{fault_of};
+ghost use Rattle.ticket_rows.specs.Ticket.{IsValid};
 ghost use Rattle.spawn.specs.Parts as parts;
 ghost use Rattle.spawn.specs.Records.{IsGood, is_out};
 
@@ -16,29 +16,22 @@ use ticket_tree::{Duplicate, Items, Name, Part, Refusal, Ticket};
 
 /// The part of a spawn of the node at which the rows are taken apart.
 fn part_at(alloc: Global, job: &Name, spawn: &SpawnRec, at: &At<'_>) -> Result<Part, Refusal>
+    requires { IsValid
+        (with_copies (map (parts.lifted (at.now.depth - 1)) at.now.below.now)
+        (parts.resources_among spawn.now.rw at.now.rows.now) spawn.now.ro) }
     ensures ok { IfOk result (λ p. p ≡ copied job.now spawn.now.id
         (map parts.as_ancestor (take (at.now.depth - 1) (parts.way_from [] at.now.front.now)))
         (map (parts.lifted (at.now.depth - 1)) at.now.below.now)
         (parts.resources_among spawn.now.rw at.now.rows.now) spawn.now.ro) }
-    ensures err { IfErr result (λ e. (e ≡ Refusal.Memory)
-        ⊎ (fault_of
-        (with_copies (map (parts.lifted (at.now.depth - 1)) at.now.below.now)
-        (parts.resources_among spawn.now.rw at.now.rows.now) spawn.now.ro) ≡ Some e)) }
+    ensures memory { IfErr result (λ e. e ≡ Refusal.Memory) }
 {
     let ancestors = ancestors_of(alloc, at.front, at.depth)?;
     let below = lifted_rows(alloc, at.below, at.depth.saturating_sub(1))?;
     let rw = resources_among(alloc, at.rows, spawn.rw.as_slice())?;
     let ro = spawn.ro.copy(alloc)?;
     let job = job.copy(alloc)?;
-    Part::new(
-        alloc,
-        job,
-        spawn.id,
-        Items::new(ancestors),
-        below,
-        Items::new(rw),
-        ro,
-    )
+    let (ancestors, rw) = (Items::new(ancestors), Items::new(rw));
+    Ok(Part::known(job, spawn.id, ancestors, below, rw, ro))
 }
 
 /// The part of a spawn that is out (JDF 1.5, 4.4): the ticket's rows of the node and below it, and

@@ -1,6 +1,6 @@
 //! Why a spawn is refused: the first reason that holds.
 
-ghost use Rattle.std.specs.Prelude.{◌≡◌, ◌∷◌, [], true, false, Some, None, nat_lt, is_some};
+ghost use Rattle.std.specs.Prelude.{◌≡◌, ◌++◌, ◌∷◌, [], true, false, Some, None, nat_lt, is_some};
 ghost use Rattle.std.specs.Prelude.{slice_get, IfSome, MatchResult};
 ghost use Rattle.std.specs.List.{list_all};
 ghost use Rattle.std.specs.Option.{option_map_or};
@@ -8,40 +8,19 @@ ghost use Rattle.ticket_rows.specs.Homes.{has_resource};
 ghost use Rattle.ticket_items.specs.Ids.{mem};
 ghost use Rattle.ticket_rows.specs.Place.{node_places, places, up};
 ghost use Rattle.ticket_items.specs.SpawnId.{is_spawn_number};
-ghost use Rattle.ticket_rows.specs.Ticket.{IsValid, first_of, has_node, unless};
-ghost use Rattle.spawn.specs.At.{IsAt};
+ghost use Rattle.ticket_rows.specs.Ticket.{IsValid, first_of, has_node, ids, unless};
 ghost use Rattle.spawn.specs.Claim.{ids_of, linked_outside};
+ghost use Rattle.spawn.specs.Holdings.{IsTable, has_master};
 ghost use Rattle.spawn.specs.Parts.{rows_below};
 ghost use Rattle.spawn.specs.Spawning as spawning;
 
 use crate::claims::claim::Claim;
 use crate::claims::links_outside::is_linked_outside;
-use crate::claims::node_at::{At, node_at};
+use crate::claims::node_at::node_at;
 use crate::records::spawn_rec::SpawnRec;
 use crate::tables::first_holding::first_holding;
+use crate::tables::holders::Holders;
 use ticket_tree::{Id, NodeRow, Refusal, SpawnId, Ticket};
-
-/// The ticket at a node that stands below another, or `UnknownNode`, then `IsRoot`.
-pub fn spawnable_at<'a>(ticket: &'a Ticket, node: &Id) -> Result<At<'a>, Refusal>
-    ensures refusal { MatchResult result
-        (λ a. (IsAt ticket.now.rows node.now a)
-        × (a.below.now ≡ rows_below ticket.now.rows node.now)
-        × (has_node ticket.now.rows node.now ≡ true)
-        × (is_some (up (node_places ticket.now.rows) node.now) ≡ true))
-        (λ e. first_of
-        (unless (has_node ticket.now.rows node.now) Refusal.UnknownNode
-        ∷ unless (is_some (up (node_places ticket.now.rows) node.now)) Refusal.IsRoot
-        ∷ []) ≡ Some e) }
-    ensures valid { IsValid ticket.now.rows }
-{
-    let Some(at) = node_at(ticket, node) else {
-        return Err(Refusal::UnknownNode);
-    };
-    if at.depth <= 1 {
-        return Err(Refusal::IsRoot);
-    }
-    Ok(at)
-}
 
 /// The rows of a node that stands below another and of those below it, or `UnknownNode`, then
 /// `IsRoot`.
@@ -56,7 +35,12 @@ fn spawnable<'a>(ticket: &'a Ticket, node: &Id) -> Result<&'a [NodeRow], Refusal
         ∷ []) ≡ Some e) }
     ensures valid { IsValid ticket.now.rows }
 {
-    let at = spawnable_at(ticket, node)?;
+    let Some(at) = node_at(ticket, node) else {
+        return Err(Refusal::UnknownNode);
+    };
+    if at.depth <= 1 {
+        return Err(Refusal::IsRoot);
+    }
     Ok(at.below)
 }
 
@@ -84,18 +68,71 @@ fn are_linked_outside(ticket: &Ticket, node: &Id, below: &[NodeRow], ids: &[Id])
     true
 }
 
+/// Whether the master is known to hold all of a node, below which are these rows, and of these
+/// resources.
+fn is_known_held(holders: Option<&Holders>, below: &[NodeRow], rw: &[Id]) -> bool
+    ensures held { result ≡ true
+        → IfSome holders.entry (λ h. list_all (has_master h.now) (ids below.now ++ rw.now) ≡ true) }
+    ensures some { result ≡ true → is_some holders.entry ≡ true }
+{
+    match holders {
+        None => false,
+        Some(holders) => holders.has_all(below, rw),
+    }
+}
+
 /// Whether the master holds all that a spawn would claim, or `NotHeld` with the spawn that holds
-/// the first that it doesn't.
-fn check_held(ticket: &Ticket, records: &[SpawnRec], node: &Id, rw: &[Id]) -> Result<(), Refusal>
+/// the first that it doesn't. It is told by who holds what, where that is known, and else by the
+/// records.
+fn check_held(
+    ticket: &Ticket,
+    records: &[SpawnRec],
+    holders: Option<&Holders>,
+    below: &[NodeRow],
+    node: &Id,
+    rw: &[Id],
+) -> Result<(), Refusal>
+    requires valid { IsValid ticket.now.rows }
+    requires rows { below.now ≡ rows_below ticket.now.rows node.now }
+    requires table { IfSome holders (λ h. IsTable ticket.now.rows records.now h.now) }
     ensures { MatchResult result
         (λ _. spawning.not_held (places ticket.now.rows) records.now node.now rw.now ≡ None)
         (λ e. spawning.not_held (places ticket.now.rows) records.now node.now rw.now ≡ Some e) }
 {
+    if is_known_held(holders, below, rw) {
+        return Ok(());
+    }
     let claim = Claim::of(ticket, node, rw);
     match first_holding(ticket, &claim, records) {
         None => Ok(()),
         Some(spawn) => Err(Refusal::NotHeld(spawn.id)),
     }
+}
+
+/// What `may_spawn` refuses, which is told faster where it is known who holds what.
+pub(crate) fn check_spawn(
+    ticket: &Ticket,
+    records: &[SpawnRec],
+    holders: Option<&Holders>,
+    number: u32,
+    node: &Id,
+    rw: &[Id],
+) -> Result<(), Refusal>
+    requires table { IfSome holders (λ h. IsTable ticket.now.rows records.now h.now) }
+    ensures { MatchResult result
+        (λ _. spawning.spawn_refusal ticket.now.rows records.now number node.now rw.now ≡ None)
+        (λ e. spawning.spawn_refusal ticket.now.rows records.now number node.now rw.now ≡ Some e) }
+{
+    let below = spawnable(ticket, node)?;
+    if !are_resources(ticket, rw) {
+        return Err(Refusal::UnknownResource);
+    }
+    if !are_linked_outside(ticket, node, below, rw) {
+        return Err(Refusal::NotLinked);
+    }
+    check_held(ticket, records, holders, below, node, rw)?;
+    SpawnId::new(number)?;
+    Ok(())
 }
 
 /// Why `spawn` would refuse a spawn of a node with copies of these resources that may be changed,
@@ -115,14 +152,5 @@ pub fn may_spawn(
         (λ _. spawning.spawn_refusal ticket.now.rows records.now number node.now rw.now ≡ None)
         (λ e. spawning.spawn_refusal ticket.now.rows records.now number node.now rw.now ≡ Some e) }
 {
-    let below = spawnable(ticket, node)?;
-    if !are_resources(ticket, rw) {
-        return Err(Refusal::UnknownResource);
-    }
-    if !are_linked_outside(ticket, node, below, rw) {
-        return Err(Refusal::NotLinked);
-    }
-    check_held(ticket, records, node, rw)?;
-    SpawnId::new(number)?;
-    Ok(())
+    check_spawn(ticket, records, None, number, node, rw)
 }

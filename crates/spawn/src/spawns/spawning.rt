@@ -1,7 +1,7 @@
 //! Spawning a node.
 
 ghost use Rattle.std.specs.Prelude.{◌≡◌, ◌-◌, ◌++◌, ◌∷◌, [], true, length, map, slice_get, Some};
-ghost use Rattle.std.specs.Prelude.{is_some, IfSome, IfNone, IfOk, IfErr, OnOk, OnErr};
+ghost use Rattle.std.specs.Prelude.{None, is_some, IfSome, IfNone, IfOk, IfErr, OnOk, OnErr};
 ghost use Rattle.std.specs.Option.{option_map};
 ghost use Rattle.ticket_rows.specs.OneRow.{appended};
 ghost use Rattle.ticket_rows.specs.Place.{node_places, up};
@@ -16,7 +16,7 @@ use crate::claims::node_at::node_at;
 use crate::parts::spawned_part::part_for;
 use crate::records::phase::Phase;
 use crate::records::spawn_rec::SpawnRec;
-use crate::spawns::checking::check_spawn;
+use crate::spawns::refusing::may_spawn;
 use std::alloc::{AllocError, Global};
 use ticket_tree::{
     Ancestor, Audit, Duplicate, Id, Ids, Items, Part, Refusal, Resource, SpawnId, Ticket,
@@ -164,6 +164,39 @@ fn enter(
     }
 }
 
+/// Spawns a node that nothing is against, as `spawn` does. Refuses `Memory` alone, and then changes
+/// nothing.
+pub(crate) fn spawn_free(
+    alloc: Global,
+    ticket: &mut Ticket,
+    records: &mut Vec<SpawnRec>,
+    number: u32,
+    node: Id,
+    worker: Id,
+    rw: Ids,
+    at: u64,
+) -> Result<(SpawnId, Part), Refusal>
+    requires { spawn_refusal ticket.old.rows records.old.items number node rw ≡ None }
+    ensures ticket { OnOk result (ticket.new
+        ≡ spawning.spawned ticket.old
+        (spawning.new_record ticket.old.rows number node worker rw at)) }
+    ensures records { OnOk result (records.new.items
+        ≡ records.old.items ++ spawning.new_record ticket.old.rows number node worker rw at ∷ []) }
+    ensures id { IfOk result (λ s. s.0 ≡ number) }
+    ensures part { IfOk result (λ s. s.1
+        ≡ parts.part_for ticket.new
+        (spawning.new_record ticket.old.rows number node worker rw at)) }
+    ensures good { OnOk result (IsGood ticket.new.rows
+        (spawning.new_record ticket.old.rows number node worker rw at)) }
+    ensures memory { IfErr result (λ e. e ≡ Refusal.Memory) }
+    ensures ticket_stays { OnErr result (ticket.new ≡ ticket.old) }
+    ensures records_stay { OnErr result (records.new.items ≡ records.old.items) }
+{
+    let id = SpawnId::new(number)?;
+    let part = enter(alloc, ticket, records, id, node, worker, rw.as_slice(), at)?;
+    Ok((id, part))
+}
+
 /// Spawns a node with all below it to a worker (JDF 1.5, 4.4), at a time in seconds since 1970: the
 /// record of the spawn is put last among the records, the `Spawned` audit last at the node's
 /// parent, and the part that goes out is answered. Of the resources linked outside the node the
@@ -198,9 +231,6 @@ pub fn spawn(
     ensures ticket_stays { OnErr result (ticket.new ≡ ticket.old) }
     ensures records_stay { OnErr result (records.new.items ≡ records.old.items) }
 {
-    let others = records.as_slice();
-    check_spawn(alloc, ticket, others, number, &node, rw.as_slice())?;
-    let id = SpawnId::new(number)?;
-    let part = enter(alloc, ticket, records, id, node, worker, rw.as_slice(), at)?;
-    Ok((id, part))
+    may_spawn(ticket, records.as_slice(), number, &node, rw.as_slice())?;
+    spawn_free(alloc, ticket, records, number, node, worker, rw, at)
 }

@@ -1,24 +1,29 @@
-//! The edits of a list of rows.
+//! The edits of a ticket's rows.
 
 ghost use Rattle.std.specs.Prelude.{◌≡◌, None, Some, false, OnOk, OnErr, IfErr, IfNone, IfSome};
 ghost use Rattle.std.specs.Prelude.{IsOk, MatchResult};
+ghost use Rattle.ticket_rows.specs.ChangedRow as changed;
 ghost use Rattle.ticket_rows.specs.Edit.{edited_rows, grows, refusal_of};
+ghost use Rattle.ticket_rows.specs.Spots.{IsIndex};
 ghost use Rattle.ticket_rows.specs.Ticket.{IsValid};
 
+use crate::edit::at_place::{append, set_attr, set_resource_attr, set_resource_status, set_status};
 use crate::edit::growing_edits::{add_link, add_node, add_resource};
 use crate::edit::known_rows::{
     known_home, known_node, open_to_child, open_to_link, open_to_resource, open_to_status,
 };
-use crate::edit::setting_edits::{
-    note, set_attr, set_resource_attr, set_resource_status, set_status,
-};
-use std::alloc::Global;
-use ticket_items::{Edit, NodeRow, Refusal};
+use crate::home_index::HomeIndex;
+use crate::indexed_rows::IndexedRows;
+use crate::node_index::NodeIndex;
+use std::alloc::{AllocError, Global};
+use ticket_items::{Audit, Edit, NodeRow, Refusal};
 
 /// Where the row stands that an edit changes, or why the edit is refused.
-fn changed_place(rows: &[NodeRow], edit: &Edit) -> Result<usize, Refusal>
+fn changed_place(rows: &IndexedRows, edit: &Edit) -> Result<usize, Refusal>
     requires { IsValid rows.now }
-    ensures { MatchResult result (λ _. refusal_of edit.now rows.now ≡ None)
+    ensures place { MatchResult result
+        (λ place. changed.changed_place edit.now rows.now ≡ Some place) (λ _. Unit {0}) }
+    ensures refusal { MatchResult result (λ _. refusal_of edit.now rows.now ≡ None)
         (λ e. refusal_of edit.now rows.now ≡ Some e) }
 {
     match edit {
@@ -39,7 +44,7 @@ fn changed_place(rows: &[NodeRow], edit: &Edit) -> Result<usize, Refusal>
 }
 
 /// Why an edit is refused, if it is.
-pub fn check(rows: &[NodeRow], edit: &Edit) -> Result<(), Refusal>
+pub fn check(rows: &IndexedRows, edit: &Edit) -> Result<(), Refusal>
     requires { IsValid rows.now }
     ensures { MatchResult result (λ _. refusal_of edit.now rows.now ≡ None)
         (λ e. refusal_of edit.now rows.now ≡ Some e) }
@@ -48,35 +53,64 @@ pub fn check(rows: &[NodeRow], edit: &Edit) -> Result<(), Refusal>
     Ok(())
 }
 
-/// Does an edit. One that puts nothing more into the rows takes no memory.
-pub fn apply(alloc: Global, rows: &mut Vec<NodeRow>, edit: Edit, at: u64) -> Result<(), Refusal>
-    requires { IsValid rows.old.items }
+/// Does an edit that isn't refused, whose place is known, and keeps the index of the rows.
+pub(crate) fn change(
+    alloc: Global,
+    rows: &mut Vec<NodeRow>,
+    nodes: &mut NodeIndex,
+    homes: &mut HomeIndex,
+    place: usize,
+    edit: Edit,
+    at: u64,
+) -> Result<(), AllocError>
+    requires valid { IsValid rows.old.items }
+    requires index { IsIndex rows.old.items nodes.old homes.old }
+    requires open { refusal_of edit rows.old.items ≡ None }
+    requires place { changed.changed_place edit rows.old.items ≡ Some place }
     ensures ok { OnOk result (rows.new.items ≡ edited_rows edit at rows.old.items) }
     ensures err { OnErr result (rows.new.items ≡ rows.old.items) }
-    ensures refused { IfSome (refusal_of edit rows.old.items) (λ e. result ≡ Err e) }
-    ensures memory { IfNone (refusal_of edit rows.old.items)
-        (IfErr result (λ e. e ≡ Refusal.Memory)) }
-    ensures in_place { grows edit ≡ false → IfNone (refusal_of edit rows.old.items) (IsOk result) }
-    ensures valid { IsValid rows.new.items }
+    ensures index { IsIndex rows.new.items nodes.new homes.new }
+    ensures in_place { grows edit ≡ false → IsOk result }
 {
     match edit {
-        Edit::SetStatus { node, status } => set_status(rows, &node, status),
-        Edit::SetAttr { node, name, value } => set_attr(rows, &node, name, value),
-        Edit::SetResStatus { resource, status } => set_resource_status(rows, &resource, status),
+        Edit::SetStatus { status, .. } => {
+            set_status(rows, place, status);
+            Ok(())
+        }
+        Edit::SetAttr { name, value, .. } => set_attr(rows, place, name, value),
+        Edit::SetResStatus { resource, status } => {
+            set_resource_status(rows, place, &resource, status);
+            Ok(())
+        }
         Edit::SetResAttr {
             resource,
             name,
             value,
-        } => set_resource_attr(rows, &resource, name, value),
-        Edit::Note { node, text } => note(rows, &node, text, at),
+        } => set_resource_attr(rows, place, &resource, name, value),
+        Edit::Note { text, .. } => append(rows, place, Audit::Notification { at, text }),
         Edit::AddNode {
-            node,
             id,
             kind,
             job_part,
             status,
-        } => add_node(alloc, rows, &node, id, kind, job_part, status),
-        Edit::AddResource { node, resource } => add_resource(rows, &node, resource),
-        Edit::AddLink { node, link } => add_link(rows, &node, link),
+            ..
+        } => add_node(alloc, rows, nodes, place, id, kind, job_part, status),
+        Edit::AddResource { resource, .. } => add_resource(rows, homes, place, resource),
+        Edit::AddLink { link, .. } => add_link(rows, place, link),
     }
+}
+
+/// Does an edit. One that puts nothing more into the rows takes no memory.
+pub fn apply(alloc: Global, rows: &mut IndexedRows, edit: Edit, at: u64) -> Result<(), Refusal>
+    requires { IsValid rows.old }
+    ensures ok { OnOk result (rows.new ≡ edited_rows edit at rows.old) }
+    ensures err { OnErr result (rows.new ≡ rows.old) }
+    ensures refused { IfSome (refusal_of edit rows.old) (λ e. result ≡ Err e) }
+    ensures memory { IfNone (refusal_of edit rows.old) (IfErr result (λ e. e ≡ Refusal.Memory)) }
+    ensures in_place { grows edit ≡ false → IfNone (refusal_of edit rows.old) (IsOk result) }
+    ensures valid { IsValid rows.new }
+{
+    let place = changed_place(rows, &edit)?;
+    rows.change(alloc, place, edit, at)?;
+    Ok(())
 }

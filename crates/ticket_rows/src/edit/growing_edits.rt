@@ -1,14 +1,23 @@
-//! The structural edits, which add to the tree.
+//! What the structural edits do, which add to the tree.
 
-ghost use Rattle.std.specs.Prelude.{◌≡◌, OnOk, OnErr, IfErr, IfNone, IfSome};
-ghost use Rattle.ticket_rows.specs.Edit.{edited_rows, refusal_of};
+ghost use Rattle.std.specs.Prelude.{◌≡◌, ◌∷◌, ◌++◌, [], ◌<◌, Some, suc, false, length, slice_get};
+ghost use Rattle.std.specs.Prelude.{ℕ, List, if◌then◌else◌, IfOk, OnErr, OnOk};
+ghost use Rattle.std.specs.List.{insert};
+ghost use Rattle.std.specs.Str.{bytes_eq};
+ghost use Rattle.indexmap.specs.IndexMap.{get};
+ghost use Rattle.ticket_items.specs.Ids.{mem};
+ghost use Rattle.ticket_items.specs.declared.node_row.NodeRow.{NodeRow};
+ghost use Rattle.ticket_rows.specs.ChangedRow.{at_place, end_behind};
 ghost use Rattle.ticket_rows.specs.Edit as edit;
-ghost use Rattle.ticket_rows.specs.Ticket.{IsValid};
+ghost use Rattle.ticket_rows.specs.Spots.{spot_at};
+ghost use Rattle.ticket_rows.specs.Ticket.{max_depth, node_ids};
 
-use crate::edit::known_rows::{open_to_child, open_to_link, open_to_resource};
+use crate::home_index::HomeIndex;
+use crate::node_index::NodeIndex;
 use crate::rows::run_end;
-use std::alloc::Global;
-use ticket_items::{Attrs, Edit, Id, Items, Link, Name, NodeRow, Refusal, Resource};
+use crate::spot::Spot;
+use std::alloc::{AllocError, Global};
+use ticket_items::{Attrs, Id, Items, Link, Name, NodeRow, Resource};
 
 /// A node without attributes, pools and audits.
 fn bare_row(alloc: Global, id: Id, kind: Name, job_part: Name, status: Name, depth: u32) -> NodeRow
@@ -27,65 +36,83 @@ fn bare_row(alloc: Global, id: Id, kind: Name, job_part: Name, status: Name, dep
     }
 }
 
-/// Puts a node last among the children of another.
+/// Where the next resource of a row's pool will stand.
+fn last_spot(row: &NodeRow) -> Result<Spot, AllocError>
+    ensures { IfOk result (λ spot. spot ≡ spot_at row.now.id (length row.now.resources)) }
+{
+    Ok(Spot {
+        home: row.id.clone()?,
+        place: row.resources.as_slice().len(),
+    })
+}
+
+/// Puts a node last among the children of the one at a place, and its id into the index of the rows.
 pub fn add_node(
     alloc: Global,
     rows: &mut Vec<NodeRow>,
-    node: &Id,
+    nodes: &mut NodeIndex,
+    place: usize,
     id: Id,
     kind: Name,
     job_part: Name,
     status: Name,
-) -> Result<(), Refusal>
-    requires { IsValid rows.old.items }
-    ensures ok { OnOk result (rows.new.items
-        ≡ edited_rows (Edit.AddNode node.now id kind job_part status) 0 rows.old.items) }
+) -> Result<(), AllocError>
+    requires within { place < length rows.old.items }
+    requires shallow { (r : NodeRow) → slice_get rows.old.items place ≡ Some r
+        → r.depth < max_depth }
+    requires index { nodes.old ≡ node_ids rows.old.items }
+    requires new { mem id (node_ids rows.old.items) ≡ false }
+    ensures ok { (r : NodeRow) → slice_get rows.old.items place ≡ Some r
+        → OnOk result (rows.new.items ≡ insert rows.old.items (end_behind rows.old.items place r)
+        (edit.bare_row id kind job_part status (suc r.depth))) }
     ensures err { OnErr result (rows.new.items ≡ rows.old.items) }
-    ensures refused { IfSome (refusal_of
-        (Edit.AddNode node.now id kind job_part status) rows.old.items) (λ e. result ≡ Err e) }
-    ensures memory { IfNone (refusal_of
-        (Edit.AddNode node.now id kind job_part status) rows.old.items) (IfErr result
-        (λ e. e ≡ Refusal.Memory)) }
-    ensures valid { IsValid rows.new.items }
+    ensures index { OnOk result (nodes.new ≡ node_ids rows.new.items) }
+    ensures index_stays { OnErr result (nodes.new ≡ nodes.old) }
 {
-    let place = open_to_child(rows.as_slice(), node, &id, &status)?;
     let end = run_end(rows.as_slice(), place);
     let depth = rows[place].depth + 1;
-    let row = bare_row(alloc, id, kind, job_part, status, depth);
-    rows.insert(end, row)?;
+    let key = id.clone()?;
+    rows.reserve(1)?;
+    nodes.insert_at(end, key)?;
+    rows.insert(end, bare_row(alloc, id, kind, job_part, status, depth))
+        .unwrap();
     Ok(())
 }
 
-/// Puts a resource last in a node's pool.
-pub fn add_resource(rows: &mut Vec<NodeRow>, node: &Id, resource: Resource) -> Result<(), Refusal>
-    requires { IsValid rows.old.items }
-    ensures ok { OnOk result (rows.new.items
-        ≡ edited_rows (Edit.AddResource node.now resource) 0 rows.old.items) }
+/// Puts a resource last in the pool of the node at a place, and where it stands into the index of
+/// resources.
+pub fn add_resource(
+    rows: &mut Vec<NodeRow>,
+    homes: &mut HomeIndex,
+    place: usize,
+    resource: Resource,
+) -> Result<(), AllocError>
+    requires { place < length rows.old.items }
+    ensures ok { OnOk result (rows.new.items ≡ at_place place
+        (λ r. record r { resources = r.resources ++ resource ∷ [] }) rows.old.items) }
     ensures err { OnErr result (rows.new.items ≡ rows.old.items) }
-    ensures refused { IfSome (refusal_of (Edit.AddResource node.now resource) rows.old.items)
-        (λ e. result ≡ Err e) }
-    ensures memory { IfNone (refusal_of (Edit.AddResource node.now resource) rows.old.items)
-        (IfErr result (λ e. e ≡ Refusal.Memory)) }
-    ensures valid { IsValid rows.new.items }
+    ensures homes { (r : NodeRow) → slice_get rows.old.items place ≡ Some r
+        → OnOk result ((x : List ℕ) → get bytes_eq homes.new x
+        ≡ (if bytes_eq resource.id x then Some (spot_at r.id (length r.resources))
+        else get bytes_eq homes.old x)) }
+    ensures homes_stay { OnErr result ((x : List ℕ)
+        → get bytes_eq homes.new x ≡ get bytes_eq homes.old x) }
 {
-    let place = open_to_resource(rows.as_slice(), node, &resource)?;
+    let key = resource.id.clone()?;
+    let spot = last_spot(&rows[place])?;
+    homes.reserve(1)?;
     rows[place].resources.push(resource)?;
+    homes.insert(key, spot).unwrap();
     Ok(())
 }
 
-/// Puts a link last in a node's pool.
-pub fn add_link(rows: &mut Vec<NodeRow>, node: &Id, link: Link) -> Result<(), Refusal>
-    requires { IsValid rows.old.items }
-    ensures ok { OnOk result (rows.new.items
-        ≡ edited_rows (Edit.AddLink node.now link) 0 rows.old.items) }
+/// Puts a link last in the pool of the node at a place.
+pub fn add_link(rows: &mut Vec<NodeRow>, place: usize, link: Link) -> Result<(), AllocError>
+    requires { place < length rows.old.items }
+    ensures ok { OnOk result (rows.new.items ≡ at_place place
+        (λ r. record r { links = r.links ++ link ∷ [] }) rows.old.items) }
     ensures err { OnErr result (rows.new.items ≡ rows.old.items) }
-    ensures refused { IfSome (refusal_of (Edit.AddLink node.now link) rows.old.items)
-        (λ e. result ≡ Err e) }
-    ensures memory { IfNone (refusal_of (Edit.AddLink node.now link) rows.old.items)
-        (IfErr result (λ e. e ≡ Refusal.Memory)) }
-    ensures valid { IsValid rows.new.items }
 {
-    let place = open_to_link(rows.as_slice(), node, &link)?;
     rows[place].links.push(link)?;
     Ok(())
 }

@@ -8,51 +8,46 @@ ghost use Rattle.ticket_rows.specs.OneRow.{MayReplaceNode, MayReplaceResource};
 ghost use Rattle.ticket_rows.specs.Ticket.{IsValid};
 
 use crate::edit::known_rows::known_node;
-use crate::last_place::LastPlace;
+use crate::indexed_rows::IndexedRows;
 use ticket_items::{Audit, Id, NodeRow, Refusal, Resource};
 
 /// Puts an audit last at a node.
-pub fn append(rows: &mut Vec<NodeRow>, node: &Id, audit: Audit) -> Result<(), Refusal>
-    requires { IsValid rows.old.items }
-    ensures ok { OnOk result (rows.new.items ≡ one.appended node.now audit rows.old.items) }
-    ensures err { OnErr result (rows.new.items ≡ rows.old.items) }
-    ensures refused { IfSome (node_refusal node.now rows.old.items) (λ e. result ≡ Err e) }
-    ensures memory { IfNone (node_refusal node.now rows.old.items)
+pub fn append(rows: &mut IndexedRows, node: &Id, audit: Audit) -> Result<(), Refusal>
+    requires { IsValid rows.old }
+    ensures ok { OnOk result (rows.new ≡ one.appended node.now audit rows.old) }
+    ensures err { OnErr result (rows.new ≡ rows.old) }
+    ensures refused { IfSome (node_refusal node.now rows.old) (λ e. result ≡ Err e) }
+    ensures memory { IfNone (node_refusal node.now rows.old)
         (IfErr result (λ e. e ≡ Refusal.Memory)) }
-    ensures valid { IsValid rows.new.items }
+    ensures valid { IsValid rows.new }
 {
-    let place = known_node(rows.as_slice(), node)?;
-    rows[place].audits.push(audit)?;
+    let place = known_node(rows, node)?;
+    rows.append(place, audit)?;
     Ok(())
 }
 
-/// Puts a node in the place of the one of its id, as deep as that one. It looks for that one from
-/// the last place on, which is then its place.
-pub fn replace_node(rows: &mut Vec<NodeRow>, last: &mut LastPlace, row: NodeRow)
-    requires valid { IsValid rows.old.items }
-    requires may { MayReplaceNode rows.old.items row }
-    ensures rows { rows.new.items ≡ one.replaced_node row rows.old.items }
-    ensures valid { IsValid rows.new.items }
+/// Puts a node in the place of the one of its id, as deep as that one.
+pub fn replace_node(rows: &mut IndexedRows, row: NodeRow)
+    requires valid { IsValid rows.old }
+    requires may { MayReplaceNode rows.old row }
+    ensures rows { rows.new ≡ one.replaced_node row rows.old }
+    ensures valid { IsValid rows.new }
 {
-    if let Some(place) = last.node(rows.as_slice(), &row.id) {
+    if let Some(place) = rows.place(&row.id) {
         let mut row = row;
-        row.depth = rows[place].depth;
-        rows[place] = row;
-        last.go_to(place, 0);
+        row.depth = rows.at(place).depth;
+        rows.replace(place, row);
     }
 }
 
-/// Puts a resource in the place of the one of its id. It looks for that one from the last place on,
-/// which is then its place.
-pub fn replace_resource(rows: &mut Vec<NodeRow>, last: &mut LastPlace, resource: Resource)
-    requires valid { IsValid rows.old.items }
-    requires may { MayReplaceResource rows.old.items resource }
-    ensures rows { rows.new.items ≡ one.replaced_resource resource rows.old.items }
-    ensures valid { IsValid rows.new.items }
+/// Puts a resource in the place of the one of its id.
+pub fn replace_resource(rows: &mut IndexedRows, resource: Resource)
+    requires valid { IsValid rows.old }
+    requires may { MayReplaceResource rows.old resource }
+    ensures rows { rows.new ≡ one.replaced_resource resource rows.old }
+    ensures valid { IsValid rows.new }
 {
-    if let Some(home) = last.home(rows.as_slice(), &resource.id) {
-        let from = last.place_in(home);
-        let place = rows[home].resources.replace(resource, from);
-        last.go_to(home, place);
+    if let Some(home) = rows.home_place(&resource.id) {
+        rows.replace_resource(home, resource);
     }
 }

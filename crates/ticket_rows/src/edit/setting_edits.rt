@@ -1,12 +1,13 @@
-//! The edits that set something of one row. They want the ids to be distinct, so that one row alone
-//! has the id; rows that are valid stay so.
+//! The edits of a part's rows that set something of one row. They want the ids to be distinct, so
+//! that one row alone has the id.
 
 ghost use Rattle.std.specs.Prelude.{◌≡◌, true, OnOk, OnErr, IfErr, IfNone, IfSome, IsOk};
 ghost use Rattle.ticket_items.specs.Ids.{are_distinct};
 ghost use Rattle.ticket_rows.specs.Edit.{edited_rows, refusal_of};
-ghost use Rattle.ticket_rows.specs.Ticket.{IsValid, ids};
+ghost use Rattle.ticket_rows.specs.Ticket.{ids};
 
-use crate::edit::known_rows::{known_home, known_node, open_to_status};
+use crate::edit::at_place;
+use crate::edit::walks::{known_home, known_node, open_to_status};
 use ticket_items::{Audit, Edit, Id, Name, NodeRow, Refusal, Text};
 
 /// Gives a node another Status.
@@ -19,10 +20,9 @@ pub fn set_status(rows: &mut Vec<NodeRow>, node: &Id, status: Name) -> Result<()
         (λ e. result ≡ Err e) }
     ensures memory { IfNone (refusal_of (Edit.SetStatus node.now status) rows.old.items)
         (IsOk result) }
-    ensures valid { IsValid rows.old.items → IsValid rows.new.items }
 {
     let place = open_to_status(rows.as_slice(), node, &status)?;
-    rows[place].status = status;
+    at_place::set_status(rows, place, status);
     Ok(())
 }
 
@@ -36,10 +36,9 @@ pub fn set_attr(rows: &mut Vec<NodeRow>, node: &Id, name: Name, value: Text) -> 
         (λ e. result ≡ Err e) }
     ensures memory { IfNone (refusal_of (Edit.SetAttr node.now name value) rows.old.items)
         (IfErr result (λ e. e ≡ Refusal.Memory)) }
-    ensures valid { IsValid rows.old.items → IsValid rows.new.items }
 {
     let place = known_node(rows.as_slice(), node)?;
-    rows[place].attrs.set(name, value)?;
+    at_place::set_attr(rows, place, name, value)?;
     Ok(())
 }
 
@@ -57,10 +56,9 @@ pub fn set_resource_status(
         (λ e. result ≡ Err e) }
     ensures memory { IfNone (refusal_of (Edit.SetResStatus resource.now status) rows.old.items)
         (IsOk result) }
-    ensures valid { IsValid rows.old.items → IsValid rows.new.items }
 {
     let home = known_home(rows.as_slice(), resource)?;
-    rows[home].resources.set_status(resource, status);
+    at_place::set_resource_status(rows, home, resource, status);
     Ok(())
 }
 
@@ -79,10 +77,9 @@ pub fn set_resource_attr(
         (λ e. result ≡ Err e) }
     ensures memory { IfNone (refusal_of (Edit.SetResAttr resource.now name value) rows.old.items)
         (IfErr result (λ e. e ≡ Refusal.Memory)) }
-    ensures valid { IsValid rows.old.items → IsValid rows.new.items }
 {
     let home = known_home(rows.as_slice(), resource)?;
-    rows[home].resources.set_attr(resource, name, value)?;
+    at_place::set_resource_attr(rows, home, resource, name, value)?;
     Ok(())
 }
 
@@ -96,9 +93,8 @@ pub fn note(rows: &mut Vec<NodeRow>, node: &Id, text: Text, at: u64) -> Result<(
         (λ e. result ≡ Err e) }
     ensures memory { IfNone (refusal_of (Edit.Note node.now text) rows.old.items)
         (IfErr result (λ e. e ≡ Refusal.Memory)) }
-    ensures valid { IsValid rows.old.items → IsValid rows.new.items }
 {
     let place = known_node(rows.as_slice(), node)?;
-    rows[place].audits.push(Audit::Notification { at, text })?;
+    at_place::append(rows, place, Audit::Notification { at, text })?;
     Ok(())
 }

@@ -1,4 +1,4 @@
-use Rattle.std.proofs.Common.{◌≡◌, sym, subst, refl, inr}
+use Rattle.std.proofs.Common.{◌≡◌, ◌∙◌, sym, subst, refl, inr}
 use Rattle.serde_json.specs.Written.{compact_text}
 use Rattle.jmf_message.specs.Decoded.{IsRefusalOf}
 use Rattle.stored_state.specs.Kept.{IsOfMessage}
@@ -17,6 +17,7 @@ returns-in-Ok-take-clause-ok g c =
         carried = subst (λ b. HasBody (g.R.Read.remaining c.args.reader.now.inner) b) (sym c.as_slice.ensures) c.in-Ok.ensures.ok;
         taken = record { message = of.message; decoded = of.decoded; holds = refl };
         saved = saved g.K.Keep.is_honest g.K.Keep.held (λ x. compact_text (g.C.Stored.state_data x)) step c.args.kept.now c.take.new.self of.holds.0 c.in-Ok-take.ensures.fresh c.in-Ok-take.ensures.honest c.in-Ok-take.ensures.held;
+        again = λ h. c.in-Ok-take.ensures.again (sym c.in-Ok-take.ensures.honest ∙ h);
         fresh = fresh_of c.in-Ok-take.taken c.args.kept.now.stale c.in-Ok-take.ensures.stale.0;
         honest = c.in-Ok-take.ensures.honest;
       },

@@ -3,6 +3,7 @@ use Rattle.ticket_items.specs.Ids.{mem}
 use Rattle.ticket_items.specs.declared.refusal.Refusal.TheVariants.{Memory, UnknownWorker}
 use Rattle.spawn.proofs.Lawful.{placed}
 use Rattle.spawn.specs.Spawning.{spawn_refusal}
+use Rattle.master_core.proofs.HoldersKept.{on_ok}
 use Rattle.master_core.proofs.Passing.{behind_test, done_free}
 use Rattle.master_core.specs.Master.{is_of, known, next_number, record_of}
 use Rattle.master_core.specs.Orders.{edit_refusal, order_refusal}
@@ -32,7 +33,7 @@ submit_of-requires-clause-good c =
     let s = c.in-Resend.spawn in
     let r = c.in_ok-record-in-Resend.record.now in
     let own = c.in_ok-record-in-Resend.ensures.found in
-    let found : record_of records s ≡ Some r = ap (λ rs. record_of rs s) (sym c.as_slice-in-Resend.ensures.value) ∙ own.1 in
+    let found : record_of records s ≡ Some r = ap (λ rs. record_of rs s) (sym c.as_slice.ensures.value) ∙ own.1 in
     let place = placed (is_of s) records r found in
     c.requires.apart.good place.place r place.there own.0
 
@@ -42,9 +43,8 @@ returns-in-Edit-clause-free c =
     let workers = c.args.workers.now in
     let ticket = c.args.ticket.now in
     let w = known name workers ticket c.args.records.now.items in
-    let seen = known name workers ticket c.as_slice.result.now in
-    let same : edit_refusal c.in-Edit.edit seen ≡ order_refusal c.args.order w = ap (λ rs. edit_refusal c.in-Edit.edit (known name workers ticket rs)) c.as_slice.ensures.value ∙ sym (ap (λ o. order_refusal o w) c.in-Edit.is) in
-    subst (λ o. OnOk c.do_edit.result (o ≡ None)) same (done_free (edit_refusal c.in-Edit.edit seen) c.do_edit.result (c.do_edit.ensures.refused name workers))
+    let same : edit_refusal c.in-Edit.edit w ≡ order_refusal c.args.order w = sym (ap (λ o. order_refusal o w) c.in-Edit.is) in
+    subst (λ o. OnOk c.do_edit.result (o ≡ None)) same (done_free (edit_refusal c.in-Edit.edit w) c.do_edit.result (c.do_edit.ensures.refused name workers c.args.records.now.items c.requires.table))
 
 pub returns-in-Edit-clause-refused : goal.returns-in-Edit-clause-refused
 returns-in-Edit-clause-refused c =
@@ -52,9 +52,8 @@ returns-in-Edit-clause-refused c =
     let workers = c.args.workers.now in
     let ticket = c.args.ticket.now in
     let w = known name workers ticket c.args.records.now.items in
-    let seen = known name workers ticket c.as_slice.result.now in
-    let same : edit_refusal c.in-Edit.edit seen ≡ order_refusal c.args.order w = ap (λ rs. edit_refusal c.in-Edit.edit (known name workers ticket rs)) c.as_slice.ensures.value ∙ sym (ap (λ o. order_refusal o w) c.in-Edit.is) in
-    subst (λ o. IfSome o (λ e. c.do_edit.result ≡ Err e)) same (c.do_edit.ensures.refused name workers)
+    let same : edit_refusal c.in-Edit.edit w ≡ order_refusal c.args.order w = sym (ap (λ o. order_refusal o w) c.in-Edit.is) in
+    subst (λ o. IfSome o (λ e. c.do_edit.result ≡ Err e)) same (c.do_edit.ensures.refused name workers c.args.records.now.items c.requires.table)
 
 pub returns-in-Edit-clause-memory : goal.returns-in-Edit-clause-memory
 returns-in-Edit-clause-memory c =
@@ -62,6 +61,11 @@ returns-in-Edit-clause-memory c =
     let workers = c.args.workers.now in
     let ticket = c.args.ticket.now in
     let w = known name workers ticket c.args.records.now.items in
-    let seen = known name workers ticket c.as_slice.result.now in
-    let same : edit_refusal c.in-Edit.edit seen ≡ order_refusal c.args.order w = ap (λ rs. edit_refusal c.in-Edit.edit (known name workers ticket rs)) c.as_slice.ensures.value ∙ sym (ap (λ o. order_refusal o w) c.in-Edit.is) in
-    subst (λ o. IfNone o (IfErr c.do_edit.result (λ e. e ≡ Memory))) same (c.do_edit.ensures.memory name workers)
+    let same : edit_refusal c.in-Edit.edit w ≡ order_refusal c.args.order w = sym (ap (λ o. order_refusal o w) c.in-Edit.is) in
+    subst (λ o. IfNone o (IfErr c.do_edit.result (λ e. e ≡ Memory))) same (c.do_edit.ensures.memory name workers c.args.records.now.items c.requires.table)
+
+pub do_edit-requires : goal.do_edit-requires
+do_edit-requires c = (c.args.records.now.items, c.requires.table)
+
+pub returns-in-Edit-clause-table : goal.returns-in-Edit-clause-table
+returns-in-Edit-clause-table c = on_ok c.do_edit.result c.do_edit.ensures.table (λ kept. kept c.args.records.now.items c.requires.valid c.requires.apart c.requires.table)

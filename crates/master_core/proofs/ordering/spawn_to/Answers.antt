@@ -13,4 +13,4 @@ returns-in_err-id-clause-refused c =
     let same : is_spawn_number c.next_number-number.result ≡ is_spawn_number (next_number records) =
     c.next_number-number.ensures.valid ∙ ap (λ rs. is_spawn_number (next_number rs)) c.as_slice.ensures.value in
     let alike = refused_alike rows records c.next_number-number.result (next_number records) c.args.node c.args.rw same in
-    subst (λ o. IfSome o (λ r. c.from_residual.result ≡ Err r)) alike (refused_through (spawn_refusal rows records c.next_number-number.result c.args.node c.args.rw) c.spawn.result c.from_residual.result c.in_err-id.field-0.0 c.spawn.ensures.refused c.in_err-id.was c.from_residual.ensures.1)
+    subst (λ o. IfSome o (λ r. c.from_residual.result ≡ Err r)) alike (refused_through (spawn_refusal rows records c.next_number-number.result c.args.node c.args.rw) c.spawn_by_table.result c.from_residual.result c.in_err-id.field-0.0 c.spawn_by_table.ensures.refused c.in_err-id.was c.from_residual.ensures.1)

@@ -126,6 +126,14 @@ pub returns-in-BadPart : goal.returns-in-BadPart
 unfolding digits
 returns-in-BadPart c = rw c.in-BadPart.is refl
 
+pub returns-in-Acknowledged : goal.returns-in-Acknowledged
+unfolding digits
+returns-in-Acknowledged c = rw c.in-Acknowledged.is refl
+
+pub returns-in-Declined : goal.returns-in-Declined
+unfolding digits
+returns-in-Declined c = rw c.in-Declined.is refl
+
 pub returns-in-BadState : goal.returns-in-BadState
 unfolding digits
 returns-in-BadState c = rw c.in-BadState.is refl

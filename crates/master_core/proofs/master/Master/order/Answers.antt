@@ -1,6 +1,7 @@
 use Rattle.std.proofs.Common.{◌≡◌, ◌∙◌, Err, IfErr, IfNone, IfSome, sym, ap, subst}
 use Rattle.ticket_items.specs.declared.refusal.Refusal.TheVariants.{Memory}
 use Rattle.controller.proofs.Answered.{made_so, replies_so}
+use Rattle.master_core.proofs.HoldersKept.{table_done}
 use Rattle.master_core.proofs.Kept.{kept_done}
 use Rattle.master_core.specs.Master.{IsKept, known}
 use Rattle.master_core.specs.Orders.{order_message, order_refusal, order_reply, ordered}
@@ -12,9 +13,12 @@ invariant_of-self c =
     let ticket = c.self.inside.ticket in
     let records = c.self.inside.records.items in
     let seen = known name c.as_slice.result.now ticket records in
-    let kept : IsKept seen = subst (λ ws. IsKept (known name ws ticket records)) (sym c.as_slice.ensures) c.self.invariant in
-    subst (λ ws. IsKept (known name ws c.do_order.new.ticket c.do_order.new.records.items)) c.as_slice.ensures
-    (kept_done c.do_order.result c.args.order c.args.at seen c.do_order.new.ticket c.do_order.new.records.items c.do_order.ensures.state c.do_order.ensures.ticket_stays c.do_order.ensures.records_stay c.do_order.ensures.free kept)
+    let kept : IsKept seen = subst (λ ws. IsKept (known name ws ticket records)) (sym c.as_slice.ensures) c.self.invariant.kept in
+    record {
+      kept = subst (λ ws. IsKept (known name ws c.do_order.new.ticket c.do_order.new.records.items)) c.as_slice.ensures
+          (kept_done c.do_order.result c.args.order c.args.at seen c.do_order.new.ticket c.do_order.new.records.items c.do_order.ensures.state c.do_order.ensures.ticket_stays c.do_order.ensures.records_stay c.do_order.ensures.free kept);
+      table = table_done c.do_order.result seen c.do_order.new.ticket c.do_order.new.records.items c.self.inside.holders c.do_order.new.holders c.do_order.ensures.table c.do_order.ensures.ticket_stays c.do_order.ensures.records_stay c.do_order.ensures.holders_stay c.self.invariant.table;
+    }
 
 -- the master as the order finds it
 found_so : (c : goal.After-do_order) → known c.self.inside.name c.as_slice.result.now c.self.inside.ticket c.self.inside.records.items ≡ c.args.self.now

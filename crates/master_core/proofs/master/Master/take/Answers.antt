@@ -1,6 +1,7 @@
 use Rattle.std.proofs.Common.{◌≡◌, ◌∙◌, cond, is_some, sym, ap}
 use Rattle.controller.specs.Reply.{answer_to, refused_or, told_of}
 use Rattle.controller.specs.Step.{outcome_step}
+use Rattle.master_core.proofs.HoldersKept.{table_done}
 use Rattle.master_core.proofs.Kept.{kept_told}
 use Rattle.master_core.proofs.Merging.{fit_of}
 use Rattle.master_core.proofs.Passing.{no_refusal, of_both}
@@ -20,7 +21,10 @@ invariant_of-self c =
     let w = known c.self.inside.name c.self.inside.workers c.self.inside.ticket c.self.inside.records.items in
     let m = c.args.message in
     let told : c.is_some-refused.result ≡ is_some (take_refusal m w) = c.is_some-refused.ensures ∙ ap is_some (c.refusal_of-refusal.ensures ∙ sym (ap (take_refusal m) c.self.view_is)) in
-    kept_told c.take_unless.result c.is_some-refused.result m c.args.at w c.take_unless.new.ticket c.take_unless.new.records.items told (c.take_unless.ensures.ok c.self.inside.name c.self.inside.workers) c.take_unless.ensures.ticket_stays c.take_unless.ensures.records_stay c.take_unless.ensures.valid c.self.invariant
+    record {
+      kept = kept_told c.take_unless.result c.is_some-refused.result m c.args.at w c.take_unless.new.ticket c.take_unless.new.records.items told (c.take_unless.ensures.ok c.self.inside.name c.self.inside.workers) c.take_unless.ensures.ticket_stays c.take_unless.ensures.records_stay c.take_unless.ensures.valid c.self.invariant.kept;
+      table = table_done c.take_unless.result w c.take_unless.new.ticket c.take_unless.new.records.items c.self.inside.holders c.take_unless.new.holders c.take_unless.ensures.table c.take_unless.ensures.ticket_stays c.take_unless.ensures.records_stay c.take_unless.ensures.holders_stay c.self.invariant.table;
+    }
 
 pub returns-in-Ok-clause-ok : goal.returns-in-Ok-clause-ok
 returns-in-Ok-clause-ok c =

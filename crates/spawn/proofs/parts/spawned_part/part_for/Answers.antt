@@ -4,9 +4,9 @@ use Rattle.std.proofs.lemmas.Bool.{true≢false}
 use Rattle.std.specs.Option.{option_map}
 use Rattle.ticket_tree.specs.Part.{copied}
 use Rattle.ticket_rows.specs.Copies.{with_copies}
-use Rattle.ticket_rows.specs.Ticket.{fault_of}
+use Rattle.ticket_rows.specs.Ticket.{IsValid}
 use Rattle.spawn.proofs.GoodCopies.{good_node}
-use Rattle.spawn.proofs.PartFor.{below_rows, bounds_apart, part_is, no_fault, memory_alone}
+use Rattle.spawn.proofs.PartFor.{below_rows, bounds_apart, part_is, part_stands}
 use Rattle.spawn.proofs.Split.{around}
 use Rattle.spawn.specs.Parts.{as_ancestor, lifted, resources_among, way_from}
 use Rattle.spawn.proofs.parts.spawned_part.part_for.Goals as goal
@@ -44,8 +44,8 @@ returns-clause-ok c =
     ∙ part_is t r from to it.depth valid c.in-Some.ensures.found at deep)
     c.part_at.ensures.ok
 
-pub returns-clause-memory : goal.returns-clause-memory
-returns-clause-memory c =
+pub part_at-requires : goal.part_at-requires
+part_at-requires c =
     let t = c.args.ticket.now in
     let r = c.args.spawn.now in
     let from = c.in-Some.from in
@@ -59,4 +59,4 @@ returns-clause-memory c =
     let same =
     ap (λ rs. with_copies (map (lifted (it.depth - 1)) rs) (resources_among r.rw it.rows.now) r.ro) (found.2 ∙ ap (λ rs. take (to - from) (drop from rs)) seen)
     ∙ ap (λ rs. with_copies (below_rows t.rows from to it.depth) (resources_among r.rw rs) r.ro) (found.0 ∙ seen) in
-    memory_alone c.part_at.result _ (ap fault_of same ∙ no_fault t.rows r from to it.depth valid c.requires.good c.in-Some.ensures.found at deep) c.part_at.ensures.err
+    subst IsValid (sym same) (part_stands t.rows r from to it.depth valid c.requires.good c.in-Some.ensures.found at deep)

@@ -1,13 +1,13 @@
 use Rattle.std.proofs.Common.{◌∙◌, ℕ, List, map, refl}
-use Rattle.std.proofs.lemmas.Bool.{and_parts}
+use Rattle.std.proofs.lemmas.Bool.{and_from, and_parts}
 use Rattle.ticket_items.specs.Names.{is_name}
 use Rattle.json_items.proofs.Tests.{all_mapped, all_true}
 use Rattle.controller_form.proofs.openings.master_opening.MasterOpeningChecked.build_known.Goals as goal
 
--- the names of the workers are among those that are asked for
-pub build-requires-2 : goal.build-requires-2
-build-requires-2 c κs =
+-- the names are among those that are asked for
+pub build_two-requires : goal.build_two-requires
+build_two-requires c κs =
     let workers = c.args.self.now.shop.workers in
-    let names = (and_parts _ _ (and_parts _ _ c.requires.names).0).1 in
-    let named = all_mapped is_name (λ (x : List ℕ). x) workers ∙ names in
+    let names = and_parts _ _ (and_parts _ _ c.requires.names).0 in
+    let named = and_from _ _ names.0 (all_mapped is_name (λ (x : List ℕ). x) workers ∙ names.1) in
     ((refl, tt), (named, all_true (map (λ (x : List ℕ). x) workers)))

@@ -1,5 +1,5 @@
 use Rattle.std.proofs.Common.{◌≡◌, ◌∙◌, inr, ℕ, List, true, map, refl, sym, ap}
-use Rattle.std.proofs.lemmas.Bool.{and_parts}
+use Rattle.std.proofs.lemmas.Bool.{and_from, and_parts}
 use Rattle.std.specs.List.{list_all}
 use Rattle.ticket_items.specs.Names.{is_name}
 use Rattle.json_shapes.specs.Form.{built_fault}
@@ -28,20 +28,21 @@ build_spawns-requires-clause-texts c =
     ∙ sym (all_mapped record_has_texts drafted_record c.args.self.now.records)
     ∙ (and_parts _ _ c.requires.texts).1
 
--- the names of the workers are among those that are asked for
-pub build-requires-2 : goal.build-requires-2
-build-requires-2 c κs =
+-- the names are among those that are asked for
+pub build_two-requires : goal.build_two-requires
+build_two-requires c κs =
     let workers = c.args.self.now.workers in
-    let names = (and_parts _ _ (and_parts _ _ (and_parts _ _ c.requires.names).0).0).1 in
-    let named = all_mapped is_name (λ (x : List ℕ). x) workers ∙ names in
+    let names = and_parts _ _ (and_parts _ _ (and_parts _ _ c.requires.names).0).0 in
+    let named = and_from _ _ names.0 (all_mapped is_name (λ (x : List ℕ). x) workers ∙ names.1) in
     ((refl, tt), (named, all_true (map (λ (x : List ℕ). x) workers)))
 
 -- the parts are those of the draft
-parts : (c : goal.After-of_parts) → known c.in_ok-name.name c.in_ok-workers.workers c.in_ok-ticket.ticket c.in_ok-spawns.spawns.items ≡ master_in (drafted_master c.args.self.now)
+parts : (c : goal.After-of_parts) → known c.in_ok-name.name c.in_ok-name.workers c.in_ok-ticket.ticket c.in_ok-spawns.spawns.items ≡ master_in (drafted_master c.args.self.now)
 parts c =
-    let workers = c.in_ok-workers.ensures.ok ∙ themselves c.args.self.now.workers in
+    let named = c.in_ok-name.ensures.ok in
+    let workers = ap (λ p. p.1) named ∙ themselves c.args.self.now.workers in
     let spawns = c.in_ok-spawns.ensures.ok ∙ ap (map (λ d. (drafted_record d).spawn)) c.as_slice-2.ensures ∙ spawns_drafted c.args.self.now.records in
-    λ i. known (c.in_ok-name.ensures.ok i) (workers i) (c.in_ok-ticket.ensures.ok i) (spawns i)
+    λ i. known (named i).0 (workers i) (c.in_ok-ticket.ensures.ok i) (spawns i)
 
 -- its copies show nothing
 bare : (c : goal.After-of_parts) → list_all (λ (r : StoredRecord). r.bare) (map drafted_record c.args.self.now.records) ≡ true

@@ -1,0 +1,25 @@
+//! From a case to what comes of it.
+
+use crate::case::Case;
+use crate::exchanges::exchange_answer;
+use crate::other::other_answer;
+use crate::program::program_answer;
+use keepers::Locks;
+use std::alloc::{AllocError, Global};
+use std::net::Net;
+use std::time::Clock;
+
+/// What comes of a case.
+pub fn answer<R: Locks + Net + Clock>(
+    rt: &R,
+    alloc: Global,
+    case: &Case,
+) -> Result<Vec<u8>, AllocError> {
+    if let Some(answer) = exchange_answer(rt, alloc, case)? {
+        return Ok(answer);
+    }
+    match other_answer(rt, alloc, case)? {
+        Some(answer) => Ok(answer),
+        None => program_answer(rt, alloc, case),
+    }
+}

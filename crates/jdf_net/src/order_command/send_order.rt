@@ -1,0 +1,10 @@
+/// An order whose message is sent on.
+#[derive(Clone, Copy)]
+pub struct SendOrder<'a> {
+    /// The path of the file that the controller is kept in.
+    pub file: &'a str,
+    /// The time of the order and of the answer, in seconds since 1970.
+    pub at: u64,
+    /// The address of the other controller, as a URL.
+    pub url: &'a str,
+}

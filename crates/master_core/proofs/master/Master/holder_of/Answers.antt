@@ -1,0 +1,6 @@
+use Rattle.std.proofs.Common.{◌∙◌, ap}
+use Rattle.master_core.specs.Master.{holder}
+use Rattle.master_core.proofs.master.Master.holder_of.Goals as goal
+
+pub returns : goal.returns
+returns c = c.get.ensures ∙ c.self.invariant.table.same c.args.id.now ∙ ap (λ w. holder w c.args.id.now) c.self.view_is

@@ -1,0 +1,15 @@
+use Rattle.std.proofs.Common.{◌∙◌, ap, refl, slice_set}
+use Rattle.ticket_items.specs.Attrs.{with_attr}
+use Rattle.ticket_rows.proofs.Changes.{change_pool_at, home_at_place, pool_apart}
+use Rattle.ticket_rows.proofs.edit.at_place.set_resource_attr.Goals as goal
+
+pub set_attr-requires : goal.set_attr-requires
+set_attr-requires c =
+    let s = c.index_mut.result.now in
+    pool_apart c.args.rows.now.items c.args.home s c.requires.distinct (home_at_place c.args.resource.now c.args.rows.now.items _ c.args.home s refl c.requires.home c.index_mut.ensures.value)
+
+pub returns-clause-ok : goal.returns-clause-ok
+returns-clause-ok c =
+    let s = c.index_mut.result.now in
+    ap (λ pool. slice_set c.args.rows.now.items c.args.home (record s { resources = pool })) c.in_ok-set_attr.ensures.ok
+    ∙ change_pool_at c.args.resource.now (λ y. record y { attrs = with_attr c.args.name c.args.value y.attrs }) c.args.rows.now.items _ c.args.home s refl c.requires.distinct c.requires.home c.index_mut.ensures.value

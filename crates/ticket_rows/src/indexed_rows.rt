@@ -1,0 +1,242 @@
+use crate::edit::{at_place, edits};
+use crate::home_index::{HomeIndex, homes_of};
+use crate::node_index::NodeIndex;
+use crate::pools::resource_at;
+use crate::rows::run_end;
+use crate::spot::Spot;
+use std::alloc::{AllocError, Global};
+use std::marker::Model;
+use ticket_items::{Audit, Duplicate, Edit, Id, NodeRow, Resource, copies};
+
+/// The nodes of a ticket in preorder. Each node and each resource is found by its id without a walk.
+#[derive(Drop)]
+pub struct IndexedRows {
+    rows: Vec<NodeRow>,
+    nodes: NodeIndex,
+    homes: HomeIndex,
+}
+
+impl Model for IndexedRows {
+    ghost use Rattle.std.specs.Prelude.{List};
+    ghost use Rattle.ticket_items.specs.declared.node_row.NodeRow.{NodeRow};
+    ghost use Rattle.ticket_rows.specs.Spots.{IsIndex};
+
+    ghost Value = { List NodeRow };
+
+    ghost view = { λ a. a.rows.items };
+
+    ghost invariant = { λ a. IsIndex a.rows.items a.nodes a.homes };
+}
+
+impl IndexedRows {
+    ghost use Rattle.std.specs.Prelude.{◌≡◌, ◌∷◌, ◌++◌, [], ◌<◌, None, Some, false, true, length};
+    ghost use Rattle.std.specs.Prelude.{is_some, slice_get, slice_set, IfOk, IfSome, IsOk, OnErr};
+    ghost use Rattle.std.specs.Prelude.{OnOk, slice_index_or};
+    ghost use Rattle.std.specs.List.{list_any, position};
+    ghost use Rattle.std.specs.Option.{option_copied, option_map};
+    ghost use Rattle.std.specs.Str.{bytes_eq};
+    ghost use Rattle.ticket_items.specs.Ids.{are_distinct, mem};
+    ghost use Rattle.ticket_rows.specs.ChangedRow.{at_place, changed_place};
+    ghost use Rattle.ticket_rows.specs.Edit.{edited_rows, grows, refusal_of};
+    ghost use Rattle.ticket_rows.specs.Homes as homes;
+    ghost use Rattle.ticket_rows.specs.OneRow as one;
+    ghost use Rattle.ticket_rows.specs.Place.{BoundsNodesBelow, node_places};
+    ghost use Rattle.ticket_rows.specs.Place as tree;
+    ghost use Rattle.ticket_rows.specs.Spots.{pool_of, spot_of};
+    ghost use Rattle.ticket_rows.specs.Ticket.{IsValid, has_node, ids, row_of};
+
+    /// These nodes, where each id stands once.
+    pub fn of(alloc: Global, rows: Vec<NodeRow>) -> Result<IndexedRows, AllocError>
+        requires { are_distinct (ids rows.items) ≡ true }
+        ensures { IfOk result (λ indexed. indexed ≡ rows.items) }
+    {
+        let nodes = NodeIndex::of(alloc, rows.as_slice())?;
+        let homes = homes_of(alloc, rows.as_slice())?;
+        Ok(IndexedRows { rows, nodes, homes })
+    }
+
+    /// The nodes as a slice.
+    pub fn as_slice(&self) -> &[NodeRow]
+        ensures { result.now ≡ self.now }
+    {
+        self.rows.as_slice()
+    }
+
+    /// Where the row of a node stands.
+    pub fn place(&self, id: &Id) -> Option<usize>
+        ensures { result ≡ position (λ r. bytes_eq r.id id.now) self.now }
+    {
+        self.nodes.place(id)
+    }
+
+    /// The row at a place.
+    pub(crate) fn at(&self, place: usize) -> &NodeRow
+        requires { place < length self.now }
+        ensures { result.now ≡ slice_index_or self.now place result.now }
+    {
+        &self.rows[place]
+    }
+
+    /// Where the resource of an id stands.
+    fn spot(&self, id: &Id) -> Option<&Spot>
+        ensures { option_copied result ≡ spot_of self.now id.now }
+    {
+        self.homes.get(id)
+    }
+
+    /// Where the row stands in whose pool the resource of an id is.
+    pub(crate) fn home_place(&self, id: &Id) -> Option<usize>
+        requires { IsValid self.now }
+        ensures { result ≡ position
+            (λ r. list_any (λ x. bytes_eq x.id id.now) r.resources) self.now }
+    {
+        match self.spot(id) {
+            None => None,
+            Some(spot) => self.place(&spot.home),
+        }
+    }
+
+    /// The resource of an id.
+    pub fn resource(&self, id: &Id) -> Option<&Resource>
+        requires { IsValid self.now }
+        ensures { option_copied result ≡ homes.resource_of self.now id.now }
+    {
+        match self.spot(id) {
+            None => None,
+            Some(spot) => match self.place(&spot.home) {
+                None => None,
+                Some(home) => resource_at(self.at(home), spot.place),
+            },
+        }
+    }
+
+    /// The id of the node in whose pool the resource of an id is.
+    pub fn home_of(&self, id: &Id) -> Option<&Id>
+        ensures { option_copied result ≡ homes.home_of self.now id.now }
+    {
+        match self.spot(id) {
+            None => None,
+            Some(spot) => Some(&spot.home),
+        }
+    }
+
+    /// Whether a node or a resource has the id.
+    pub(crate) fn has_id(&self, id: &Id) -> bool
+        ensures { result ≡ mem id.now (ids self.now) }
+    {
+        self.place(id).is_some() || self.spot(id).is_some()
+    }
+
+    /// The row of a node.
+    pub fn node(&self, id: &Id) -> Option<&NodeRow>
+        ensures { option_copied result ≡ row_of self.now id.now }
+    {
+        match self.place(id) {
+            None => None,
+            Some(place) => Some(self.at(place)),
+        }
+    }
+
+    /// Where the nodes below a node stand, itself among them: the first row, and the end.
+    pub fn subtree(&self, id: &Id) -> Option<(usize, usize)>
+        requires { IsValid self.now }
+        ensures found { IfSome result (λ b. BoundsNodesBelow self.now id.now b.0 b.1) }
+        ensures known { is_some result ≡ has_node self.now id.now }
+    {
+        match self.place(id) {
+            None => None,
+            Some(from) => Some((from, run_end(self.as_slice(), from))),
+        }
+    }
+
+    /// Whether the node `lower` is `upper` or below it.
+    pub fn is_below(&self, lower: &Id, upper: &Id) -> bool
+        requires { IsValid self.now }
+        ensures { result ≡ tree.is_below (node_places self.now) lower.now upper.now }
+    {
+        match self.subtree(upper) {
+            None => false,
+            Some((from, to)) => match self.place(lower) {
+                None => false,
+                Some(place) => from <= place && place < to,
+            },
+        }
+    }
+
+    /// Does an edit that isn't refused, whose place is known. Without memory nothing changes.
+    pub(crate) fn change(
+        &mut self,
+        alloc: Global,
+        place: usize,
+        edit: Edit,
+        at: u64,
+    ) -> Result<(), AllocError>
+        requires valid { IsValid self.old }
+        requires open { refusal_of edit self.old ≡ None }
+        requires place { changed_place edit self.old ≡ Some place }
+        ensures ok { OnOk result (self.new ≡ edited_rows edit at self.old) }
+        ensures err { OnErr result (self.new ≡ self.old) }
+        ensures in_place { grows edit ≡ false → IsOk result }
+    {
+        edits::change(
+            alloc,
+            &mut self.rows,
+            &mut self.nodes,
+            &mut self.homes,
+            place,
+            edit,
+            at,
+        )
+    }
+
+    /// Puts an audit last at the node at a place. Without memory nothing changes.
+    pub(crate) fn append(&mut self, place: usize, audit: Audit) -> Result<(), AllocError>
+        requires { place < length self.old }
+        ensures ok { OnOk result (self.new
+            ≡ at_place place (λ r. record r { audits = r.audits ++ audit ∷ [] }) self.old) }
+        ensures err { OnErr result (self.new ≡ self.old) }
+    {
+        at_place::append(&mut self.rows, place, audit)
+    }
+
+    /// Puts a row in the place of another of its id, with a pool of the same ids.
+    pub(crate) fn replace(&mut self, place: usize, row: NodeRow)
+        requires { option_map pool_of (slice_get self.old place) ≡ Some (pool_of row) }
+        ensures { self.new ≡ slice_set self.old place row }
+    {
+        self.rows[place] = row;
+    }
+
+    /// Puts a resource in the place of the one of its id, which is in the pool of the row at a
+    /// place.
+    pub(crate) fn replace_resource(&mut self, home: usize, resource: Resource)
+        requires distinct { are_distinct (ids self.old) ≡ true }
+        requires home { position (λ r. list_any (λ x. bytes_eq x.id resource.id) r.resources)
+            self.old ≡ Some home }
+        ensures { self.new ≡ one.replaced_resource resource self.old }
+    {
+        let from = self
+            .homes
+            .get(&resource.id)
+            .map_or(0, |spot| spot.place);
+        at_place::replace_resource(&mut self.rows, home, from, resource);
+    }
+}
+
+impl Clone for IndexedRows {
+    ghost use Rattle.std.specs.Prelude.{◌≡◌};
+
+    ghost is_clone = { λ rows copied. copied ≡ rows };
+
+    fn clone(&self) -> Result<IndexedRows, AllocError> {
+        Ok(IndexedRows {
+            rows: copies(*self.rows.allocator(), self.rows.as_slice())?,
+            nodes: self.nodes.clone()?,
+            homes: self.homes.clone()?,
+        })
+    }
+}
+
+impl Duplicate for IndexedRows {
+    ghost equal = { λ _ _ same. same };
+}
