@@ -30,7 +30,7 @@ OTHER, LESS = b"\x75", b"\x72"
 # So many runs in a row that end well show that there are no more allocations.
 ENOUGH = 20
 CRATE = os.path.join(os.path.dirname(processes.HERE), "crates/jdf_cli")
-STATE = '{"Format":1,"Worker":{"Entries":[],"Master":"mis","Name":"press"}}'
+STATE = '{"Format":2,"Worker":{"Entries":[],"Master":"mis","Name":"press"}}'
 
 
 def built():

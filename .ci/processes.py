@@ -534,17 +534,21 @@ def an_order_goes_out_and_its_answer_is_taken():
         given = ("order", "mis", "--at", AT, "--send", press.url())
         wants(run(*given, given=cover), (0, "Spawned S1\nNoted S1\n", ""))
         wants(run("show", "press")[1].split(" ")[:2], ["S1", "Open"])
-        given = ("order", "press", "--at", AT, "--send", mis.url())
-        wants(run(*given, given=finish), (0, "Finished S1\nAcked S1\n", ""))
-        wants(run(*given, given=finish)[:2], (1, "Refused 31 NotOpen\n"))
+    given = ("order", "press", "--at", AT, "--send", mis.url())
+    wants(run(*given, given=finish), (4, "Finished S1\n", "Refused 61 NoConnection\n"))
     resend = json.dumps({"Order": "Resend", "SpawnID": "S1"})
-    wants(run(*given, given=resend), (4, "Sent S1\n", "Refused 61 NoConnection\n"))
     with Served("bindery") as other:
         given = ("order", "press", "--at", AT, "--send", other.url())
         wants(run(*given, given=resend), (1, "Sent S1\nRefused 21 WrongSender\n", ""))
         os.rename("bindery", "away")
         told = "Refused by the controller: 503\n"
         wants(run(*given, given=resend), (1, "Sent S1\n", told))
+    with Served("mis") as mis:
+        given = ("order", "press", "--at", AT, "--send", mis.url())
+        wants(run(*given, given=resend), (0, "Sent S1\nAcked S1\n", ""))
+        wants(run("show", "press"), (0, "S1 Closed Completed\n", ""))
+        wants(run(*given, given=resend)[:2], (1, "Refused 37 Acknowledged\n"))
+        wants(run(*given, given=finish)[:2], (1, "Refused 31 NotOpen\n"))
 
 
 def orders_beside_a_server_lose_nothing():

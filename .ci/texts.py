@@ -211,17 +211,27 @@ def part(chance, wording="Waiting"):
 
 
 def state(chance, kind):
-    """The state of a controller."""
+    """The state of a controller, in either format."""
+    form = chance.choice((1, 2))
     if kind == "master":
         spawns = [OUT] if chance.random() < 0.7 else []
         spawns = [dict(OUT, Phase="Merged")] if chance.random() < 0.2 else spawns
-        return dump(chance, {"Format": 1, "Master": {
+        return dump(chance, {"Format": form, "Master": {
             "Name": "mis", "Spawns": spawns, "Ticket": JOB, "Workers": ["press", "bind"]}})
-    phase = chance.choice(("Open", "Completed", "Aborted"))
-    worked = part(chance, "Waiting" if phase == "Open" else phase)
-    entries = [{"At": 110, "Part": worked, "Phase": phase}] if chance.random() < 0.8 else []
-    return dump(chance, {"Format": 1, "Worker": {
+    entries = [entry(chance, form)] if chance.random() < 0.8 else []
+    return dump(chance, {"Format": form, "Worker": {
         "Entries": entries, "Master": "mis", "Name": "press"}})
+
+
+def entry(chance, form):
+    """A worker's entry of the printing; in the second format its part may be given up."""
+    phase = chance.choice(("Open", "Completed", "Aborted"))
+    own = {"At": 110, "Part": part(chance, "Waiting" if phase == "Open" else phase), "Phase": phase}
+    if form == 1:
+        return own
+    if phase != "Open" and chance.random() < 0.5:
+        return {"At": 110, "End": phase, "ID": "S1", "Phase": "Closed"}
+    return dict(own, ID="S1")
 
 
 def opening(chance):

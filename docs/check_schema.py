@@ -125,7 +125,7 @@ class Schema:
         return type(value) is type(rule["const"]) and value == rule["const"]
 
     def enum_(self, value, rule):
-        return value in rule["enum"]
+        return any(type(value) is type(x) and value == x for x in rule["enum"])
 
     def pattern_(self, value, rule):
         pattern = re.sub(r"\$$", r"\\Z", rule["pattern"])

@@ -20,10 +20,12 @@ use Rattle.master_core.specs.Master.{Known, known}
 use Rattle.master_core.specs.Stored.{is_master}
 use Rattle.controller_form.specs.States.MasterForm.{RawMaster, judged_master, master_built_fault, master_data}
 use Rattle.controller_form.specs.States.MasterForm.{master_draft, master_has_names, master_has_texts}
-use Rattle.controller_form.specs.States.MasterForm.{master_in, master_state_data, master_state_read, records_are_bare}
+use Rattle.controller_form.specs.States.MasterForm.{master_in, master_state_in, master_state_read, records_are_bare}
 use Rattle.controller_form.specs.States.RecordForm.{record_has_names, record_has_texts}
 use Rattle.controller_form.specs.States.RecordForm.{spawn_has_names, spawn_has_texts}
 use Rattle.controller_form.specs.States.Writable.{IsWritableMaster}
+use Rattle.controller_form.specs.declared.states.format.Format.{Format}
+use Rattle.controller_form.specs.declared.states.format.Format.TheVariants.{First, Second}
 use Rattle.controller_form.proofs.Reading.{IsSoundDraft, all_pass, nothing_wrong, sound_draft}
 use Rattle.controller_form.proofs.RecordAgain.{bare, records_again}
 
@@ -85,5 +87,7 @@ judged m known' =
     ∙ ap (λ f. sound f (master_in (raw m t))) (nothing_wrong _ _ _ names texts built)
     ∙ ap (λ k. Ok k) is
 
-pub master_again : (m : Known) → IsWritableMaster m → master_state_read (master_state_data m) ≡ Ok m
-master_again m known' = judged m known'
+-- in either format
+pub master_again : (format : Format) (m : Known) → IsWritableMaster m → master_state_read (master_state_in format m) ≡ Ok m
+master_again First m known' = judged m known'
+master_again Second m known' = judged m known'

@@ -4,18 +4,19 @@ use Rattle.std.proofs.lemmas.Bool.{true≢false}
 use Rattle.std.proofs.lemmas.List.{map-append, take_more}
 use Rattle.std.proofs.lemmas.List.Folds.{list_any-append}
 use Rattle.std.specs.List.{list_any}
-use Rattle.std.specs.Option.{option_map_or}
+use Rattle.std.specs.Option.{option_and_then, option_map_or}
 use Rattle.ticket_items.specs.Refusal.{number_of}
 use Rattle.ticket_items.specs.declared.refusal.Refusal.{Refusal}
 use Rattle.ticket_items.specs.declared.refusal.Refusal.TheVariants.{DuplicateId, Memory, NotATree, ReservedStatus, TooDeep, UnresolvedLink}
 use Rattle.ticket_items.specs.Ids.{are_distinct}
 use Rattle.ticket_rows.specs.Ticket.{are_resolved, are_shallow, are_unreserved, depths, first_of, ids, unless}
 use Rattle.ticket_rows.specs.Outline.{is_outline}
+use Rattle.json_shapes.specs.PartDraft.{RawPart}
 use Rattle.json_shapes.specs.PartForm as part_form
-use Rattle.json_reader.specs.DraftedPart.{drafted_part}
 use Rattle.worker_core.specs.declared.entry.Entry.{Entry}
+use Rattle.worker_core.specs.declared.stage.Stage.{Stage}
 use Rattle.controller_form.specs.States.Drafted.{drafted_entries, drafted_entry}
-use Rattle.controller_form.specs.States.EntryForm.{RawEntry, entry_in}
+use Rattle.controller_form.specs.States.EntryForm.{RawEntry, entry_fault, entry_in}
 use Rattle.controller_form.specs.States.PartFaults.{earliest, is_memory}
 use Rattle.controller_form.specs.States.WorkerForm.{is_fault, parts_fault}
 use Rattle.controller_form.specs.declared.states.entry_draft.EntryDraft.{EntryDraft}
@@ -78,11 +79,19 @@ joined_tests true true true true true false false false false false = refl
 any_more : (xs : List RawEntry) (x : RawEntry) (e : Refusal) → list_any (is_fault e) (xs ++ x ∷ []) ≡ (list_any (is_fault e) xs || (is_fault e x || false))
 any_more xs x e = list_any-append (is_fault e) xs (x ∷ [])
 
-pub one_more : (xs : List RawEntry) (x : RawEntry) → parts_fault (xs ++ x ∷ []) ≡ joined (parts_fault xs) (part_form.built_fault x.part)
-one_more xs x =
-    let rows = part_form.all_rows x.part in
+one_more_of : (xs : List RawEntry) (spawn : List ℕ) (phase : Stage) (part : Option RawPart) (at : ℕ) → parts_fault (xs ++ record { spawn = spawn; phase = phase; part = part; at = at } ∷ []) ≡ joined (parts_fault xs) (option_and_then part_form.built_fault part)
+one_more_of xs spawn phase None at =
+    let x : RawEntry = record { spawn = spawn; phase = phase; part = None; at = at } in
+    (λ i. first_there (any_more xs x NotATree i) (any_more xs x ReservedStatus i) (any_more xs x DuplicateId i) (any_more xs x TooDeep i) (any_more xs x UnresolvedLink i))
+    ∙ joined_tests true true true true true _ _ _ _ _
+one_more_of xs spawn phase (Some p) at =
+    let x : RawEntry = record { spawn = spawn; phase = phase; part = Some p; at = at } in
+    let rows = part_form.all_rows p in
     (λ i. first_there (any_more xs x NotATree i) (any_more xs x ReservedStatus i) (any_more xs x DuplicateId i) (any_more xs x TooDeep i) (any_more xs x UnresolvedLink i))
     ∙ joined_tests (is_outline (depths rows)) (are_unreserved rows) (are_distinct (ids rows)) (are_shallow rows) (are_resolved rows) _ _ _ _ _
+
+pub one_more : (xs : List RawEntry) (x : RawEntry) → parts_fault (xs ++ x ∷ []) ≡ joined (parts_fault xs) (entry_fault x)
+one_more xs x = one_more_of xs x.spawn x.phase x.part x.at
 
 -- ---- drafts in turn
 
@@ -95,12 +104,12 @@ taken_more : (ds : List EntryDraft) (i : ℕ) (d : EntryDraft) → i < length ds
 taken_more ds i d within is =
     ap (map drafted_entry) (take_more ds i d within) ∙ map-append drafted_entry (take i ds) (get_or ds i d ∷ []) ∙ ap (λ x. drafted_entries (take i ds) ++ drafted_entry x ∷ []) (sym is)
 
-fault_more : (ds : List EntryDraft) (i : ℕ) (d : EntryDraft) (f : Option Refusal) → i < length ds → d ≡ get_or ds i d → part_form.built_fault (drafted_part d.part) ≡ f → parts_fault (drafted_entries (take (i + 1) ds)) ≡ joined (parts_fault (drafted_entries (take i ds))) f
+fault_more : (ds : List EntryDraft) (i : ℕ) (d : EntryDraft) (f : Option Refusal) → i < length ds → d ≡ get_or ds i d → entry_fault (drafted_entry d) ≡ f → parts_fault (drafted_entries (take (i + 1) ds)) ≡ joined (parts_fault (drafted_entries (take i ds))) f
 fault_more ds i d f within is fault =
     ap parts_fault (taken_more ds i d within is) ∙ one_more (drafted_entries (take i ds)) (drafted_entry d) ∙ ap (joined (parts_fault (drafted_entries (take i ds)))) fault
 
 -- one more of which there is an entry
-pub with_entry : (ds : List EntryDraft) (i : ℕ) (d : EntryDraft) (first : Option Refusal) (before after : List Entry) (entry : Entry) → i < length ds → d ≡ get_or ds i d → IsSoFar ds i first before → part_form.built_fault (drafted_part d.part) ≡ None → entry ≡ entry_in (drafted_entry d) → after ≡ before ++ entry ∷ [] → IsSoFar ds (i + 1) first after
+pub with_entry : (ds : List EntryDraft) (i : ℕ) (d : EntryDraft) (first : Option Refusal) (before after : List Entry) (entry : Entry) → i < length ds → d ≡ get_or ds i d → IsSoFar ds i first before → entry_fault (drafted_entry d) ≡ None → entry ≡ entry_in (drafted_entry d) → after ≡ before ++ entry ∷ [] → IsSoFar ds (i + 1) first after
 with_entry ds i d first before after entry within is so sound same pushed =
     let taken = drafted_entries (take i ds) in (
       so.0 ∙ sym (fault_more ds i d None within is sound),
@@ -111,7 +120,7 @@ no_fault_is_some : {A : Type 0} (f : Refusal) → Some f ≡ None → A
 no_fault_is_some f e = cc
 
 -- one more that has a fault
-pub with_fault : (ds : List EntryDraft) (i : ℕ) (d : EntryDraft) (first : Option Refusal) (before after : List Entry) (f next : Refusal) → i < length ds → d ≡ get_or ds i d → IsSoFar ds i first before → part_form.built_fault (drafted_part d.part) ≡ Some f → next ≡ earliest first f → IsSoFar ds (i + 1) (Some next) after
+pub with_fault : (ds : List EntryDraft) (i : ℕ) (d : EntryDraft) (first : Option Refusal) (before after : List Entry) (f next : Refusal) → i < length ds → d ≡ get_or ds i d → IsSoFar ds i first before → entry_fault (drafted_entry d) ≡ Some f → next ≡ earliest first f → IsSoFar ds (i + 1) (Some next) after
 with_fault ds i d first before after f next within is so fault joins = (
   ap (λ n. Some n) (joins ∙ ap (λ k. earliest k f) so.0) ∙ sym (fault_more ds i d (Some f) within is fault),
   λ none. no_fault_is_some next none,

@@ -1,5 +1,5 @@
 -- What was read without a fault.
-use Rattle.std.proofs.Common.{◌≡◌, Bool, true, false, [], ◌∷◌, Option, Some, None, Result, Ok, Err, IfOk, refl}
+use Rattle.std.proofs.Common.{◌≡◌, Bool, true, false, [], ◌∷◌, Option, Some, None, Result, Ok, Err, IfOk, OnOk, refl}
 use Rattle.std.specs.Option.{option_map_or}
 use Rattle.ticket_items.specs.declared.refusal.Refusal.{Refusal}
 use Rattle.ticket_items.specs.declared.refusal.Refusal.TheVariants.{BadId, BadText, NotProfile}
@@ -44,3 +44,8 @@ nothing_wrong false b f p q r = cc
 pub if_ok : {A E : Type 0} (P Q : A → Type 0) (r : Result A E) → IfOk r P → ((a : A) → P a → Q a) → IfOk r Q
 if_ok P Q (Ok a) p f = f a p
 if_ok P Q (Err e) p f = tt
+
+-- what always holds does so where there is a value
+pub on_any : {A E P : Type 0} (r : Result A E) → P → OnOk r P
+on_any (Ok a) p = p
+on_any (Err e) p = tt

@@ -37,7 +37,8 @@ bare_all : (rs : List Resource) → are_bare (all_showing nothing_shown rs) ≡ 
 bare_all [] = refl
 bare_all (r ∷ rs) = bare_all rs
 
-number_again : (n : ℕ) → is_spawn_number n ≡ true → spawn_named (spawn_text n) ≡ n
+-- the number of a spawn, by its id
+pub number_again : (n : ℕ) → is_spawn_number n ≡ true → spawn_named (spawn_text n) ≡ n
 number_again n number = ap (λ o. unwrap_or o 0) (spawn_of-spawn_text n number)
 
 -- a record with these in the place of its own

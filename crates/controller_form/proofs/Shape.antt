@@ -1,10 +1,11 @@
 -- States that are written have no float, and nest little.
-use Rattle.std.proofs.Common.{◌≡◌, ◌≤◌, ℕ, false, List, [], ◌∷◌, refl, arith}
+use Rattle.std.proofs.Common.{◌≡◌, ◌≤◌, ℕ, false, List, [], ◌∷◌, Option, Some, None, IfSome, refl, arith}
 use Rattle.std.proofs.lemmas.Bool.{or_from}
 use Rattle.std.proofs.lemmas.List.Elements.{All-head, All-tail}
 use Rattle.std.specs.List.{All}
 use Rattle.serde_json.specs.Data.{depth, items_depth, string}
 use Rattle.serde_json.specs.Written.{has_float, items_have_float}
+use Rattle.ticket_tree.specs.Part.{Copied}
 use Rattle.spawn.specs.declared.records.spawn_rec.SpawnRec.{SpawnRec}
 use Rattle.json_items.specs.Listed.{data_items}
 use Rattle.json_items.specs.Resources.{all_showing}
@@ -14,10 +15,13 @@ use Rattle.json_writer.proofs.Plain.{items_plain, pool_plain}
 use Rattle.master_core.specs.Master as master
 use Rattle.worker_core.specs.Worker as worker
 use Rattle.worker_core.specs.declared.entry.Entry.{Entry}
+use Rattle.worker_core.specs.declared.stage.Stage.{Stage}
+use Rattle.worker_core.specs.declared.stage.Stage.TheVariants.{Open, Done, Closed}
 use Rattle.controller_form.specs.States.EntryForm.{entry_data}
 use Rattle.controller_form.specs.States.MasterForm.{master_state_data}
 use Rattle.controller_form.specs.States.RecordForm.{record_data}
-use Rattle.controller_form.specs.States.Writable.{IsWritableEntry, IsWritableMaster, IsWritableWorker}
+use Rattle.controller_form.specs.States.StateFormat.{written}
+use Rattle.controller_form.specs.States.Writable.{IsWritableEntry, IsWritableMaster, IsWritablePart, IsWritableWorker}
 use Rattle.controller_form.specs.States.WorkerForm.{worker_state_data}
 
 -- ---- no float
@@ -31,9 +35,17 @@ record_plain r = or_from _ _ (pool_plain (all_showing nothing_shown r.ro)) (or_f
 pub master_plain : (m : master.Known) → IsWritableMaster m → has_float (master_state_data m) ≡ false
 master_plain m known = or_from _ _ (or_from _ _ (items_plain record_data record_plain m.records) (or_from _ _ known.plain (or_from _ _ (texts_plain m.workers) refl))) refl
 
-entries_plain : (es : List Entry) → All IsWritableEntry es → items_have_float (data_items entry_data es) ≡ false
+entry_plain : (s : ℕ) (phase : Stage) (part : Option Copied) (at : ℕ) → IfSome part IsWritablePart → has_float (entry_data written (record { spawn_id = s; phase = phase; part = part; at = at })) ≡ false
+entry_plain s Open None at known = refl
+entry_plain s Open (Some p) at known = or_from _ _ known.plain refl
+entry_plain s (Done how) None at known = refl
+entry_plain s (Done how) (Some p) at known = or_from _ _ known.plain refl
+entry_plain s (Closed how) None at known = refl
+entry_plain s (Closed how) (Some p) at known = or_from _ _ known.plain refl
+
+entries_plain : (es : List Entry) → All IsWritableEntry es → items_have_float (data_items (entry_data written) es) ≡ false
 entries_plain [] known = refl
-entries_plain (e ∷ es) known = or_from _ _ (or_from _ _ (All-head IsWritableEntry e es known).plain refl) (entries_plain es (All-tail IsWritableEntry e es known))
+entries_plain (e ∷ es) known = or_from _ _ (entry_plain e.spawn_id e.phase e.part e.at (All-head IsWritableEntry e es known).part) (entries_plain es (All-tail IsWritableEntry e es known))
 
 pub worker_plain : (w : worker.Known) → IsWritableWorker w → has_float (worker_state_data w) ≡ false
 worker_plain w known = or_from _ _ (or_from _ _ (entries_plain w.entries known.entries) refl) refl
@@ -49,9 +61,17 @@ record_low r = omega (arith, pool_low (all_showing nothing_shown r.ro), texts_fl
 pub master_nests : (m : master.Known) → IsWritableMaster m → depth (master_state_data m) ≤ 127
 master_nests m known = omega (arith, items_low record_data 4 record_low m.records, texts_flat m.workers, known.low)
 
-entries_low : (es : List Entry) → All IsWritableEntry es → items_depth (data_items entry_data es) ≤ 69
+entry_low : (s : ℕ) (phase : Stage) (part : Option Copied) (at : ℕ) → IfSome part IsWritablePart → depth (entry_data written (record { spawn_id = s; phase = phase; part = part; at = at })) ≤ 69
+entry_low s Open None at known = omega arith
+entry_low s Open (Some p) at known = omega (arith, known.low)
+entry_low s (Done how) None at known = omega arith
+entry_low s (Done how) (Some p) at known = omega (arith, known.low)
+entry_low s (Closed how) None at known = omega arith
+entry_low s (Closed how) (Some p) at known = omega (arith, known.low)
+
+entries_low : (es : List Entry) → All IsWritableEntry es → items_depth (data_items (entry_data written) es) ≤ 69
 entries_low [] known = omega arith
-entries_low (e ∷ es) known = omega (arith, (All-head IsWritableEntry e es known).low, entries_low es (All-tail IsWritableEntry e es known))
+entries_low (e ∷ es) known = omega (arith, entry_low e.spawn_id e.phase e.part e.at (All-head IsWritableEntry e es known).part, entries_low es (All-tail IsWritableEntry e es known))
 
 pub worker_nests : (w : worker.Known) → IsWritableWorker w → depth (worker_state_data w) ≤ 127
 worker_nests w known = omega (arith, entries_low w.entries known.entries)

@@ -1,13 +1,18 @@
--- A worker's state that was written is read again.
-use Rattle.std.proofs.Common.{◌≡◌, ◌∙◌, ◌==◌, Bool, true, false, cond, List, [], ◌∷◌, map, Option, Some, None, Ok, refl, ap}
-use Rattle.std.proofs.lemmas.Bool.{and_from, or_from}
+-- A worker's state that a format tells is read again.
+use Rattle.std.proofs.Common.{◌≡◌, ◌∙◌, ◌==◌, ℕ, Bool, true, false, cond, List, [], ◌∷◌, map, Option, Some, None, Ok, IfSome, refl, ap}
+use Rattle.std.proofs.lemmas.Bool.{and_from, and_parts, or_from}
 use Rattle.std.proofs.lemmas.List.Elements.{All-head, All-tail}
 use Rattle.std.specs.List.{All, list_all, list_any}
 use Rattle.std.specs.Option.{option_map, option_map_or}
+use Rattle.std.specs.Prelude.{codes, is_some, not}
+use Rattle.std.specs.Str.{bytes_eq}
+use Rattle.serde_json.specs.Data.{Data, no_members, number, object, put, string, unsigned}
 use Rattle.ticket_items.specs.Refusal.{number_of}
+use Rattle.ticket_items.specs.SpawnId.{is_spawn_number, spawn_text}
 use Rattle.ticket_items.specs.declared.refusal.Refusal.{Refusal}
 use Rattle.ticket_items.specs.declared.refusal.Refusal.TheVariants.{BadState, DuplicateId, NotATree, ReservedStatus, TooDeep, UnresolvedLink}
 use Rattle.ticket_rows.specs.Ticket.{first_of, unless}
+use Rattle.ticket_tree.specs.Part.{Copied}
 use Rattle.json_shapes.specs.PartDraft.{RawPart, part_draft}
 use Rattle.json_shapes.specs.PartForm as part_form
 use Rattle.json_shapes.specs.PartForm.{copied}
@@ -17,96 +22,177 @@ use Rattle.json_source.specs.Read.{◌>>=◌}
 use Rattle.json_writer.specs.PartWritten.{part_data}
 use Rattle.worker_core.proofs.KeptStored.{a_kept_worker_is_stored}
 use Rattle.worker_core.specs.Stored.{is_worker}
-use Rattle.worker_core.specs.Worker.{Known, known}
+use Rattle.worker_core.specs.Worker.{IsKeptEntry, IsKeptPart, Known, end_word, is_closed_stage, known}
+use Rattle.worker_core.specs.declared.end.End.{End}
 use Rattle.worker_core.specs.declared.end.End.TheVariants.{Completed, Aborted}
 use Rattle.worker_core.specs.declared.entry.Entry.{Entry}
 use Rattle.worker_core.specs.declared.stage.Stage.{Stage}
-use Rattle.worker_core.specs.declared.stage.Stage.TheVariants.{Open, Done}
-use Rattle.controller_form.specs.States.EntryForm.{RawEntry, entry_data, entry_draft, entry_in, stage_named, stage_word}
+use Rattle.worker_core.specs.declared.stage.Stage.TheVariants.{Open, Done, Closed}
+use Rattle.controller_form.specs.Orders.EndNamed.{end_named}
+use Rattle.controller_form.specs.Orders.SpawnNamed.{spawn_named}
+use Rattle.controller_form.specs.States.EntryForm.{RawEntry, closed_draft, entry_data, entry_draft, entry_fault}
+use Rattle.controller_form.specs.States.EntryForm.{entry_has_names, entry_has_texts, entry_in, held_draft, is_told_in}
+use Rattle.controller_form.specs.States.EntryForm.{stage_named, with_id}
 use Rattle.controller_form.specs.States.WorkerForm.{RawWorker, is_fault, judged_worker, parts_fault}
 use Rattle.controller_form.specs.States.WorkerForm.{worker_built_fault, worker_data, worker_draft}
 use Rattle.controller_form.specs.States.WorkerForm.{worker_has_names, worker_in}
-use Rattle.controller_form.specs.States.WorkerForm.{worker_state_data, worker_state_read}
-use Rattle.controller_form.specs.States.Writable.{IsWritableEntry, IsWritableWorker}
+use Rattle.controller_form.specs.States.WorkerForm.{worker_state_in, worker_state_read}
+use Rattle.controller_form.specs.States.Writable.{IsWritableEntry, IsWritablePart, IsWritableWorker}
+use Rattle.controller_form.specs.declared.states.format.Format.{Format}
+use Rattle.controller_form.specs.declared.states.format.Format.TheVariants.{First, Second}
 use Rattle.controller_form.proofs.Reading.{IsSoundDraft, all_pass, nothing_wrong, sound_draft}
+use Rattle.controller_form.proofs.RecordAgain.{number_again}
+
+-- ---- words
+
+end_again : (how : End) → end_named (end_word how) ≡ Some how
+end_again Completed = refl
+end_again Aborted = refl
+
+done_again : (how : End) → stage_named (end_word how) ≡ Some (Done how)
+done_again Completed = refl
+done_again Aborted = refl
+
+no_end_is_closed : (how : End) → bytes_eq (codes "Closed") (end_word how) ≡ false
+no_end_is_closed Completed = refl
+no_end_is_closed Aborted = refl
+
+-- ---- an entry with its part
+
+abbrev entry : ℕ → Stage → Option Copied → ℕ → Entry
+entry s stage part at = record { spawn_id = s; phase = stage; part = part; at = at }
+
+-- its data, with this word of its stage
+abbrev held_data : Format → ℕ → List ℕ → Copied → ℕ → Data
+held_data format s word p at =
+    object (put (codes "Part") (part_data p) (with_id format s (put (codes "Phase") (string word) (put (codes "At") (number (unsigned at)) no_members))))
+
+-- the text that a format has of its spawn's id
+abbrev id_told : Format → ℕ → RawPart → List ℕ
+id_told First s p = p.spawn
+id_told Second s p = spawn_text s
+
+abbrev held : Format → ℕ → Stage → ℕ → RawPart → RawEntry
+held format s stage at p = record { spawn = id_told format s p; phase = stage; part = Some p; at = at }
+
+held_there : (format : Format) (s : ℕ) (word : List ℕ) (stage : Stage) (p : Copied) (at : ℕ) (raw : RawPart) → stage_named word ≡ Some stage → part_draft (part_data p) ≡ Some raw → held_draft format (held_data format s word p at) ≡ Some (held format s stage at raw)
+unfolding held_draft
+held_there First s word stage p at raw named read =
+    ap (λ o. o >>= λ x. part_draft (part_data p) >>= λ q. Some (held First s x at q)) named
+    ∙ ap (λ o. o >>= λ q. Some (held First s stage at q)) read
+held_there Second s word stage p at raw named read =
+    ap (λ o. o >>= λ x. part_draft (part_data p) >>= λ q. Some (held Second s x at q)) named
+    ∙ ap (λ o. o >>= λ q. Some (held Second s stage at q)) read
+
+not_closed : (s : ℕ) (word : List ℕ) (p : Copied) (at : ℕ) (raw : Option RawEntry) → bytes_eq (codes "Closed") word ≡ false → held_draft Second (held_data Second s word p at) ≡ raw → entry_draft Second (held_data Second s word p at) ≡ raw
+unfolding entry_draft
+not_closed s word p at raw isnt is = ap (λ b. cond b (closed_draft (held_data Second s word p at)) (held_draft Second (held_data Second s word p at))) isnt ∙ is
+
+entry_there : (format : Format) (s : ℕ) (word : List ℕ) (stage : Stage) (p : Copied) (at : ℕ) (raw : RawPart) → bytes_eq (codes "Closed") word ≡ false → stage_named word ≡ Some stage → part_draft (part_data p) ≡ Some raw → entry_draft format (held_data format s word p at) ≡ Some (held format s stage at raw)
+unfolding entry_draft
+entry_there First s word stage p at raw isnt named read = held_there First s word stage p at raw named read
+entry_there Second s word stage p at raw isnt named read = not_closed s word p at _ isnt (held_there Second s word stage p at raw named read)
+
+-- its spawn is that of its part
+id_again : (format : Format) (s : ℕ) (raw : RawPart) (p : Copied) → is_spawn_number s ≡ true → copied raw ≡ p → p.spawn_id ≡ s → spawn_named (id_told format s raw) ≡ s
+id_again First s raw p numbered same own = ap (λ q. q.spawn_id) same ∙ own
+id_again Second s raw p numbered same own = number_again s numbered
 
 -- ---- one entry
 
-stage_again : (stage : Stage) → stage_named (stage_word stage) ≡ Some stage
-stage_again Open = refl
-stage_again (Done Completed) = refl
-stage_again (Done Aborted) = refl
-
 -- the draft that an entry is read as, which has no fault
-record IsReadAs (e : Entry) (raw : RawEntry) : Type 0 where
-  there : entry_draft (entry_data e) ≡ Some raw
+record IsRead (format : Format) (e : Entry) : Type 0 where
+  raw : RawEntry
+  there : entry_draft format (entry_data format e) ≡ Some raw
   same : entry_in raw ≡ e
-  names : part_form.has_names raw.part ≡ true
-  texts : part_form.has_texts raw.part ≡ true
-  none : part_form.built_fault raw.part ≡ None
+  names : entry_has_names raw ≡ true
+  texts : entry_has_texts raw ≡ true
+  none : entry_fault raw ≡ None
 
-abbrev with_part : Entry → RawPart → RawEntry
-with_part e p = record { phase = e.phase; part = p; at = e.at }
-
-part_of : (e : Entry) → IsWritableEntry e → IsSoundDraft part_form.part_fault copied (part_draft (part_data e.part)) e.part
-part_of e known' = sound_draft part_form.part_fault copied (part_draft (part_data e.part)) e.part known'.again
-
-entry_there : (e : Entry) (p : RawPart) → part_draft (part_data e.part) ≡ Some p → entry_draft (entry_data e) ≡ Some (with_part e p)
-unfolding entry_draft
-entry_there e p read =
-    ap (λ o. o >>= λ q. stage_named (stage_word e.phase) >>= λ stage. Some (record { phase = stage; part = q; at = e.at })) read
-    ∙ ap (λ o. o >>= λ stage. Some (record { phase = stage; part = p; at = e.at })) (stage_again e.phase)
-
-raw_of : (e : Entry) → IsWritableEntry e → RawEntry
-raw_of e known' = with_part e (part_of e known').draft
-
-entry_again : (e : Entry) (known' : IsWritableEntry e) → IsReadAs e (raw_of e known')
-unfolding raw_of
-entry_again e known' =
-    let read = part_of e known' in
+held_read : (format : Format) (s : ℕ) (stage : Stage) (p : Copied) (at : ℕ) → is_spawn_number s ≡ true → p.spawn_id ≡ s → (read : IsSoundDraft part_form.part_fault copied (part_draft (part_data p)) p) → entry_draft format (entry_data format (entry s stage (Some p) at)) ≡ Some (held format s stage at read.draft) → IsRead format (entry s stage (Some p) at)
+held_read format s stage p at numbered own read there =
     let passed = all_pass _ _ _ read.sound in
+    let id = id_again format s read.draft p numbered read.same own in
     record {
-      there = entry_there e read.draft read.there;
-      same = ap (λ p. record e { part = p }) read.same;
-      names = passed.names;
+      raw = held format s stage at read.draft;
+      there = there;
+      same = λ i. record { spawn_id = id i; phase = stage; part = Some (read.same i); at = at };
+      names = and_from _ _ (ap is_spawn_number id ∙ numbered) passed.names;
       texts = passed.texts;
       none = passed.none;
     }
 
+closed_read : (s : ℕ) (how : End) (at : ℕ) → is_spawn_number s ≡ true → IsRead Second (entry s (Closed how) None at)
+unfolding entry_draft closed_draft
+closed_read s how at numbered =
+    let id = number_again s numbered in
+    record {
+      raw = record { spawn = spawn_text s; phase = Closed how; part = None; at = at };
+      there = ap (λ o. o >>= λ x. Some (record { spawn = spawn_text s; phase = Closed x; part = None; at = at })) (end_again how);
+      same = ap (λ n. entry n (Closed how) None at) id;
+      names = and_from _ _ (ap is_spawn_number id ∙ numbered) refl;
+      texts = refl;
+      none = refl;
+    }
+
+read_part : (p : Copied) → IsWritablePart p → IsSoundDraft part_form.part_fault copied (part_draft (part_data p)) p
+read_part p known' = sound_draft part_form.part_fault copied (part_draft (part_data p)) p known'.again
+
+-- an entry that a format can tell
+entry_read : (format : Format) (s : ℕ) (stage : Stage) (part : Option Copied) (at : ℕ) → is_some part ≡ not (is_closed_stage stage) → IfSome part (λ p. p.spawn_id ≡ s) → is_spawn_number s ≡ true → IfSome part IsWritablePart → is_told_in format (entry s stage part at) ≡ true → IsRead format (entry s stage part at)
+entry_read format s Open (Some p) at has own numbered known' told =
+    let read = read_part p known' in
+    held_read format s Open p at numbered own read (entry_there format s (codes "Open") Open p at read.draft refl refl read.there)
+entry_read format s (Done how) (Some p) at has own numbered known' told =
+    let read = read_part p known' in
+    held_read format s (Done how) p at numbered own read (entry_there format s (end_word how) (Done how) p at read.draft (no_end_is_closed how) (done_again how) read.there)
+entry_read Second s (Closed how) None at has own numbered known' told = closed_read s how at numbered
+entry_read First s (Closed how) None at has own numbered known' told = cc
+entry_read format s (Closed how) (Some p) at has own numbered known' told = cc
+entry_read format s Open None at has own numbered known' told = cc
+entry_read format s (Done how) None at has own numbered known' told = cc
+
 -- ---- entries in turn
 
-record AreReadAs (es : List Entry) (raws : List RawEntry) : Type 0 where
-  there : each entry_draft (data_items entry_data es) ≡ Some raws
+record AreRead (format : Format) (es : List Entry) : Type 0 where
+  raws : List RawEntry
+  there : each (entry_draft format) (data_items (entry_data format) es) ≡ Some raws
   same : map entry_in raws ≡ es
-  names : list_all (λ e. part_form.has_names e.part) raws ≡ true
-  texts : list_all (λ e. part_form.has_texts e.part) raws ≡ true
+  names : list_all entry_has_names raws ≡ true
+  texts : list_all entry_has_texts raws ≡ true
   none : (f : Refusal) → list_any (is_fault f) raws ≡ false
 
 more_at : {X : Type 0} (o : Option X) (x : X) (rest : Option (List X)) (xs : List X) → o ≡ Some x → rest ≡ Some xs → (o >>= λ y. option_map (λ ys. y ∷ ys) rest) ≡ Some (x ∷ xs)
 more_at o x rest xs e f = ap (λ p. p >>= λ y. option_map (λ ys. y ∷ ys) rest) e ∙ ap (option_map (λ ys. x ∷ ys)) f
 
-raws_of : (es : List Entry) → All IsWritableEntry es → List RawEntry
-raws_of [] known' = []
-raws_of (e ∷ es) known' = raw_of e (All-head IsWritableEntry e es known') ∷ raws_of es (All-tail IsWritableEntry e es known')
-
-no_fault : (f : Refusal) (raw : RawEntry) → part_form.built_fault raw.part ≡ None → is_fault f raw ≡ false
+no_fault : (f : Refusal) (raw : RawEntry) → entry_fault raw ≡ None → is_fault f raw ≡ false
 no_fault f raw none = ap (λ o. option_map_or (λ g. number_of g == number_of f) o false) none
 
-entries_again : (es : List Entry) (known' : All IsWritableEntry es) → AreReadAs es (raws_of es known')
-unfolding raws_of
-entries_again [] known' = record { there = refl; same = refl; names = refl; texts = refl; none = λ f. refl }
-entries_again (e ∷ es) known' =
-    let head = All-head IsWritableEntry e es known' in
-    let tail = All-tail IsWritableEntry e es known' in
-    let first = entry_again e head in
-    let rest = entries_again es tail in
+own_part : (e : Entry) (part : Option Copied) → IfSome part (IsKeptPart e) → IfSome part (λ p. p.spawn_id ≡ e.spawn_id)
+own_part e None kept = tt
+own_part e (Some p) kept = kept.own
+
+entries_read : (format : Format) (es : List Entry) → All IsKeptEntry es → All IsWritableEntry es → list_all (is_told_in format) es ≡ true → AreRead format es
+entries_read format [] kept known' told = record { raws = []; there = refl; same = refl; names = refl; texts = refl; none = λ f. refl }
+entries_read format (e ∷ es) kept known' told =
+    let tells = and_parts _ _ told in
+    let writable = All-head IsWritableEntry e es known' in
+    let is = All-head IsKeptEntry e es kept in
+    let first : IsRead format e = entry_read format e.spawn_id e.phase e.part e.at is.held (own_part e e.part is.part) writable.number writable.part tells.0 in
+    let rest = entries_read format es (All-tail IsKeptEntry e es kept) (All-tail IsWritableEntry e es known') tells.1 in
     record {
-      there = more_at (entry_draft (entry_data e)) (raw_of e head) (each entry_draft (data_items entry_data es)) (raws_of es tail) first.there rest.there;
-      same = ap (λ x. x ∷ map entry_in (raws_of es tail)) first.same ∙ ap (λ xs. e ∷ xs) rest.same;
+      raws = first.raw ∷ rest.raws;
+      there = more_at (entry_draft format (entry_data format e)) first.raw (each (entry_draft format) (data_items (entry_data format) es)) rest.raws first.there rest.there;
+      same = ap (λ x. x ∷ map entry_in rest.raws) first.same ∙ ap (λ xs. e ∷ xs) rest.same;
       names = and_from _ _ first.names rest.names;
       texts = and_from _ _ first.texts rest.texts;
-      none = λ f. or_from _ _ (no_fault f (raw_of e head) first.none) (rest.none f);
+      none = λ f. or_from _ _ (no_fault f first.raw first.none) (rest.none f);
     }
+
+-- the second format can tell each
+pub all_told : (es : List Entry) → list_all (is_told_in Second) es ≡ true
+all_told [] = refl
+all_told (e ∷ es) = all_told es
 
 -- ---- the worker
 
@@ -126,21 +212,22 @@ no_built_fault None false p q = cc
 abbrev raw : Known → List RawEntry → RawWorker
 raw w raws = record { name = w.name; master = w.master; entries = raws }
 
-drafted : (w : Known) (raws : List RawEntry) → each entry_draft (data_items entry_data w.entries) ≡ Some raws → worker_draft (worker_data w) ≡ Some (raw w raws)
+drafted : (format : Format) (w : Known) (raws : List RawEntry) → each (entry_draft format) (data_items (entry_data format) w.entries) ≡ Some raws → worker_draft format (worker_data format w) ≡ Some (raw w raws)
 unfolding worker_draft
-drafted w raws read = ap (λ o. o >>= λ entries. Some (raw w entries)) read
+drafted format w raws read = ap (λ o. o >>= λ entries. Some (raw w entries)) read
 
-judged : (w : Known) → IsWritableWorker w → judged_worker (worker_draft (worker_data w)) ≡ Ok w
-judged w known' =
-    let raws = raws_of w.entries known'.entries in
-    let read = entries_again w.entries known'.entries in
+judged : (format : Format) (w : Known) → IsWritableWorker w → list_all (is_told_in format) w.entries ≡ true → judged_worker (worker_draft format (worker_data format w)) ≡ Ok w
+judged format w known' told =
+    let read = entries_read format w.entries known'.kept.each known'.entries told in
+    let raws = read.raws in
     let is : worker_in (raw w raws) ≡ w = ap (known w.name w.master) read.same in
     let names : worker_has_names (raw w raws) ≡ true = and_from _ _ (and_from _ _ known'.name known'.master) read.names in
     let stored : is_worker (worker_in (raw w raws)) ≡ true = ap is_worker is ∙ a_kept_worker_is_stored w known'.kept in
     let built : worker_built_fault (raw w raws) ≡ None = no_built_fault _ _ (none_among raws read.none) stored in
-    ap judged_worker (drafted w raws read.there)
+    ap judged_worker (drafted format w raws read.there)
     ∙ ap (λ f. sound f (worker_in (raw w raws))) (nothing_wrong _ _ _ names read.texts built)
     ∙ ap (λ k. Ok k) is
 
-pub worker_again : (w : Known) → IsWritableWorker w → worker_state_read (worker_state_data w) ≡ Ok w
-worker_again w known' = judged w known'
+pub worker_again : (format : Format) (w : Known) → IsWritableWorker w → list_all (is_told_in format) w.entries ≡ true → worker_state_read (worker_state_in format w) ≡ Ok w
+worker_again First w known' told = judged First w known' told
+worker_again Second w known' told = judged Second w known' told

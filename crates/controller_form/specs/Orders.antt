@@ -1,4 +1,5 @@
 pub mod SpawnNamed
+pub mod EndNamed
 pub mod WorkerForm
 pub mod MasterForm
 pub mod DraftedWorkerOrder

@@ -1,7 +1,7 @@
 -- What has a number in a list where numbers are apart: a write at its place is a change of what has the number.
 use Rattle.std.proofs.Common.{◌≡◌, ℕ, zero, suc, ◌==◌, ◌||◌, Bool, true, false, cond, List, [], ◌∷◌, ◌++◌, map, Option, Some, None, refl, sym, ap, ◌∙◌, set, get_or, slice_get, subst}
 use Rattle.std.proofs.lemmas.Bool.{and_parts, and_from, or_parts, or_from, not-true, not_from_false, eqb-true, eqb-false, ne_eqb}
-use Rattle.std.proofs.lemmas.List.Elements.{All-cons, All-head, All-same, All-tail}
+use Rattle.std.proofs.lemmas.List.Elements.{All-cons, All-head, All-map, All-same, All-tail, All-weaker}
 use Rattle.std.proofs.lemmas.Option.{slice_get-get_or}
 use Rattle.std.specs.List.{All, find, list_any, position}
 use Rattle.std.specs.Option.{option_map}
@@ -129,6 +129,14 @@ All-at_number P key n f (y ∷ xs) s apart found changed all =
     let parts = and_parts _ _ apart in
     all_here (key y == n) P key n f y xs s refl found (not-true _ parts.0) changed (All-head P y xs all) (All-tail P y xs all) (λ e. All-at_number P key n f xs s parts.1 e changed (All-tail P y xs all))
 
+-- what holds of each, and stays once that is changed, holds of each then
+pub All-each_at_number : {X : Type 0} (P : X → Type 0) (key : X → ℕ) (n : ℕ) (f : X → X) (xs : List X) → ((y : X) → (key y == n) ≡ true → P y → P (f y)) → All P xs → All P (at_number key n f xs)
+All-each_at_number P key n f xs stays all = All-map P (λ y. cond (key y == n) (f y) y) xs (All-weaker P (λ y. P (cond (key y == n) (f y) y)) (λ y own. either P (key y == n) y (f y) own (λ here. stays y here own)) xs all)
+  where
+    either : {X : Type 0} (P : X → Type 0) (b : Bool) (y z : X) → P y → (b ≡ true → P z) → P (cond b z y)
+    either P true y z own changed = changed refl
+    either P false y z own changed = own
+
 -- what is found has what holds of each
 pub found_holds : {X : Type 0} (P : X → Type 0) (p : X → Bool) (xs : List X) (s : X) → find p xs ≡ Some s → All P xs → P s
 found_holds P p [] s found all = cc
@@ -148,7 +156,7 @@ has_number-push m n (k ∷ ns) out e =
     let parts = or_parts (k == m) (has_number m ns) out in
     or_from (k == m) (has_number m (ns ++ n ∷ [])) parts.0 (has_number-push m n ns parts.1 e)
 
-turned : (a b : ℕ) → (a == b) ≡ false → (b == a) ≡ false
+pub turned : (a b : ℕ) → (a == b) ≡ false → (b == a) ≡ false
 turned a b e = ne_eqb b a (λ same. eqb-false a b e (sym same))
 
 pub distinct-push : (n : ℕ) (ns : List ℕ) → are_distinct_numbers ns ≡ true → has_number n ns ≡ false → are_distinct_numbers (ns ++ n ∷ []) ≡ true

@@ -1,5 +1,6 @@
 -- A worker of which all holds that always does passes the test of what is stored.
-use Rattle.std.proofs.Common.{◌≡◌, ◌&&◌, ◌||◌, ℕ, Bool, true, false, cond, not, List, [], ◌∷◌, ◌++◌, take, drop, get_or, ◌+◌, ◌<◌, length, refl, sym, ap, eq-eqb, ◌∙◌, ◌==◌, is_eq, nat_cmp}
+use Rattle.std.proofs.Common.{◌≡◌, ◌&&◌, ◌||◌, ℕ, Bool, true, false, cond, not, List, [], ◌∷◌, ◌++◌, Option, Some, None, IfSome, is_some, take, drop, get_or, ◌+◌, ◌<◌, length, refl, sym, ap, eq-eqb, ◌∙◌, ◌==◌, is_eq, nat_cmp}
+use Rattle.std.specs.Option.{option_map_or}
 use Rattle.std.proofs.lemmas.Bool.{and_from, and_parts, and_right, eqb-true, not_from_false, true≢false}
 use Rattle.std.proofs.lemmas.List.{drop_more, map-append, map_push, take-append-drop, take_more}
 use Rattle.std.proofs.lemmas.List.Elements.{All-head, All-tail}
@@ -9,30 +10,34 @@ use Rattle.std.specs.Cmp.{unsigned_ties}
 use Rattle.std.specs.List.{All, list_all}
 use Rattle.std.specs.Str.{bytes_eq}
 use Rattle.ticket_items.proofs.Apart.{or_none, or_true}
-use Rattle.ticket_rows.specs.Copies.{with_copies}
-use Rattle.ticket_rows.specs.Ticket.{IsValid}
-use Rattle.ticket_tree.specs.Part.{is_sound}
+use Rattle.ticket_tree.specs.Part.{Copied, is_sound}
 use Rattle.worker_core.proofs.Kept.{number_of}
 use Rattle.worker_core.specs.Numbers.{are_distinct_numbers, has_number}
-use Rattle.worker_core.specs.Stored.{AKeptWorkerIsStored, is_entry}
-use Rattle.worker_core.specs.Worker.{IsKeptEntry, has_ended_so, numbers}
+use Rattle.worker_core.specs.Stored.{AKeptWorkerIsStored, is_entry, is_part_of}
+use Rattle.worker_core.specs.Worker.{IsKeptEntry, IsKeptPart, has_ended_so, is_closed, numbers}
 use Rattle.worker_core.specs.declared.entry.Entry.{Entry}
 
 -- ---- entries
 
+part_passes : (e : Entry) (p : Copied) → IsKeptPart e p → is_part_of e p ≡ true
+part_passes e p kept =
+    and_from ((p.spawn_id == e.spawn_id) && is_sound p) (has_ended_so e.phase p) (and_from (p.spawn_id == e.spawn_id) (is_sound p) (eq-eqb p.spawn_id e.spawn_id kept.own) kept.sound) kept.ended
+
+turned : (b : Bool) → false ≡ not b → b ≡ true
+turned true e = refl
+turned false e = absurd (true≢false (sym e))
+
+held_passes : (o : Option Copied) (e : Entry) → is_some o ≡ not (is_closed e) → IfSome o (IsKeptPart e) → option_map_or (λ p. not (is_closed e) && is_part_of e p) o (is_closed e) ≡ true
+held_passes None e held kept = turned (is_closed e) held
+held_passes (Some p) e held kept = and_from (not (is_closed e)) (is_part_of e p) (sym held) (part_passes e p kept)
+
 entry_passes : (e : Entry) → IsKeptEntry e → is_entry e ≡ true
-entry_passes e kept = and_from (is_sound e.part) (has_ended_so e.phase e.part) kept.sound kept.ended
+entry_passes e kept = held_passes e.part e kept.held kept.part
 
 entries_pass : (entries : List Entry) → All IsKeptEntry entries → list_all is_entry entries ≡ true
 entries_pass [] kept = refl
 entries_pass (e ∷ entries) kept =
     and_from (is_entry e) (list_all is_entry entries) (entry_passes e (All-head IsKeptEntry e entries kept)) (entries_pass entries (All-tail IsKeptEntry e entries kept))
-
--- an entry with a valid part that passes the test
-pub kept_entry : (e : Entry) → IsValid (with_copies e.part.rows e.part.rw e.part.ro) → is_entry e ≡ true → IsKeptEntry e
-kept_entry e valid passes =
-    let parts = and_parts (is_sound e.part) (has_ended_so e.phase e.part) passes in
-    record { valid = valid; sound = parts.0; ended = parts.1 }
 
 -- ---- one entry more
 
@@ -50,7 +55,7 @@ passes_more (x ∷ entries) e all own =
 same_number : (n : ℕ) → (n == n) ≡ true
 same_number n = eq-eqb n n refl
 
-pub numbers_more : (entries : List Entry) (e : Entry) → numbers (entries ++ e ∷ []) ≡ numbers entries ++ e.part.spawn_id ∷ []
+pub numbers_more : (entries : List Entry) (e : Entry) → numbers (entries ++ e ∷ []) ≡ numbers entries ++ e.spawn_id ∷ []
 numbers_more entries e = map_push number_of entries e
 
 pub has_more : (n m : ℕ) (ns : List ℕ) → has_number n (ns ++ m ∷ []) ≡ (has_number n ns || (m == n))
@@ -69,10 +74,10 @@ distinct_twice [] n ms h = absurd (true≢false (sym h))
 distinct_twice (m ∷ ns) n ms h = twice_at (m == n) ns n m ms refl (distinct_twice ns n ms) h
 
 -- entries of one spawn
-pub entries_twice : (entries : List Entry) (i : ℕ) (e : Entry) → i < length entries → e ≡ get_or entries i e → has_number e.part.spawn_id (numbers (take i entries)) ≡ true → are_distinct_numbers (numbers entries) ≡ false
+pub entries_twice : (entries : List Entry) (i : ℕ) (e : Entry) → i < length entries → e ≡ get_or entries i e → has_number e.spawn_id (numbers (take i entries)) ≡ true → are_distinct_numbers (numbers entries) ≡ false
 entries_twice entries i e within is there =
     let whole : entries ≡ take i entries ++ e ∷ drop (i + 1) entries = sym (take-append-drop i entries) ∙ ap (λ es. take i entries ++ es) (drop_more entries i e within ∙ ap (λ x. x ∷ drop (i + 1) entries) (sym is)) in
-    ap (λ es. are_distinct_numbers (numbers es)) whole ∙ ap are_distinct_numbers (map-append number_of (take i entries) (e ∷ drop (i + 1) entries)) ∙ distinct_twice (numbers (take i entries)) e.part.spawn_id (numbers (drop (i + 1) entries)) there
+    ap (λ es. are_distinct_numbers (numbers es)) whole ∙ ap are_distinct_numbers (map-append number_of (take i entries) (e ∷ drop (i + 1) entries)) ∙ distinct_twice (numbers (take i entries)) e.spawn_id (numbers (drop (i + 1) entries)) there
 
 -- ---- a set of numbers
 

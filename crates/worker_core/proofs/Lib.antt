@@ -1,4 +1,5 @@
 pub mod AtNumber
+pub mod Closing
 pub mod EditedPart
 pub mod Refusals
 pub mod Kept

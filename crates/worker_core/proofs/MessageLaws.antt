@@ -1,22 +1,23 @@
 -- What a message changes, and what it is taken as.
-use Rattle.std.proofs.Common.{◌≡◌, ℕ, ◌||◌, Bool, true, false, cond, List, [], ◌∷◌, ◌++◌, Option, Some, None, Ok, is_some, refl, sym, ap, ◌∙◌}
-use Rattle.std.proofs.lemmas.Bool.{true≢false, eq-eqb}
+use Rattle.std.proofs.Common.{◌≡◌, ℕ, ◌==◌, ◌&&◌, ◌||◌, Bool, true, false, cond, List, [], ◌∷◌, ◌++◌, Option, Some, None, Ok, is_none, is_ok, is_some, refl, sym, ap, ◌∙◌}
+use Rattle.std.proofs.lemmas.Bool.{eq-eqb}
 use Rattle.std.specs.Option.{option_map_or}
 use Rattle.ticket_items.specs.declared.refusal.Refusal.{Refusal}
 use Rattle.ticket_items.specs.declared.refusal.Refusal.TheVariants.{BadPart, WrongMessage, WrongSender}
 use Rattle.ticket_rows.specs.Ticket.{first_of, unless}
 use Rattle.ticket_tree.specs.Part.{Copied, is_sound}
-use Rattle.controller.specs.Reply.{is_answer, refused_or, spawn_in, told_of}
+use Rattle.controller.specs.Reply.{refused_or, spawn_in, told_of}
 use Rattle.controller.specs.declared.body.Body.{Body}
 use Rattle.controller.specs.declared.body.Body.TheVariants.{Submit, Return, Answer}
 use Rattle.controller.specs.declared.message.Message.{Message}
 use Rattle.controller.specs.declared.queue_status.QueueStatus.TheVariants as queue
 use Rattle.controller.specs.declared.reply.Reply.TheVariants as reply
 use Rattle.worker_core.proofs.AtNumber.{find-behind, find-push}
+use Rattle.worker_core.proofs.Closing.{found_closed, status_closed}
 use Rattle.worker_core.proofs.Refusals.{for_free, from_free, is_from}
-use Rattle.worker_core.specs.Laws.{AnswerChangesNothing, MessageKeepsEntries, SubmitIsAgain, SubmitIsTaken}
+use Rattle.worker_core.specs.Laws.{MessageKeepsEntries, RefusalChangesNothing, SubmitIsAgain, SubmitIsTaken, acknowledges}
 use Rattle.worker_core.specs.Messages.{after_taking, body_refusal, take_refusal, take_reply, taken}
-use Rattle.worker_core.specs.Worker.{Known, entry_of, is_of, new_entry, status_in, status_of_stage}
+use Rattle.worker_core.specs.Worker.{Known, closed_entry, entry_of, is_of, new_entry, status_in, status_of_stage, with_entry}
 use Rattle.worker_core.specs.declared.entry.Entry.{Entry}
 
 -- ---- entries
@@ -25,12 +26,13 @@ push_either : (found : Option Entry) (p : Copied) (at : ℕ) (entries : List Ent
 push_either None p at entries s e here = find-push (is_of s) entries (new_entry p at ∷ []) e here
 push_either (Some x) p at entries s e here = here
 
-taken_keeps : (body : Body) (at : ℕ) (w : Known) (s : ℕ) (e : Entry) → entry_of w.entries s ≡ Some e → entry_of (taken body at w).entries s ≡ Some e
+taken_keeps : (body : Body) (at : ℕ) (w : Known) (s : ℕ) (e : Entry) → entry_of w.entries s ≡ Some e → entry_of (taken body at w).entries s ≡ Some (cond (acknowledges s body) (closed_entry e) e)
 taken_keeps (Submit p) at w s e here = push_either (entry_of w.entries p.spawn_id) p at w.entries s e here
 taken_keeps (Return p) at w s e here = here
-taken_keeps (Answer c t told) at w s e here = here
+taken_keeps (Answer c t told) at w s e here = found_closed (is_ok told) (t == s) t w.entries s e refl here
 
-either_keeps : (refusal : Option Refusal) (m : Message) (at : ℕ) (w : Known) (s : ℕ) (e : Entry) → entry_of w.entries s ≡ Some e → entry_of (cond (is_some refusal) w (taken m.body at w)).entries s ≡ Some e
+either_keeps : (refusal : Option Refusal) (m : Message) (at : ℕ) (w : Known) (s : ℕ) (e : Entry) → entry_of w.entries s ≡ Some e
+    → entry_of (cond (is_some refusal) w (taken m.body at w)).entries s ≡ Some (cond (is_none refusal && acknowledges s m.body) (closed_entry e) e)
 either_keeps None m at w s e here = taken_keeps m.body at w s e here
 either_keeps (Some r) m at w s e here = here
 
@@ -48,32 +50,31 @@ status_pushed (Some x) p at entries here = refl
 status_pushed None p at entries none =
     ap (λ o. option_map_or (λ e. status_of_stage e.phase) o queue.Running) (find-behind (is_of p.spawn_id) entries (new_entry p at ∷ []) none ∙ new_is_of p at) ∙ sym (ap (λ o. option_map_or (λ e. status_of_stage e.phase) o queue.Running) none)
 
+status_answered : (ok : Bool) (s : ℕ) (entries : List Entry) → status_in (cond ok (with_entry s closed_entry entries) entries) s ≡ status_in entries s
+status_answered true s entries = status_closed s entries
+status_answered false s entries = refl
+
 status_taken : (body : Body) (at : ℕ) (w : Known) → status_in (taken body at w).entries (spawn_in body) ≡ status_in w.entries (spawn_in body)
 status_taken (Submit p) at w = status_pushed (entry_of w.entries p.spawn_id) p at w.entries refl
 status_taken (Return p) at w = refl
-status_taken (Answer c s told) at w = refl
+status_taken (Answer c s told) at w = status_answered (is_ok told) s w.entries
 
 status_either : (refusal : Option Refusal) (body : Body) (at : ℕ) (w : Known) → status_in (cond (is_some refusal) w (taken body at w)).entries (spawn_in body) ≡ status_in w.entries (spawn_in body)
 status_either None body at w = status_taken body at w
 status_either (Some r) body at w = refl
 
--- a message leaves the Status of its queue entry: one of which there is no entry is running, as a new one is
+-- a message leaves the Status of its queue entry: one of which there is no entry is running, as a new one is, and one that is closed has its end still
 pub status_stays : (m : Message) (at : ℕ) (w : Known) → status_in (after_taking m at w).entries (spawn_in m.body) ≡ status_in w.entries (spawn_in m.body)
 status_stays m at w = status_either (take_refusal m w) m.body at w
 
 -- ---- answers
 
-answer_taken : (body : Body) (at : ℕ) (w : Known) → is_answer body ≡ true → taken body at w ≡ w
-answer_taken (Submit p) at w e = absurd (true≢false (sym e))
-answer_taken (Return p) at w e = absurd (true≢false (sym e))
-answer_taken (Answer c s told) at w e = refl
-
 same_either : (b : Bool) (old new : Known) → new ≡ old → cond b old new ≡ old
 same_either true old new e = refl
 same_either false old new e = e
 
-pub answer_changes_nothing : AnswerChangesNothing
-answer_changes_nothing m at w e = same_either (is_some (take_refusal m w)) w (taken m.body at w) (answer_taken m.body at w e)
+pub refusal_changes_nothing : RefusalChangesNothing
+refusal_changes_nothing m at w c s reason says = same_either (is_some (take_refusal m w)) w (taken m.body at w) (ap (λ body. taken body at w) says)
 
 -- ---- a part that came again
 

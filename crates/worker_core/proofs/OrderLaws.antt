@@ -1,8 +1,8 @@
 -- What a worker may change, what an order changes, and what is given back.
-use Rattle.std.proofs.Common.{◌≡◌, ℕ, ◌==◌, ◌||◌, ◌&&◌, Bool, true, false, cond, List, [], ◌∷◌, Option, Some, None, is_some, inl, inr, refl, sym, ap, ◌∙◌, subst}
-use Rattle.std.proofs.lemmas.Bool.{true≢false, and_parts, and_from, eqb-true, or_left}
+use Rattle.std.proofs.Common.{◌≡◌, ℕ, ◌==◌, ◌||◌, Bool, true, false, cond, List, [], ◌∷◌, Option, Some, None, is_some, inl, inr, refl, sym, ap, ◌∙◌, subst}
+use Rattle.std.proofs.lemmas.Bool.{true≢false, eqb-true, or_left}
 use Rattle.std.specs.List.{list_any}
-use Rattle.std.specs.Option.{option_map, option_map_or}
+use Rattle.std.specs.Option.{option_and_then, option_map, option_map_or}
 use Rattle.std.specs.Str.{bytes_eq}
 use Rattle.std.proofs.lemmas.Slice.Eq.{bytes_eq-Decides}
 use Rattle.ticket_items.proofs.Places.{is_some-find, same_found}
@@ -12,11 +12,13 @@ use Rattle.ticket_items.specs.declared.edit.Edit.{Edit}
 use Rattle.ticket_items.specs.declared.edit.Edit.TheVariants.{SetStatus, SetAttr, SetResStatus, SetResAttr, Note, AddNode, AddResource, AddLink}
 use Rattle.ticket_items.specs.declared.node_row.NodeRow.{NodeRow}
 use Rattle.ticket_items.specs.declared.refusal.Refusal.{Refusal}
+use Rattle.ticket_items.specs.declared.refusal.Refusal.TheVariants.{NotOpen}
+use Rattle.ticket_rows.specs.Copies.{with_copies}
 use Rattle.ticket_rows.proofs.AtHome.{holds, mem-ids}
 use Rattle.ticket_rows.specs.Edit.{is_structural, target}
 use Rattle.ticket_rows.specs.Homes.{has_resource}
 use Rattle.ticket_rows.specs.Place.{Row}
-use Rattle.ticket_rows.specs.Ticket.{has_node, ids}
+use Rattle.ticket_rows.specs.Ticket.{IsValid, has_node, ids, unless}
 use Rattle.ticket_tree.proofs.OnPlaces.{has_resource-any}
 use Rattle.ticket_tree.proofs.PartEdits.{part_edit_of_places, part_edit_of_rows}
 use Rattle.ticket_tree.specs.Part.{Copied, edited_part, refusal_of_part}
@@ -25,29 +27,36 @@ use Rattle.ticket_tree.specs.PlainEdit.{plain_changed, touch}
 use Rattle.controller.specs.declared.message.Message.{Message}
 use Rattle.worker_core.proofs.AtNumber.{find-at_number, find-other, found_holds}
 use Rattle.worker_core.proofs.EditedPart.{ending_free, first_known}
-use Rattle.worker_core.proofs.Kept.{number_of}
-use Rattle.worker_core.proofs.Refusals.{done_free, edit_free, open_free, ordered_on}
-use Rattle.worker_core.specs.Laws.{EditIsOfHeld, IsNext, IsSamePart, MayChangeIsHeld, OrderKeepsEntries, ResentIsSame, ReturnIsOfEntry}
-use Rattle.worker_core.specs.Orders.{edit_refusal, edited_entry, ending, finished_entry, is_here, order_refusal, ordered, return_of}
-use Rattle.worker_core.specs.Worker.{IsKept, IsKeptEntry, Known, entry_of, has, is_of, is_open, is_open_stage, may_change, root_id, with_entry}
+use Rattle.worker_core.proofs.Kept.{kept_part, number_of}
+use Rattle.worker_core.proofs.Refusals.{done_free, edit_free, of_open, open_free, ordered_on}
+use Rattle.worker_core.specs.Laws.{EditIsOfHeld, IsNext, IsNextPart, MayChangeIsHeld, OrderKeepsEntries, ResentIsSame, ReturnIsOfEntry}
+use Rattle.worker_core.specs.Orders.{edit_refusal, edited_entry, ended_part, ending, finished_entry, is_here, order_refusal, ordered, return_of}
+use Rattle.worker_core.specs.Worker.{IsKept, IsKeptEntry, Known, entry_of, has, is_of, is_open_stage, may_change, open_part, root_id, with_entry}
 use Rattle.worker_core.specs.declared.end.End.{End}
 use Rattle.worker_core.specs.declared.entry.Entry.{Entry}
 use Rattle.worker_core.specs.declared.order.Order.{Order}
 use Rattle.worker_core.specs.declared.order.Order.TheVariants as order
 use Rattle.worker_core.specs.declared.stage.Stage.{Stage}
-use Rattle.worker_core.specs.declared.stage.Stage.TheVariants.{Open, Done}
+use Rattle.worker_core.specs.declared.stage.Stage.TheVariants.{Open, Done, Closed}
 
 -- ---- what may be changed
 
 open_stage : (stage : Stage) → is_open_stage stage ≡ true → stage ≡ Open
 open_stage Open e = refl
 open_stage (Done how) e = absurd (true≢false (sym e))
+open_stage (Closed how) e = absurd (true≢false (sym e))
 
-held_in : (found : Option Entry) (x : List ℕ) → option_map_or (λ e. is_open e && has e.part x) found false ≡ true → (e : Entry) × (found ≡ Some e) × (e.phase ≡ Open) × (has e.part x ≡ true)
+-- an entry through which something may be changed, and its part
+abbrev pub HeldIn : Option Entry → List ℕ → Type 0
+HeldIn found x = (e : Entry) × (p : Copied) × (found ≡ Some e) × (e.phase ≡ Open) × (e.part ≡ Some p) × (has p x ≡ true)
+
+held_by : (o : Option Copied) (e : Entry) (x : List ℕ) → open_part e ≡ o → option_map_or (λ p. has p x) o false ≡ true → HeldIn (Some e) x
+held_by None e x is may = absurd (true≢false (sym may))
+held_by (Some p) e x is may = let of = of_open e p is in (e, p, refl, open_stage e.phase of.0, of.1, may)
+
+held_in : (found : Option Entry) (x : List ℕ) → option_map_or (λ p. has p x) (option_and_then open_part found) false ≡ true → HeldIn found x
 held_in None x may = absurd (true≢false (sym may))
-held_in (Some e) x may =
-    let parts = and_parts (is_open e) (has e.part x) may in
-    (e, refl, open_stage e.phase parts.0, parts.1)
+held_in (Some e) x may = held_by (open_part e) e x refl may
 
 pub may_change_is_held : MayChangeIsHeld
 may_change_is_held entries s x may = held_in (entry_of entries s) x may
@@ -93,68 +102,75 @@ here_has (AddResource n x) p plain here = absurd (true≢false plain)
 here_has (AddLink n link) p plain here = absurd (true≢false plain)
 
 -- what an open entry has may be changed
-may_change_here : (entries : List Entry) (s : ℕ) (x : List ℕ) (e : Entry) → entry_of entries s ≡ Some e → is_open e ≡ true → has e.part x ≡ true → may_change entries s x ≡ true
-may_change_here entries s x e found opened there = ap (λ o. option_map_or (λ e. is_open e && has e.part x) o false) found ∙ and_from _ _ opened there
+pub may_change_here : (entries : List Entry) (s : ℕ) (x : List ℕ) (e : Entry) (p : Copied) → entry_of entries s ≡ Some e → open_part e ≡ Some p → has p x ≡ true → may_change entries s x ≡ true
+may_change_here entries s x e p found opened there =
+    ap (λ o. option_map_or (λ q. has q x) (option_and_then open_part o) false) found ∙ ap (λ o. option_map_or (λ q. has q x) o false) opened ∙ there
 
 pub edit_is_of_held : EditIsOfHeld
 edit_is_of_held entries s e none =
     let on = ordered_on (order.Edit s e) entries none in
     let entry : Entry = on.0 in
     let free = edit_free e entry on.2 in
-    may_change_here entries s (target e) entry on.1 free.is_open (here_has e entry.part free.plain free.here)
+    may_change_here entries s (target e) entry free.part on.1 free.opened (here_has e free.part free.plain free.here)
 
 -- ---- what an order changes
 
 unchanged : (entries : List Entry) (s : ℕ) (e : Entry) → IsNext entries s e e
 unchanged entries s e =
     record {
-      part = record { job = refl; spawn = refl; ancestors = refl; ro = refl; places = refl };
-      rows = λ x out. refl;
+      part = λ p is. (p, is, record { same = record { job = refl; spawn = refl; ancestors = refl; ro = refl; places = refl }; rows = λ x out. refl });
       phase = inl refl;
       finished = λ done. refl;
     }
-
--- an edit of a part moves nothing
-same_part : (e : Edit) (at : ℕ) (x : Entry) → IsKeptEntry x → is_structural e ≡ false → refusal_of_part e x.part ≡ None → IsSamePart x.part (edited_part e at x.part)
-same_part e at x kept plain free = record { job = refl; spawn = refl; ancestors = refl; ro = refl; places = part_edit_of_places e at x.part kept.valid plain free }
 
 untouched : (b : Bool) (n : List ℕ) (f : Row → Row) (rows : List ℕ → Option Row) (y : List ℕ) → bytes_eq n y ≡ b → (b ≡ true → ⊥) → touch n f rows y ≡ rows y
 untouched true n f rows y e not_true = absurd (not_true refl)
 untouched false n f rows y e not_true = ap (λ b. cond b (option_map f (rows y)) (rows y)) e
 
--- and changes no row but that of its target, which may be changed
-same_rows : (e : Edit) (at : ℕ) (entries : List Entry) (s : ℕ) (x : Entry) → IsKeptEntry x → is_structural e ≡ false → refusal_of_part e x.part ≡ None → may_change entries s (target e) ≡ true → (y : List ℕ) → may_change entries s y ≡ false
-    → part_row (edited_part e at x.part) y ≡ part_row x.part y
-same_rows e at entries s x kept plain free may y out =
-    part_edit_of_rows e at x.part kept.valid plain free y
-    ∙ untouched (bytes_eq (target e) y) (target e) (plain_changed e at) (part_row x.part) y refl
-    (λ same. true≢false (sym may ∙ ap (may_change entries s) ((bytes_eq-Decides (target e) y).0 same) ∙ out))
+-- an edit of a part moves nothing, and changes no row but that of its target, which may be changed
+edited_next : (e : Edit) (at : ℕ) (entries : List Entry) (s : ℕ) (p : Copied) → IsValid (with_copies p.rows p.rw p.ro) → is_structural e ≡ false → refusal_of_part e p ≡ None → may_change entries s (target e) ≡ true → IsNextPart entries s p (edited_part e at p)
+edited_next e at entries s p valid plain free may =
+    record {
+      same = record { job = refl; spawn = refl; ancestors = refl; ro = refl; places = part_edit_of_places e at p valid plain free };
+      rows = λ y out.
+          part_edit_of_rows e at p valid plain free y
+          ∙ untouched (bytes_eq (target e) y) (target e) (plain_changed e at) (part_row p) y refl
+          (λ same. true≢false (sym may ∙ ap (may_change entries s) ((bytes_eq-Decides (target e) y).0 same) ∙ out));
+    }
+
+-- the part that an entry has, once it is another
+next_part : (f : Copied → Copied) (entries : List Entry) (s : ℕ) (x : Entry) (mine : Copied) → x.part ≡ Some mine → IsNextPart entries s mine (f mine) → (p : Copied) → x.part ≡ Some p → (q : Copied) × (option_map f x.part ≡ Some q) × IsNextPart entries s p q
+next_part f entries s x mine has next p is = (f p, ap (option_map f) is, subst (λ q. IsNextPart entries s q (f q)) (same_found mine p x.part has is) next)
 
 edit_next : (e : Edit) (at : ℕ) (entries : List Entry) (s : ℕ) (x : Entry) → IsKeptEntry x → order_refusal (order.Edit s e) entries ≡ None → entry_of entries s ≡ Some x → IsNext entries s x (edited_entry e at x)
 edit_next e at entries s x kept none found =
     let on = ordered_on (order.Edit s e) entries none in
     let same : on.0 ≡ x = same_found on.0 x (entry_of entries s) on.1 found in
     let free = edit_free e x (subst (λ y. edit_refusal e y ≡ None) same on.2) in
+    let p = free.part in
+    let of = of_open x p free.opened in
+    let own = kept_part x p of.1 kept in
     record {
-      part = same_part e at x kept free.plain free.part;
-      rows = same_rows e at entries s x kept free.plain free.part (edit_is_of_held entries s e none);
+      part = next_part (edited_part e at) entries s x p of.1 (edited_next e at entries s p own.valid free.plain free.free (edit_is_of_held entries s e none));
       phase = inl refl;
-      finished = λ done. absurd (true≢false (sym free.is_open ∙ done));
+      finished = λ done. absurd (true≢false (sym of.0 ∙ done));
     }
 
 finish_next : (how : End) (at : ℕ) (entries : List Entry) (s : ℕ) (x : Entry) → IsKeptEntry x → order_refusal (order.Finish s how) entries ≡ None → entry_of entries s ≡ Some x → IsNext entries s x (finished_entry how at x)
 finish_next how at entries s x kept none found =
     let on = ordered_on (order.Finish s how) entries none in
     let same : on.0 ≡ x = same_found on.0 x (entry_of entries s) on.1 found in
-    let opened : is_open x ≡ true = ap is_open (sym same) ∙ open_free on.0 on.2 in
-    let e = ending x.part how in
-    let free = ending_free x.part how kept.valid in
-    let there : has x.part (root_id x.part) ≡ true = here_has e x.part refl (first_known x.part.rows x.part.rw x.part.ro kept.valid) in
+    let opened = open_free x (subst (λ y. unless (is_some (open_part y)) NotOpen ≡ None) same on.2) in
+    let p : Copied = opened.0 in
+    let of = of_open x p opened.1 in
+    let own = kept_part x p of.1 kept in
+    let e = ending p how in
+    let free = ending_free p how own.valid in
+    let there : has p (root_id p) ≡ true = here_has e p refl (first_known p.rows p.rw p.ro own.valid) in
     record {
-      part = same_part e at x kept refl free;
-      rows = same_rows e at entries s x kept refl free (may_change_here entries s (root_id x.part) x found opened there);
-      phase = inr (open_stage x.phase opened, refl);
-      finished = λ done. absurd (true≢false (sym opened ∙ done));
+      part = next_part (ended_part how at) entries s x p of.1 (edited_next e at entries s p own.valid refl free (may_change_here entries s (root_id p) x p found opened.1 there));
+      phase = inr (open_stage x.phase of.0, refl);
+      finished = λ done. absurd (true≢false (sym of.0 ∙ done));
     }
 
 -- the entry of a spawn after that of another, or its own, has been changed
@@ -185,11 +201,6 @@ order_keeps_entries o at w s e kept found = next_either (order_refusal o w.entri
 
 -- ---- what is given back
 
--- what is made of what was found
-made_of : (f : Entry → Message) (found : Option Entry) (e : Entry) (m : Message) → found ≡ Some e → option_map f found ≡ Some m → m ≡ f e
-made_of f None e m found made = cc
-made_of f (Some x) e m found made = cc
-
 no_message : (m : Message) {P : Type 0} → ◌≡◌ {A = Option Message} None (Some m) → P
 no_message m e = cc
 
@@ -201,16 +212,16 @@ return_is_of_entry (order.Finish s how) at w m none made =
       finished_entry how at x,
       find-at_number number_of s (finished_entry how at) w.entries (λ y. refl) ∙ ap (option_map (finished_entry how at)) on.1,
       refl,
-      made_of (λ entry. return_of w.name w.master (finished_entry how at entry)) (entry_of w.entries s) x m on.1 made,
+      sym (ap (option_and_then (λ entry. return_of w.name w.master (finished_entry how at entry))) on.1) ∙ made,
     )
 return_is_of_entry (order.Resend s) at w m none made =
     let on = ordered_on (order.Resend s) w.entries none in
-    (on.0, on.1, done_free on.0 on.2, made_of (return_of w.name w.master) (entry_of w.entries s) on.0 m on.1 made)
+    (on.0, on.1, (done_free on.0 on.2).0, sym (ap (option_and_then (return_of w.name w.master)) on.1) ∙ made)
 
-twice_mapped : (f : Entry → Entry) (g : Entry → Message) (found : Option Entry) → option_map g (option_map f found) ≡ option_map (λ e. g (f e)) found
-twice_mapped f g None = refl
-twice_mapped f g (Some e) = refl
+then_mapped : (f : Entry → Entry) (g : Entry → Option Message) (found : Option Entry) → option_and_then g (option_map f found) ≡ option_and_then (λ e. g (f e)) found
+then_mapped f g None = refl
+then_mapped f g (Some e) = refl
 
 pub resent_is_same : ResentIsSame
 resent_is_same s how at later w none =
-    ap (option_map (return_of w.name w.master)) (find-at_number number_of s (finished_entry how at) w.entries (λ y. refl)) ∙ twice_mapped (finished_entry how at) (return_of w.name w.master) (entry_of w.entries s)
+    ap (option_and_then (return_of w.name w.master)) (find-at_number number_of s (finished_entry how at) w.entries (λ y. refl)) ∙ then_mapped (finished_entry how at) (return_of w.name w.master) (entry_of w.entries s)

@@ -1,12 +1,12 @@
 -- What an order or a message that isn't refused says.
-use Rattle.std.proofs.Common.{◌≡◌, ◌||◌, ◌&&◌, Bool, true, false, not, List, [], ◌∷◌, Option, Some, None, refl, ap, ◌∙◌}
+use Rattle.std.proofs.Common.{◌≡◌, ◌||◌, ◌&&◌, Bool, true, false, cond, not, List, [], ◌∷◌, Option, Some, None, is_some, refl, ap, ◌∙◌}
 use Rattle.std.proofs.lemmas.Bool.{true≢false}
 use Rattle.std.specs.Option.{option_map_or}
 use Rattle.std.specs.Str.{bytes_eq}
 use Rattle.ticket_items.specs.declared.edit.Edit.{Edit}
 use Rattle.ticket_items.specs.declared.edit.Edit.TheVariants.{SetStatus, SetAttr, SetResStatus, SetResAttr, Note, AddNode, AddResource, AddLink}
 use Rattle.ticket_items.specs.declared.refusal.Refusal.{Refusal}
-use Rattle.ticket_items.specs.declared.refusal.Refusal.TheVariants.{UnknownNode, UnknownResource, ReservedStatus, UnknownEntry, NotOpen, ReadOnly, NotInPart, NotForWorkers, NotDone, WrongMessage, WrongSender}
+use Rattle.ticket_items.specs.declared.refusal.Refusal.TheVariants.{UnknownNode, UnknownResource, ReservedStatus, UnknownEntry, NotOpen, ReadOnly, NotInPart, NotForWorkers, NotDone, Acknowledged, WrongMessage, WrongSender}
 use Rattle.ticket_rows.specs.Edit.{is_structural}
 use Rattle.ticket_rows.specs.EditRefusal.{later_refusal}
 use Rattle.ticket_rows.specs.PartEdit.{part_lookups}
@@ -14,8 +14,8 @@ use Rattle.ticket_rows.specs.Ticket.{first_of, is_reserved, unless}
 use Rattle.ticket_tree.specs.Part.{Copied, refusal_of_part}
 use Rattle.controller.specs.declared.message.Message.{Message}
 use Rattle.worker_core.specs.Messages.{body_refusal, is_for_workers, take_refusal}
-use Rattle.worker_core.specs.Orders.{edit_refusal, entry_refusal, is_here, is_to_read, order_refusal, spawn_of_order}
-use Rattle.worker_core.specs.Worker.{Known, entry_of, is_open}
+use Rattle.worker_core.specs.Orders.{edit_refusal, entry_refusal, is_here, is_to_read, order_refusal, part_edit_refusal, resend_refusal, spawn_of_order}
+use Rattle.worker_core.specs.Worker.{Known, entry_of, is_closed, is_open, open_part}
 use Rattle.worker_core.specs.declared.entry.Entry.{Entry}
 use Rattle.worker_core.specs.declared.order.Order.{Order}
 
@@ -33,23 +33,39 @@ ordered_on o entries none = found_in (entry_refusal o) (entry_of entries (spawn_
 pub refused_on : (o : Order) (entries : List Entry) (e : Entry) → entry_of entries (spawn_of_order o) ≡ Some e → order_refusal o entries ≡ entry_refusal o e
 refused_on o entries e found = ap (λ f. option_map_or (entry_refusal o) f (Some UnknownEntry)) found
 
+-- ---- a part that is open
+
+-- the entry is, and has the part
+pub of_open : (e : Entry) (p : Copied) → open_part e ≡ Some p → (is_open e ≡ true) × (e.part ≡ Some p)
+of_open e p is = by (is_open e) is
+  where
+    by : (b : Bool) → cond b e.part None ≡ Some p → (b ≡ true) × (e.part ≡ Some p)
+    by true is = (refl, is)
+    by false is = cc
+
+pub opened : (e : Entry) (p : Copied) → is_open e ≡ true → e.part ≡ Some p → open_part e ≡ Some p
+opened e p is_open' has = ap (λ b. cond b e.part None) is_open' ∙ has
+
 -- ---- edits
 
 pub record IsFree (e : Edit) (entry : Entry) : Type 0 where
-  pub is_open : is_open entry ≡ true
+  pub part : Copied
+  pub opened : open_part entry ≡ Some part
   pub plain : is_structural e ≡ false
-  pub here : is_here e entry.part ≡ true
-  pub part : refusal_of_part e entry.part ≡ None
+  pub here : is_here e part ≡ true
+  pub free : refusal_of_part e part ≡ None
 
-five_none : (a b c d : Bool) (l : Option Refusal) → first_of (unless a NotOpen ∷ unless (not b) NotForWorkers ∷ unless (c || d) NotInPart ∷ unless (not d) ReadOnly ∷ l ∷ []) ≡ None
-    → (a ≡ true) × (b ≡ false) × (c ≡ true) × (l ≡ None)
-five_none true false true false None e = (refl, refl, refl, refl)
-five_none true false true false (Some r) e = cc
-five_none true false true true l e = cc
-five_none true false false true l e = cc
-five_none true false false false l e = cc
-five_none true true c d l e = cc
-five_none false b c d l e = cc
+edited_open : (f : Copied → Option Refusal) (o : Option Copied) → option_map_or f o (Some NotOpen) ≡ None → (p : Copied) × (o ≡ Some p) × (f p ≡ None)
+edited_open f None none = cc
+edited_open f (Some p) none = (p, refl, none)
+
+four_none : (b c d : Bool) (l : Option Refusal) → first_of (unless (not b) NotForWorkers ∷ unless (c || d) NotInPart ∷ unless (not d) ReadOnly ∷ l ∷ []) ≡ None → (b ≡ false) × (c ≡ true) × (l ≡ None)
+four_none false true false None e = (refl, refl, refl)
+four_none false true false (Some r) e = cc
+four_none false true true l e = cc
+four_none false false true l e = cc
+four_none false false false l e = cc
+four_none true c d l e = cc
 
 -- an edit of what is here isn't refused by the part, but for its value
 part_free : (e : Edit) (p : Copied) → is_structural e ≡ false → is_here e p ≡ true → later_refusal e (part_lookups p.rows p.rw) ≡ None → refusal_of_part e p ≡ None
@@ -65,24 +81,29 @@ part_free (AddLink n link) p plain here later = absurd (true≢false plain)
 
 pub edit_free : (e : Edit) (entry : Entry) → edit_refusal e entry ≡ None → IsFree e entry
 edit_free e entry none =
-    let parts = five_none (is_open entry) (is_structural e) (is_here e entry.part) (is_to_read e entry.part) (later_refusal e (part_lookups entry.part.rows entry.part.rw)) none in
-    record { is_open = parts.0; plain = parts.1; here = parts.2; part = part_free e entry.part parts.1 parts.2 parts.3 }
+    let on = edited_open (part_edit_refusal e) (open_part entry) none in
+    let p : Copied = on.0 in
+    let parts = four_none (is_structural e) (is_here e p) (is_to_read e p) (later_refusal e (part_lookups p.rows p.rw)) on.2 in
+    record { part = p; opened = on.1; plain = parts.0; here = parts.1; free = part_free e p parts.0 parts.1 parts.2 }
 
 -- ---- other orders
 
-only_open : (a : Bool) → unless a NotOpen ≡ None → a ≡ true
-only_open true e = refl
-only_open false e = cc
+only_open : (o : Option Copied) → unless (is_some o) NotOpen ≡ None → (p : Copied) × (o ≡ Some p)
+only_open (Some p) e = (p, refl)
+only_open None e = cc
 
-pub open_free : (e : Entry) → unless (is_open e) NotOpen ≡ None → is_open e ≡ true
-open_free e none = only_open (is_open e) none
+-- what may be finished has a part that is open
+pub open_free : (e : Entry) → unless (is_some (open_part e)) NotOpen ≡ None → (p : Copied) × (open_part e ≡ Some p)
+open_free e none = only_open (open_part e) none
 
-only_done : (a : Bool) → unless (not a) NotDone ≡ None → a ≡ false
-only_done false e = refl
-only_done true e = cc
+only_done : (a b : Bool) → first_of (unless (not a) NotDone ∷ unless (not b) Acknowledged ∷ []) ≡ None → (a ≡ false) × (b ≡ false)
+only_done false false e = (refl, refl)
+only_done false true e = cc
+only_done true b e = cc
 
-pub done_free : (e : Entry) → unless (not (is_open e)) NotDone ≡ None → is_open e ≡ false
-done_free e none = only_done (is_open e) none
+-- what may be given back once more is done
+pub done_free : (e : Entry) → resend_refusal e ≡ None → (is_open e ≡ false) × (is_closed e ≡ false)
+done_free e none = only_done (is_open e) (is_closed e) none
 
 -- ---- messages
 

@@ -1,14 +1,15 @@
 -- What a worker sends may be sent: a part, or an answer with the number of a refusal.
 use Rattle.std.proofs.Common.{◌≡◌, ℕ, List, true, Option, Some, None, refl}
-use Rattle.std.specs.Option.{option_map}
+use Rattle.std.specs.Option.{option_and_then, option_map}
 use Rattle.std.specs.Prelude.{IfSome}
+use Rattle.ticket_tree.specs.Part.{Copied}
 use Rattle.controller.proofs.Answered.{sends_so}
 use Rattle.controller.proofs.Sendable.{answers_sent, told}
 use Rattle.controller.specs.Reply.{spawn_in}
 use Rattle.controller.specs.Words.{may_be_sent}
 use Rattle.controller.specs.declared.message.Message.{Message}
 use Rattle.worker_core.specs.Messages.{after_taking, take_refusal, take_step, taken_result}
-use Rattle.worker_core.specs.Orders.{finished_entry, order_message, order_refusal, order_reply, order_step, ordered, return_of}
+use Rattle.worker_core.specs.Orders.{finished_entry, order_message, order_refusal, order_reply, order_step, ordered, part_return, return_of}
 use Rattle.worker_core.specs.Worker.{Known, entry_of, status_in}
 use Rattle.worker_core.specs.declared.entry.Entry.{Entry}
 use Rattle.worker_core.specs.declared.order.Order.{Order}
@@ -18,9 +19,13 @@ use Rattle.worker_core.specs.declared.order.Order.TheVariants.{Edit, Finish, Res
 abbrev pub IsSendable : Option Message → Type 0
 IsSendable sent = IfSome sent (λ m. may_be_sent m.body ≡ true)
 
-returned : (name master : List ℕ) (f : Entry → Entry) (e : Option Entry) → IsSendable (option_map (λ entry. return_of name master (f entry)) e)
+part_returned : (name master : List ℕ) (at' : ℕ) (p : Option Copied) → IsSendable (option_map (part_return name master at') p)
+part_returned name master at' None = tt
+part_returned name master at' (Some p) = refl
+
+returned : (name master : List ℕ) (f : Entry → Entry) (e : Option Entry) → IsSendable (option_and_then (λ entry. return_of name master (f entry)) e)
 returned name master f None = tt
-returned name master f (Some e) = refl
+returned name master f (Some e) = let new = f e in part_returned name master new.at new.part
 
 message : (o : Order) (at' : ℕ) (w : Known) → IsSendable (order_message o at' w)
 message (Edit s e) at' w = tt

@@ -1,11 +1,12 @@
 -- The definitions computed on a small job: the printing of a product was spawned to the press, with its sheets to change and its
 -- paper to read.
 use Rattle.std.proofs.Common.{◌≡◌, ℕ, true, false, List, [], ◌∷◌, ◌++◌, map, Some, None, Ok, Err, refl}
+use Rattle.std.specs.Option.{option_map}
 use Rattle.std.specs.Prelude.{codes}
 use Rattle.ticket_items.specs.declared.audit.Audit.TheVariants.{Notification}
 use Rattle.ticket_items.specs.declared.edit.Edit.TheVariants.{SetStatus, SetResStatus, Note, AddNode}
 use Rattle.ticket_items.specs.declared.node_row.NodeRow.{NodeRow}
-use Rattle.ticket_items.specs.declared.refusal.Refusal.TheVariants.{UnknownEntry, NotOpen, ReadOnly, NotInPart, NotForWorkers, NotDone, BadPart, ReservedStatus, WrongMessage, WrongSender}
+use Rattle.ticket_items.specs.declared.refusal.Refusal.TheVariants.{UnknownEntry, NotOpen, ReadOnly, NotInPart, NotForWorkers, NotDone, Acknowledged, BadPart, ReservedStatus, WrongMessage, WrongSender}
 use Rattle.ticket_items.specs.declared.resource.Resource.{Resource}
 use Rattle.ticket_items.specs.declared.usage.Usage.TheVariants.{Input, Output}
 use Rattle.ticket_tree.specs.Part.{Copied}
@@ -21,7 +22,7 @@ use Rattle.worker_core.specs.Stored.{is_worker}
 use Rattle.worker_core.specs.Worker.{Known, known, may_change}
 use Rattle.worker_core.specs.declared.end.End.TheVariants as end
 use Rattle.worker_core.specs.declared.order.Order.TheVariants.{Edit, Finish, Resend}
-use Rattle.worker_core.specs.declared.stage.Stage.TheVariants.{Open, Done}
+use Rattle.worker_core.specs.declared.stage.Stage.TheVariants.{Open, Done, Closed}
 
 abbrev paper : Resource
 paper = record { id = codes "r1"; name = codes "Media"; class = codes "Consumable"; status = codes "Available"; attrs = [] }
@@ -69,6 +70,15 @@ taken = after_taking sent 110 press
 abbrev done : Known
 done = ordered (Finish 1 end.Completed) 120 taken
 
+abbrev acknowledged : Message
+acknowledged = from_to (codes "mis") (codes "press") 150 (Answer command.Return 1 (Ok Completed))
+
+abbrev refusing : Message
+refusing = from_to (codes "mis") (codes "press") 150 (Answer command.Return 1 (Err 22))
+
+abbrev closed : Known
+closed = after_taking acknowledged 150 done
+
 -- ---- orders
 
 before : order_refusal (Edit 1 (SetStatus (codes "n1") (codes "InProgress"))) press.entries ≡ Some UnknownEntry
@@ -105,7 +115,7 @@ not_done = refl
 noted : order_refusal (Edit 1 (Note (codes "n1") (codes "washed up"))) taken.entries ≡ None
 noted = refl
 
-note : map (λ e. map (λ r. r.audits) e.part.rows) (ordered (Edit 1 (Note (codes "n1") (codes "washed up"))) 115 taken).entries ≡ ((Notification 115 (codes "washed up") ∷ []) ∷ []) ∷ []
+note : map (λ e. option_map (λ p. map (λ r. r.audits) p.rows) e.part) (ordered (Edit 1 (Note (codes "n1") (codes "washed up"))) 115 taken).entries ≡ Some ((Notification 115 (codes "washed up") ∷ []) ∷ []) ∷ []
 note = refl
 
 not_open : order_refusal (Edit 1 (SetStatus (codes "n1") (codes "Waiting"))) done.entries ≡ Some NotOpen
@@ -117,7 +127,7 @@ added_late = refl
 finished_twice : order_refusal (Finish 1 end.Aborted) done.entries ≡ Some NotOpen
 finished_twice = refl
 
-finished : done.entries ≡ record { phase = Done end.Completed; part = part (codes "Completed"); at = 120 } ∷ []
+finished : done.entries ≡ record { spawn_id = 1; phase = Done end.Completed; part = Some (part (codes "Completed")); at = 120 } ∷ []
 finished = refl
 
 -- the part comes back with the Status of the end, and is the same once more
@@ -138,7 +148,7 @@ may_late = refl
 first : taken_reply sent press ≡ Ok (Taken 1)
 first = refl
 
-entry : taken.entries ≡ record { phase = Open; part = part (codes "Waiting"); at = 110 } ∷ []
+entry : taken.entries ≡ record { spawn_id = 1; phase = Open; part = Some (part (codes "Waiting")); at = 110 } ∷ []
 entry = refl
 
 first_answer : taken_answer sent 110 press ≡ Some (from_to (codes "press") (codes "mis") 110 (Answer command.Submit 1 (Ok Running)))
@@ -156,14 +166,45 @@ late_answer = refl
 late_state : after_taking sent 140 done ≡ done
 late_state = refl
 
-acked : taken_reply (from_to (codes "mis") (codes "press") 150 (Answer command.Return 1 (Ok Completed))) done ≡ Ok (Acked 1)
+acked : taken_reply acknowledged done ≡ Ok (Acked 1)
 acked = refl
 
-refused : taken_reply (from_to (codes "mis") (codes "press") 150 (Answer command.Return 1 (Err 22))) done ≡ Ok (Noted 1)
+refused : taken_reply refusing done ≡ Ok (Noted 1)
 refused = refl
 
-acked_early : taken_reply (from_to (codes "mis") (codes "press") 150 (Answer command.Return 1 (Ok Completed))) taken ≡ Err NotDone
+refused_state : after_taking refusing 150 done ≡ done
+refused_state = refl
+
+-- the entry gives up its part, and keeps all else
+gave_up : closed.entries ≡ record { spawn_id = 1; phase = Closed end.Completed; part = None; at = 120 } ∷ []
+gave_up = refl
+
+acked_again : taken_reply acknowledged closed ≡ Ok (Acked 1)
+acked_again = refl
+
+acked_again_state : after_taking acknowledged 160 closed ≡ closed
+acked_again_state = refl
+
+refused_late : taken_reply refusing closed ≡ Ok (Noted 1)
+refused_late = refl
+
+again_late : taken_reply sent closed ≡ Ok (Again 1)
+again_late = refl
+
+again_late_answer : taken_answer sent 170 closed ≡ Some (from_to (codes "press") (codes "mis") 170 (Answer command.Submit 1 (Ok Completed)))
+again_late_answer = refl
+
+again_late_state : after_taking sent 170 closed ≡ closed
+again_late_state = refl
+
+closed_orders : map (λ o. order_refusal o closed.entries) (Edit 1 (Note (codes "n1") (codes "late")) ∷ Finish 1 end.Aborted ∷ Resend 1 ∷ []) ≡ Some NotOpen ∷ Some NotOpen ∷ Some Acknowledged ∷ []
+closed_orders = refl
+
+acked_early : taken_reply acknowledged taken ≡ Err NotDone
 acked_early = refl
+
+acked_early_state : after_taking acknowledged 150 taken ≡ taken
+acked_early_state = refl
 
 acked_unknown : taken_reply (from_to (codes "mis") (codes "press") 150 (Answer command.Return 2 (Ok Completed))) done ≡ Err UnknownEntry
 acked_unknown = refl
@@ -190,7 +231,7 @@ bad_again = refl
 
 -- ---- what was stored
 
-stored : map is_worker (press ∷ taken ∷ done ∷ []) ≡ true ∷ true ∷ true ∷ []
+stored : map is_worker (press ∷ taken ∷ done ∷ closed ∷ []) ≡ true ∷ true ∷ true ∷ true ∷ []
 stored = refl
 
 same_name : is_worker (record done { master = codes "press" }) ≡ false
@@ -199,8 +240,17 @@ same_name = refl
 one_spawn : is_worker (record taken { entries = taken.entries ++ done.entries }) ≡ false
 one_spawn = refl
 
-other_end : is_worker (record done { entries = record { phase = Done end.Aborted; part = part (codes "Completed"); at = 120 } ∷ [] }) ≡ false
+other_end : is_worker (record done { entries = record { spawn_id = 1; phase = Done end.Aborted; part = Some (part (codes "Completed")); at = 120 } ∷ [] }) ≡ false
 other_end = refl
 
-unsound : is_worker (record taken { entries = record { phase = Open; part = record (part (codes "Waiting")) { ancestors = [] }; at = 110 } ∷ [] }) ≡ false
+other_spawn : is_worker (record done { entries = record { spawn_id = 2; phase = Done end.Completed; part = Some (part (codes "Completed")); at = 120 } ∷ [] }) ≡ false
+other_spawn = refl
+
+closed_with_part : is_worker (record done { entries = record { spawn_id = 1; phase = Closed end.Completed; part = Some (part (codes "Completed")); at = 120 } ∷ [] }) ≡ false
+closed_with_part = refl
+
+done_without_part : is_worker (record done { entries = record { spawn_id = 1; phase = Done end.Completed; part = None; at = 120 } ∷ [] }) ≡ false
+done_without_part = refl
+
+unsound : is_worker (record taken { entries = record { spawn_id = 1; phase = Open; part = Some (record (part (codes "Waiting")) { ancestors = [] }); at = 110 } ∷ [] }) ≡ false
 unsound = refl

@@ -1,20 +1,22 @@
 -- Laws of workers: what they may change, what orders and messages change, and what is given back.
-use Rattle.std.specs.Prelude.{◌≡◌, ◌⊎◌, ℕ, true, false, List, Some, None, Ok}
+use Rattle.std.specs.Prelude.{◌≡◌, ◌==◌, ◌&&◌, ◌⊎◌, ℕ, Bool, true, false, List, Some, None}
+use Rattle.std.specs.Prelude.{if◌then◌else◌, is_none, is_ok, Ok, Err}
 use Rattle.ticket_items.specs.declared.edit.Edit.{Edit}
 use Rattle.ticket_rows.specs.Edit.{target}
 use Rattle.ticket_rows.specs.Place.{places}
 use Rattle.ticket_tree.specs.Part.{Copied}
 use Rattle.ticket_tree.specs.PartView.{own_rows, part_row}
-use Rattle.controller.specs.Reply.{is_answer}
-use Rattle.controller.specs.declared.body.Body.TheVariants.{Submit}
+use Rattle.controller.specs.declared.body.Body.{Body}
+use Rattle.controller.specs.declared.body.Body.TheVariants.{Answer, Submit}
+use Rattle.controller.specs.declared.command.Command.{Command}
 use Rattle.controller.specs.declared.message.Message.{Message}
 use Rattle.controller.specs.declared.reply.Reply.TheVariants as reply
 use Rattle.worker_core.specs.Messages.{IsValidBody, after_taking, take_refusal, taken_reply}
 use Rattle.worker_core.specs.Messages.{taken_result}
 use Rattle.worker_core.specs.Orders.{after_order, order_message, order_refusal, ordered, return_of}
 use Rattle.worker_core.specs.Orders.{spawn_of_order}
-use Rattle.worker_core.specs.Worker.{IsKept, Known, entry_of, has, is_open, may_change}
-use Rattle.worker_core.specs.Worker.{status_of_stage}
+use Rattle.worker_core.specs.Worker.{IsKept, Known, closed_entry, entry_of, has, is_open}
+use Rattle.worker_core.specs.Worker.{may_change, status_of_stage}
 use Rattle.worker_core.specs.declared.end.End.{End}
 use Rattle.worker_core.specs.declared.entry.Entry.{Entry}
 use Rattle.worker_core.specs.declared.order.Order.{Order}
@@ -27,7 +29,8 @@ use Rattle.worker_core.specs.declared.stage.Stage.TheVariants.{Open}
 abbrev pub MayChangeIsHeld : Type 0
 MayChangeIsHeld =
     (entries : List Entry) (s : ℕ) (x : List ℕ) → may_change entries s x ≡ true
-    → (e : Entry) × (entry_of entries s ≡ Some e) × (e.phase ≡ Open) × (has e.part x ≡ true)
+    → (e : Entry) × (p : Copied) × (entry_of entries s ≡ Some e) × (e.phase ≡ Open)
+    × (e.part ≡ Some p) × (has p x ≡ true)
 
 -- an edit that isn't refused is of what may be changed
 abbrev pub EditIsOfHeld : Type 0
@@ -46,13 +49,18 @@ pub record IsSamePart (old new : Copied) : Type 0 where
   pub ro : new.ro ≡ old.ro
   pub places : places (own_rows new) ≡ places (own_rows old)
 
--- an entry of a spawn as it may be after an order: its part has changed in rows that could be
--- changed alone, it has been finished
--- only if it was open, and once it is finished it stays
+-- a part of the entry of a spawn as it may be after an order: it has changed in rows that could be
+-- changed alone
+pub record IsNextPart (entries : List Entry) (s : ℕ) (old new : Copied) : Type 0 where
+  pub same : IsSamePart old new
+  pub rows : (x : List ℕ) → may_change entries s x ≡ false → part_row new x ≡ part_row old x
+
+-- an entry of a spawn as it may be after an order: the part that it has is as above, it has been
+-- finished only if it was open, and once it is finished it stays
 pub record IsNext (entries : List Entry) (s : ℕ) (old new : Entry) : Type 0 where
-  pub part : IsSamePart old.part new.part
-  pub rows :
-      (x : List ℕ) → may_change entries s x ≡ false → part_row new.part x ≡ part_row old.part x
+  pub part :
+      (p : Copied) → old.part ≡ Some p
+      → (q : Copied) × (new.part ≡ Some q) × IsNextPart entries s p q
   pub phase : (new.phase ≡ old.phase) ⊎ ((old.phase ≡ Open) × (is_open new ≡ false))
   pub finished : is_open old ≡ false → new ≡ old
 
@@ -69,21 +77,30 @@ OrderIsKept = (o : Order) (at : ℕ) (w : Known) → IsKept w → IsKept (after_
 
 -- ---- what a message changes
 
--- a message changes no entry
+-- whether a message tells that the part of a spawn, which was given back, has come
+abbrev pub acknowledges : ℕ → Body → Bool
+acknowledges s (Answer c t told) = (t == s) && is_ok told
+acknowledges s body = false
+
+-- each entry stays, but that one whose part has come, as a message that isn't refused tells, is
+-- closed
 abbrev pub MessageKeepsEntries : Type 0
 MessageKeepsEntries =
     (m : Message) (at : ℕ) (w : Known) (s : ℕ) (e : Entry) → entry_of w.entries s ≡ Some e
-    → entry_of (after_taking m at w).entries s ≡ Some e
+    → entry_of (after_taking m at w).entries s
+    ≡ Some
+    (if is_none (take_refusal m w) && acknowledges s m.body then closed_entry e else e)
 
 -- what always holds of a worker holds after a message
 abbrev pub MessageIsKept : Type 0
 MessageIsKept = (m : Message) (at : ℕ) (w : Known) → IsValidBody m.body → IsKept w
     → IsKept (after_taking m at w)
 
--- an answer changes nothing
-abbrev pub AnswerChangesNothing : Type 0
-AnswerChangesNothing = (m : Message) (at : ℕ) (w : Known) → is_answer m.body ≡ true
-    → after_taking m at w ≡ w
+-- an answer that tells of a refusal changes nothing
+abbrev pub RefusalChangesNothing : Type 0
+RefusalChangesNothing =
+    (m : Message) (at : ℕ) (w : Known) (c : Command) (s reason : ℕ)
+    → m.body ≡ Answer c s (Err reason) → after_taking m at w ≡ w
 
 -- a part of which there is an entry changes nothing, is taken as one that came again, and is told
 -- how far the entry is
@@ -113,7 +130,7 @@ ReturnIsOfEntry =
     (o : Order) (at : ℕ) (w : Known) (m : Message) → order_refusal o w.entries ≡ None
     → order_message o at w ≡ Some m
     → (e : Entry) × (entry_of (ordered o at w).entries (spawn_of_order o) ≡ Some e)
-    × (is_open e ≡ false) × (m ≡ return_of w.name w.master e)
+    × (is_open e ≡ false) × (return_of w.name w.master e ≡ Some m)
 
 -- and so it is the same once more
 abbrev pub ResentIsSame : Type 0

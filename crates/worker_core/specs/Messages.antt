@@ -2,7 +2,7 @@
 -- becomes of the entries, what is
 -- replied and what is answered.
 use Rattle.std.specs.Prelude.{ℕ, ◌&&◌, ◌||◌, Bool, true, false, not, List, [], ◌∷◌, ◌++◌}
-use Rattle.std.specs.Prelude.{if◌then◌else◌, Option, Some, None, is_some, Result, Ok, Err, ⊤}
+use Rattle.std.specs.Prelude.{if◌then◌else◌, Option, Some, None, is_some, Result, Ok, Err, is_ok, ⊤}
 use Rattle.std.specs.Option.{option_map_or}
 use Rattle.std.specs.Str.{bytes_eq}
 use Rattle.ticket_items.specs.declared.refusal.Refusal.{Refusal}
@@ -22,7 +22,8 @@ use Rattle.controller.specs.declared.queue_status.QueueStatus.{QueueStatus}
 use Rattle.controller.specs.declared.reply.Reply.{Reply}
 use Rattle.controller.specs.declared.reply.Reply.TheVariants as reply
 use Rattle.worker_core.specs.declared.entry.Entry.{Entry}
-use Rattle.worker_core.specs.Worker.{Known, entry_of, is_open, new_entry, status_in}
+use Rattle.worker_core.specs.Worker.{Known, closed_entry, entry_of, is_open, new_entry, status_in}
+use Rattle.worker_core.specs.Worker.{with_entry}
 
 -- ---- refusals
 
@@ -41,7 +42,7 @@ is_for_workers (Answer c s told) = is_of_workers c
 abbrev pub part_refusal : List Entry → Copied → Option Refusal
 part_refusal entries p = unless (is_some (entry_of entries p.spawn_id) || is_sound p) BadPart
 
--- why an answer is refused, if it is: it has to be of an entry that was finished
+-- why an answer is refused, if it is: it has to be of an entry on which the work has ended
 abbrev pub answer_refusal : List Entry → ℕ → Option Refusal
 answer_refusal entries s =
     option_map_or (λ e. unless (not (is_open e)) NotDone) (entry_of entries s) (Some UnknownEntry)
@@ -68,12 +69,14 @@ IsValidBody (Submit p) = IsValid (with_copies p.rows p.rw p.ro)
 IsValidBody (Return p) = ⊤
 IsValidBody (Answer c s told) = ⊤
 
--- the entries after a message at a time that isn't refused: a part of which there is none gets one
+-- the entries after a message at a time that isn't refused: a part of which there is none gets one,
+-- and one whose part has come back is closed
 abbrev pub taken_entries : Body → ℕ → List Entry → List Entry
 taken_entries (Submit p) at entries =
     if is_some (entry_of entries p.spawn_id) then entries else entries ++ new_entry p at ∷ []
 taken_entries (Return p) at entries = entries
-taken_entries (Answer c s told) at entries = entries
+taken_entries (Answer c s told) at entries =
+    if is_ok told then with_entry s closed_entry entries else entries
 
 abbrev pub taken : Body → ℕ → Known → Known
 taken body at w = record w { entries = taken_entries body at w.entries }

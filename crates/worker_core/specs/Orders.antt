@@ -2,7 +2,7 @@
 -- is replied and what goes out.
 use Rattle.std.specs.Prelude.{ℕ, ◌&&◌, ◌||◌, Bool, not, List, [], ◌∷◌, if◌then◌else◌, Option, Some}
 use Rattle.std.specs.Prelude.{None, is_some, Ok}
-use Rattle.std.specs.Option.{option_map, option_map_or}
+use Rattle.std.specs.Option.{option_and_then, option_map, option_map_or}
 use Rattle.ticket_items.specs.Ids.{mem}
 use Rattle.ticket_items.specs.Resource.{resource_ids}
 use Rattle.ticket_items.specs.declared.edit.Edit.{Edit}
@@ -10,7 +10,7 @@ use Rattle.ticket_items.specs.declared.edit.Edit.TheVariants.{SetStatus}
 use Rattle.ticket_items.specs.declared.refusal.Refusal.{Refusal}
 use Rattle.ticket_items.specs.declared.refusal.Refusal.TheVariants.{UnknownEntry, NotOpen, ReadOnly}
 use Rattle.ticket_items.specs.declared.refusal.Refusal.TheVariants.{NotInPart, NotForWorkers}
-use Rattle.ticket_items.specs.declared.refusal.Refusal.TheVariants.{NotDone}
+use Rattle.ticket_items.specs.declared.refusal.Refusal.TheVariants.{NotDone, Acknowledged}
 use Rattle.ticket_rows.specs.Edit.{is_of_node, is_structural, target}
 use Rattle.ticket_rows.specs.EditRefusal.{later_refusal}
 use Rattle.ticket_rows.specs.Homes.{has_resource}
@@ -27,7 +27,8 @@ use Rattle.worker_core.specs.declared.entry.Entry.{Entry}
 use Rattle.worker_core.specs.declared.order.Order.{Order}
 use Rattle.worker_core.specs.declared.order.Order.TheVariants as order
 use Rattle.worker_core.specs.declared.stage.Stage.TheVariants.{Done}
-use Rattle.worker_core.specs.Worker.{Known, end_word, entry_of, is_open, root_id, with_entry}
+use Rattle.worker_core.specs.Worker.{Known, end_word, entry_of, is_closed, is_open, open_part}
+use Rattle.worker_core.specs.Worker.{root_id, with_entry}
 
 -- the spawn that an order is about
 abbrev pub spawn_of_order : Order → ℕ
@@ -48,21 +49,29 @@ is_here e p =
 abbrev pub is_to_read : Edit → Copied → Bool
 is_to_read e p = not (is_of_node e) && mem (target e) (resource_ids p.ro)
 
+-- why an edit of a part that is open is refused, if it is
+abbrev pub part_edit_refusal : Edit → Copied → Option Refusal
+part_edit_refusal e p =
+    first_of
+    (unless (not (is_structural e)) NotForWorkers
+    ∷ unless (is_here e p || is_to_read e p) NotInPart
+    ∷ unless (not (is_to_read e p)) ReadOnly ∷ later_refusal e (part_lookups p.rows p.rw) ∷ [])
+
 -- why an edit of an entry is refused, if it is
 abbrev pub edit_refusal : Edit → Entry → Option Refusal
-edit_refusal e entry =
+edit_refusal e entry = option_map_or (part_edit_refusal e) (open_part entry) (Some NotOpen)
+
+-- why the part of an entry isn't given back once more, if it isn't: it is open, or was given up
+abbrev pub resend_refusal : Entry → Option Refusal
+resend_refusal entry =
     first_of
-    (unless (is_open entry) NotOpen
-    ∷ unless (not (is_structural e)) NotForWorkers
-    ∷ unless (is_here e entry.part || is_to_read e entry.part) NotInPart
-    ∷ unless (not (is_to_read e entry.part)) ReadOnly
-    ∷ later_refusal e (part_lookups entry.part.rows entry.part.rw) ∷ [])
+    (unless (not (is_open entry)) NotDone ∷ unless (not (is_closed entry)) Acknowledged ∷ [])
 
 -- why an order on an entry is refused, if it is
 abbrev pub entry_refusal : Order → Entry → Option Refusal
 entry_refusal (order.Edit s e) entry = edit_refusal e entry
-entry_refusal (order.Finish s how) entry = unless (is_open entry) NotOpen
-entry_refusal (order.Resend s) entry = unless (not (is_open entry)) NotDone
+entry_refusal (order.Finish s how) entry = unless (is_some (open_part entry)) NotOpen
+entry_refusal (order.Resend s) entry = resend_refusal entry
 
 -- why an order is refused, if it is
 abbrev pub order_refusal : Order → List Entry → Option Refusal
@@ -73,16 +82,20 @@ order_refusal o entries =
 
 -- an entry after an edit at a time
 abbrev pub edited_entry : Edit → ℕ → Entry → Entry
-edited_entry e at entry = record entry { part = edited_part e at entry.part }
+edited_entry e at entry = record entry { part = option_map (edited_part e at) entry.part }
 
 -- the edit that gives the node of a part the Status of an end
 abbrev pub ending : Copied → End → Edit
 ending p how = SetStatus (root_id p) (end_word how)
 
--- an entry that is finished: its node has the Status, and its time is that of the end
+-- a part after the end: its node has the Status
+abbrev pub ended_part : End → ℕ → Copied → Copied
+ended_part how at p = edited_part (ending p how) at p
+
+-- an entry that is finished: its part has ended, and its time is that of the end
 abbrev pub finished_entry : End → ℕ → Entry → Entry
 finished_entry how at entry =
-    record { phase = Done how; part = edited_part (ending entry.part how) at entry.part; at = at }
+    record entry { phase = Done how; part = option_map (ended_part how at) entry.part; at = at }
 
 -- an entry after an order at a time that isn't refused
 abbrev pub ordered_entry : Order → ℕ → Entry → Entry
@@ -110,24 +123,29 @@ order_reply (order.Edit s e) = reply.Edited
 order_reply (order.Finish s how) = reply.Finished s
 order_reply (order.Resend s) = reply.Sent s
 
--- the message that gives the part of an entry back, from a name to another
-abbrev pub return_of : List ℕ → List ℕ → Entry → Message
-return_of name master entry =
-    record { sender = name; receiver = master; at = entry.at; body = Return entry.part }
+-- the message that gives a part back at a time, from a name to another
+abbrev pub part_return : List ℕ → List ℕ → ℕ → Copied → Message
+part_return name master at p =
+    record { sender = name; receiver = master; at = at; body = Return p }
+
+-- and the one that gives back the part of an entry, if it has one
+abbrev pub return_of : List ℕ → List ℕ → Entry → Option Message
+return_of name master entry = option_map (part_return name master entry.at) entry.part
 
 -- the message that goes out after an order on an entry, which is then so
 abbrev pub entry_message : Order → List ℕ → List ℕ → Entry → Option Message
 entry_message (order.Edit s e) name master entry = None
-entry_message (order.Finish s how) name master entry = Some (return_of name master entry)
-entry_message (order.Resend s) name master entry = Some (return_of name master entry)
+entry_message (order.Finish s how) name master entry = return_of name master entry
+entry_message (order.Resend s) name master entry = return_of name master entry
 
 -- the message that goes out: it gives back the part of an entry that is finished, as that is then
 abbrev pub order_message : Order → ℕ → Known → Option Message
 order_message (order.Edit s e) at w = None
 order_message (order.Finish s how) at w =
-    option_map (λ entry. return_of w.name w.master (finished_entry how at entry))
+    option_and_then (λ entry. return_of w.name w.master (finished_entry how at entry))
     (entry_of w.entries s)
-order_message (order.Resend s) at w = option_map (return_of w.name w.master) (entry_of w.entries s)
+order_message (order.Resend s) at w =
+    option_and_then (return_of w.name w.master) (entry_of w.entries s)
 
 -- ---- the step
 

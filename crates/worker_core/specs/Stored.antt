@@ -1,15 +1,21 @@
 -- What is stored of a worker, when it is read again.
-use Rattle.std.specs.Prelude.{◌≡◌, ◌&&◌, Bool, true, not}
+use Rattle.std.specs.Prelude.{◌≡◌, ◌==◌, ◌&&◌, Bool, true, not}
 use Rattle.std.specs.List.{list_all}
+use Rattle.std.specs.Option.{option_map_or}
 use Rattle.std.specs.Str.{bytes_eq}
-use Rattle.ticket_tree.specs.Part.{is_sound}
+use Rattle.ticket_tree.specs.Part.{Copied, is_sound}
 use Rattle.worker_core.specs.Numbers.{are_distinct_numbers}
-use Rattle.worker_core.specs.Worker.{IsKept, Known, has_ended_so, numbers}
+use Rattle.worker_core.specs.Worker.{IsKept, Known, has_ended_so, is_closed, numbers}
 use Rattle.worker_core.specs.declared.entry.Entry.{Entry}
 
--- whether an entry can be a worker's: its part is sound, and has the Status of its end
+-- whether a part can be an entry's: it is of its spawn, is sound, and has the Status of its end
+abbrev pub is_part_of : Entry → Copied → Bool
+is_part_of e p = (p.spawn_id == e.spawn_id) && is_sound p && has_ended_so e.phase p
+
+-- whether an entry can be a worker's: it is closed and has no part, or it isn't and its part can be
+-- its
 abbrev pub is_entry : Entry → Bool
-is_entry e = is_sound e.part && has_ended_so e.phase e.part
+is_entry e = option_map_or (λ p. not (is_closed e) && is_part_of e p) e.part (is_closed e)
 
 -- whether this can be a worker: its name is not its master's, no two of its entries are of one
 -- spawn, and each can be a worker's

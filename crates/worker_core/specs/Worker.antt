@@ -1,8 +1,8 @@
--- A worker: the parts that it took, and what of them it may change.
-use Rattle.std.specs.Prelude.{◌≡◌, ℕ, ◌==◌, ◌&&◌, ◌||◌, Bool, true, false, List, [], codes, map}
-use Rattle.std.specs.Prelude.{if◌then◌else◌, slice_get, Option}
+-- A worker: the parts that it took and hasn't given up, and what of them it may change.
+use Rattle.std.specs.Prelude.{◌≡◌, ℕ, ◌==◌, ◌||◌, Bool, true, false, not, List, [], codes, map}
+use Rattle.std.specs.Prelude.{if◌then◌else◌, slice_get, Option, Some, None, is_some, IfSome}
 use Rattle.std.specs.List.{All, find}
-use Rattle.std.specs.Option.{option_map_or}
+use Rattle.std.specs.Option.{option_and_then, option_map_or}
 use Rattle.std.specs.Str.{bytes_eq}
 use Rattle.ticket_items.specs.Ids.{mem}
 use Rattle.ticket_items.specs.Resource.{resource_ids}
@@ -15,7 +15,7 @@ use Rattle.worker_core.specs.declared.end.End.{End}
 use Rattle.worker_core.specs.declared.end.End.TheVariants.{Completed, Aborted}
 use Rattle.worker_core.specs.declared.entry.Entry.{Entry}
 use Rattle.worker_core.specs.declared.stage.Stage.{Stage}
-use Rattle.worker_core.specs.declared.stage.Stage.TheVariants.{Open, Done}
+use Rattle.worker_core.specs.declared.stage.Stage.TheVariants.{Open, Done, Closed}
 use Rattle.worker_core.specs.Numbers.{are_distinct_numbers}
 
 -- what a worker knows: its name, its master's, and its entries in the order in which they were
@@ -33,12 +33,23 @@ known name master entries = record { name = name; master = master; entries = ent
 abbrev pub is_open_stage : Stage → Bool
 is_open_stage Open = true
 is_open_stage (Done how) = false
+is_open_stage (Closed how) = false
 
--- the Status of the queue entry of a part: while it is open `Running`, else its end
+abbrev pub is_closed_stage : Stage → Bool
+is_closed_stage Open = false
+is_closed_stage (Done how) = false
+is_closed_stage (Closed how) = true
+
+-- the Status of the queue entry of a part whose work ended so
+abbrev pub status_of_end : End → QueueStatus
+status_of_end Completed = queue.Completed
+status_of_end Aborted = queue.Aborted
+
+-- and of any part: while it is open `Running`, else its end
 abbrev pub status_of_stage : Stage → QueueStatus
 status_of_stage Open = queue.Running
-status_of_stage (Done Completed) = queue.Completed
-status_of_stage (Done Aborted) = queue.Aborted
+status_of_stage (Done how) = status_of_end how
+status_of_stage (Closed how) = status_of_end how
 
 -- the Status of the node of a part whose work ended so
 abbrev pub end_word : End → List ℕ
@@ -49,18 +60,34 @@ end_word Aborted = codes "Aborted"
 
 -- an entry that is new
 abbrev pub new_entry : Copied → ℕ → Entry
-new_entry p at = record { phase = Open; part = p; at = at }
+new_entry p at = record { spawn_id = p.spawn_id; phase = Open; part = Some p; at = at }
 
 abbrev pub is_open : Entry → Bool
 is_open e = is_open_stage e.phase
 
+abbrev pub is_closed : Entry → Bool
+is_closed e = is_closed_stage e.phase
+
+-- the part of an entry that may be changed: it is open
+abbrev pub open_part : Entry → Option Copied
+open_part e = if is_open e then e.part else None
+
+-- an entry in a stage once what was given back has come: one that is done gives up its part
+abbrev pub closed_in : Stage → Entry → Entry
+closed_in Open e = e
+closed_in (Done how) e = record e { phase = Closed how; part = None }
+closed_in (Closed how) e = e
+
+abbrev pub closed_entry : Entry → Entry
+closed_entry e = closed_in e.phase e
+
 -- whether an entry is of the spawn of a number
 abbrev pub is_of : ℕ → Entry → Bool
-is_of s e = e.part.spawn_id == s
+is_of s e = e.spawn_id == s
 
 -- the numbers of the spawns of entries
 abbrev pub numbers : List Entry → List ℕ
-numbers entries = map (λ e. e.part.spawn_id) entries
+numbers entries = map (λ e. e.spawn_id) entries
 
 -- the entry of a spawn
 abbrev pub entry_of : List Entry → ℕ → Option Entry
@@ -84,7 +111,8 @@ has p x = mem x (ids p.rows) || mem x (resource_ids p.rw)
 -- whether a node or a resource may be changed through the entry of a spawn: the entry is open, and
 -- its part has it
 abbrev pub may_change : List Entry → ℕ → List ℕ → Bool
-may_change entries s x = option_map_or (λ e. is_open e && has e.part x) (entry_of entries s) false
+may_change entries s x =
+    option_map_or (λ p. has p x) (option_and_then open_part (entry_of entries s)) false
 
 -- ---- what always holds
 
@@ -99,13 +127,20 @@ root_status p = option_map_or (λ r. r.status) (slice_get p.rows 0) []
 abbrev pub has_ended_so : Stage → Copied → Bool
 has_ended_so Open p = true
 has_ended_so (Done how) p = bytes_eq (root_status p) (end_word how)
+has_ended_so (Closed how) p = bytes_eq (root_status p) (end_word how)
 
--- an entry's part is a valid ticket with its copies, can have come from a ticket, and has the
--- Status of its end
+-- an entry's part is of its spawn, is a valid ticket with its copies, can have come from a ticket,
+-- and has the Status of its end
+pub record IsKeptPart (e : Entry) (p : Copied) : Type 0 where
+  pub own : p.spawn_id ≡ e.spawn_id
+  pub valid : IsValid (with_copies p.rows p.rw p.ro)
+  pub sound : is_sound p ≡ true
+  pub ended : has_ended_so e.phase p ≡ true
+
+-- an entry has a part just until it is closed, and that is as above
 pub record IsKeptEntry (e : Entry) : Type 0 where
-  pub valid : IsValid (with_copies e.part.rows e.part.rw e.part.ro)
-  pub sound : is_sound e.part ≡ true
-  pub ended : has_ended_so e.phase e.part ≡ true
+  pub held : is_some e.part ≡ not (is_closed e)
+  pub part : IfSome e.part (IsKeptPart e)
 
 -- a worker's name is not its master's, no two of its entries are of one spawn, and each is as above
 pub record IsKept (w : Known) : Type 0 where

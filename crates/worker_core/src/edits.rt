@@ -83,22 +83,29 @@ fn value_refusal(edit: &Edit) -> Option<Refusal>
     }
 }
 
-/// Why an edit of an entry is refused: the first reason that holds. Needs no memory.
-pub fn refusal_of(edit: &Edit, entry: &Entry) -> Option<Refusal>
-    ensures { result ≡ orders.edit_refusal edit.now entry.now }
+/// Why an edit of a part that is open is refused: the first reason that holds.
+fn part_refusal(edit: &Edit, part: &Part) -> Option<Refusal>
+    ensures { result ≡ orders.part_edit_refusal edit.now part.now }
 {
-    if !entry.phase.is_open() {
-        return Some(Refusal::NotOpen);
-    }
     if is_structural(edit) {
         return Some(Refusal::NotForWorkers);
     }
-    let to_read = is_to_read(edit, &entry.part);
-    if !is_here(edit, &entry.part) && !to_read {
+    let to_read = is_to_read(edit, part);
+    if !is_here(edit, part) && !to_read {
         return Some(Refusal::NotInPart);
     }
     if to_read {
         return Some(Refusal::ReadOnly);
     }
     value_refusal(edit)
+}
+
+/// Why an edit of an entry is refused: the first reason that holds. Needs no memory.
+pub fn refusal_of(edit: &Edit, entry: &Entry) -> Option<Refusal>
+    ensures { result ≡ orders.edit_refusal edit.now entry.now }
+{
+    match entry.open_part() {
+        None => Some(Refusal::NotOpen),
+        Some(part) => part_refusal(edit, part),
+    }
 }

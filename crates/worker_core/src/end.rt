@@ -1,3 +1,5 @@
+use controller::QueueStatus;
+
 /// How the work on a part ended.
 #[derive(Clone, Copy, PartialEq, Eq)]
 pub enum End {
@@ -16,6 +18,16 @@ impl End {
         match self {
             End::Completed => "Completed",
             End::Aborted => "Aborted",
+        }
+    }
+
+    /// The Status of the queue entry of a part whose work ended so.
+    pub fn status(self) -> QueueStatus
+        ensures { result ≡ worker.status_of_end self }
+    {
+        match self {
+            End::Completed => QueueStatus::Completed,
+            End::Aborted => QueueStatus::Aborted,
         }
     }
 }

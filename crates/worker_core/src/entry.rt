@@ -1,17 +1,22 @@
 use crate::stage::Stage;
-use ticket_tree::{Duplicate, Part};
+use ticket_tree::{Duplicate, Part, SpawnId};
 
-/// A part that a worker took. It is kept for good.
+/// A part that a worker took. It is kept for good, but for the part itself once that was given back
+/// and has come.
 #[derive(Clone, Drop)]
 pub struct Entry {
+    /// The spawn of the part.
+    pub spawn_id: SpawnId,
     pub phase: Stage,
-    pub part: Part,
+    /// There is none just where the entry is closed.
+    pub part: Option<Part>,
     /// When it was taken or, from the end on, when the work ended; in seconds since 1970.
     pub at: u64,
 }
 
 impl Entry {
     ghost use Rattle.std.specs.Prelude.{◌≡◌};
+    ghost use Rattle.std.specs.Option.{option_copied};
     ghost use Rattle.ticket_rows.specs.Copies.{with_copies};
     ghost use Rattle.ticket_rows.specs.Ticket.{IsValid};
     ghost use Rattle.worker_core.specs.Worker as worker;
@@ -24,9 +29,31 @@ impl Entry {
         // A part has valid rows.
         let _rows = part.rows();
         Entry {
+            spawn_id: part.spawn_id(),
             phase: Stage::Open,
-            part,
+            part: Some(part),
             at,
+        }
+    }
+
+    /// Its part, while that may be changed.
+    pub(crate) fn open_part(&self) -> Option<&Part>
+        ensures { option_copied result ≡ worker.open_part self.now }
+    {
+        if self.phase.is_open() {
+            self.part.as_ref()
+        } else {
+            None
+        }
+    }
+
+    /// Gives up its part, if the work on that has ended: it was given back and has come.
+    pub(crate) fn close(&mut self)
+        ensures { self.new ≡ worker.closed_entry self.old }
+    {
+        if let Stage::Done(end) = self.phase {
+            self.phase = Stage::Closed(end);
+            drop(self.part.take());
         }
     }
 }

@@ -4,26 +4,27 @@
 ghost use Rattle.worker_core.specs.Laws as law;
 ghost use Rattle.worker_core.specs.Stored.{AKeptWorkerIsStored};
 
-/// What a worker may change through a spawn stands in the entry of that spawn, which is open; and
-/// an edit that isn't refused is of what it may change.
+/// What a worker may change through a spawn stands in the part of that spawn's entry, which is
+/// open; and an edit that isn't refused is of what it may change.
 pub fn what_a_worker_may_change_is_in_an_open_entry()
     ensures held { law.MayChangeIsHeld }
     ensures edits { law.EditIsOfHeld }
 {}
 
-/// After an order each entry is there still. Its part is the same in what no worker may change, and
-/// in each row that the worker couldn't change; an open entry is open still or finished, and one
-/// that is finished is the same. What always holds of a worker holds then.
+/// After an order each entry is there still. The part that it has is the same in what no worker may
+/// change, and in each row that the worker couldn't change; an open entry is open still or
+/// finished, and one that is finished is the same. What always holds of a worker holds then.
 pub fn an_order_changes_what_may_be_changed()
     ensures entries { law.OrderKeepsEntries }
     ensures kept { law.OrderIsKept }
 {}
 
-/// A message changes no entry, and an answer changes nothing. What always holds of a worker holds
-/// then.
-pub fn a_message_changes_no_entry()
+/// After a message each entry is there still, and is the same; but one that is done gives up its
+/// part once a message that isn't refused tells that it has come. An answer that tells of a refusal
+/// changes nothing. What always holds of a worker holds then.
+pub fn a_message_keeps_or_closes_entries()
     ensures entries { law.MessageKeepsEntries }
-    ensures answers { law.AnswerChangesNothing }
+    ensures answers { law.RefusalChangesNothing }
     ensures kept { law.MessageIsKept }
 {}
 

@@ -1,8 +1,10 @@
 //! What a worker does with an order.
 
-ghost use Rattle.std.specs.Prelude.{◌≡◌, true, None, Some, Ok, Err, OnOk, OnErr, IfOk, IfErr};
-ghost use Rattle.std.specs.Prelude.{IfNone, IfSome, MatchResult};
+ghost use Rattle.std.specs.Prelude.{◌≡◌, true, false, None, Some, Ok, Err, OnOk, OnErr, IfOk};
+ghost use Rattle.std.specs.Prelude.{IfErr, IfNone, IfSome, MatchResult};
 ghost use Rattle.std.specs.List.{position};
+ghost use Rattle.std.specs.Option.{option_map};
+ghost use Rattle.ticket_rows.specs.Edit.{is_structural};
 ghost use Rattle.ticket_tree.specs.Part.{edited_part, refusal_of_part};
 ghost use Rattle.worker_core.specs.Numbers.{are_distinct_numbers};
 ghost use Rattle.worker_core.specs.Orders as orders;
@@ -15,8 +17,21 @@ use crate::entry::Entry;
 use crate::order::Order;
 use crate::stage::Stage;
 use controller::{Body, Done, Message, Reply};
-use std::alloc::Global;
+use std::alloc::{AllocError, Global};
 use ticket_tree::{Duplicate, Edit, Id, Name, Part, Refusal};
+
+/// Why the part of an entry isn't given back once more: it is open, or was given up.
+fn resend_refusal(entry: &Entry) -> Option<Refusal>
+    ensures { result ≡ orders.resend_refusal entry.now }
+{
+    if entry.phase.is_open() {
+        return Some(Refusal::NotDone);
+    }
+    if entry.phase.is_closed() {
+        return Some(Refusal::Acknowledged);
+    }
+    None
+}
 
 /// Why an order on an entry is refused: the first reason that holds.
 fn entry_refusal(order: &Order, entry: &Entry) -> Option<Refusal>
@@ -25,19 +40,13 @@ fn entry_refusal(order: &Order, entry: &Entry) -> Option<Refusal>
     match order {
         Order::Edit(_, edit) => edits::refusal_of(edit, entry),
         Order::Finish(_, _) => {
-            if entry.phase.is_open() {
+            if entry.open_part().is_some() {
                 None
             } else {
                 Some(Refusal::NotOpen)
             }
         }
-        Order::Resend(_) => {
-            if entry.phase.is_open() {
-                Some(Refusal::NotDone)
-            } else {
-                None
-            }
-        }
+        Order::Resend(_) => resend_refusal(entry),
     }
 }
 
@@ -78,7 +87,7 @@ fn ending(alloc: Global, part: &Part, end: End) -> Result<Edit, Refusal>
 
 /// Gives the node of a part the Status of an end.
 fn end_part(alloc: Global, part: &mut Part, end: End, at: u64) -> Result<(), Refusal>
-    ensures ok { OnOk result (part.new ≡ edited_part (orders.ending part.old end) at part.old) }
+    ensures ok { OnOk result (part.new ≡ orders.ended_part end at part.old) }
     ensures err { OnErr result (part.new ≡ part.old) }
     ensures memory { IfErr result (λ e. e ≡ Refusal.Memory) }
 {
@@ -88,12 +97,50 @@ fn end_part(alloc: Global, part: &mut Part, end: End, at: u64) -> Result<(), Ref
 
 /// A copy of a part, whose node has the Status of an end.
 fn ended_part(alloc: Global, part: &Part, end: End, at: u64) -> Result<Part, Refusal>
-    ensures part { IfOk result
-        (λ ended. ended ≡ edited_part (orders.ending part.now end) at part.now) }
+    ensures part { IfOk result (λ ended. ended ≡ orders.ended_part end at part.now) }
     ensures memory { IfErr result (λ e. e ≡ Refusal.Memory) }
 {
     let mut ended = part.copy(alloc)?;
     end_part(alloc, &mut ended, end, at).and(Ok(ended))
+}
+
+/// Gives the node of the part that there is the Status of an end.
+fn end_held(alloc: Global, part: &mut Option<Part>, end: End, at: u64) -> Result<(), Refusal>
+    ensures ok { OnOk result (part.new ≡ option_map (orders.ended_part end at) part.old) }
+    ensures err { OnErr result (part.new ≡ part.old) }
+    ensures memory { IfErr result (λ e. e ≡ Refusal.Memory) }
+{
+    match part {
+        None => Ok(()),
+        Some(part) => end_part(alloc, part, end, at),
+    }
+}
+
+/// A copy of the part that there is, whose node has the Status of an end.
+fn ended_copy(
+    alloc: Global,
+    part: &Option<Part>,
+    end: End,
+    at: u64,
+) -> Result<Option<Part>, Refusal>
+    ensures part { IfOk result
+        (λ ended. ended ≡ option_map (orders.ended_part end at) part.now) }
+    ensures memory { IfErr result (λ e. e ≡ Refusal.Memory) }
+{
+    match part {
+        None => Ok(None),
+        Some(part) => Ok(Some(ended_part(alloc, part, end, at)?)),
+    }
+}
+
+/// An equal copy of the part that there is.
+fn copy_of(alloc: Global, part: &Option<Part>) -> Result<Option<Part>, AllocError>
+    ensures { IfOk result (λ copied. copied ≡ part.now) }
+{
+    match part {
+        None => Ok(None),
+        Some(part) => Ok(Some(part.copy(alloc)?)),
+    }
 }
 
 /// Ends the work on an entry.
@@ -102,22 +149,37 @@ fn end_entry(alloc: Global, entry: &mut Entry, end: End, at: u64) -> Result<(), 
     ensures err { OnErr result (entry.new ≡ entry.old) }
     ensures memory { IfErr result (λ e. e ≡ Refusal.Memory) }
 {
-    end_part(alloc, &mut entry.part, end, at)?;
+    end_held(alloc, &mut entry.part, end, at)?;
     entry.phase = Stage::Done(end);
     entry.at = at;
     Ok(())
 }
 
 /// Ends the work on an entry, and answers its part as it is then.
-fn finish(alloc: Global, entry: &mut Entry, end: End, at: u64) -> Result<Part, Refusal>
+fn finish(alloc: Global, entry: &mut Entry, end: End, at: u64) -> Result<Option<Part>, Refusal>
     ensures ok { OnOk result (entry.new ≡ orders.finished_entry end at entry.old) }
     ensures part { IfOk result
-        (λ part. part ≡ edited_part (orders.ending entry.old.part end) at entry.old.part) }
+        (λ part. part ≡ option_map (orders.ended_part end at) entry.old.part) }
     ensures err { OnErr result (entry.new ≡ entry.old) }
     ensures memory { IfErr result (λ e. e ≡ Refusal.Memory) }
 {
-    let part = ended_part(alloc, &entry.part, end, at)?;
+    let part = ended_copy(alloc, &entry.part, end, at)?;
     end_entry(alloc, entry, end, at).and(Ok(part))
+}
+
+/// The message that gives a part back at a time, from a name to another, where there is one.
+fn part_return(sender: Id, receiver: Id, at: u64, part: Option<Part>) -> Option<Message>
+    ensures { result ≡ option_map (orders.part_return sender receiver at) part }
+{
+    match part {
+        None => None,
+        Some(part) => Some(Message {
+            sender,
+            receiver,
+            at,
+            body: Body::Return(part),
+        }),
+    }
 }
 
 /// Ends the work on an entry, and answers the message that gives its part back.
@@ -128,7 +190,7 @@ fn finish_to(
     entry: &mut Entry,
     end: End,
     at: u64,
-) -> Result<Message, Refusal>
+) -> Result<Option<Message>, Refusal>
     ensures ok { OnOk result (entry.new ≡ orders.finished_entry end at entry.old) }
     ensures message { IfOk result (λ message. message
         ≡ orders.return_of name.now master.now (orders.finished_entry end at entry.old)) }
@@ -138,26 +200,41 @@ fn finish_to(
     let sender = name.copy(alloc)?;
     let receiver = master.copy(alloc)?;
     let part = finish(alloc, entry, end, at)?;
-    Ok(Message {
-        sender,
-        receiver,
-        at,
-        body: Body::Return(part),
-    })
+    Ok(part_return(sender, receiver, at, part))
 }
 
 /// The message that gives the part of an entry back.
-fn return_of(alloc: Global, name: &Id, master: &Id, entry: &Entry) -> Result<Message, Refusal>
+fn return_of(
+    alloc: Global,
+    name: &Id,
+    master: &Id,
+    entry: &Entry,
+) -> Result<Option<Message>, Refusal>
     ensures message { IfOk result (λ message. message
         ≡ orders.return_of name.now master.now entry.now) }
     ensures memory { IfErr result (λ e. e ≡ Refusal.Memory) }
 {
-    Ok(Message {
-        sender: name.copy(alloc)?,
-        receiver: master.copy(alloc)?,
-        at: entry.at,
-        body: Body::Return(entry.part.copy(alloc)?),
-    })
+    let sender = name.copy(alloc)?;
+    let receiver = master.copy(alloc)?;
+    let part = copy_of(alloc, &entry.part)?;
+    Ok(part_return(sender, receiver, entry.at, part))
+}
+
+/// Does an edit of the part that there is, which doesn't refuse it.
+fn edit_held(alloc: Global, part: &mut Option<Part>, edit: Edit, at: u64) -> Result<(), Refusal>
+    requires plain { is_structural edit ≡ false }
+    requires free { IfSome part.old (λ p. refusal_of_part edit p ≡ None) }
+    ensures ok { OnOk result (part.new ≡ option_map (edited_part edit at) part.old) }
+    ensures err { OnErr result (part.new ≡ part.old) }
+    ensures memory { IfErr result (λ e. e ≡ Refusal.Memory) }
+{
+    match part {
+        None => {
+            drop(edit);
+            Ok(())
+        }
+        Some(part) => part.apply(alloc, edit, at),
+    }
 }
 
 /// Does an edit, that isn't refused, of the part of an entry.
@@ -169,7 +246,7 @@ fn edit_entry(alloc: Global, entry: &mut Entry, edit: Edit, at: u64) -> Result<D
     ensures err { OnErr result (entry.new ≡ entry.old) }
     ensures memory { IfErr result (λ e. e ≡ Refusal.Memory) }
 {
-    entry.part.apply(alloc, edit, at)?;
+    edit_held(alloc, &mut entry.part, edit, at)?;
     Ok(Done {
         reply: Reply::Edited,
         message: None,
@@ -177,15 +254,12 @@ fn edit_entry(alloc: Global, entry: &mut Entry, edit: Edit, at: u64) -> Result<D
 }
 
 /// What is done by an order that has a message go out.
-fn sent(reply: Reply, message: Result<Message, Refusal>) -> Result<Done, Refusal>
-    ensures { MatchResult message (λ m. result ≡ Ok (record { reply = reply; message = Some m }))
+fn sent(reply: Reply, message: Result<Option<Message>, Refusal>) -> Result<Done, Refusal>
+    ensures { MatchResult message (λ m. result ≡ Ok (record { reply = reply; message = m }))
         (λ e. result ≡ Err e) }
 {
     match message {
-        Ok(message) => Ok(Done {
-            reply,
-            message: Some(message),
-        }),
+        Ok(message) => Ok(Done { reply, message }),
         Err(refusal) => Err(refusal),
     }
 }

@@ -8,6 +8,8 @@ pub enum Stage {
     Open,
     /// It was given back.
     Done(End),
+    /// It was given back and has come: the worker has given it up.
+    Closed(End),
 }
 
 impl Stage {
@@ -20,7 +22,17 @@ impl Stage {
     {
         match self {
             Stage::Open => true,
-            Stage::Done(_) => false,
+            Stage::Done(_) | Stage::Closed(_) => false,
+        }
+    }
+
+    /// Whether the part was given up.
+    pub fn is_closed(self) -> bool
+        ensures { result ≡ worker.is_closed_stage self }
+    {
+        match self {
+            Stage::Open | Stage::Done(_) => false,
+            Stage::Closed(_) => true,
         }
     }
 
@@ -30,8 +42,7 @@ impl Stage {
     {
         match self {
             Stage::Open => QueueStatus::Running,
-            Stage::Done(End::Completed) => QueueStatus::Completed,
-            Stage::Done(End::Aborted) => QueueStatus::Aborted,
+            Stage::Done(end) | Stage::Closed(end) => end.status(),
         }
     }
 }

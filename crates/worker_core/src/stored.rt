@@ -2,6 +2,8 @@
 
 ghost use Rattle.std.specs.Prelude.{◌≡◌, true, IfOk};
 ghost use Rattle.std.specs.List.{All, list_all};
+ghost use Rattle.ticket_rows.specs.Copies.{with_copies};
+ghost use Rattle.ticket_rows.specs.Ticket.{IsValid};
 ghost use Rattle.worker_core.specs.Numbers.{are_distinct_numbers};
 ghost use Rattle.worker_core.specs.Stored as stored;
 ghost use Rattle.worker_core.specs.Worker as worker;
@@ -19,11 +21,21 @@ fn has_ended_so(phase: Stage, part: &Part) -> bool
 {
     match phase {
         Stage::Open => true,
-        Stage::Done(end) => match part.rows().as_slice().first() {
+        Stage::Done(end) | Stage::Closed(end) => match part.rows().as_slice().first() {
             None => unreachable!(),
             Some(root) => root.status.as_str() == end.word(),
         },
     }
+}
+
+/// Whether a part can be that of an entry.
+fn is_part_of(entry: &Entry, part: &Part) -> bool
+    ensures test { result ≡ stored.is_part_of entry.now part.now }
+    ensures valid { IsValid (with_copies part.now.rows part.now.rw part.now.ro) }
+{
+    // A part has valid rows.
+    let _rows = part.rows();
+    part.spawn_id() == entry.spawn_id && part.is_sound() && has_ended_so(entry.phase, part)
 }
 
 /// Whether an entry can be one of a worker.
@@ -31,9 +43,10 @@ fn is_entry(entry: &Entry) -> bool
     ensures test { result ≡ stored.is_entry entry.now }
     ensures kept { result ≡ true → IsKeptEntry entry.now }
 {
-    // A part has valid rows.
-    let _rows = entry.part.rows();
-    entry.part.is_sound() && has_ended_so(entry.phase, &entry.part)
+    match &entry.part {
+        None => entry.phase.is_closed(),
+        Some(part) => !entry.phase.is_closed() && is_part_of(entry, part),
+    }
 }
 
 /// Whether each entry can be one of a worker.
@@ -55,7 +68,7 @@ fn are_apart(alloc: Global, entries: &[Entry]) -> Result<bool, AllocError>
 {
     let mut seen = BTreeSet::new(alloc);
     for entry in entries {
-        if !seen.insert(entry.part.spawn_id().number())? {
+        if !seen.insert(entry.spawn_id.number())? {
             return Ok(false);
         }
     }

@@ -1,14 +1,15 @@
 //! What a worker does with a message.
 
 ghost use Rattle.std.specs.Prelude.{◌≡◌, true, false, if◌then◌else◌, Ok, Err, None};
-ghost use Rattle.std.specs.Prelude.{OnOk, OnErr, IfOk, IsOk};
+ghost use Rattle.std.specs.Prelude.{OnOk, OnErr, IfOk, IsOk, is_ok};
 ghost use Rattle.ticket_rows.specs.Copies.{with_copies};
 ghost use Rattle.ticket_rows.specs.Ticket.{IsValid};
 ghost use Rattle.controller.specs.Reply as replies;
 ghost use Rattle.worker_core.specs.Messages as messages;
+ghost use Rattle.worker_core.specs.Numbers.{are_distinct_numbers};
 ghost use Rattle.worker_core.specs.Worker as worker;
 
-use crate::entries::{entry_of, status_of};
+use crate::entries::{close, entry_of, status_of};
 use crate::entry::Entry;
 use controller::answering::{answer_to, spawn_in, told_of};
 use controller::{Body, Command, Message, Outcome, QueueStatus, Reply};
@@ -154,14 +155,27 @@ fn enter(entries: &mut Vec<Entry>, part: Part, at: u64) -> Result<(), AllocError
     ensures valid { IsValid (with_copies part.rows part.rw part.ro) }
 {
     let entry = Entry::new(part, at);
-    if entry_of(entries.as_slice(), entry.part.spawn_id()).is_none() {
+    if entry_of(entries.as_slice(), entry.spawn_id).is_none() {
         entries.push(entry)?;
     }
     Ok(())
 }
 
+/// Closes the entry of a part that was given back, if it has come.
+fn take_answer(entries: &mut Vec<Entry>, spawn: SpawnId, told: Result<QueueStatus, u16>)
+    requires { are_distinct_numbers (worker.numbers entries.old.items) ≡ true }
+    ensures { entries.new.items ≡ if is_ok told
+        then worker.with_entry spawn worker.closed_entry entries.old.items
+        else entries.old.items }
+{
+    if told.is_ok() {
+        close(entries, spawn);
+    }
+}
+
 /// Takes what a message says that isn't refused. An answer takes no memory.
 fn take_body(entries: &mut Vec<Entry>, body: Body, at: u64) -> Result<(), AllocError>
+    requires { are_distinct_numbers (worker.numbers entries.old.items) ≡ true }
     ensures ok { OnOk result
         (entries.new.items ≡ messages.taken_entries body at entries.old.items) }
     ensures err { OnErr result (entries.new.items ≡ entries.old.items) }
@@ -171,7 +185,14 @@ fn take_body(entries: &mut Vec<Entry>, body: Body, at: u64) -> Result<(), AllocE
     match body {
         Body::Submit(part) => enter(entries, part, at),
         Body::Return(_) => Ok(()),
-        Body::Answer { .. } => Ok(()),
+        Body::Answer {
+            spawn_id,
+            result,
+            ..
+        } => {
+            take_answer(entries, spawn_id, result);
+            Ok(())
+        }
     }
 }
 
@@ -182,6 +203,7 @@ fn take_unless(
     body: Body,
     at: u64,
 ) -> Result<(), AllocError>
+    requires { are_distinct_numbers (worker.numbers entries.old.items) ≡ true }
     ensures ok { OnOk result (entries.new.items ≡ if refused then entries.old.items else
         messages.taken_entries body at entries.old.items) }
     ensures err { OnErr result (entries.new.items ≡ entries.old.items) }
@@ -205,6 +227,7 @@ pub fn do_take(
     message: Message,
     at: u64,
 ) -> Result<Outcome, AllocError>
+    requires { are_distinct_numbers (worker.numbers entries.old.items) ≡ true }
     ensures state { OnOk result (worker.known name.now master.now entries.new.items
         ≡ messages.after_taking message at
         (worker.known name.now master.now entries.old.items)) }

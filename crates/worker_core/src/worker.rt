@@ -11,7 +11,8 @@ use ticket_items::copies;
 use ticket_tree::{Duplicate, Id, Refusal, SpawnId};
 
 /// A controller that works on parts of another's ticket, which is its master (JDF 1.5, 4.4). It
-/// keeps each part that it takes, in the order in which they come.
+/// keeps each part that it takes, in the order in which they come, until it was given back and has
+/// come; and that it took it for good.
 #[derive(Drop)]
 pub struct Worker {
     name: Id,
@@ -58,9 +59,9 @@ impl Worker {
     }
 
     /// The worker of these parts, as they are once it was stored and is read again. Refuses
-    /// `BadState` (our own) just where the name is the master's, two entries are of one spawn, an
-    /// entry's part isn't sound, or the node of one that is finished hasn't the Status of its end;
-    /// and else `Memory`.
+    /// `BadState` (our own) just where the name is the master's, two entries are of one spawn, one
+    /// that is closed has a part or another has none, or a part is of another spawn than its entry,
+    /// isn't sound, or is finished and its node hasn't the Status of its end; and else `Memory`.
     pub fn of_parts(
         alloc: Global,
         name: Id,
@@ -101,9 +102,9 @@ impl Worker {
         &self.master
     }
 
-    /// Its entries, in the order in which they were taken. No two are of one spawn; the part of
-    /// each is a valid ticket with its copies, and sound; and the node of one that is finished has
-    /// the Status of its end.
+    /// Its entries, in the order in which they were taken. No two are of one spawn; one that is
+    /// closed has no part; and the part of each other is of the entry's spawn, is a valid ticket
+    /// with its copies, and sound; and the node of one that is finished has the Status of its end.
     pub fn entries(&self) -> &[Entry]
         ensures entries { result.now ≡ self.now.entries }
         ensures kept { IsKept self.now }
@@ -126,7 +127,8 @@ impl Worker {
     /// the entry is finished, `NotForWorkers` where it adds to the tree, `NotInPart` where its
     /// target isn't in the part as a node or a resource, `ReadOnly` where that is a copy to be read
     /// alone, and `ReservedStatus`; the end as `NotOpen`; to give back once more as `NotDone` while
-    /// the entry is open. Then refuses `Memory`. A refusal changes nothing.
+    /// the entry is open, and `Acknowledged` once it is closed. Then refuses `Memory`. A refusal
+    /// changes nothing.
     pub fn order(&mut self, alloc: Global, order: Order, at: u64) -> Result<Done, Refusal>
         ensures ok { IfOk result
             (λ done. done_step done self.new ≡ orders.order_step order at self.old) }
@@ -151,8 +153,10 @@ impl Worker {
     /// for another, or is neither a part that goes out nor the answer to one that came back;
     /// `WrongSender` where it isn't from the master; for a part of which there is no entry yet
     /// `BadPart` where it isn't sound; for an answer `UnknownEntry`, and `NotDone` while the entry
-    /// is open. A refusal changes nothing. A command is answered, refused or not; an answer isn't,
-    /// and takes no memory. Where memory runs out nothing is changed.
+    /// is open. A refusal changes nothing, nor does an answer that tells of one; an answer that
+    /// tells that a part has come closes its entry, which gives up the part. A command is answered,
+    /// refused or not; an answer isn't, and takes no memory. Where memory runs out nothing is
+    /// changed.
     pub fn take(&mut self, alloc: Global, message: Message, at: u64) -> Result<Outcome, AllocError>
         ensures ok { IfOk result
             (λ outcome. outcome_step outcome self.new ≡ messages.take_step message at self.old) }

@@ -1,5 +1,5 @@
 -- What always holds of a shop holds after each event, and so after all.
-use Rattle.std.proofs.Common.{◌≡◌, ℕ, Bool, true, false, cond, zero, suc, List, [], ◌∷◌, Option, Some, None, Result, Ok, Err, refl, sym, ap, ◌∙◌}
+use Rattle.std.proofs.Common.{◌≡◌, inl, ℕ, Bool, true, false, cond, zero, suc, List, [], ◌∷◌, Option, Some, None, Result, Ok, Err, refl, sym, ap, ◌∙◌}
 use Rattle.std.proofs.lemmas.Bool.{true≢false}
 use Rattle.std.proofs.lemmas.List.Elements.{All-contains}
 use Rattle.std.proofs.lemmas.Option.{get_or_from_slice_get, slice_get_within}
@@ -115,7 +115,7 @@ keeps_unless_worker_refused None w v moved ok found go = go refl
 keeps_unless_worker_refused (Some e) w v moved ok found go =
     let c = w.controllers in
     let is = is_there w v ok found in
-    record { stored = worker_stored c v v w.messages ok is.knows is.kept (record { own = refl; masters = refl }) (worker_steps.worker_later c v v found refl (λ s x here ended. here)) is.recorded; sent = tt }
+    record { stored = worker_stored c v v w.messages ok is.knows is.kept (record { own = refl; masters = refl }) (worker_steps.worker_later c v v found refl (λ s x here ended. (x, here, inl refl))) is.recorded; sent = tt }
 
 pub worker_order_keeps : (o : worker_order.Order) (at : ℕ) (w : State) (v : worker.Known) → IsKept w → worker_of w.controllers.workers v.name ≡ Some v → Keeps w (worker_moved w.controllers v (ordered_worker o at v))
 worker_order_keeps o at w v ok found =

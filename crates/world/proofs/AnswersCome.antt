@@ -1,5 +1,9 @@
--- An answer that comes to the controller that gave the command changes nothing, and is noted or acknowledged.
-use Rattle.std.proofs.Common.{◌≡◌, ◌∙◌, ℕ, true, cond, List, Some, None, Result, Ok, Err, is_ok, is_some, refl, ap}
+-- An answer that comes to the controller that gave the command: the master notes it, and the worker gives up the part.
+use Rattle.std.proofs.Common.{◌≡◌, ◌∙◌, ℕ, Bool, true, false, cond, not, List, map, Option, Some, None, Result, Ok, Err, is_ok, is_some, refl, sym, ap, subst}
+use Rattle.std.proofs.lemmas.Bool.{true≢false}
+use Rattle.std.specs.Option.{option_map, option_map_or}
+use Rattle.ticket_items.proofs.Places.{same_found}
+use Rattle.ticket_items.specs.declared.refusal.Refusal.{Refusal}
 use Rattle.controller.specs.Reply.{refused_or}
 use Rattle.controller.specs.declared.body.Body.TheVariants.{Answer}
 use Rattle.controller.specs.declared.command.Command.{Command}
@@ -7,16 +11,33 @@ use Rattle.controller.specs.declared.command.Command.TheVariants as command
 use Rattle.controller.specs.declared.message.Message.{Message}
 use Rattle.controller.specs.declared.queue_status.QueueStatus.{QueueStatus}
 use Rattle.controller.specs.declared.reply.Reply.TheVariants as reply
+use Rattle.spawn.specs.Records.{is_out}
+use Rattle.master_core.specs.Master as master
+use Rattle.worker_core.proofs.Closing.{closed_number}
 use Rattle.worker_core.specs.Messages as worker_messages
 use Rattle.worker_core.specs.Worker as worker
-use Rattle.world.proofs.Agreeing.{Agrees}
-use Rattle.world.proofs.Doors.{master_refuses_nothing, worker_refuses_nothing}
-use Rattle.world.proofs.SameWorkers.{stored_same}
+use Rattle.worker_core.specs.declared.entry.Entry.{Entry}
+use Rattle.worker_core.specs.declared.stage.Stage.{Stage}
+use Rattle.worker_core.specs.declared.stage.Stage.TheVariants as worker_stage
+use Rattle.world.proofs.Agreeing.{Agrees, StepsAgree}
+use Rattle.world.proofs.Cases.{split, when_true}
+use Rattle.world.proofs.Doors.{answered_entry, master_refuses_nothing, worker_refuses_nothing}
+use Rattle.world.proofs.EntryStored.{row_stored, spawns_stay, spawns_stored}
+use Rattle.world.proofs.PartsTaken.{held_claimed}
+use Rattle.world.proofs.Resends.{spawn_found}
+use Rattle.world.proofs.ShopPaths.{same_shop}
+use Rattle.world.proofs.TakenSpawns.{HasRecord, entry_record}
+use Rattle.world.proofs.WorkerEdits.{changed_stored}
 use Rattle.world.specs.Controllers.{worker_of}
-use Rattle.world.specs.Messages.{IsInOrder}
+use Rattle.world.specs.Messages.{IsInOrder, entry_for}
+use Rattle.world.specs.Shop as plain
+use Rattle.world.specs.ShopActs as acts
+use Rattle.world.specs.ShopSteps as shop
 use Rattle.world.specs.ShopSteps.{replies}
-use Rattle.world.specs.Showing.{shop_shown}
+use Rattle.world.specs.Showing.{phase_shown, shop_shown, spawn_shown}
 use Rattle.world.specs.State.{IsKept, State}
+use Rattle.controller.specs.Step.{Step}
+use Rattle.world_items.specs.declared.word.Word.TheVariants.{NoMessage}
 use Rattle.master_core.specs.Messages.{take_step as taken_by_master}
 use Rattle.worker_core.specs.Messages.{take_step as taken_by_worker}
 use Rattle.world.specs.Stepping.{master_moved, worker_moved}
@@ -42,16 +63,95 @@ acknowledged : (s : ℕ) (told : Result QueueStatus ℕ) → is_ok told ≡ true
 acknowledged s (Ok status) e = refl
 acknowledged s (Err reason) e = cc
 
--- and the worker that of a part that came back: none was refused
+-- ---- an answer to the worker
+
+-- the worker's step, by why the answer is refused and by whether it tells of success
+abbrev step_by : worker.Known → ℕ → Result QueueStatus ℕ → Option Refusal → Bool → Step worker.Known Message
+step_by v s told why good =
+    record {
+      reply = refused_or why (worker_messages.answer_reply s told);
+      next = cond (is_some why) v (record v { entries = cond good (worker.with_entry s worker.closed_entry v.entries) v.entries });
+      sent = None;
+    }
+
+-- an entry on which the work has ended is closed then
+closed_by : (stage : Stage) (e : Entry) → e.phase ≡ stage → worker.is_open_stage stage ≡ false → worker.is_closed (worker.closed_in stage e) ≡ true
+closed_by worker_stage.Open e is ended = absurd (true≢false ended)
+closed_by (worker_stage.Done how) e is ended = refl
+closed_by (worker_stage.Closed how) e is ended = ap worker.is_closed_stage is
+
+merged_so : (b : Bool) → plain.is_merged (cond b plain.Closed plain.Merged) ≡ not b
+merged_so true = refl
+merged_so false = refl
+
+-- an answer of success closes the entry of a spawn that isn't out, and the shop is the same but for its phase
+closes : (w : State) (v : worker.Known) (s : ℕ) (e : Entry) (told : Result QueueStatus ℕ) → IsKept w → worker_of w.controllers.workers v.name ≡ Some v → worker.entry_of v.entries s ≡ Some e → worker.is_open e ≡ false → (h : HasRecord w.controllers v.name s e) → is_out h.spawn ≡ false → is_ok told ≡ true
+    → Agrees (worker_moved w.controllers v (step_by v s told None true)) (shop.back_acknowledged (shop_shown w.controllers) (spawn_shown w.controllers h.spawn))
+closes w v s e told ok found here ended h back good =
+    let c = w.controllers in
+    let p = shop_shown c in
+    let r = h.spawn in
+    let next : worker.Known = record v { entries = worker.with_entry s worker.closed_entry v.entries } in
+    let new = worker.closed_entry e in
+    let stored = changed_stored w v s e worker.closed_entry closed_number ok found here h in
+    let was : phase_shown (is_out r) (entry_for c r) ≡ phase_shown false (Some e) = ap (λ b. phase_shown b (entry_for c r)) back ∙ ap (phase_shown false) h.entered in
+    let is : phase_shown (is_out r) (Some new) ≡ plain.Closed = ap (λ b. phase_shown b (Some new)) back ∙ when_true (worker.is_closed new) plain.Closed plain.Merged (closed_by e.phase e refl ended) in
+    let now = λ (x : List ℕ).
+    let o = master.holder c.master x in
+    row_stored c v.name s next new r stored (λ row. row) x o (λ held. absurd (true≢false (sym (held_claimed c.master s r x ok.master h.recorded held).3 ∙ back))) (λ other. refl) in
+    let said : worker_messages.answer_reply s told ≡ reply.Acked r.id = acknowledged s told good ∙ ap (λ n. reply.Acked n) (sym h.number) in
+    subst (λ b. Agrees (worker_moved c v (step_by v s told None true)) (shop.replies (reply.Acked r.id) (cond b (acts.closed r.id p) p)))
+    (sym (ap plain.is_merged was ∙ merged_so (worker.is_closed e)))
+    (split (worker.is_closed e)
+    (λ closed. subst (λ b. Agrees (worker_moved c v (step_by v s told None true)) (shop.replies (reply.Acked r.id) (cond (not b) (acts.closed r.id p) p))) (sym closed)
+    (record {
+      reply = ap Ok said;
+      sent = refl;
+      next = same_shop _ _
+          (record {
+            master = refl;
+            workers = refl;
+            job = refl;
+            tree = refl;
+            seen = λ x. refl;
+            now = now;
+            holder = λ x. refl;
+            spawns = spawns_stay c v.name s next new r stored (is ∙ sym (was ∙ when_true (worker.is_closed e) plain.Closed plain.Merged closed));
+          });
+    }))
+    (λ open'. subst (λ b. Agrees (worker_moved c v (step_by v s told None true)) (shop.replies (reply.Acked r.id) (cond (not b) (acts.closed r.id p) p))) (sym open')
+    (record {
+      reply = ap Ok said;
+      sent = refl;
+      next = same_shop _ _
+          (record {
+            master = refl;
+            workers = refl;
+            job = refl;
+            tree = refl;
+            seen = λ x. refl;
+            now = now;
+            holder = λ x. refl;
+            spawns = spawns_stored c v.name s next new r plain.Closed stored is ∙ ap (λ n. acts.in_phase plain.Closed n (map (spawn_shown c) c.master.records)) (sym h.number);
+          });
+    })))
+
+-- the worker acknowledges that of a part that came back: none was refused
 pub return_is_answered : (w : State) (v : worker.Known) (sender receiver : List ℕ) (sent s : ℕ) (told : Result QueueStatus ℕ) (at : ℕ) → IsKept w → worker_of w.controllers.workers receiver ≡ Some v → v.name ≡ receiver → v.master ≡ w.controllers.master.name
     → IsInOrder w.controllers (answer sender receiver sent command.Return s told)
-    → Agrees (worker_moved w.controllers v (taken_by_worker (answer sender receiver sent command.Return s told) at v)) (replies (reply.Acked s) (shop_shown w.controllers))
+    → StepsAgree (Ok (worker_moved w.controllers v (taken_by_worker (answer sender receiver sent command.Return s told) at v))) (shop.message_comes at (shop_shown w.controllers) (shop.ToReturn s))
 return_is_answered w v sender receiver sent s told at ok found named knows good =
     let c = w.controllers in
+    let p = shop_shown c in
     let m = answer sender receiver sent command.Return s told in
     let none = worker_refuses_nothing c v m found named knows refl good in
-    record {
-      reply = ap (λ o. refused_or o (worker_messages.answer_reply s told)) none ∙ (λ i. Ok (acknowledged s told good.says.0 i));
-      next = ap (λ o. shop_shown (worker_moved c v (record { reply = Ok (reply.Acked s); next = cond (is_some o) v v; sent = None })).next) none ∙ ap shop_shown (stored_same w v.name v ok (ap (worker_of c.workers) named ∙ found));
-      sent = refl;
-    }
+    let own : worker_of c.workers v.name ≡ Some v = ap (worker_of c.workers) named ∙ found in
+    let there = answered_entry c v sender receiver sent s told found good in
+    let e : Entry = there.0 in
+    let h = entry_record w v.name s v e ok own there.1 in
+    let a = spawn_shown c h.spawn in
+    let back : is_out h.spawn ≡ false = ap is_out (same_found h.spawn good.spawn (master.record_of c.master.records s) h.recorded good.recorded) ∙ good.says.1 in
+    subst (StepsAgree (Ok (worker_moved c v (taken_by_worker m at v))))
+    (sym (ap (λ o. option_map_or (λ b. Ok (shop.back_acknowledged p b)) o (Err NoMessage)) (spawn_found c s ∙ ap (option_map (spawn_shown c)) h.recorded)))
+    (subst (λ why. Agrees (worker_moved c v (step_by v s told why (is_ok told))) (shop.back_acknowledged p a)) (sym none)
+    (subst (λ b. Agrees (worker_moved c v (step_by v s told None b)) (shop.back_acknowledged p a)) (sym good.says.0) (closes w v s e told ok own there.1 there.2 h back good.says.0)))

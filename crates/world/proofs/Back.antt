@@ -27,7 +27,7 @@ use Rattle.world.specs.Messages.{HasComeBack, HasEnded, IsInOrder, SaysRight, en
 
 -- what has ended has ended later
 pub back_later : (c d : Controllers) (records : List SpawnRec) → AreLater c d → All (HasComeBack c) records → All (HasComeBack d) records
-back_later c d records later all = All-weaker (HasComeBack c) (HasComeBack d) (λ r back isn't. ended_later c d r r (λ e. ⊤) (λ e. ⊤) later refl refl (λ e is. tt) (back isn't)) records all
+back_later c d records later all = All-weaker (HasComeBack c) (HasComeBack d) (λ r back isn't. ended_later c d r r (λ e. ⊤) (λ e. ⊤) later refl refl (λ e is. tt) (λ e is. tt) (back isn't)) records all
 
 -- ---- orders
 

@@ -49,6 +49,11 @@ pub none_found : {X : Type 0} (P : X → Type 0) (f : X → Bool) (xs : List X) 
 none_found P f [] fails all = refl
 none_found P f (x ∷ xs) fails all = when_false (f x) (Some x) (find f xs) (fails x (All-head P x xs all)) ∙ none_found P f xs fails (All-tail P x xs all)
 
+-- what is made of what was looked for
+pub made_of : {X Y : Type 0} (f : X → Y) (o : Option X) (y : Y) → option_map f o ≡ Some y → (x : X) × (o ≡ Some x) × (f x ≡ y)
+made_of f None y e = cc
+made_of f (Some x) y e = (x, refl, same_found (f x) y (Some (f x)) refl e)
+
 -- what is made alike of each is alike
 pub made_alike : {X Y : Type 0} (P : X → Type 0) (f g : X → Y) (xs : List X) → ((x : X) → P x → f x ≡ g x) → All P xs → map f xs ≡ map g xs
 made_alike P f g [] same all = refl

@@ -1,11 +1,12 @@
 -- The laws of who may change what.
-use Rattle.std.proofs.Common.{◌≡◌, ◌↔◌, ◌&&◌, ◌∙◌, cond, IsSomeAnd, Bool, true, false, List, ℕ, Option, Some, None, Result, Ok, Err, OnOk, OnErr, refl, slice_get, sym, ap, subst}
-use Rattle.std.proofs.lemmas.Bool.{and_from, and_parts, eqb-true, true≢false}
+use Rattle.std.proofs.Common.{◌≡◌, ◌↔◌, ◌∙◌, cond, IsSomeAnd, Bool, true, false, List, ℕ, Option, Some, None, Result, Ok, Err, OnOk, OnErr, refl, slice_get, sym, ap, subst}
+use Rattle.std.proofs.lemmas.Bool.{eqb-true, true≢false}
 use Rattle.std.proofs.lemmas.Slice.Eq.{bytes_eq-Decides}
 use Rattle.std.specs.Option.{option_and_then, option_map, option_map_or}
 use Rattle.ticket_items.proofs.Places.{same_found}
 use Rattle.ticket_rows.proofs.AtHome.{find-passes}
 use Rattle.ticket_rows.specs.Place.{Place, place_at, places}
+use Rattle.ticket_tree.specs.Part.{Copied}
 use Rattle.spawn.proofs.Lawful.{claim_is_held, held_is_claimed, placed}
 use Rattle.spawn.specs.Claim.{is_claimed}
 use Rattle.spawn.specs.Records.{is_out}
@@ -13,15 +14,18 @@ use Rattle.spawn.specs.Table.{holder_at, holding, holds, is_masters}
 use Rattle.spawn.specs.declared.records.spawn_rec.SpawnRec.{SpawnRec}
 use Rattle.spawn.specs.declared.tables.holder.Holder.{Holder}
 use Rattle.spawn.specs.declared.tables.holder.Holder.TheVariants.{Master, Spawn}
+use Rattle.merge.specs.Shape.{Fits}
 use Rattle.master_core.proofs.Recorded.{number_is}
 use Rattle.master_core.specs.Master as master
 use Rattle.worker_core.proofs.AtNumber.{found_holds}
+use Rattle.worker_core.proofs.OrderLaws.{may_change_here}
+use Rattle.worker_core.proofs.Refusals.{of_open, opened}
 use Rattle.worker_core.specs.Worker as worker
 use Rattle.worker_core.specs.declared.entry.Entry.{Entry}
 use Rattle.world.proofs.AlwaysKept.{kept_after, kept_after_all}
 use Rattle.world.proofs.Back.{one_record}
 use Rattle.world.proofs.Doors.{found_through}
-use Rattle.world.proofs.Cases.{when_true}
+use Rattle.world.proofs.Cases.{made_of, when_true}
 use Rattle.world.proofs.InPart.{fits_has, part_has}
 use Rattle.world.proofs.Resends.{spawn_found}
 use Rattle.world.proofs.Stored.{and_found, found_and}
@@ -30,7 +34,7 @@ use Rattle.world.specs.Controllers.{entry_at, is_named, worker_of}
 use Rattle.world.specs.Happening.{after_all, settled, step_of}
 use Rattle.world.specs.Laws.{HoldersMayChange, NoTwoMayChangeOne}
 use Rattle.world.specs.Messages.{AreRecorded, HasComeBack, IsRecorded, entry_for}
-use Rattle.world.specs.Shop.{Done, Open, SpawnState, spawn_of}
+use Rattle.world.specs.Shop.{Closed, Done, Merged, Open, SpawnState, spawn_of}
 use Rattle.world.specs.Showing.{phase_shown, shop_shown, shows, spawn_shown}
 use Rattle.world.specs.State.{IsKept, State}
 use Rattle.world_items.specs.declared.event.Event.{Event}
@@ -41,6 +45,8 @@ use Rattle.world_items.specs.declared.what.What.{What}
 
 -- an open entry of a spawn at the worker of a name: the record of the spawn names the worker, the spawn is out, and the part of the entry has what it claims
 record IsOpenThere (w : State) (name : List ℕ) (s : ℕ) (e : Entry) : Type 0 where
+  part : Copied
+  has_part : worker.open_part e ≡ Some part
   spawn : SpawnRec
   recorded : master.record_of w.controllers.master.records s ≡ Some spawn
   named : spawn.worker ≡ name
@@ -48,7 +54,7 @@ record IsOpenThere (w : State) (name : List ℕ) (s : ℕ) (e : Entry) : Type 0 
   place : ℕ
   there : slice_get w.controllers.master.records place ≡ Some spawn
   out : is_out spawn ≡ true
-  shows : (x : List ℕ) → worker.has e.part x ≡ option_map_or (is_claimed spawn.node spawn.rw) (place_at (places w.controllers.master.ticket.rows) x) false
+  shows : (x : List ℕ) → worker.has part x ≡ option_map_or (is_claimed spawn.node spawn.rw) (place_at (places w.controllers.master.ticket.rows) x) false
 
 true_by : (b : Bool) → (b ≡ false → ⊥) → b ≡ true
 true_by true never = refl
@@ -71,16 +77,19 @@ open_there w name s e ok found open' =
     let records = c.master.records in
     let at = found_through (worker_of c.workers name) s e found in
     let v = at.0 in
-    let own : e.part.spawn_id ≡ s = eqb-true e.part.spawn_id s (find-passes (worker.is_of s) v.entries e at.2) in
+    let own : e.spawn_id ≡ s = eqb-true e.spawn_id s (find-passes (worker.is_of s) v.entries e at.2) in
     let all : AreRecorded c v = found_holds (AreRecorded c) (is_named name) c.workers v at.1 ok.recorded in
-    let known = and_found _ (master.record_of records e.part.spawn_id) (found_holds (IsRecorded c v.name) (worker.is_of s) v.entries e at.2 all) in
+    let known = and_found _ (master.record_of records e.spawn_id) (found_holds (IsRecorded c v.name) (worker.is_of s) v.entries e at.2 all) in
     let r = known.0 in
     let recorded : master.record_of records s ≡ Some r = ap (master.record_of records) (sym own) ∙ known.1 in
     let named : r.worker ≡ name = known.2.0 ∙ (bytes_eq-Decides v.name name).0 (find-passes (is_named name) c.workers v at.1) in
     let out = true_by (is_out r) (not_back w name s e r ok found open' recorded named) in
     let place = placed (master.is_of s) records r recorded in
     let good = ok.master.apart.good place.place r place.there out in
+    let held = and_found (Fits c.master.ticket r) e.part (known.2.1 out) in
     record {
+      part = held.0;
+      has_part = opened e held.0 open' held.1;
       spawn = r;
       recorded = recorded;
       named = named;
@@ -88,7 +97,7 @@ open_there w name s e ok found open' =
       place = place.place;
       there = place.there;
       out = out;
-      shows = λ x. fits_has c.master.ticket r e.part x (known.2.1 out) ∙ part_has c.master.ticket r x ok.master.valid good;
+      shows = λ x. fits_has c.master.ticket r held.0 x held.2 ∙ part_has c.master.ticket r x ok.master.valid good;
     }
 
 -- ---- what it has is what its spawn holds
@@ -97,7 +106,7 @@ some_passes : {X : Type 0} (f : X → Bool) (o : Option X) → option_map_or f o
 some_passes f None e = absurd (true≢false (sym e))
 some_passes f (Some x) e = (x, refl, e)
 
-held_so : (w : State) (name : List ℕ) (s : ℕ) (e : Entry) (x : List ℕ) → IsKept w → IsOpenThere w name s e → worker.has e.part x ≡ true → master.holder w.controllers.master x ≡ Some (Spawn s)
+held_so : (w : State) (name : List ℕ) (s : ℕ) (e : Entry) (x : List ℕ) → IsKept w → (at : IsOpenThere w name s e) → worker.has at.part x ≡ true → master.holder w.controllers.master x ≡ Some (Spawn s)
 held_so w name s e x ok at here =
     let m = w.controllers.master in
     let r = at.spawn in
@@ -114,7 +123,7 @@ holding_so : (s : ℕ) (o : Option SpawnRec) → option_map_or (λ (q : SpawnRec
 holding_so s None e = cc
 holding_so s (Some q) e = (q, refl, cc)
 
-has_so : (w : State) (name : List ℕ) (s : ℕ) (e : Entry) (x : List ℕ) → IsKept w → IsOpenThere w name s e → master.holder w.controllers.master x ≡ Some (Spawn s) → worker.has e.part x ≡ true
+has_so : (w : State) (name : List ℕ) (s : ℕ) (e : Entry) (x : List ℕ) → IsKept w → (at : IsOpenThere w name s e) → master.holder w.controllers.master x ≡ Some (Spawn s) → worker.has at.part x ≡ true
 has_so w name s e x ok at held =
     let m = w.controllers.master in
     let r = at.spawn in
@@ -137,33 +146,45 @@ masters (Some (Spawn s)) e = absurd (true≢false (sym e))
 record Through (w : State) (name : List ℕ) (s : ℕ) (x : List ℕ) : Type 0 where
   entry : Entry
   found : entry_at w.controllers.workers name s ≡ Some entry
-  is_open : worker.is_open entry ≡ true
-  has_it : worker.has entry.part x ≡ true
+  part : Copied
+  opened : worker.open_part entry ≡ Some part
+  has_it : worker.has part x ≡ true
+
+opened_of : (o : Option Entry) (p : Copied) → option_and_then worker.open_part o ≡ Some p → (e : Entry) × (o ≡ Some e) × (worker.open_part e ≡ Some p)
+opened_of None p is = cc
+opened_of (Some e) p is = (e, refl, is)
 
 through : (w : State) (name : List ℕ) (s : ℕ) (x : List ℕ) → MayChange w (by_entry name s) x → Through w name s x
 through w name s x may =
     let o = worker_of w.controllers.workers name in
     let at = and_found _ o may in
     let v : worker.Known = at.0 in
-    let got = some_passes (λ (e : Entry). worker.is_open e && worker.has e.part x) (worker.entry_of v.entries s) at.2 in
-    let parts = and_parts (worker.is_open got.0) (worker.has got.0.part x) got.2 in
-    record { entry = got.0; found = ap (option_and_then (λ (u : worker.Known). worker.entry_of u.entries s)) at.1 ∙ got.1; is_open = parts.0; has_it = parts.1 }
+    let got = some_passes (λ p. worker.has p x) (option_and_then worker.open_part (worker.entry_of v.entries s)) at.2 in
+    let by = opened_of (worker.entry_of v.entries s) got.0 got.1 in
+    record { entry = by.0; found = ap (option_and_then (λ (u : worker.Known). worker.entry_of u.entries s)) at.1 ∙ by.1; part = got.0; opened = by.2; has_it = got.2 }
 
 may_through : (w : State) (name : List ℕ) (s : ℕ) (x : List ℕ) → Through w name s x → MayChange w (by_entry name s) x
 may_through w name s x by =
     let o = worker_of w.controllers.workers name in
     let at = found_through o s by.entry by.found in
-    found_and _ o at.0 at.1 (ap (λ q. option_map_or (λ (e : Entry). worker.is_open e && worker.has e.part x) q false) at.2 ∙ and_from _ _ by.is_open by.has_it)
+    found_and _ o at.0 at.1 (may_change_here at.0.entries s x by.entry by.part at.2 by.opened by.has_it)
 
 -- it is held then
 held_through : (w : State) (name : List ℕ) (s : ℕ) (x : List ℕ) → IsKept w → Through w name s x → master.holder w.controllers.master x ≡ Some (Spawn s)
-held_through w name s x ok by = held_so w name s by.entry x ok (open_there w name s by.entry ok by.found by.is_open) by.has_it
+held_through w name s x ok by =
+    let at = open_there w name s by.entry ok by.found (of_open by.entry by.part by.opened).0 in
+    held_so w name s by.entry x ok at (subst (λ p. worker.has p x ≡ true) (same_found by.part at.part (worker.open_part by.entry) by.opened at.has_part) by.has_it)
 
 -- ---- what is shown
 
 -- a spawn that is shown as open is out, and has an entry that is open
 open_shown : (out : Bool) (o : Option Entry) → phase_shown out o ≡ Open → (out ≡ true) × IsSomeAnd o (λ e. worker.is_open e ≡ true)
-open_shown false o e = cc
+open_shown false None e = cc
+open_shown false (Some entry) e = absurd (never_open (worker.is_closed entry) e)
+  where
+    never_open : (b : Bool) → cond b Closed Merged ≡ Open → ⊥
+    never_open true e = cc
+    never_open false e = cc
 open_shown true None e = cc
 open_shown true (Some entry) e = (refl, entry_open (worker.is_open entry) e)
   where
@@ -180,10 +201,6 @@ shown_open w name s e ok found is_open' =
     let entered : entry_for c r ≡ Some e = ap (λ n. entry_at c.workers n r.id) at.named ∙ ap (entry_at c.workers name) at.number ∙ found in
     let phase : phase_shown (is_out r) (entry_for c r) ≡ Open = ap (λ b. phase_shown b (entry_for c r)) at.out ∙ ap (phase_shown true) entered ∙ when_true (worker.is_open e) Open Done is_open' in
     found_and _ (spawn_of s (shop_shown c)) (spawn_shown c r) (spawn_found c s ∙ ap (option_map (spawn_shown c)) at.recorded) (at.named, phase)
-
-pub made_of : {X Y : Type 0} (f : X → Y) (o : Option X) (y : Y) → option_map f o ≡ Some y → (x : X) × (o ≡ Some x) × (f x ≡ y)
-made_of f None y e = cc
-made_of f (Some x) y e = (x, refl, same_found (f x) y (Some (f x)) refl e)
 
 -- a spawn that is shown as open has an open entry, at its worker
 open_entry : (w : State) (name : List ℕ) (s : ℕ) → IsSomeAnd (spawn_of s (shop_shown w.controllers)) (λ a. (a.worker ≡ name) × (a.phase ≡ Open)) → IsSomeAnd (entry_at w.controllers.workers name s) (λ e. worker.is_open e ≡ true)
@@ -202,13 +219,14 @@ open_entry w name s shown =
 to_holds : (w : State) (name : List ℕ) (s : ℕ) (x : List ℕ) → IsKept w → MayChange w (by_entry name s) x → Holds (shop_shown w.controllers) (by_entry name s) x
 to_holds w name s x ok may =
     let by = through w name s x may in
-    (held_through w name s x ok by, shown_open w name s by.entry ok by.found by.is_open)
+    (held_through w name s x ok by, shown_open w name s by.entry ok by.found (of_open by.entry by.part by.opened).0)
 
 from_holds : (w : State) (name : List ℕ) (s : ℕ) (x : List ℕ) → IsKept w → Holds (shop_shown w.controllers) (by_entry name s) x → MayChange w (by_entry name s) x
 from_holds w name s x ok holds =
     let at = and_found _ (entry_at w.controllers.workers name s) (open_entry w name s holds.1) in
     let e : Entry = at.0 in
-    may_through w name s x (record { entry = e; found = at.1; is_open = at.2; has_it = has_so w name s e x ok (open_there w name s e ok at.1 at.2) holds.0 })
+    let there = open_there w name s e ok at.1 at.2 in
+    may_through w name s x (record { entry = e; found = at.1; part = there.part; opened = there.has_part; has_it = has_so w name s e x ok there holds.0 })
 
 pub holders_may_change : HoldersMayChange
 holders_may_change w by_master x ok =
@@ -226,8 +244,8 @@ one_entry : (w : State) (n m : List ℕ) (s t : ℕ) (x : List ℕ) → IsKept w
 one_entry w n m s t x ok a b =
     let records = w.controllers.master.records in
     let one : s ≡ t = one_spawn (master.holder w.controllers.master x) s t (held_through w n s x ok a) (held_through w m t x ok b) in
-    let at = open_there w n s a.entry ok a.found a.is_open in
-    let other = open_there w m t b.entry ok b.found b.is_open in
+    let at = open_there w n s a.entry ok a.found (of_open a.entry a.part a.opened).0 in
+    let other = open_there w m t b.entry ok b.found (of_open b.entry b.part b.opened).0 in
     let same : at.spawn ≡ other.spawn = same_found at.spawn other.spawn (master.record_of records s) at.recorded (ap (master.record_of records) one ∙ other.recorded) in
     let named : n ≡ m = sym at.named ∙ ap (λ (r : SpawnRec). r.worker) same ∙ other.named in
     ap (λ k. by_entry k s) named ∙ ap (by_entry m) one

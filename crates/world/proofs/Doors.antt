@@ -1,7 +1,7 @@
 -- A message that was sent is refused by no one: not by the master that it comes to, and not by the worker.
-use Rattle.std.proofs.Common.{◌≡◌, ◌&&◌, ◌||◌, ℕ, Bool, true, false, cond, not, List, [], ◌∷◌, Option, Some, None, Ok, is_some, is_ok, refl, sym, ap, ◌∙◌, subst}
+use Rattle.std.proofs.Common.{◌≡◌, ◌&&◌, ◌||◌, ℕ, Bool, true, false, cond, not, List, [], ◌∷◌, Option, Some, None, IfSome, Result, Ok, is_some, is_ok, refl, sym, ap, ◌∙◌, subst}
 use Rattle.std.proofs.lemmas.Bool.{eqb-true, true≢false}
-use Rattle.std.specs.Option.{option_and_then, option_map_or}
+use Rattle.std.specs.Option.{option_and_then, option_map, option_map_or}
 use Rattle.std.specs.Str.{bytes_eq}
 use Rattle.ticket_items.proofs.Apart.{bytes_eq-same}
 use Rattle.ticket_items.proofs.Places.{same_found}
@@ -14,6 +14,7 @@ use Rattle.controller.specs.declared.body.Body.{Body}
 use Rattle.controller.specs.declared.body.Body.TheVariants.{Submit, Return, Answer}
 use Rattle.controller.specs.declared.command.Command.TheVariants as command
 use Rattle.controller.specs.declared.message.Message.{Message}
+use Rattle.controller.specs.declared.queue_status.QueueStatus.{QueueStatus}
 use Rattle.controller.specs.declared.reply.Reply.TheVariants as reply
 use Rattle.spawn.specs.Records.{is_out}
 use Rattle.spawn.specs.declared.records.spawn_rec.SpawnRec.{SpawnRec}
@@ -26,11 +27,12 @@ use Rattle.master_core.specs.Master as master
 use Rattle.master_core.specs.Messages as master_messages
 use Rattle.worker_core.proofs.AtNumber.{found_holds}
 use Rattle.worker_core.specs.Messages as worker_messages
+use Rattle.worker_core.specs.Orders.{part_return}
 use Rattle.worker_core.specs.Worker as worker
 use Rattle.worker_core.specs.declared.entry.Entry.{Entry}
 use Rattle.world.proofs.Stored.{and_found}
 use Rattle.world.specs.Controllers.{Controllers, entry_at, is_named, worker_of}
-use Rattle.world.specs.Messages.{AreRecorded, IsInOrder, IsRecorded, entry_for}
+use Rattle.world.specs.Messages.{AreRecorded, IsInOrder, IsRecorded, IsReturn, entry_for}
 use Rattle.std.specs.List.{All}
 
 same_bytes : (x y : List ℕ) → x ≡ y → bytes_eq x y ≡ true
@@ -43,11 +45,29 @@ found_through None s e found = cc
 found_through (Some v) s e found = (v, refl, found)
 
 -- an entry that is found is of its spawn, and has a record
-pub entry_recorded : (c : Controllers) (name : List ℕ) (s : ℕ) (e : Entry) → All (AreRecorded c) c.workers → entry_at c.workers name s ≡ Some e → (v : worker.Known) × (e.part.spawn_id ≡ s) × IsRecorded c v.name e
+pub entry_recorded : (c : Controllers) (name : List ℕ) (s : ℕ) (e : Entry) → All (AreRecorded c) c.workers → entry_at c.workers name s ≡ Some e → (v : worker.Known) × (e.spawn_id ≡ s) × IsRecorded c v.name e
 entry_recorded c name s e all found =
     let at = found_through (worker_of c.workers name) s e found in
     let v = at.0 in
-    (v, eqb-true e.part.spawn_id s (find-passes (worker.is_of s) v.entries e at.2), found_holds (IsRecorded c v.name) (worker.is_of s) v.entries e at.2 (found_holds (AreRecorded c) (is_named name) c.workers v at.1 all))
+    (v, eqb-true e.spawn_id s (find-passes (worker.is_of s) v.entries e at.2), found_holds (IsRecorded c v.name) (worker.is_of s) v.entries e at.2 (found_holds (AreRecorded c) (is_named name) c.workers v at.1 all))
+
+-- and it is kept
+pub entry_kept : (c : Controllers) (name : List ℕ) (s : ℕ) (e : Entry) → All worker.IsKept c.workers → entry_at c.workers name s ≡ Some e → worker.IsKeptEntry e
+entry_kept c name s e all found =
+    let at = found_through (worker_of c.workers name) s e found in
+    let v = at.0 in
+    let kept : worker.IsKept v = found_holds worker.IsKept (is_named name) c.workers v at.1 all in
+    found_holds worker.IsKeptEntry (worker.is_of s) v.entries e at.2 kept.each
+
+-- while its spawn is out it has its part, which fits
+pub held_part : (c : Controllers) (r : SpawnRec) (e : Entry) → All (AreRecorded c) c.workers → master.record_of c.master.records r.id ≡ Some r → entry_for c r ≡ Some e → is_out r ≡ true → (p : Copied) × (e.part ≡ Some p) × Fits c.master.ticket r p
+held_part c r e all found entered out =
+    let records = c.master.records in
+    let at = entry_recorded c r.worker r.id e all entered in
+    let there = and_found _ (master.record_of records e.spawn_id) at.2 in
+    let same : there.0 ≡ r = same_found there.0 r (master.record_of records e.spawn_id) there.1 (ap (master.record_of records) at.1 ∙ found) in
+    let held = and_found (Fits c.master.ticket there.0) e.part (there.2.1 (ap is_out same ∙ out)) in
+    (held.0, held.1, subst (λ q. Fits c.master.ticket q held.0) same held.2)
 
 -- ---- the master
 
@@ -75,21 +95,22 @@ fit_or_in : (out : Bool) (r : SpawnRec) (fit : Bool) → is_out r ≡ out → (i
 fit_or_in true r fit out fits = ap (λ b. unless (not b || fit) WrongShape) out ∙ ap (λ b. unless b WrongShape) (fits out)
 fit_or_in false r fit out fits = ap (λ b. unless (not b || fit) WrongShape) out
 
--- a part that was given back fits
+-- a part that was given back is the one that the entry has, if it has one
+pub returned_part : (name master sender receiver : List ℕ) (sent : ℕ) (e : Entry) (p q : Copied) → e.part ≡ Some q → IsReturn name master (record { sender = sender; receiver = receiver; at = sent; body = Return p }) e → p ≡ q
+returned_part name master sender receiver sent e p q has is =
+    same_part p q (ap (λ (m : Message). m.body) (subst (λ o. IfSome (option_map (part_return name master e.at) o) (λ n. record { sender = sender; receiver = receiver; at = sent; body = Return p } ≡ n)) has is))
+  where
+    same_part : (x y : Copied) → Return x ≡ Return y → x ≡ y
+    same_part x y e = cc
+
+-- and it fits
 pub return_fits : (c : Controllers) (p : Copied) (sender receiver : List ℕ) (sent : ℕ) → All (AreRecorded c) c.workers → (h : IsInOrder c (record { sender = sender; receiver = receiver; at = sent; body = Return p })) → is_out h.spawn ≡ true → Fits c.master.ticket h.spawn p
 return_fits c p sender receiver sent all h out =
     let r = h.spawn in
     let ended = and_found _ (entry_for c r) h.says in
-    let e : Entry = ended.0 in
-    let at = entry_recorded c r.worker r.id e all ended.1 in
-    let there = and_found _ (master.record_of c.master.records e.part.spawn_id) at.2 in
-    let id : e.part.spawn_id ≡ p.spawn_id = at.1 ∙ number_is c.master.records p.spawn_id r h.recorded in
-    let same : there.0 ≡ r = same_found there.0 r (master.record_of c.master.records e.part.spawn_id) there.1 (ap (master.record_of c.master.records) id ∙ h.recorded) in
-    let part : p ≡ e.part = returned_part p e.part (ap (λ (m : Message). m.body) ended.2.1) in
-    subst (Fits c.master.ticket r) (sym part) (subst (λ q. Fits c.master.ticket q e.part) same (there.2.1 (ap is_out same ∙ out)))
-  where
-    returned_part : (x y : Copied) → Return x ≡ Return y → x ≡ y
-    returned_part x y e = cc
+    let recorded : master.record_of c.master.records r.id ≡ Some r = ap (master.record_of c.master.records) (number_is c.master.records p.spawn_id r h.recorded) ∙ h.recorded in
+    let held = held_part c r ended.0 all recorded ended.1 out in
+    subst (Fits c.master.ticket r) (sym (returned_part r.worker c.master.name sender receiver sent ended.0 p held.0 held.1 ended.2.1)) held.2
 
 -- so the master refuses nothing that was sent to it
 master_takes : (c : Controllers) (sender receiver : List ℕ) (sent : ℕ) (body : Body) → All (AreRecorded c) c.workers → worker_messages.is_for_workers body ≡ false → (h : IsInOrder c (record { sender = sender; receiver = receiver; at = sent; body = body })) → master_messages.body_refusal body c.master h.spawn ≡ None
@@ -106,19 +127,27 @@ sound_or : (a b : Bool) → b ≡ true → unless (a || b) BadPart ≡ None
 sound_or true b e = refl
 sound_or false b e = ap (λ x. unless x BadPart) e
 
+-- the entry that is answered, on which the work has ended
+pub answered_entry : (c : Controllers) (v : worker.Known) (sender receiver : List ℕ) (sent s : ℕ) (told : Result QueueStatus ℕ) → worker_of c.workers receiver ≡ Some v → IsInOrder c (record { sender = sender; receiver = receiver; at = sent; body = Answer command.Return s told })
+    → (e : Entry) × (worker.entry_of v.entries s ≡ Some e) × (worker.is_open e ≡ false)
+answered_entry c v sender receiver sent s told found h =
+    let r = h.spawn in
+    let ended = and_found _ (entry_for c r) h.says.2 in (
+      ended.0,
+      sym (ap (option_and_then (λ (u : worker.Known). worker.entry_of u.entries s)) found)
+          ∙ ap (λ n. entry_at c.workers n s) h.to
+          ∙ ap (entry_at c.workers r.worker) (sym (number_is c.master.records s r h.recorded))
+          ∙ ended.1,
+      ended.2.0,
+    )
+
 worker_takes : (c : Controllers) (v : worker.Known) (sender receiver : List ℕ) (sent : ℕ) (body : Body) → worker_of c.workers receiver ≡ Some v → worker_messages.is_for_workers body ≡ true → IsInOrder c (record { sender = sender; receiver = receiver; at = sent; body = body }) → worker_messages.body_refusal body v.entries ≡ None
 worker_takes c v sender receiver sent (Submit p) found theirs h = sound_or (is_some (worker.entry_of v.entries p.spawn_id)) (is_sound p) h.sound
 worker_takes c v sender receiver sent (Return p) found theirs h = refl
 worker_takes c v sender receiver sent (Answer command.Submit s told) found theirs h = absurd (true≢false (sym theirs))
 worker_takes c v sender receiver sent (Answer command.Return s told) found theirs h =
-    let r = h.spawn in
-    let ended = and_found _ (entry_for c r) h.says.2 in
-    let here : worker.entry_of v.entries s ≡ Some ended.0 =
-    sym (ap (option_and_then (λ (u : worker.Known). worker.entry_of u.entries s)) found)
-    ∙ ap (λ n. entry_at c.workers n s) h.to
-    ∙ ap (entry_at c.workers r.worker) (sym (number_is c.master.records s r h.recorded))
-    ∙ ended.1 in
-    ap (λ o. option_map_or (λ e. unless (not (worker.is_open e)) NotDone) o (Some UnknownEntry)) here ∙ ap (λ b. unless (not b) NotDone) ended.2.0
+    let there = answered_entry c v sender receiver sent s told found h in
+    ap (λ o. option_map_or (λ e. unless (not (worker.is_open e)) NotDone) o (Some UnknownEntry)) there.1 ∙ ap (λ b. unless (not b) NotDone) there.2
 
 -- a worker refuses nothing that was sent to it
 pub worker_refuses_nothing : (c : Controllers) (v : worker.Known) (m : Message) → worker_of c.workers m.receiver ≡ Some v → v.name ≡ m.receiver → v.master ≡ c.master.name → worker_messages.is_for_workers m.body ≡ true → IsInOrder c m → worker_messages.take_refusal m v ≡ None

@@ -108,7 +108,7 @@ spawn_elsewhere c name s next new mine h t other = by (record_of c.master.record
 
 -- the rows now, by who holds each id: those that the spawn holds are in the new entry, and all others are as they were
 pub row_stored : (c : Controllers) (name : List ℕ) (s : ℕ) (next : worker.Known) (new : Entry) (mine : SpawnRec) → HasStored c name s next new mine → (f : Option Row → Option Row) (x : List ℕ) (o : Option Holder)
-    → (o ≡ Some (held_by.Spawn s) → part_row new.part x ≡ f (row_at c x o)) → ((o ≡ Some (held_by.Spawn s) → ⊥) → row_at c x o ≡ f (row_at c x o))
+    → (o ≡ Some (held_by.Spawn s) → option_map_or (λ p. part_row p x) new.part (seen_shown c x) ≡ f (row_at c x o)) → ((o ≡ Some (held_by.Spawn s) → ⊥) → row_at c x o ≡ f (row_at c x o))
     → row_at (with_next c name next) x o ≡ f (row_at c x o)
 row_stored c name s next new mine h f x None own others = others (λ e. cc)
 row_stored c name s next new mine h f x (Some held_by.Master) own others = others (λ e. cc)
@@ -118,9 +118,9 @@ row_stored c name s next new mine h f x (Some (held_by.Spawn t)) own others =
     (λ same.
     let is : t ≡ s = eqb-true t s same in
     let found : entry_of_spawn d t ≡ Some new = ap (entry_of_spawn d) is ∙ ap (option_and_then (entry_for d)) h.recorded ∙ entry_stored c name s next new mine h in
-    ap (λ o. option_map_or (λ (e : Entry). part_row e.part x) o (seen_shown c x)) found ∙ own (ap (λ n. Some (held_by.Spawn n)) is))
+    ap (λ o. option_map_or (λ p. part_row p x) (option_and_then (λ (e : Entry). e.part) o) (seen_shown c x)) found ∙ own (ap (λ n. Some (held_by.Spawn n)) is))
     (λ other.
-    ap (λ o. option_map_or (λ (e : Entry). part_row e.part x) o (seen_shown c x)) (spawn_elsewhere c name s next new mine h t other)
+    ap (λ o. option_map_or (λ p. part_row p x) (option_and_then (λ (e : Entry). e.part) o) (seen_shown c x)) (spawn_elsewhere c name s next new mine h t other)
     ∙ others (λ e. true≢false (sym (eq-eqb t s (same_number t s e)) ∙ other)))
   where
     same_number : (m n : ℕ) → Some (held_by.Spawn m) ≡ Some (held_by.Spawn n) → m ≡ n
@@ -133,9 +133,11 @@ row_alike c workers same x None = refl
 row_alike c workers same x (Some held_by.Master) = refl
 row_alike c workers same x (Some (held_by.Spawn s)) = by (record_of c.master.records s)
   where
-    by : (q : Option SpawnRec) → option_map_or (λ (e : Entry). part_row e.part x) (option_and_then (entry_for (record c { workers = workers })) q) (seen_shown c x) ≡ option_map_or (λ (e : Entry). part_row e.part x) (option_and_then (entry_for c) q) (seen_shown c x)
+    by : (q : Option SpawnRec)
+        → option_map_or (λ p. part_row p x) (option_and_then (λ (e : Entry). e.part) (option_and_then (entry_for (record c { workers = workers })) q)) (seen_shown c x)
+        ≡ option_map_or (λ p. part_row p x) (option_and_then (λ (e : Entry). e.part) (option_and_then (entry_for c) q)) (seen_shown c x)
     by None = refl
-    by (Some r) = ap (λ o. option_map_or (λ (e : Entry). part_row e.part x) o (seen_shown c x)) (same r)
+    by (Some r) = ap (λ o. option_map_or (λ p. part_row p x) (option_and_then (λ (e : Entry). e.part) o) (seen_shown c x)) (same r)
 
 -- where no entry is another the shop is the same
 pub shop_stays : (c : Controllers) (workers : List worker.Known) → ((r : SpawnRec) → entry_for (record c { workers = workers }) r ≡ entry_for c r) → shop_shown (record c { workers = workers }) ≡ shop_shown c

@@ -91,7 +91,7 @@ by_name w name v o at found agrees =
 worker_agrees : (o : worker_order.Order) (w : State) (name : List ℕ) (v : worker.Known) (at : ℕ) → IsKept w → worker_of w.controllers.workers name ≡ Some v → WorkerAgrees w name v o at
 worker_agrees (to_worker.Edit s e) w name v at ok found = by_name w name v (to_worker.Edit s e) at found (worker_edits w v s e at ok)
 worker_agrees (to_worker.Finish s how) w name v at ok found = by_name w name v (to_worker.Finish s how) at found (worker_finishes w v s how at ok)
-worker_agrees (to_worker.Resend s) w name v at ok found = worker_resends w name v s at ok found
+worker_agrees (to_worker.Resend s) w name v at ok found = by_name w name v (to_worker.Resend s) at found (worker_resends w v s at ok)
 
 found_agrees : (o : worker_order.Order) (w : State) (name : List ℕ) (at : ℕ) (found : Option worker.Known) (known : Bool) → IsKept w → worker_of w.controllers.workers name ≡ found → is_some found ≡ known
     → StepsAgree (option_map_or (λ v. Ok (worker_moved w.controllers v (ordered_worker o at v))) found (Err (Refused UnknownWorker))) (cond known (Ok (shop.worker_does name o at (shop_shown w.controllers))) (Err (Refused UnknownWorker)))

@@ -1,5 +1,5 @@
 -- Controllers as they are later: what stays of what messages say.
-use Rattle.std.proofs.Common.{◌≡◌, ℕ, true, false, cond, List, Some, sym, ap, ◌∙◌, subst}
+use Rattle.std.proofs.Common.{◌≡◌, ◌⊎◌, inl, inr, ℕ, true, false, cond, List, Some, sym, ap, ◌∙◌, subst}
 use Rattle.std.proofs.lemmas.Bool.{true≢false}
 use Rattle.controller.specs.Reply.{spawn_in}
 use Rattle.controller.specs.declared.body.Body.{Body}
@@ -14,14 +14,16 @@ use Rattle.merge.specs.Shape.{Fits}
 use Rattle.master_core.proofs.Recorded.{number_is}
 use Rattle.master_core.specs.Master.{record_of}
 use Rattle.master_core.specs.Orders.{submit_of}
+use Rattle.worker_core.proofs.Closing.{closed_open}
 use Rattle.worker_core.specs.Messages.{is_for_workers}
-use Rattle.worker_core.specs.Orders.{return_of}
-use Rattle.worker_core.specs.Worker.{is_open}
+use Rattle.worker_core.specs.Worker.{closed_entry, closed_in, is_open}
 use Rattle.worker_core.specs.declared.entry.Entry.{Entry}
+use Rattle.worker_core.specs.declared.stage.Stage.{Stage}
+use Rattle.worker_core.specs.declared.stage.Stage.TheVariants.{Open, Done, Closed}
 use Rattle.world.proofs.EditedFits.{fits_later}
 use Rattle.world.proofs.Stored.{and_found, found_and}
 use Rattle.world.specs.Controllers.{Controllers, entry_at}
-use Rattle.world.specs.Messages.{HasEnded, IsInOrder, IsRecorded, SaysRight, entry_for}
+use Rattle.world.specs.Messages.{HasEnded, IsInOrder, IsRecorded, IsReturn, SaysRight, entry_for}
 
 -- the record of a spawn as it is later: of the same worker; and while it is out it is the same, and so is the part that is made of it
 pub record GoesOn (c d : Controllers) (s : ℕ) (r : SpawnRec) : Type 0 where
@@ -31,35 +33,51 @@ pub record GoesOn (c d : Controllers) (s : ℕ) (r : SpawnRec) : Type 0 where
   pub same : is_out next ≡ true → next ≡ r
   pub part : is_out next ≡ true → part_for d.master.ticket r ≡ part_for c.master.ticket r
 
--- later no record is missing, and what has ended is as it was
+-- an entry as it may be later, once the work on it has ended: the same, or closed
+abbrev pub IsSameOrClosed : Entry → Entry → Type 0
+IsSameOrClosed old new = (new ≡ old) ⊎ (new ≡ closed_entry old)
+
+-- later no record is missing, and what has ended is as it was, but may be closed
 pub record AreLater (c d : Controllers) : Type 0 where
   pub name : d.master.name ≡ c.master.name
   pub records : (s : ℕ) (r : SpawnRec) → record_of c.master.records s ≡ Some r → GoesOn c d s r
-  pub ended : (n : List ℕ) (s : ℕ) (e : Entry) → entry_at c.workers n s ≡ Some e → is_open e ≡ false → entry_at d.workers n s ≡ Some e
+  pub ended : (n : List ℕ) (s : ℕ) (e : Entry) → entry_at c.workers n s ≡ Some e → is_open e ≡ false → (x : Entry) × (entry_at d.workers n s ≡ Some x) × IsSameOrClosed e x
 
 -- ---- entries
 
 -- an entry that has a record has one later
 pub recorded_later : (c d : Controllers) → AreLater c d → (name : List ℕ) (e : Entry) → IsRecorded c name e → IsRecorded d name e
 recorded_later c d later name e h =
-    let there = and_found _ (record_of c.master.records e.part.spawn_id) h in
-    let on = later.records e.part.spawn_id there.0 there.1 in
-    found_and _ (record_of d.master.records e.part.spawn_id) on.next on.found (
+    let there = and_found _ (record_of c.master.records e.spawn_id) h in
+    let on = later.records e.spawn_id there.0 there.1 in
+    found_and _ (record_of d.master.records e.spawn_id) on.next on.found (
       on.worker ∙ there.2.0,
       λ out.
           let same = on.same out in
-          subst (λ q. Fits d.master.ticket q e.part) (sym same) (fits_later c.master.ticket d.master.ticket there.0 e.part (on.part out) (there.2.1 (ap is_out (sym same) ∙ out))),
+          let held = and_found (Fits c.master.ticket there.0) e.part (there.2.1 (ap is_out (sym same) ∙ out)) in
+          found_and (Fits d.master.ticket on.next) e.part held.0 held.1 (subst (λ q. Fits d.master.ticket q held.0) (sym same) (fits_later c.master.ticket d.master.ticket there.0 held.0 (on.part out) held.2)),
     )
 
 -- ---- a message
 
+-- the work has ended on an entry that is the same or closed
+ended_still : (Q : Entry → Type 0) (e x : Entry) → IsSameOrClosed e x → is_open e ≡ false → Q e → Q (closed_entry e) → (is_open x ≡ false) × Q x
+ended_still Q e x (inl same) ended own closed = (ap is_open same ∙ ended, subst Q (sym same) own)
+ended_still Q e x (inr was) ended own closed = (ap is_open was ∙ closed_open e ∙ ended, subst Q (sym was) closed)
+
 -- what has ended has ended later
-pub ended_later : (c d : Controllers) (r q : SpawnRec) (P Q : Entry → Type 0) → AreLater c d → q.worker ≡ r.worker → q.id ≡ r.id → ((e : Entry) → P e → Q e) → HasEnded c r P → HasEnded d q Q
-ended_later c d r q P Q later worker id go h =
+pub ended_later : (c d : Controllers) (r q : SpawnRec) (P Q : Entry → Type 0) → AreLater c d → q.worker ≡ r.worker → q.id ≡ r.id → ((e : Entry) → P e → Q e) → ((e : Entry) → P e → Q (closed_entry e)) → HasEnded c r P → HasEnded d q Q
+ended_later c d r q P Q later worker id go closes h =
     let there = and_found _ (entry_for c r) h in
     let e : Entry = there.0 in
     let stays = later.ended r.worker r.id e there.1 there.2.0 in
-    found_and _ (entry_for d q) e (ap (λ n. entry_at d.workers n q.id) worker ∙ ap (entry_at d.workers r.worker) id ∙ stays) (there.2.0, go e there.2.1)
+    found_and _ (entry_for d q) stays.0 (ap (λ n. entry_at d.workers n q.id) worker ∙ ap (entry_at d.workers r.worker) id ∙ stays.1) (ended_still Q e stays.0 stays.2 there.2.0 (go e there.2.1) (closes e there.2.1))
+
+-- what an entry is given back as while it has its part, it is once it is closed
+returned_in : (name master : List ℕ) (m : Message) (stage : Stage) (e : Entry) → IsReturn name master m e → IsReturn name master m (closed_in stage e)
+returned_in name master m Open e h = h
+returned_in name master m (Done how) e h = tt
+returned_in name master m (Closed how) e h = h
 
 submit_later : (c d : Controllers) (m : Message) (s : ℕ) (r : SpawnRec) → AreLater c d → (on : GoesOn c d s r) → (is_out r ≡ true → m ≡ submit_of c.master.name c.master.ticket r) → is_out on.next ≡ true → m ≡ submit_of d.master.name d.master.ticket on.next
 submit_later c d m s r later on was out =
@@ -76,9 +94,10 @@ in_later c d s r on back = false_by (is_out on.next) (λ out. true≢false (sym 
 says_later : (c d : Controllers) (m : Message) (s : ℕ) (r : SpawnRec) (body : Body) → AreLater c d → (on : GoesOn c d s r) → on.next.id ≡ r.id → SaysRight c r m body → SaysRight d on.next m body
 says_later c d m s r (Submit p) later on id h = submit_later c d m s r later on h
 says_later c d m s r (Return p) later on id h =
-    ended_later c d r on.next _ _ later on.worker id (λ e is. is ∙ ap (λ n. return_of n c.master.name e) (sym on.worker) ∙ ap (λ n. return_of on.next.worker n e) (sym later.name)) h
+    let named = λ (e : Entry) (is : IsReturn r.worker c.master.name m e). subst (λ n. IsReturn on.next.worker n m e) (sym later.name) (subst (λ n. IsReturn n c.master.name m e) (sym on.worker) is) in
+    ended_later c d r on.next (IsReturn r.worker c.master.name m) (IsReturn on.next.worker d.master.name m) later on.worker id named (λ e is. returned_in on.next.worker d.master.name m e.phase e (named e is)) h
 says_later c d m s r (Answer command.Submit t told) later on id h = tt
-says_later c d m s r (Answer command.Return t told) later on id h = (h.0, in_later c d s r on h.1, ended_later c d r on.next _ _ later on.worker id (λ e is. tt) h.2)
+says_later c d m s r (Answer command.Return t told) later on id h = (h.0, in_later c d s r on h.1, ended_later c d r on.next _ _ later on.worker id (λ e is. tt) (λ e is. tt) h.2)
 
 pub in_order_later : (c d : Controllers) → AreLater c d → (m : Message) → IsInOrder c m → IsInOrder d m
 in_order_later c d later m h =

@@ -1,5 +1,5 @@
 -- What the shop that is shown shows of the spawns that are out is what the master shows.
-use Rattle.std.proofs.Common.{◌≡◌, ◌∙◌, ℕ, suc, ◌+◌, ◌<◌, ◌&&◌, ◌||◌, Bool, true, false, cond, List, [], ◌∷◌, map, get_or, Option, Some, None, slice_get, refl, sym, ap, subst, arith}
+use Rattle.std.proofs.Common.{◌≡◌, ◌∙◌, ℕ, suc, ◌+◌, ◌<◌, ◌&&◌, ◌||◌, Bool, true, false, cond, List, [], ◌∷◌, map, get_or, Some, slice_get, refl, sym, ap, subst, arith}
 use Rattle.std.proofs.lemmas.Bool.{le-leb}
 use Rattle.std.proofs.lemmas.List.Elements.{All-filter, All-head, All-tail, filter_passes}
 use Rattle.std.proofs.lemmas.Option.{slice_get-get_or}
@@ -19,12 +19,11 @@ use Rattle.spawn.specs.Records as records
 use Rattle.spawn.specs.Records.{IsGood}
 use Rattle.spawn.specs.declared.records.spawn_rec.SpawnRec.{SpawnRec}
 use Rattle.master_core.specs.Master.{IsNumbered}
-use Rattle.worker_core.specs.Worker as worker
-use Rattle.worker_core.specs.declared.entry.Entry.{Entry}
+use Rattle.world.proofs.TakenSpawns.{out_shown}
 use Rattle.world.specs.Controllers.{Controllers}
 use Rattle.world.specs.Laws.{MarksAreShown}
 use Rattle.world.specs.Messages.{entry_for}
-use Rattle.world.specs.Shop.{Done, Open, SpawnState, is_out}
+use Rattle.world.specs.Shop.{SpawnState, is_out}
 use Rattle.world.specs.ShopMarks.{shop_mark, spawns_out, takes, takes_rw}
 use Rattle.world.specs.Showing.{phase_shown, shop_shown, spawn_shown}
 use Rattle.world.specs.State.{IsKept, State}
@@ -55,16 +54,6 @@ any_alike P f g [] same all = refl
 any_alike P f g (x ∷ xs) same all = ap (λ b. b || list_any f xs) (same x (All-head P x xs all)) ∙ ap (λ b. g x || b) (any_alike P f g xs same (All-tail P x xs all))
 
 -- ---- which spawns are out
-
-by_stage : (open' : Bool) → is_out (cond open' Open Done) ≡ true
-by_stage true = refl
-by_stage false = refl
-
--- a spawn is shown out just where its record is
-out_shown : (out' : Bool) (entry : Option Entry) → is_out (phase_shown out' entry) ≡ out'
-out_shown false entry = refl
-out_shown true None = refl
-out_shown true (Some e) = by_stage (worker.is_open e)
 
 shown_out : (c : Controllers) (recs : List SpawnRec) → filter (λ (a : SpawnState). is_out a.phase) (map (spawn_shown c) recs) ≡ map (spawn_shown c) (out recs)
 shown_out c recs =

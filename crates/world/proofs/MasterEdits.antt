@@ -40,7 +40,6 @@ use Rattle.master_core.specs.Master.{Known, holder}
 use Rattle.master_core.specs.Orders as orders
 use Rattle.master_core.specs.declared.order.Order.TheVariants as order
 use Rattle.ticket_tree.specs.PartView.{part_row}
-use Rattle.worker_core.specs.declared.entry.Entry.{Entry}
 use Rattle.world.proofs.Agreeing.{Agrees}
 use Rattle.world.proofs.MasterSteps.{with_master}
 use Rattle.world.proofs.ShopPaths.{same_shop}
@@ -48,7 +47,7 @@ use Rattle.world.specs.Controllers.{Controllers}
 use Rattle.world.specs.Shop.{Rows, Shop}
 use Rattle.world.specs.ShopActs.{edited, with_new}
 use Rattle.world.specs.ShopSteps.{Tag, edit_refusal, master_does}
-use Rattle.world.specs.Showing.{entry_of_spawn, now_shown, row_at, shop_shown}
+use Rattle.world.specs.Showing.{now_shown, part_of_spawn, row_at, shop_shown}
 use Rattle.world.specs.State.{IsKept, State}
 use Rattle.controller.specs.Step.{Step, unless_refused}
 use Rattle.master_core.specs.Orders.{order_step as ordered_master}
@@ -256,7 +255,7 @@ row_after e at c x (Some Master) valid free old held =
 row_after e at c x (Some (Spawn s)) valid free old held =
     let rows = c.master.ticket.rows in
     let other = not_masters c.master (target e) x s free.held held in
-    ap (λ o. option_map_or (λ (y : Entry). part_row y.part x) (entry_of_spawn c s) o) (edit_of_rows e at rows valid free.rows x ∙ rows_stay e at (row_in rows) x other old)
+    ap (option_map_or (λ p. part_row p x) (part_of_spawn c s)) (edit_of_rows e at rows valid free.rows x ∙ rows_stay e at (row_in rows) x other old)
     ∙ sym (rows_stay e at (now_shown c) x other old ∙ ap (row_at c x) held)
 
 -- ---- both, point by point

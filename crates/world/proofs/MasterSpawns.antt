@@ -64,7 +64,7 @@ use Rattle.world.specs.Shop as shop
 use Rattle.world.specs.Shop.{Away, Rows, SpawnState}
 use Rattle.world.specs.ShopActs.{next_spawn, spawned, spawned_audit, told_above, with_claim}
 use Rattle.world.specs.ShopSteps.{Submit, master_does, spawn_refusal}
-use Rattle.world.specs.Showing.{entry_of_spawn, now_shown, phase_shown, row_at, seen_shown, shop_shown, spawn_shown}
+use Rattle.world.specs.Showing.{entry_of_spawn, now_shown, part_of_spawn, phase_shown, row_at, seen_shown, shop_shown, spawn_shown}
 use Rattle.world.specs.State.{IsKept, State}
 use Rattle.master_core.specs.Orders.{order_step as ordered_master}
 use Rattle.world.specs.Stepping.{master_moved}
@@ -155,10 +155,10 @@ no_entry c name (Some e) numbered all found =
     let records = c.master.records in
     let s = master.next_number records in
     let own = entry_recorded c name s e all found in
-    let known = and_found _ (record_of records e.part.spawn_id) own.2 in
-    let place = placed (is_of e.part.spawn_id) records known.0 known.1 in
+    let known = and_found _ (record_of records e.spawn_id) own.2 in
+    let place = placed (is_of e.spawn_id) records known.0 known.1 in
     let within : place.place < length records = slice_get_within records place.place known.0 place.there in
-    absurd (omega (arith, numbered place.place known.0 place.there, number_is records e.part.spawn_id known.0 known.1, own.1, within))
+    absurd (omega (arith, numbered place.place known.0 place.there, number_is records e.spawn_id known.0 known.1, own.1, within))
 
 sent_of : (c : Controllers) (n worker : List ℕ) (rw : List (List ℕ)) (at : ℕ) → master.IsKept c.master → All (AreRecorded c) c.workers → orders.order_refusal (order.Spawn n worker rw) c.master ≡ None → IsSent c n worker rw at
 sent_of c n worker copies at kept all none =
@@ -335,8 +335,8 @@ row_before c n worker copies at x (Some (Spawn k)) s held before =
     let d = later c n worker copies at in
     let told = told_of c n worker copies at in
     let other = not_masters d.master s.above x k (above_is_masters c n worker copies at s) held in
-    ap (λ o. option_map_or (λ (e : Entry). part_row e.part x) o (seen_shown d x)) (entry_before c n worker copies at k s)
-    ∙ ap (λ o. option_map_or (λ (e : Entry). part_row e.part x) (entry_of_spawn c k) o) (seen_after c n worker copies at x s ∙ told_stays tree n s.above told (seen_shown c) x s.is_above other)
+    ap (λ o. option_map_or (λ p. part_row p x) (option_and_then (λ (e : Entry). e.part) o) (seen_shown d x)) (entry_before c n worker copies at k s)
+    ∙ ap (option_map_or (λ p. part_row p x) (part_of_spawn c k)) (seen_after c n worker copies at x s ∙ told_stays tree n s.above told (seen_shown c) x s.is_above other)
     ∙ sym (told_stays tree n s.above told (now_shown c) x s.is_above other ∙ ap (row_at c x) before)
 
 -- ---- both, point by point
@@ -359,7 +359,7 @@ same_by c n worker copies at x true s on =
     let before = masters_before c n worker copies at x claimed.0 s claimed.1 claimed.2 in
     record {
       holds_it = held ∙ ap (λ k. Some (Spawn k)) (sym (number_shown c)) ∙ sym (ap (λ b. cond b (Some (Spawn a.number)) (holder c.master x)) on);
-      shows_it = ap (row_at d x) held ∙ ap (λ o. option_map_or (λ (e : Entry). part_row e.part x) o (seen_shown d x)) (entry_new c n worker copies at s)
+      shows_it = ap (row_at d x) held ∙ ap (λ o. option_map_or (λ p. part_row p x) (option_and_then (λ (e : Entry). e.part) o) (seen_shown d x)) (entry_new c n worker copies at s)
           ∙ seen_after c n worker copies at x s ∙ told_as tree n s.above (told_of c n worker copies at) (seen_shown c) (now_shown c) x s.is_above (sym (ap (row_at c x) before));
     }
 same_by c n worker copies at x false s off =

@@ -43,7 +43,7 @@ ordered_later o at c kept none =
             same = λ out. refl;
             part = λ out. ap (λ (v : Known). part_for v.ticket r) done ∙ stays.1 out;
           };
-      ended = λ n s e there ended. there;
+      ended = λ n s e there ended. (e, there, inl refl);
     }
 
 -- the part of a record that is out may be sent
@@ -87,5 +87,5 @@ taken_later m at c kept valid =
             | inl merges ↦ record { next = merged_record r; found = merges.2; worker = refl; same = λ out. absurd (true≢false (sym out)); part = λ out. absurd (true≢false (sym out)) }
             | inr stays ↦ record { next = r; found = stays.0; worker = refl; same = λ out. refl; part = stays.1 }
           ];
-      ended = λ n s e there ended. there;
+      ended = λ n s e there ended. (e, there, inl refl);
     }

@@ -15,9 +15,9 @@ use Rattle.world.proofs.OrdersTell.{Tells}
 use Rattle.world.proofs.ShopTells as shops
 use Rattle.world.proofs.ShopTells.{HaveNumbers, TellsMore, is_above, phase_stays, same_rows, same_spawns, tells_none, tells_nothing, times}
 use Rattle.world.specs.MergeAudits.{GoOn, above_of, audit_tells}
-use Rattle.world.specs.Shop.{Merged, Open, Rows, Shop, SpawnState, has_number, is_away, is_done, spawn_of}
-use Rattle.world.specs.ShopActs.{is_held_by, merged, merged_audit, put_in, taken, told_above}
-use Rattle.world.specs.ShopSteps.{Submit, Return, Tag, ToReturn, ToSubmit, message_comes, return_comes, sends, submit_comes}
+use Rattle.world.specs.Shop.{Closed, Merged, Open, Rows, Shop, SpawnState, has_number, is_away, is_done, is_merged, spawn_of}
+use Rattle.world.specs.ShopActs.{closed, is_held_by, merged, merged_audit, put_in, taken, told_above}
+use Rattle.world.specs.ShopSteps.{Submit, Return, Tag, ToReturn, ToSubmit, back_acknowledged, message_comes, replies, return_comes, sends, submit_comes}
 use Rattle.controller.specs.Step.{Step}
 use Rattle.world.specs.Step.{StepOrWord}
 use Rattle.world_items.specs.declared.word.Word.TheVariants.{Did, NoMessage}
@@ -93,6 +93,10 @@ submit_tells : (p : Shop) (a : SpawnState) (away : Bool) → Tells p (cond away 
 submit_tells p a true = tells_none (Did (reply.Taken a.number)) p (taken a.number p) (λ s. refl) (same_rows p.seen) (same_rows p.now) (phase_stays p (taken a.number p) Open a.number refl refl)
 submit_tells p a false = tells_nothing (Did (reply.Again a.number)) p (λ s. refl)
 
+back_tells : (p : Shop) (a : SpawnState) (put : Bool) → Tells p (replies (reply.Acked a.number) (cond put (closed a.number p) p))
+back_tells p a true = tells_none (Did (reply.Acked a.number)) p (closed a.number p) (λ s. refl) (same_rows p.seen) (same_rows p.now) (phase_stays p (closed a.number p) Closed a.number refl refl)
+back_tells p a false = tells_nothing (Did (reply.Acked a.number)) p (λ s. refl)
+
 -- a step, or the word where none is made
 abbrev pub StepTells : Shop → StepOrWord Shop Tag → Type 0
 StepTells p (Ok moved) = Tells p moved
@@ -113,4 +117,4 @@ message_tells (Return s) at p numbers stands =
     let own = own_number p s a found in
     return_tells p a at (is_done a.phase) refl (ap is_spawn_number own ∙ numbers s (ap is_some found)) (ap (λ n. spawn_of n p) own ∙ found) (stands s a found))
 message_tells (ToSubmit s) at p numbers stands = tells_nothing (Did (reply.Noted s)) p (λ t. refl)
-message_tells (ToReturn s) at p numbers stands = tells_nothing (Did (reply.Acked s)) p (λ t. refl)
+message_tells (ToReturn s) at p numbers stands = found_tells p s (back_acknowledged p) (spawn_of s p) refl (λ a found. back_tells p a (is_merged a.phase))

@@ -27,8 +27,9 @@ use Rattle.master_core.proofs.EditedParts.{Told, edit_told, none_added, told}
 use Rattle.master_core.proofs.Refusals.{edit_free}
 use Rattle.master_core.specs.Master as master
 use Rattle.worker_core.specs.declared.entry.Entry.{Entry}
+use Rattle.world.proofs.Cases.{made_of}
+use Rattle.world.proofs.TakenSpawns.{phase_of_entry}
 use Rattle.world.proofs.AlwaysKept.{kept_after}
-use Rattle.world.proofs.Changing.{made_of}
 use Rattle.world.proofs.Events.{event_is_replayed, events_are_replayed}
 use Rattle.world.proofs.GoingOn.{IsNew, as_often, one_if, stays_so}
 use Rattle.world.proofs.MasterEdits.{edit_refused, new_nowhere}
@@ -111,7 +112,8 @@ edits_stay w e ok free s u at there =
 
 done_out : (out : Bool) (o : Option Entry) → is_done (phase_shown out o) ≡ true → out ≡ true
 done_out true o e = refl
-done_out false o e = absurd (true≢false (sym e))
+done_out false None e = absurd (true≢false (sym e))
+done_out false (Some entry) e = absurd (true≢false (sym e ∙ (phase_of_entry false entry).done_so))
 
 -- it has a parent, which the master holds
 stands_above : (w : State) (s : ℕ) (a : SpawnState) → IsKept w → spawn_of s (shop_shown w.controllers) ≡ Some a → is_done a.phase ≡ true → StandsAbove (shop_shown w.controllers) a

@@ -9,7 +9,7 @@ use Rattle.ticket_items.specs.SpawnId.{is_spawn_number}
 use Rattle.ticket_items.specs.declared.edit.Edit.{Edit}
 use Rattle.ticket_items.specs.declared.edit.Edit.TheVariants.{SetStatus, SetAttr, SetResStatus, SetResAttr, Note, AddNode, AddResource, AddLink}
 use Rattle.ticket_items.specs.declared.refusal.Refusal.{Refusal}
-use Rattle.ticket_items.specs.declared.refusal.Refusal.TheVariants.{IsRoot, NotDone, NotForWorkers, NotInPart, NotLinked, NotOpen, ReadOnly, TooManySpawns, UnknownEntry, UnknownNode, UnknownResource, UnknownWorker}
+use Rattle.ticket_items.specs.declared.refusal.Refusal.TheVariants.{IsRoot, NotForWorkers, NotInPart, NotLinked, NotOpen, ReadOnly, TooManySpawns, UnknownEntry, UnknownNode, UnknownResource, UnknownWorker}
 use Rattle.ticket_rows.specs.Edit.{added_id, is_structural}
 use Rattle.ticket_rows.specs.EditRefusal.{later_refusal}
 use Rattle.ticket_rows.specs.Place.{nodes_in, resources_in, up}
@@ -28,7 +28,7 @@ use Rattle.world.proofs.ShopTells.{SpawnsStay, TellsMore, phase_stays, same_rows
 use Rattle.world.specs.MergeAudits.{above_of}
 use Rattle.world.specs.Shop.{Done, Shop, SpawnState, has_number, is_open, next_number, spawn_of}
 use Rattle.world.specs.ShopActs.{edited, finished, next_spawn, sent_out, spawned, spawned_audit, worked}
-use Rattle.world.specs.ShopSteps.{Return, Submit, Tag, edit_refusal, is_held, is_taken_by, is_to_read, master_does, not_held, replies, resend_refusal, sends, spawn_refusal, spawn_worked, work_refusal, worker_does}
+use Rattle.world.specs.ShopSteps.{Return, Submit, Tag, back_refusal, edit_refusal, is_held, is_taken_by, is_to_read, master_does, not_held, replies, resend_refusal, sends, spawn_refusal, spawn_worked, work_refusal, worker_does}
 use Rattle.controller.specs.Step.{Step, refused, unless_refused}
 use Rattle.world.specs.Step.{word_of}
 use Rattle.world_items.specs.declared.word.Word.TheVariants.{Did, Refused}
@@ -133,7 +133,7 @@ work_tells (to_worker.Finish s how) at p a =
     refused_or_tells (unless (is_open a.phase) NotOpen) p (sends (reply.Finished s) (finished how at a p) (Return s)) (λ none.
     tells_none (Did (reply.Finished s)) p (finished how at a p) (λ t. refl) (same_rows p.seen) (λ t x. edit_is_quiet (SetStatus a.node (end_word how)) at t p.now x (λ i added. cc))
     (phase_stays p (finished how at a p) Done a.number refl refl))
-work_tells (to_worker.Resend s) at p a = refused_or_tells (unless (not (is_open a.phase)) NotDone) p (sends (reply.Sent s) p (Return s)) (λ none. tells_nothing (Did (reply.Sent s)) p (λ t. refl))
+work_tells (to_worker.Resend s) at p a = refused_or_tells (back_refusal a.phase) p (sends (reply.Sent s) p (Return s)) (λ none. tells_nothing (Did (reply.Sent s)) p (λ t. refl))
 
 found_tells : (o : worker_order.Order) (at : ℕ) (p : Shop) (found : Option SpawnState) → Tells p (option_map_or (spawn_worked o at p) found (refused UnknownEntry p))
 found_tells o at p None = tells_nothing (Refused UnknownEntry) p (λ s. refl)

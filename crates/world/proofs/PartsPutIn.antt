@@ -1,9 +1,9 @@
 -- A part that comes back to the master: its step and the shop's agree.
 use Rattle.std.proofs.Common.{◌≡◌, ◌==◌, ◌∙◌, ◌&&◌, ℕ, Bool, true, false, cond, not, List, [], ◌∷◌, map, Option, Some, None, is_some, Ok, Err, refl, sym, ap, subst}
-use Rattle.std.proofs.lemmas.Bool.{true≢false}
-use Rattle.std.proofs.lemmas.List.Elements.{All-contains}
+use Rattle.std.proofs.lemmas.Bool.{eqb-true, not-true, true≢false}
+use Rattle.std.proofs.lemmas.List.Elements.{All-contains, All-head, All-tail}
 use Rattle.std.proofs.lemmas.Slice.Eq.{bytes_eq-Decides}
-use Rattle.std.specs.List.{Contains}
+use Rattle.std.specs.List.{All, Contains}
 use Rattle.std.specs.Option.{option_and_then, option_map, option_map_or}
 use Rattle.std.specs.Str.{bytes_eq}
 use Rattle.ticket_items.specs.declared.audit.Audit.{Audit}
@@ -38,7 +38,7 @@ use Rattle.worker_core.specs.Worker as worker
 use Rattle.worker_core.specs.declared.entry.Entry.{Entry}
 use Rattle.world.proofs.Agreeing.{Agrees, StepsAgree}
 use Rattle.world.proofs.Cases.{split, when_false, when_true}
-use Rattle.world.proofs.Doors.{master_refuses_nothing, return_fits}
+use Rattle.world.proofs.Doors.{entry_kept, held_part, master_refuses_nothing, return_fits, returned_part}
 use Rattle.world.proofs.HeldBySpawn.{good_record, held_claims, held_spawn}
 use Rattle.world.proofs.MasterEdits.{touch_as}
 use Rattle.world.proofs.MasterSpawns.{told_as, told_stays, told_there, with_told}
@@ -47,14 +47,14 @@ use Rattle.world.proofs.PartHolds.{claims}
 use Rattle.world.proofs.Resends.{spawn_found}
 use Rattle.world.proofs.ShopPaths.{same_shop}
 use Rattle.world.proofs.Stored.{and_found}
-use Rattle.world.proofs.TakenSpawns.{phase_of_entry}
+use Rattle.world.proofs.TakenSpawns.{only_record, phase_of_entry}
 use Rattle.world.specs.Controllers.{Controllers}
 use Rattle.world.specs.Messages.{IsInOrder, entry_for}
 use Rattle.world.specs.Shop as plain
 use Rattle.world.specs.Shop.{SpawnState, has_number}
 use Rattle.world.specs.ShopActs as acts
 use Rattle.world.specs.ShopSteps as shop
-use Rattle.world.specs.Showing.{entry_of_spawn, now_shown, phase_shown, row_at, seen_shown, shop_shown, spawn_shown, tag_of}
+use Rattle.world.specs.Showing.{entry_of_spawn, now_shown, part_of_spawn, phase_shown, row_at, seen_shown, shop_shown, spawn_shown, tag_of}
 use Rattle.world.specs.State.{IsKept, State}
 use Rattle.controller.specs.Step.{Step}
 use Rattle.master_core.specs.Messages.{take_step as taken_by_master}
@@ -71,7 +71,8 @@ record ComesBack (c : Controllers) (r : SpawnRec) (p : Copied) : Type 0 where
   fits : Fits c.master.ticket r p
   entry : Entry
   entered : entry_for c r ≡ Some entry
-  part : entry.part ≡ p
+  part : entry.part ≡ Some p
+  not_closed : worker.is_closed entry ≡ false
   above : List ℕ
   is_above : up (node_places c.master.ticket.rows) r.node ≡ Some above
 
@@ -111,18 +112,24 @@ entry_stays c r p at t =
     by None = refl
     by (Some q) = either (master.is_of r.id q) q
 
-spawn_put : (c : Controllers) (r : SpawnRec) (p : Copied) (at : ℕ) (b : Bool) (q : SpawnRec)
+-- the spawn is then shown as merged, since its entry isn't closed
+spawn_put : (c : Controllers) (r : SpawnRec) (p : Copied) (at : ℕ) (b : Bool) (q : SpawnRec) → ComesBack c r p → (b ≡ true → q ≡ r)
     → spawn_shown (back_in c r p at) (cond b (master.merged_record q) q) ≡ cond b (record (spawn_shown c q) { phase = plain.Merged }) (spawn_shown c q)
-spawn_put c r p at true q = refl
-spawn_put c r p at false q = refl
+spawn_put c r p at true q h own =
+    ap (λ phase. record (spawn_shown c q) { phase = phase })
+    (ap (λ (y : SpawnRec). phase_shown false (entry_for c y)) (own refl) ∙ ap (phase_shown false) h.entered ∙ when_false (worker.is_closed h.entry) plain.Closed plain.Merged h.not_closed)
+spawn_put c r p at false q h own = refl
 
--- each spawn is shown as before, but that one as merged
-spawns_put : (c : Controllers) (r : SpawnRec) (p : Copied) (at : ℕ) (records : List SpawnRec)
+-- each other is shown as before
+all_put : (c : Controllers) (r : SpawnRec) (p : Copied) (at : ℕ) (records : List SpawnRec) → ComesBack c r p → All (λ q. q.id ≡ r.id → q ≡ r) records
     → map (spawn_shown (back_in c r p at)) (master.with_merged r.id records) ≡ acts.in_phase plain.Merged r.id (map (spawn_shown c) records)
-spawns_put c r p at [] = refl
-spawns_put c r p at (q ∷ records) =
-    ap (λ a. a ∷ map (spawn_shown (back_in c r p at)) (master.with_merged r.id records)) (spawn_put c r p at (master.is_of r.id q) q)
-    ∙ ap (λ spawns. cond (q.id == r.id) (record (spawn_shown c q) { phase = plain.Merged }) (spawn_shown c q) ∷ spawns) (spawns_put c r p at records)
+all_put c r p at [] h only = refl
+all_put c r p at (q ∷ records) h only =
+    ap (λ a. a ∷ map (spawn_shown (back_in c r p at)) (master.with_merged r.id records)) (spawn_put c r p at (master.is_of r.id q) q h (λ own. All-head (λ (y : SpawnRec). y.id ≡ r.id → y ≡ r) q records only (eqb-true q.id r.id own)))
+    ∙ ap (λ spawns. cond (q.id == r.id) (record (spawn_shown c q) { phase = plain.Merged }) (spawn_shown c q) ∷ spawns) (all_put c r p at records h (All-tail (λ (y : SpawnRec). y.id ≡ r.id → y ≡ r) q records only))
+
+spawns_put : (c : Controllers) (r : SpawnRec) (p : Copied) (at : ℕ) → ComesBack c r p → map (spawn_shown (back_in c r p at)) (master.with_merged r.id c.master.records) ≡ acts.in_phase plain.Merged r.id (map (spawn_shown c) c.master.records)
+spawns_put c r p at h = all_put c r p at c.master.records h (only_record c.master.records r.id r h.kept.numbered h.recorded)
 
 -- ---- rows that are seen
 
@@ -130,8 +137,8 @@ spawns_put c r p at (q ∷ records) =
 now_held : (c : Controllers) (r : SpawnRec) (p : Copied) (x : List ℕ) → ComesBack c r p → holds_it c r x ≡ true → now_shown c x ≡ part_row p x
 now_held c r p x h held =
     ap (row_at c x) (held_spawn r.id (master.holder c.master x) held)
-    ∙ ap (λ o. option_map_or (λ (e : Entry). part_row e.part x) o (seen_shown c x)) (ap (option_and_then (entry_for c)) h.recorded ∙ h.entered)
-    ∙ ap (λ (q : Copied). part_row q x) h.part
+    ∙ ap (λ o. option_map_or (λ q. part_row q x) (option_and_then (λ (e : Entry). e.part) o) (seen_shown c x)) (ap (option_and_then (entry_for c)) h.recorded ∙ h.entered)
+    ∙ ap (λ o. option_map_or (λ q. part_row q x) o (seen_shown c x)) h.part
 
 rows_put : (c : Controllers) (r : SpawnRec) (p : Copied) (x : List ℕ) → ComesBack c r p → merged_rows c.master.ticket r p x ≡ acts.put_in r.id (shop_shown c) x
 rows_put c r p x h =
@@ -202,8 +209,8 @@ now_elsewhere c r p at x (Some (held_by.Spawn t)) h free is =
     let told = told_of c r at in
     let put = when_false (holds_it c r x) (now_shown c x) (seen_shown c x) free in
     let other = parent_free c r p x t h is in
-    ap (λ o. option_map_or (λ (e : Entry). part_row e.part x) o (seen_shown (back_in c r p at) x)) (entry_stays c r p at t)
-    ∙ ap (λ row. option_map_or (λ (e : Entry). part_row e.part x) (entry_of_spawn c t) row) (seen_put c r p at x h ∙ told_stays tree r.node h.above told (acts.put_in r.id (shop_shown c)) x h.is_above other ∙ put)
+    ap (λ o. option_map_or (λ q. part_row q x) (option_and_then (λ (e : Entry). e.part) o) (seen_shown (back_in c r p at) x)) (entry_stays c r p at t)
+    ∙ ap (option_map_or (λ q. part_row q x) (part_of_spawn c t)) (seen_put c r p at x h ∙ told_stays tree r.node h.above told (acts.put_in r.id (shop_shown c)) x h.is_above other ∙ put)
     ∙ sym (told_stays tree r.node h.above told (now_shown c) x h.is_above other ∙ ap (row_at c x) is)
 
 now_put : (c : Controllers) (r : SpawnRec) (p : Copied) (at : ℕ) (x : List ℕ) → ComesBack c r p → now_shown (back_in c r p at) x ≡ acts.told_above (places c.master.ticket.rows) r.node (told_of c r at) (now_shown c) x
@@ -241,9 +248,6 @@ step_on m message p at r out =
       sent = master_messages.taken_answer message at m;
     }
 
-same_part : (p q : Copied) → Return p ≡ Return q → p ≡ q
-same_part p q e = cc
-
 back_by : (out : Bool) (c : Controllers) (message : Message) (p : Copied) (at : ℕ) (r : SpawnRec) → r.id ≡ p.spawn_id → (out ≡ true → ComesBack c r p) → option_map tag_of (master_messages.taken_answer message at c.master) ≡ Some (shop.ToReturn p.spawn_id)
     → Agrees (master_moved c (step_on c.master message p at r out)) (cond out (shop.sends (reply.Merged r.id) (acts.merged at (spawn_shown c r) (shop_shown c)) (shop.ToReturn r.id)) (shop.sends (reply.Already r.id) (shop_shown c) (shop.ToReturn r.id)))
 back_by true c message p at r number back answered =
@@ -260,7 +264,7 @@ back_by true c message p at r number back answered =
             seen = λ x. seen_put c r p at x h;
             now = λ x. now_put c r p at x h;
             holder = λ x. holder_put c r p at x h;
-            spawns = spawns_put c r p at c.master.records;
+            spawns = spawns_put c r p at h;
           });
       sent = answered ∙ ap (λ n. Some (shop.ToReturn n)) (sym number);
     }
@@ -279,6 +283,8 @@ comes_back w sender receiver sent p ok h out =
     let number = number_is c.master.records p.spawn_id r h.recorded in
     let recorded : master.record_of c.master.records r.id ≡ Some r = ap (master.record_of c.master.records) number ∙ h.recorded in
     let ended = and_found _ (entry_for c r) h.says in
+    let held = held_part c r ended.0 ok.recorded recorded ended.1 out in
+    let kept = entry_kept c r.worker r.id ended.0 ok.workers ended.1 in
     let above = some_of (up (node_places c.master.ticket.rows) r.node) (good_record c.master r.id r ok.master recorded out).has_parent in
     record {
       kept = ok.master;
@@ -287,7 +293,8 @@ comes_back w sender receiver sent p ok h out =
       fits = return_fits c p sender receiver sent ok.recorded h out;
       entry = ended.0;
       entered = ended.1;
-      part = sym (same_part p ended.0.part (ap (λ (m : Message). m.body) ended.2.1));
+      part = held.1 ∙ ap Some (sym (returned_part r.worker c.master.name sender receiver sent ended.0 p held.0 held.1 ended.2.1));
+      not_closed = not-true _ (sym kept.held ∙ ap is_some held.1);
       above = above.0;
       is_above = above.1;
     }

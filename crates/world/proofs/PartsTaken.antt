@@ -71,17 +71,19 @@ spawn_here s (Some q) e = (q, refl, same_number q.id s e)
     same_number : (m n : ℕ) → Some (Spawn m) ≡ Some (Spawn n) → m ≡ n
     same_number m n e = cc
 
--- what a spawn holds stands in the ticket, and its record claims it
-held_claimed : (m : master.Known) (s : ℕ) (r : SpawnRec) (x : List ℕ) → master.IsKept m → master.record_of m.records s ≡ Some r → master.holder m x ≡ Some (Spawn s) → (p : Place) × (place_at (places m.ticket.rows) x ≡ Some p) × (is_claimed r.node r.rw p ≡ true)
+-- what a spawn holds stands in the ticket, and its record claims it and is out
+pub held_claimed : (m : master.Known) (s : ℕ) (r : SpawnRec) (x : List ℕ) → master.IsKept m → master.record_of m.records s ≡ Some r → master.holder m x ≡ Some (Spawn s)
+    → (p : Place) × (place_at (places m.ticket.rows) x ≡ Some p) × (is_claimed r.node r.rw p ≡ true) × (is_out r ≡ true)
 held_claimed m s r x ok found held = by (place_at (places m.ticket.rows) x) refl held
   where
-    by : (o : Option Place) → place_at (places m.ticket.rows) x ≡ o → option_map (holder_at m.records) o ≡ Some (Spawn s) → (p : Place) × (place_at (places m.ticket.rows) x ≡ Some p) × (is_claimed r.node r.rw p ≡ true)
+    by : (o : Option Place) → place_at (places m.ticket.rows) x ≡ o → option_map (holder_at m.records) o ≡ Some (Spawn s) → (p : Place) × (place_at (places m.ticket.rows) x ≡ Some p) × (is_claimed r.node r.rw p ≡ true) × (is_out r ≡ true)
     by None there e = cc
     by (Some p) there e =
         let is = spawn_here s (holding m.records p) e in
         let at = placed (holds p) m.records is.0 is.1 in
         let same : is.0 ≡ r = one_record m.records at.place s is.0 r ok.numbered at.there found (is.2 ∙ sym (number_is m.records s r found)) in
-        (p, there, ap (λ (q : SpawnRec). is_claimed q.node q.rw p) (sym same) ∙ (held_is_claimed m.records is.0 p is.1).1)
+        let holds_it = held_is_claimed m.records is.0 p is.1 in
+        (p, there, ap (λ (q : SpawnRec). is_claimed q.node q.rw p) (sym same) ∙ holds_it.1, ap is_out (sym same) ∙ holds_it.0)
 
 -- ---- a part of which there is an entry
 
@@ -141,7 +143,7 @@ part_as_seen c p r x ok found out made missing held =
     let none : entry_of_spawn c p.spawn_id ≡ None = ap (option_and_then (entry_for c)) found ∙ missing in
     ap (λ (q : Copied). part_row q x) made
     ∙ claim_as_seen c.master p.spawn_id r x ok found out held
-    ∙ sym (ap (row_at c x) held ∙ ap (λ o. option_map_or (λ (e : Entry). part_row e.part x) o (seen_shown c x)) none)
+    ∙ sym (ap (row_at c x) held ∙ ap (λ o. option_map_or (λ q. part_row q x) (option_and_then (λ (e : Entry). e.part) o) (seen_shown c x)) none)
 
 newly_taken : (w : State) (v : worker.Known) (m : Message) (p : Copied) (at : ℕ) (r : SpawnRec) → IsKept w → worker_of w.controllers.workers v.name ≡ Some v → master.record_of w.controllers.master.records p.spawn_id ≡ Some r → r.worker ≡ v.name
     → (is_out r ≡ true → p ≡ part_for w.controllers.master.ticket r) → worker.entry_of v.entries p.spawn_id ≡ None → entry_for w.controllers r ≡ None → option_map tag_of (taken_answer m at v) ≡ Some (shop.ToSubmit p.spawn_id)

@@ -1,5 +1,5 @@
 -- A part that is sent once more: the controllers' step and the shop's agree.
-use Rattle.std.proofs.Common.{◌≡◌, ◌∙◌, ℕ, Bool, true, false, cond, Option, Some, None, Ok, refl, sym, ap, subst}
+use Rattle.std.proofs.Common.{◌≡◌, ◌∙◌, ℕ, Bool, true, false, Option, Some, None, Ok, refl, sym, ap, subst}
 use Rattle.std.specs.Option.{option_map, option_map_or}
 use Rattle.ticket_items.specs.declared.refusal.Refusal.TheVariants.{NotOut}
 use Rattle.ticket_rows.specs.Ticket.{unless}
@@ -10,31 +10,20 @@ use Rattle.master_core.proofs.Recorded.{number_is}
 use Rattle.master_core.specs.Master.{is_spawn_out, record_of}
 use Rattle.master_core.specs.Orders.{submit_of}
 use Rattle.master_core.specs.declared.order.Order.TheVariants as order
-use Rattle.worker_core.specs.Worker as worker
-use Rattle.worker_core.specs.declared.entry.Entry.{Entry}
 use Rattle.world.proofs.Agreeing.{Agrees}
 use Rattle.world.proofs.Cases.{found_made}
+use Rattle.world.proofs.TakenSpawns.{out_shown}
 use Rattle.world.specs.Controllers.{Controllers}
 use Rattle.world.specs.Messages.{entry_for}
-use Rattle.world.specs.Shop.{Done, Open, has_number, is_out, spawn_of}
+use Rattle.world.specs.Shop.{has_number, is_out, spawn_of}
 use Rattle.world.specs.ShopSteps.{Submit, master_does, sends}
-use Rattle.world.specs.Showing.{phase_shown, shop_shown, spawn_shown}
+use Rattle.world.specs.Showing.{shop_shown, spawn_shown}
 use Rattle.world.specs.State.{IsKept, State}
 use Rattle.controller.specs.Step.{unless_refused}
 use Rattle.master_core.specs.Orders.{order_step as ordered_master}
 use Rattle.world.specs.Stepping.{master_moved}
 
 -- ---- by the master
-
--- a spawn is shown as out just if its record is
-out_either : (b : Bool) → is_out (cond b Open Done) ≡ true
-out_either true = refl
-out_either false = refl
-
-out_shown : (out : Bool) (entry : Option Entry) → is_out (phase_shown out entry) ≡ out
-out_shown false entry = refl
-out_shown true None = refl
-out_shown true (Some e) = out_either (worker.is_open e)
 
 -- the spawn of a number is that of its record
 pub spawn_found : (c : Controllers) (s : ℕ) → spawn_of s (shop_shown c) ≡ option_map (spawn_shown c) (record_of c.master.records s)

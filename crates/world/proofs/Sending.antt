@@ -1,5 +1,7 @@
 -- What is sent beside messages that are in order: it is in order, and is the same as what gave its command before.
-use Rattle.std.proofs.Common.{◌≡◌, ◌⊎◌, inl, inr, ℕ, true, false, List, [], ◌∷◌, ◌++◌, Result, IfSome, is_ok, is_some, sym, ap, ◌∙◌, subst}
+use Rattle.std.proofs.Common.{◌≡◌, ◌⊎◌, inl, inr, ℕ, true, false, List, [], ◌∷◌, ◌++◌, Option, Some, None, Result, IfSome, IsSomeAnd, is_ok, is_some, refl, sym, ap, ◌∙◌, subst}
+use Rattle.std.proofs.lemmas.Bool.{true≢false}
+use Rattle.std.specs.Option.{option_map}
 use Rattle.std.proofs.lemmas.List.Elements.{All-contains, All-push, Contains-push_cases}
 use Rattle.std.specs.List.{All, Contains}
 use Rattle.std.specs.Prelude.{⊤}
@@ -9,38 +11,53 @@ use Rattle.controller.specs.declared.body.Body.{Body}
 use Rattle.controller.specs.declared.body.Body.TheVariants.{Submit, Return, Answer}
 use Rattle.controller.specs.declared.message.Message.{Message}
 use Rattle.controller.specs.declared.queue_status.QueueStatus.{QueueStatus}
+use Rattle.ticket_tree.specs.Part.{Copied}
 use Rattle.spawn.specs.Records.{is_out}
 use Rattle.spawn.specs.declared.records.spawn_rec.SpawnRec.{SpawnRec}
 use Rattle.master_core.specs.Master.{record_of}
+use Rattle.worker_core.specs.Orders.{part_return, return_of}
 use Rattle.worker_core.specs.declared.entry.Entry.{Entry}
 use Rattle.world.proofs.Stored.{and_found, found_and}
 use Rattle.world.specs.Controllers.{Controllers}
-use Rattle.world.specs.Messages.{AreInOrder, GiveOneCommand, HasEnded, IsInOrder, SaysRight, entry_for}
+use Rattle.world.specs.Messages.{AreInOrder, GiveOneCommand, HasEnded, IsInOrder, IsReturn, SaysRight, entry_for}
 
 -- ---- one command
 
--- a part that goes out now is that of a spawn that is out
-abbrev pub IsFresh : SpawnRec → Body → Type 0
-IsFresh r (Submit p) = is_out r ≡ true
-IsFresh r (Return p) = ⊤
-IsFresh r (Answer c s told) = ⊤
+-- a part that goes out now is that of a spawn that is out, and one that comes back now is that of an entry, which has it
+abbrev pub IsFresh : Controllers → SpawnRec → Body → Type 0
+IsFresh c r (Submit p) = is_out r ≡ true
+IsFresh c r (Return p) = IsSomeAnd (entry_for c r) (λ e. is_some e.part ≡ true)
+IsFresh c r (Answer d s told) = ⊤
 
-returned_once : (c : Controllers) (n m : Message) (r : SpawnRec) (f : Entry → Message) → HasEnded c r (λ e. n ≡ f e) → HasEnded c r (λ e. m ≡ f e) → n ≡ m
-returned_once c n m r f hn hm =
-    let one = and_found _ (entry_for c r) hn in
-    let two = and_found _ (entry_for c r) hm in
-    one.2.1 ∙ ap f (same_found one.0 two.0 (entry_for c r) one.1 two.1) ∙ sym two.2.1
+same_return : (o : Option Message) (n m : Message) → is_some o ≡ true → IfSome o (λ k. n ≡ k) → IfSome o (λ k. m ≡ k) → n ≡ m
+same_return None n m has hn hm = absurd (true≢false (sym has))
+same_return (Some k) n m has hn hm = hn ∙ sym hm
 
-says_one : (c : Controllers) (n m : Message) (r : SpawnRec) (x y : Body) → SaysRight c r n x → SaysRight c r m y → is_some (command_given x) ≡ true → command_given x ≡ command_given y → IsFresh r y → n ≡ m
+has_return : (f : Copied → Message) (o : Option Copied) → is_some o ≡ true → is_some (option_map f o) ≡ true
+has_return f None has = has
+has_return f (Some p) has = refl
+
+returned_once : (c : Controllers) (n m : Message) (r : SpawnRec) (name master : List ℕ) → HasEnded c r (IsReturn name master n) → HasEnded c r (IsReturn name master m) → IsSomeAnd (entry_for c r) (λ e. is_some e.part ≡ true) → n ≡ m
+returned_once c n m r name master hn hm fresh =
+    let o = entry_for c r in
+    let one = and_found _ o hn in
+    let two = and_found _ o hm in
+    let new = and_found _ o fresh in
+    let e : Entry = new.0 in
+    same_return (return_of name master e) n m (has_return (part_return name master e.at) e.part new.2)
+    (subst (IsReturn name master n) (same_found one.0 e o one.1 new.1) one.2.1)
+    (subst (IsReturn name master m) (same_found two.0 e o two.1 new.1) two.2.1)
+
+says_one : (c : Controllers) (n m : Message) (r : SpawnRec) (x y : Body) → SaysRight c r n x → SaysRight c r m y → is_some (command_given x) ≡ true → command_given x ≡ command_given y → IsFresh c r y → n ≡ m
 says_one c n m r (Submit p) (Submit q) hn hm given same fresh = hn fresh ∙ sym (hm fresh)
 says_one c n m r (Submit p) (Return q) hn hm given same fresh = cc
 says_one c n m r (Submit p) (Answer d s told) hn hm given same fresh = cc
 says_one c n m r (Return p) (Submit q) hn hm given same fresh = cc
-says_one c n m r (Return p) (Return q) hn hm given same fresh = returned_once c n m r _ hn hm
+says_one c n m r (Return p) (Return q) hn hm given same fresh = returned_once c n m r r.worker c.master.name hn hm fresh
 says_one c n m r (Return p) (Answer d s told) hn hm given same fresh = cc
 says_one c n m r (Answer d s told) y hn hm given same fresh = cc
 
-one_command : (c : Controllers) (n m : Message) (hn : IsInOrder c n) (hm : IsInOrder c m) → IsFresh hm.spawn m.body → GiveOneCommand n m → n ≡ m
+one_command : (c : Controllers) (n m : Message) (hn : IsInOrder c n) (hm : IsInOrder c m) → IsFresh c hm.spawn m.body → GiveOneCommand n m → n ≡ m
 one_command c n m hn hm fresh both =
     let same : hn.spawn ≡ hm.spawn = same_found hn.spawn hm.spawn (record_of c.master.records (spawn_in n.body)) hn.recorded (ap (record_of c.master.records) both.spawn ∙ hm.recorded) in
     says_one c n m hm.spawn n.body m.body (subst (λ r. SaysRight c r n n.body) same hn.says) hm.says both.given both.same fresh
@@ -52,7 +69,7 @@ pub record IsNew (c : Controllers) (messages : List Message) (m : Message) : Typ
   pub good : IsInOrder c m
   pub alike : (n : Message) → Contains messages n → GiveOneCommand n m → n ≡ m
 
-pub new_message : (c : Controllers) (messages : List Message) (m : Message) → All (IsInOrder c) messages → (h : IsInOrder c m) → IsFresh h.spawn m.body → IsNew c messages m
+pub new_message : (c : Controllers) (messages : List Message) (m : Message) → All (IsInOrder c) messages → (h : IsInOrder c m) → IsFresh c h.spawn m.body → IsNew c messages m
 new_message c messages m all h fresh = record { good = h; alike = λ n there both. one_command c n m (All-contains (IsInOrder c) messages n all there) h fresh both }
 
 turned : (m n : Message) → GiveOneCommand m n → GiveOneCommand n m

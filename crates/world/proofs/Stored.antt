@@ -23,6 +23,11 @@ and_found P (Some x) h = (x, refl, h)
 pub found_and : {X : Type 0} (P : X → Type 0) (o : Option X) (x : X) → o ≡ Some x → P x → IsSomeAnd o P
 found_and P o x found h = subst (λ p. IsSomeAnd p P) (sym found) h
 
+-- a fact of what is made of a value, if there is one
+pub and_mapped : {X Y : Type 0} (P : X → Type 0) (Q : Y → Type 0) (f : X → Y) (o : Option X) → ((x : X) → P x → Q (f x)) → IsSomeAnd o P → IsSomeAnd (option_map f o) Q
+and_mapped P Q f None go h = h
+and_mapped P Q f (Some x) go h = go x h
+
 -- ---- names
 
 same_name : (name : List ℕ) (v : worker.Known) → is_named name v ≡ true → v.name ≡ name
@@ -76,14 +81,15 @@ pub entry_there : (name : List ℕ) (v next : worker.Known) (workers : List work
 entry_there name v next workers s found own =
     ap (option_and_then (λ (u : worker.Known). worker.entry_of u.entries s)) (worker_there name next workers own ∙ ap (option_map (λ _. next)) found)
 
--- an entry that stays at that one stays
-pub entry_stays : (name n : List ℕ) (v next : worker.Known) (workers : List worker.Known) (s : ℕ) (e : Entry) → worker_of workers name ≡ Some v → next.name ≡ name → (worker.entry_of v.entries s ≡ Some e → worker.entry_of next.entries s ≡ Some e)
-    → entry_at workers n s ≡ Some e → entry_at (with_worker name next workers) n s ≡ Some e
-entry_stays name n v next workers s e found own stays there = by (bytes_eq name n) refl
+-- an entry has another of which a fact holds, if it has at that one, and holds of it as it is
+pub entry_goes_on : (P : Entry → Type 0) (name n : List ℕ) (v next : worker.Known) (workers : List worker.Known) (s : ℕ) (e : Entry) → worker_of workers name ≡ Some v → next.name ≡ name → P e
+    → (worker.entry_of v.entries s ≡ Some e → (x : Entry) × (worker.entry_of next.entries s ≡ Some x) × P x) → entry_at workers n s ≡ Some e → (x : Entry) × (entry_at (with_worker name next workers) n s ≡ Some x) × P x
+entry_goes_on P name n v next workers s e found own same stays there = by (bytes_eq name n) refl
   where
-    by : (b : Bool) → bytes_eq name n ≡ b → entry_at (with_worker name next workers) n s ≡ Some e
+    by : (b : Bool) → bytes_eq name n ≡ b → (x : Entry) × (entry_at (with_worker name next workers) n s ≡ Some x) × P x
     by true same =
         let one : name ≡ n = (bytes_eq-Decides name n).0 same in
         let old : worker.entry_of v.entries s ≡ Some e = sym (ap (option_and_then (λ (u : worker.Known). worker.entry_of u.entries s)) found) ∙ ap (λ m. entry_at workers m s) one ∙ there in
-        ap (λ m. entry_at (with_worker name next workers) m s) (sym one) ∙ entry_there name v next workers s found own ∙ stays old
-    by false other = ap (option_and_then (λ (u : worker.Known). worker.entry_of u.entries s)) (worker_other name n next workers own other) ∙ there
+        let on = stays old in
+        (on.0, ap (λ m. entry_at (with_worker name next workers) m s) (sym one) ∙ entry_there name v next workers s found own ∙ on.1, on.2)
+    by false other = (e, ap (option_and_then (λ (u : worker.Known). worker.entry_of u.entries s)) (worker_other name n next workers own other) ∙ there, same)

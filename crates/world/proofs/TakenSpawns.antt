@@ -1,5 +1,5 @@
 -- The spawns that a worker took: each is shown as taken, and each that is shown so has an entry there.
-use Rattle.std.proofs.Common.{◌≡◌, ◌&&◌, ◌∙◌, ℕ, Bool, true, false, cond, not, List, map, Option, Some, None, get_or, refl, sym, ap}
+use Rattle.std.proofs.Common.{◌≡◌, ◌&&◌, ◌∙◌, ℕ, Bool, true, false, cond, not, List, map, Option, Some, None, IsSomeAnd, get_or, refl, sym, ap}
 use Rattle.std.proofs.lemmas.Bool.{and_parts, eqb-true, true≢false}
 use Rattle.std.proofs.lemmas.Option.{slice_get-get_or}
 use Rattle.std.proofs.lemmas.Slice.Eq.{bytes_eq-Decides}
@@ -23,7 +23,8 @@ use Rattle.world.proofs.Cases.{found_both, found_made, none_found, split}
 use Rattle.world.proofs.Stored.{and_found}
 use Rattle.world.specs.Controllers.{Controllers, entry_at, is_named, worker_of}
 use Rattle.world.specs.Messages.{AreRecorded, HasComeBack, IsRecorded, entry_for}
-use Rattle.world.specs.Shop.{Done, Open, is_away, is_done, is_open}
+use Rattle.world.specs.Shop.{Closed, Done, Merged, Open, is_away, is_done, is_open}
+use Rattle.world.specs.Shop as plain
 use Rattle.world.specs.ShopSteps.{is_taken_by}
 use Rattle.world.specs.Showing.{phase_shown, spawn_shown}
 use Rattle.world.specs.State.{IsKept, State}
@@ -36,6 +37,21 @@ phase_away true None none out = refl
 phase_away true (Some e) none out = cc
 phase_away false o none out = absurd (true≢false (sym out))
 
+-- a spawn is shown as out just if its record is
+out_in : (b : Bool) → plain.is_out (cond b Open Done) ≡ true
+out_in true = refl
+out_in false = refl
+
+in_once : (b : Bool) → plain.is_out (cond b Closed Merged) ≡ false
+in_once true = refl
+in_once false = refl
+
+pub out_shown : (out : Bool) (entry : Option Entry) → plain.is_out (phase_shown out entry) ≡ out
+out_shown false None = refl
+out_shown false (Some e) = in_once (worker.is_closed e)
+out_shown true None = refl
+out_shown true (Some e) = out_in (worker.is_open e)
+
 -- one that has an entry is open if that is, finished if it is out and that isn't open, and never on the way
 pub record IsShown (out : Bool) (e : Entry) : Type 0 where
   pub away : is_away (phase_shown out (Some e)) ≡ false
@@ -46,9 +62,13 @@ by_stage : (b : Bool) → (is_away (cond b Open Done) ≡ false) × (is_open (co
 by_stage true = (refl, refl, refl)
 by_stage false = (refl, refl, refl)
 
+once_in : (b : Bool) → (is_away (cond b Closed Merged) ≡ false) × (is_open (cond b Closed Merged) ≡ false) × (is_done (cond b Closed Merged) ≡ false)
+once_in true = (refl, refl, refl)
+once_in false = (refl, refl, refl)
+
 pub phase_of_entry : (out : Bool) (e : Entry) → IsShown out e
 phase_of_entry true e = let by = by_stage (worker.is_open e) in record { away = by.0; open_so = by.1; done_so = by.2 }
-phase_of_entry false e = record { away = refl; open_so = refl; done_so = refl }
+phase_of_entry false e = let by = once_in (worker.is_closed e) in record { away = by.0; open_so = by.1; done_so = by.2 }
 
 -- ---- the record of an entry
 
@@ -59,8 +79,8 @@ pub record HasRecord (c : Controllers) (name : List ℕ) (s : ℕ) (e : Entry) :
   pub number : spawn.id ≡ s
   pub named : spawn.worker ≡ name
   pub entered : entry_for c spawn ≡ Some e
-  pub own : e.part.spawn_id ≡ s
-  pub fits : is_out spawn ≡ true → Fits c.master.ticket spawn e.part
+  pub own : e.spawn_id ≡ s
+  pub fits : is_out spawn ≡ true → IsSomeAnd e.part (Fits c.master.ticket spawn)
   pub back : is_out spawn ≡ false → worker.is_open e ≡ false
 
 entry_there : (c : Controllers) (name : List ℕ) (s : ℕ) (v : worker.Known) → worker_of c.workers name ≡ Some v → entry_at c.workers name s ≡ worker.entry_of v.entries s
@@ -73,9 +93,9 @@ pub entry_record : (w : State) (name : List ℕ) (s : ℕ) (v : worker.Known) (e
 entry_record w name s v e ok found has_entry =
     let c = w.controllers in
     let records = c.master.records in
-    let own : e.part.spawn_id ≡ s = eqb-true e.part.spawn_id s (find-passes (worker.is_of s) v.entries e has_entry) in
+    let own : e.spawn_id ≡ s = eqb-true e.spawn_id s (find-passes (worker.is_of s) v.entries e has_entry) in
     let all : AreRecorded c v = found_holds (AreRecorded c) (is_named name) c.workers v found ok.recorded in
-    let known = and_found _ (record_of records e.part.spawn_id) (found_holds (IsRecorded c v.name) (worker.is_of s) v.entries e has_entry all) in
+    let known = and_found _ (record_of records e.spawn_id) (found_holds (IsRecorded c v.name) (worker.is_of s) v.entries e has_entry all) in
     let r = known.0 in
     let recorded : record_of records s ≡ Some r = ap (record_of records) (sym own) ∙ known.1 in
     let number : r.id ≡ s = number_is records s r recorded in

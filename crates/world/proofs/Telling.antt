@@ -1,7 +1,7 @@
 -- What the messages tell of the shop that is shown, while their spawns are out.
-use Rattle.std.proofs.Common.{◌≡◌, ◌∙◌, true, Some, refl, sym, ap, subst}
+use Rattle.std.proofs.Common.{◌≡◌, ◌∙◌, true, Some, IfSome, refl, sym, ap, subst}
 use Rattle.std.proofs.lemmas.List.Elements.{All-contains}
-use Rattle.std.specs.Option.{option_and_then, option_map_or}
+use Rattle.std.specs.Option.{option_and_then, option_map, option_map_or}
 use Rattle.ticket_items.proofs.Places.{same_found}
 use Rattle.ticket_tree.specs.Part.{Copied}
 use Rattle.ticket_tree.specs.PartView.{part_row}
@@ -14,12 +14,14 @@ use Rattle.spawn.specs.Records.{is_out}
 use Rattle.spawn.specs.declared.records.spawn_rec.SpawnRec.{SpawnRec}
 use Rattle.master_core.proofs.Recorded.{number_is}
 use Rattle.master_core.specs.Master as master
+use Rattle.worker_core.specs.Orders.{part_return}
 use Rattle.worker_core.specs.declared.entry.Entry.{Entry}
+use Rattle.world.proofs.Doors.{held_part}
 use Rattle.world.proofs.PartsTaken.{claim_as_seen}
 use Rattle.world.proofs.Stored.{and_found}
 use Rattle.world.proofs.TicketSeen.{ticket_is_seen}
 use Rattle.world.specs.Messages.{IsInOrder, SaysRight, entry_for}
-use Rattle.world.specs.Showing.{entry_of_spawn, row_at, seen_shown, shop_shown}
+use Rattle.world.specs.Showing.{part_of_spawn, row_at, seen_shown, shop_shown}
 use Rattle.world.specs.State.{IsKept, State}
 use Rattle.world.specs.Telling.{AreTold, TellsOf}
 
@@ -39,9 +41,12 @@ tells w m r (Return p) ok is found out says =
     let c = w.controllers in
     let ended = and_found _ (entry_for c r) says in
     let e : Entry = ended.0 in
-    let part : p ≡ e.part = returned p e.part (sym is ∙ ap (λ (n : Message). n.body) ended.2.1) in
-    let entered : entry_of_spawn c r.id ≡ Some e = ap (option_and_then (entry_for c)) found ∙ ended.1 in
-    λ x held. ap (λ q. part_row q x) part ∙ sym (ap (row_at c x) held ∙ ap (λ o. option_map_or (λ (f : Entry). part_row f.part x) o (seen_shown c x)) entered)
+    let held_as = held_part c r e ok.recorded found ended.1 out in
+    let q : Copied = held_as.0 in
+    let sent = subst (λ o. IfSome (option_map (part_return r.worker c.master.name e.at) o) (λ n. m ≡ n)) held_as.1 ended.2.1 in
+    let part : p ≡ q = returned p q (sym is ∙ ap (λ (n : Message). n.body) sent) in
+    let has : part_of_spawn c r.id ≡ Some q = ap (option_and_then (λ (f : Entry). f.part)) (ap (option_and_then (entry_for c)) found ∙ ended.1) ∙ held_as.1 in
+    λ x held. ap (λ p'. part_row p' x) part ∙ sym (ap (row_at c x) held ∙ ap (λ o. option_map_or (λ p'. part_row p' x) o (seen_shown c x)) has)
 tells w m r (Answer command s told) ok is found out says = tt
 
 pub messages_told : (w : State) → IsKept w → AreTold w

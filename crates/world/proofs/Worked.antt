@@ -6,7 +6,7 @@ use Rattle.ticket_rows.specs.Ticket.{Job}
 use Rattle.ticket_items.specs.declared.edit.Edit.TheVariants.{SetStatus, SetResStatus}
 use Rattle.ticket_items.specs.declared.link.Link.{Link}
 use Rattle.ticket_items.specs.declared.node_row.NodeRow.{NodeRow}
-use Rattle.ticket_items.specs.declared.refusal.Refusal.TheVariants.{IsRoot, NotHeld, NotLinked, NotOpen, NotOut, UnknownEntry, UnknownWorker}
+use Rattle.ticket_items.specs.declared.refusal.Refusal.TheVariants.{Acknowledged, IsRoot, NotHeld, NotLinked, NotOpen, NotOut, UnknownEntry, UnknownWorker}
 use Rattle.ticket_items.specs.declared.resource.Resource.{Resource}
 use Rattle.ticket_items.specs.declared.usage.Usage.TheVariants.{Input, Output}
 use Rattle.controller.specs.declared.reply.Reply.TheVariants as reply
@@ -16,6 +16,7 @@ use Rattle.worker_core.specs.Worker as worker
 use Rattle.worker_core.specs.declared.end.End.TheVariants.{Completed}
 use Rattle.worker_core.specs.declared.order.Order.{Order}
 use Rattle.worker_core.specs.declared.order.Order.TheVariants as worker_order
+use Rattle.worker_core.specs.declared.stage.Stage.TheVariants as stage
 use Rattle.world.specs.Happening.{after_all, answers_to}
 use Rattle.world.specs.State.{State, opening, worker_of}
 use Rattle.world_items.specs.declared.answer.Answer.{Answer}
@@ -94,6 +95,18 @@ master_may = refl
 
 press_may : option_map (λ (w : worker.Known). worker.may_change w.entries 1 (codes "n1")) (worker_of at_the_end.controllers.workers (codes "press")) ≡ Some false
 press_may = refl
+
+-- and has given up its part, whatever comes then
+press_entries : option_map (λ (w : worker.Known). w.entries) (worker_of at_the_end.controllers.workers (codes "press"))
+    ≡ Some (record { spawn_id = 1; phase = stage.Closed Completed; part = None; at = 120 } ∷ [])
+press_entries = refl
+
+abbrev pub given_up : List Event
+given_up = press (worker_order.Resend 1) 180 ∷ deliver 5 190 ∷ deliver 1 200 ∷ deliver 4 210 ∷ []
+
+after_that : answers_to given_up at_the_end
+    ≡ says (Refused Acknowledged) ∷ says (Did (reply.Acked 1)) ∷ sends (Did (reply.Again 1)) 7 ∷ sends (Did (reply.Already 1)) 8 ∷ []
+after_that = refl
 
 -- ---- two spawns
 

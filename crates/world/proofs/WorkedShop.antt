@@ -7,7 +7,7 @@ use Rattle.ticket_items.specs.declared.audit.Audit.{Audit}
 use Rattle.ticket_items.specs.declared.audit.Audit.TheVariants as audit
 use Rattle.ticket_items.specs.declared.edit.Edit.TheVariants.{SetResStatus}
 use Rattle.ticket_items.specs.declared.marks.Marks.{Marks}
-use Rattle.ticket_items.specs.declared.refusal.Refusal.TheVariants.{NotHeld, NotOpen}
+use Rattle.ticket_items.specs.declared.refusal.Refusal.TheVariants.{Acknowledged, NotHeld, NotOpen}
 use Rattle.ticket_items.specs.declared.res_mark.ResMark.{ResMark}
 use Rattle.ticket_items.specs.declared.spawn_status.SpawnStatus.{SpawnStatus}
 use Rattle.ticket_items.specs.declared.spawn_status.SpawnStatus.TheVariants.{SpawnedRO, SpawnedRW}
@@ -19,11 +19,11 @@ use Rattle.spawn.specs.declared.tables.holder.Holder.TheVariants.{Master, Spawn}
 use Rattle.master_core.specs.declared.order.Order.TheVariants as master
 use Rattle.worker_core.specs.declared.end.End.TheVariants.{Completed}
 use Rattle.worker_core.specs.declared.order.Order.TheVariants as worker
-use Rattle.world.proofs.Worked.{deliver, event, job, once_and_again, press, print_at, says, sends, shop}
+use Rattle.world.proofs.Worked.{deliver, event, given_up, job, once_and_again, press, print_at, says, sends, shop}
 use Rattle.world.specs.Happening as world
 use Rattle.world.specs.Replay.{Shown, after_all, answers_to, opening}
 use Rattle.world.specs.SeenTicket.{ticket_seen}
-use Rattle.world.specs.Shop.{Merged, Open, Phase, Shop}
+use Rattle.world.specs.Shop.{Closed, Merged, Open, Phase, Shop}
 use Rattle.world.specs.ShopMarks.{shop_marks}
 use Rattle.world.specs.Showing.{shows}
 use Rattle.world.specs.ShopSteps.{Return, Submit, ToReturn, ToSubmit}
@@ -45,6 +45,10 @@ audits_of n p = option_map (λ r. r.audits) (row_of (ticket_seen p).rows n)
 
 abbrev status_of : List ℕ → Shop → Option (List ℕ)
 status_of x p = option_map (λ r. r.status) (resource_of (ticket_seen p).rows x)
+
+-- how far the spawns have come
+abbrev phases_of : Shown → List Phase
+phases_of p = map (λ a. a.phase) p.shop.spawns
 
 -- ---- a spawn
 
@@ -134,6 +138,17 @@ repeats : answers_to once_and_again first
     ∷ says (Did (reply.Acked 1)) ∷ says (Did (reply.Noted 1)) ∷ says (Refused NotOpen) ∷ []
 repeats = refl
 
+-- the press has given up its part, as its controller shows
+given_up_answers : answers_to given_up (after_all once_and_again first)
+    ≡ says (Refused Acknowledged) ∷ says (Did (reply.Acked 1)) ∷ sends (Did (reply.Again 1)) 7 ∷ sends (Did (reply.Already 1)) 8 ∷ []
+given_up_answers = refl
+
+closed_phases : phases_of (after_all once_and_again first) ≡ Closed ∷ []
+closed_phases = refl
+
+closed_shown : phases_of (shows (world.after_all once_and_again shop)) ≡ Closed ∷ []
+closed_shown = refl
+
 -- ---- a merge that is lost once
 
 abbrev lost_merge : List Event
@@ -200,9 +215,6 @@ midway_shown : now_and_seen (shows (world.after_all bind_is_back shop)) ≡ (Som
 midway_shown = refl
 
 -- how far the spawns have come then
-abbrev phases_of : Shown → List Phase
-phases_of p = map (λ a. a.phase) p.shop.spawns
-
 midway_phases : phases_of (after_all bind_is_back first) ≡ Open ∷ Merged ∷ []
 midway_phases = refl
 

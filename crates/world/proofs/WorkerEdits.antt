@@ -1,5 +1,5 @@
 -- A worker's edits: its step and the shop's agree.
-use Rattle.std.proofs.Common.{◌≡◌, ◌∙◌, ◌&&◌, ◌||◌, ℕ, Bool, true, false, cond, not, List, [], ◌∷◌, Option, Some, None, Ok, refl, sym, ap}
+use Rattle.std.proofs.Common.{◌≡◌, ◌∙◌, ◌&&◌, ◌||◌, ℕ, Bool, true, false, cond, not, List, [], ◌∷◌, Option, Some, None, IsSomeAnd, Ok, is_some, refl, sym, ap, subst}
 use Rattle.std.proofs.lemmas.Bool.{and_parts, true≢false}
 use Rattle.std.proofs.lemmas.Slice.Eq.{bytes_eq-Decides}
 use Rattle.std.specs.Option.{option_and_then, option_map, option_map_or}
@@ -22,15 +22,19 @@ use Rattle.controller.specs.declared.reply.Reply.TheVariants as reply
 use Rattle.spawn.specs.Records.{is_out}
 use Rattle.spawn.specs.declared.tables.holder.Holder.{Holder}
 use Rattle.spawn.specs.declared.tables.holder.Holder.TheVariants as held_by
+use Rattle.merge.specs.Shape.{Fits}
 use Rattle.master_core.specs.Master as master
 use Rattle.worker_core.proofs.AtNumber.{find-at_number, find-other, found_holds}
-use Rattle.worker_core.proofs.Refusals.{edit_free}
+use Rattle.worker_core.proofs.Kept.{kept_part}
+use Rattle.worker_core.proofs.Refusals.{edit_free, of_open}
 use Rattle.worker_core.specs.Orders as orders
 use Rattle.worker_core.specs.Worker as worker
 use Rattle.worker_core.specs.declared.entry.Entry.{Entry}
 use Rattle.worker_core.specs.declared.order.Order.TheVariants as order
+use Rattle.worker_core.specs.declared.stage.Stage.{Stage}
+use Rattle.worker_core.specs.declared.stage.Stage.TheVariants as worker_stage
 use Rattle.world.proofs.Agreeing.{Agrees}
-use Rattle.world.proofs.Cases.{split, when_false}
+use Rattle.world.proofs.Cases.{split, split_some, when_false}
 use Rattle.world.proofs.EntryStored.{HasStored, row_stored, spawns_stay}
 use Rattle.world.proofs.HeldBySpawn.{good_record, held_claims, held_spawn}
 use Rattle.world.proofs.PartHolds.{claims, here_so}
@@ -70,23 +74,36 @@ kept_entry w v s e ok found has_entry =
     let kept : worker.IsKept v = found_holds worker.IsKept (is_named v.name) w.controllers.workers v found ok.workers in
     found_holds worker.IsKeptEntry (worker.is_of s) v.entries e has_entry kept.each
 
+-- what is open has its part, which fits while the spawn is out
+pub open_has_part : (e : Entry) → worker.IsKeptEntry e → is_some (worker.open_part e) ≡ worker.is_open e
+open_has_part e kept = by e.phase refl
+  where
+    by : (stage : Stage) → e.phase ≡ stage → is_some (worker.open_part e) ≡ worker.is_open e
+    by worker_stage.Open is =
+        let is_open : worker.is_open e ≡ true = ap worker.is_open_stage is in
+        ap (λ b. is_some (cond b e.part None)) is_open ∙ kept.held ∙ ap (λ st. not (worker.is_closed_stage st)) is ∙ sym is_open
+    by (worker_stage.Done how) is = let is_open : worker.is_open e ≡ false = ap worker.is_open_stage is in ap (λ b. is_some (cond b e.part None)) is_open ∙ sym is_open
+    by (worker_stage.Closed how) is = let is_open : worker.is_open e ≡ false = ap worker.is_open_stage is in ap (λ b. is_some (cond b e.part None)) is_open ∙ sym is_open
+
+pub part_fits : (c : Controllers) (name : List ℕ) (s : ℕ) (e : Entry) (p : Copied) → (h : HasRecord c name s e) → is_out h.spawn ≡ true → e.part ≡ Some p → Fits c.master.ticket h.spawn p
+part_fits c name s e p h out has = subst (λ o. IsSomeAnd o (Fits c.master.ticket h.spawn)) has (h.fits out)
+
 -- what the spawn holds is shown as the part has it
-pub row_there : (c : Controllers) (name : List ℕ) (s : ℕ) (e : Entry) (x : List ℕ) (o : Option Holder) → HasRecord c name s e → o ≡ Some (held_by.Spawn s) → row_at c x o ≡ part_row e.part x
-row_there c name s e x o h held =
-    ap (row_at c x) held ∙ ap (λ q. option_map_or (λ (y : Entry). part_row y.part x) q (seen_shown c x)) (ap (option_and_then (entry_for c)) h.recorded ∙ h.entered)
+pub row_there : (c : Controllers) (name : List ℕ) (s : ℕ) (e : Entry) (p : Copied) (x : List ℕ) (o : Option Holder) → HasRecord c name s e → e.part ≡ Some p → o ≡ Some (held_by.Spawn s) → row_at c x o ≡ part_row p x
+row_there c name s e p x o h has held =
+    ap (row_at c x) held
+    ∙ ap (λ q. option_map_or (λ r. part_row r x) (option_and_then (λ (y : Entry). y.part) q) (seen_shown c x)) (ap (option_and_then (entry_for c)) h.recorded ∙ h.entered)
+    ∙ ap (λ q. option_map_or (λ r. part_row r x) q (seen_shown c x)) has
 
 -- ---- refusals
 
--- why an edit of a spawn is refused, by these tests
-abbrev refusal_by : Bool → Bool → Bool → Bool → Option Refusal → Option Refusal
-refusal_by is_open structural here read later =
-    first_of (unless is_open NotOpen ∷ unless (not structural) NotForWorkers ∷ unless (here || read) NotInPart ∷ unless (not read) ReadOnly ∷ later ∷ [])
+-- why an edit of what is open is refused, by these tests
+abbrev refusal_by : Bool → Bool → Bool → Option Refusal → Option Refusal
+refusal_by structural here read later = first_of (unless (not structural) NotForWorkers ∷ unless (here || read) NotInPart ∷ unless (not read) ReadOnly ∷ later ∷ [])
 
-same_refusal : (o p structural h k rd rk : Bool) (l m : Option Refusal) → o ≡ p → (p ≡ true → (h ≡ k) × (rd ≡ rk)) → (structural ≡ false → l ≡ m) → refusal_by o structural h rd l ≡ refusal_by p structural k rk m
-same_refusal o false structural h k rd rk l m is parts later = ap (λ b. refusal_by b structural h rd l) is
-same_refusal o true true h k rd rk l m is parts later = ap (λ b. refusal_by b true h rd l) is
-same_refusal o true false h k rd rk l m is parts later =
-    ap (λ b. refusal_by b false h rd l) is ∙ ap (λ b. refusal_by true false b rd l) (parts refl).0 ∙ ap (λ b. refusal_by true false k b l) (parts refl).1 ∙ ap (refusal_by true false k rk) (later refl)
+same_refusal : (structural h k rd rk : Bool) (l m : Option Refusal) → h ≡ k → rd ≡ rk → (structural ≡ false → l ≡ m) → refusal_by structural h rd l ≡ refusal_by structural k rk m
+same_refusal true h k rd rk l m here read later = refl
+same_refusal false h k rd rk l m here read later = ap (λ b. refusal_by false b rd l) here ∙ ap (λ b. refusal_by false k b l) read ∙ ap (refusal_by false k rk) (later refl)
 
 -- what adds nothing to the tree is refused for its Status alone
 same_later : (e : Edit) (a b : Lookups) → is_structural e ≡ false → later_refusal e a ≡ later_refusal e b
@@ -100,19 +117,20 @@ same_later (AddResource n x) a b plain = absurd (true≢false plain)
 same_later (AddLink n link) a b plain = absurd (true≢false plain)
 
 -- while the entry is open its part has what the spawn holds, and may read what that may
-same_parts : (w : State) (v : worker.Known) (s : ℕ) (e : Edit) (x : Entry) → IsKept w → worker_of w.controllers.workers v.name ≡ Some v → worker.entry_of v.entries s ≡ Some x → (h : HasRecord w.controllers v.name s x) → worker.is_open x ≡ true
-    → (orders.is_here e x.part ≡ steps.is_held e (spawn_shown w.controllers h.spawn) (shop_shown w.controllers)) × (orders.is_to_read e x.part ≡ steps.is_to_read e (spawn_shown w.controllers h.spawn) (shop_shown w.controllers))
-same_parts w v s e x ok found has_entry h is_open =
+same_parts : (w : State) (v : worker.Known) (s : ℕ) (e : Edit) (x : Entry) (p : Copied) → IsKept w → worker_of w.controllers.workers v.name ≡ Some v → worker.entry_of v.entries s ≡ Some x → (h : HasRecord w.controllers v.name s x) → worker.is_open x ≡ true → x.part ≡ Some p
+    → (orders.is_here e p ≡ steps.is_held e (spawn_shown w.controllers h.spawn) (shop_shown w.controllers)) × (orders.is_to_read e p ≡ steps.is_to_read e (spawn_shown w.controllers h.spawn) (shop_shown w.controllers))
+same_parts w v s e x p ok found has_entry h is_open has =
     let c = w.controllers in
     let m = c.master in
     let r = h.spawn in
     let out = open_out c v.name s x h is_open in
-    let kept = kept_entry w v s x ok found has_entry in
+    let kept = kept_part x p has (kept_entry w v s x ok found has_entry) in
+    let fits = part_fits c v.name s x p h out has in
     let good = good_record m s r ok.master h.recorded out in
     let held : is_held_by r.id (master.holder m) (target e) ≡ claims m.ticket r (target e) = ap (λ n. is_held_by n (master.holder m) (target e)) h.number ∙ held_claims m s r (target e) ok.master h.recorded out in
     let tree = places m.ticket.rows in (
-      here_so e m.ticket r x.part ok.master.valid good (h.fits out) kept.valid ∙ ap (λ b. stands (cond (is_of_node e) (nodes_in tree) (resources_in tree)) (target e) && b) (sym held),
-      ap (λ b. not (is_of_node e) && b) (reads_held m.ticket r x.part (target e) ok.master.valid good (h.fits out) kept.valid kept.sound),
+      here_so e m.ticket r p ok.master.valid good fits kept.valid ∙ ap (λ b. stands (cond (is_of_node e) (nodes_in tree) (resources_in tree)) (target e) && b) (sym held),
+      ap (λ b. not (is_of_node e) && b) (reads_held m.ticket r p (target e) ok.master.valid good fits kept.valid kept.sound),
     )
 
 pub same_edit_refusal : (w : State) (v : worker.Known) (s : ℕ) (e : Edit) (x : Entry) → IsKept w → worker_of w.controllers.workers v.name ≡ Some v → worker.entry_of v.entries s ≡ Some x → (h : HasRecord w.controllers v.name s x)
@@ -120,24 +138,32 @@ pub same_edit_refusal : (w : State) (v : worker.Known) (s : ℕ) (e : Edit) (x :
 same_edit_refusal w v s e x ok found has_entry h =
     let c = w.controllers in
     let a = spawn_shown c h.spawn in
-    let p = shop_shown c in
+    let plain = shop_shown c in
     let shown = open_shown c v.name s x h in
-    same_refusal (worker.is_open x) (shop.is_open a.phase) (is_structural e) (orders.is_here e x.part) (steps.is_held e a p) (orders.is_to_read e x.part) (steps.is_to_read e a p)
-    (later_refusal e (part_lookups x.part.rows x.part.rw)) (later_refusal e (plain_lookups p.tree))
-    (sym shown) (λ is. same_parts w v s e x ok found has_entry h (sym shown ∙ is)) (same_later e _ _)
+    let rest = unless (not (is_structural e)) NotForWorkers ∷ unless (steps.is_held e a plain || steps.is_to_read e a plain) NotInPart ∷ unless (not (steps.is_to_read e a plain)) ReadOnly ∷ later_refusal e (plain_lookups plain.tree) ∷ [] in
+    split_some (worker.open_part x)
+    (λ p opened.
+    let of = of_open x p opened in
+    let same = same_parts w v s e x p ok found has_entry h of.0 of.1 in
+    ap (λ o. option_map_or (orders.part_edit_refusal e) o (Some NotOpen)) opened
+    ∙ same_refusal (is_structural e) (orders.is_here e p) (steps.is_held e a plain) (orders.is_to_read e p) (steps.is_to_read e a plain) (later_refusal e (part_lookups p.rows p.rw)) (later_refusal e (plain_lookups plain.tree)) same.0 same.1 (same_later e _ _)
+    ∙ sym (ap (λ b. first_of (unless b NotOpen ∷ rest)) (shown ∙ of.0)))
+    (λ none.
+    let isn't : shop.is_open a.phase ≡ false = shown ∙ sym (open_has_part x (kept_entry w v s x ok found has_entry)) ∙ ap is_some none in
+    ap (λ o. option_map_or (orders.part_edit_refusal e) o (Some NotOpen)) none ∙ sym (ap (λ b. first_of (unless b NotOpen ∷ rest)) isn't))
 
 -- ---- what is stored
 
 -- the worker's entry of the spawn is changed, and no other
-pub changed_stored : (w : State) (v : worker.Known) (s : ℕ) (x : Entry) (f : Entry → Entry) → ((y : Entry) → (f y).part.spawn_id ≡ y.part.spawn_id) → IsKept w → worker_of w.controllers.workers v.name ≡ Some v → worker.entry_of v.entries s ≡ Some x → (h : HasRecord w.controllers v.name s x)
+pub changed_stored : (w : State) (v : worker.Known) (s : ℕ) (x : Entry) (f : Entry → Entry) → ((y : Entry) → (f y).spawn_id ≡ y.spawn_id) → IsKept w → worker_of w.controllers.workers v.name ≡ Some v → worker.entry_of v.entries s ≡ Some x → (h : HasRecord w.controllers v.name s x)
     → HasStored w.controllers v.name s (record v { entries = worker.with_entry s f v.entries }) (f x) h.spawn
 changed_stored w v s x f keeps ok found has_entry h =
     record {
       old = v;
       found = found;
       own = refl;
-      others = λ t other. find-other t s (λ (y : Entry). y.part.spawn_id) f v.entries other keeps;
-      stored = find-at_number (λ (y : Entry). y.part.spawn_id) s f v.entries keeps ∙ ap (option_map f) has_entry;
+      others = λ t other. find-other t s (λ (y : Entry). y.spawn_id) f v.entries other keeps;
+      stored = find-at_number (λ (y : Entry). y.spawn_id) s f v.entries keeps ∙ ap (option_map f) has_entry;
       recorded = h.recorded;
       named = h.named;
       numbered = ok.master.numbered;
@@ -154,13 +180,13 @@ plain_touch (AddResource n y) at rows x plain = absurd (true≢false plain)
 plain_touch (AddLink n link) at rows x plain = absurd (true≢false plain)
 
 -- the rows now, after an edit of what the spawn holds that isn't structural
-pub edited_now : (c : Controllers) (name : List ℕ) (s : ℕ) (e : Edit) (at : ℕ) (next : worker.Known) (old new : Entry) → (h : HasRecord c name s old) → HasStored c name s next new h.spawn → new.part ≡ edited_part e at old.part → worker.IsKeptEntry old → is_structural e ≡ false → refusal_of_part e old.part ≡ None → is_held_by s (master.holder c.master) (target e) ≡ true
-    → (x : List ℕ) → now_shown (with_next c name next) x ≡ plain_rows e at (now_shown c) x
-edited_now c name s e at next old new h stored is kept plain free held x =
+pub edited_now : (c : Controllers) (name : List ℕ) (s : ℕ) (e : Edit) (at : ℕ) (next : worker.Known) (old new : Entry) (p : Copied) → (h : HasRecord c name s old) → HasStored c name s next new h.spawn → old.part ≡ Some p → new.part ≡ Some (edited_part e at p) → worker.IsKeptPart old p → is_structural e ≡ false → refusal_of_part e p ≡ None
+    → is_held_by s (master.holder c.master) (target e) ≡ true → (x : List ℕ) → now_shown (with_next c name next) x ≡ plain_rows e at (now_shown c) x
+edited_now c name s e at next old new p h stored has is kept plain free held x =
     let now = λ (r : Option Row). cond (bytes_eq (target e) x) (option_map (plain_changed e at) r) r in
     let o = master.holder c.master x in
     row_stored c name s next new h.spawn stored now x o
-    (λ own. ap (λ (p : Copied). part_row p x) is ∙ part_edit_of_rows e at old.part kept.valid plain free x ∙ ap now (sym (row_there c name s old x o h own)))
+    (λ own. ap (λ q. option_map_or (λ r. part_row r x) q (seen_shown c x)) is ∙ part_edit_of_rows e at p kept.valid plain free x ∙ ap now (sym (row_there c name s old p x o h has own)))
     (λ other.
     split (bytes_eq (target e) x)
     (λ same. absurd (other (held_here (bytes_eq-Decides (target e) x).0 same)))
@@ -172,9 +198,9 @@ edited_now c name s e at next old new h stored is kept plain free held x =
 
 -- ---- the step
 
-same_phase : (out : Bool) (old new : Entry) → worker.is_open new ≡ worker.is_open old → phase_shown out (Some new) ≡ phase_shown out (Some old)
-same_phase true old new is = ap (λ b. cond b shop.Open shop.Done) is
-same_phase false old new is = refl
+same_phase : (out : Bool) (old new : Entry) → new.phase ≡ old.phase → phase_shown out (Some new) ≡ phase_shown out (Some old)
+same_phase true old new is = ap (λ stage. cond (worker.is_open_stage stage) shop.Open shop.Done) is
+same_phase false old new is = ap (λ stage. cond (worker.is_closed_stage stage) shop.Closed shop.Merged) is
 
 edit_agrees : (w : State) (v : worker.Known) (s : ℕ) (e : Edit) (at : ℕ) → IsKept w → worker_of w.controllers.workers v.name ≡ Some v → AgreesThere w v (order.Edit s e) at
 edit_agrees w v s e at ok found x h has_entry =
@@ -192,7 +218,10 @@ edit_agrees w v s e at ok found x h has_entry =
     refl
     (refused_or_agrees c v (steps.work_refusal e a p) moved plain found (λ none.
     let free = edit_free e x (same_edit_refusal w v s e x ok found has_entry h ∙ none) in
-    let here = and_parts _ _ (sym (same_parts w v s e x ok found has_entry h free.is_open).0 ∙ free.here) in
+    let q = free.part in
+    let of = of_open x q free.opened in
+    let kept = kept_part x q of.1 (kept_entry w v s x ok found has_entry) in
+    let here = and_parts _ _ (sym (same_parts w v s e x q ok found has_entry h of.0 of.1).0 ∙ free.here) in
     let held : is_held_by s (master.holder c.master) (target e) ≡ true = ap (λ n. is_held_by n (master.holder c.master) (target e)) (sym h.number) ∙ here.1 in
     let stored = changed_stored w v s x (orders.edited_entry e at) (λ y. refl) ok found has_entry h in
     record {
@@ -205,7 +234,7 @@ edit_agrees w v s e at ok found x h has_entry =
             job = refl;
             tree = refl;
             seen = λ y. refl;
-            now = λ y. edited_now c v.name s e at (orders.ordered (order.Edit s e) at v) x (orders.edited_entry e at x) h stored refl (kept_entry w v s x ok found has_entry) free.plain free.part held y;
+            now = λ y. edited_now c v.name s e at (orders.ordered (order.Edit s e) at v) x (orders.edited_entry e at x) q h stored of.1 (ap (option_map (edited_part e at)) of.1) kept free.plain free.free held y;
             holder = λ y. refl;
             spawns = spawns_stay c v.name s (orders.ordered (order.Edit s e) at v) (orders.edited_entry e at x) h.spawn stored (same_phase (is_out h.spawn) x (orders.edited_entry e at x) refl ∙ ap (phase_shown (is_out h.spawn)) (sym h.entered));
           });

@@ -1,6 +1,6 @@
 -- A worker finishes the work on a part: its step and the shop's agree.
-use Rattle.std.proofs.Common.{◌≡◌, ◌∙◌, ◌||◌, ℕ, true, List, [], ◌∷◌, length, map, Some, slice_get, Ok, refl, sym, ap}
-use Rattle.std.specs.Option.{option_map, option_map_or}
+use Rattle.std.proofs.Common.{◌≡◌, ◌∙◌, ◌||◌, ℕ, true, List, [], ◌∷◌, length, map, Some, is_some, slice_get, Ok, refl, sym, ap}
+use Rattle.std.specs.Option.{option_and_then, option_map, option_map_or}
 use Rattle.ticket_items.specs.Ids.{mem}
 use Rattle.ticket_items.specs.Resource.{resource_ids}
 use Rattle.ticket_items.specs.declared.edit.Edit.TheVariants.{SetStatus}
@@ -22,7 +22,8 @@ use Rattle.spawn.specs.declared.records.spawn_rec.SpawnRec.{SpawnRec}
 use Rattle.merge.specs.Shape.{Fits, Shape, shape}
 use Rattle.master_core.specs.Master as master
 use Rattle.worker_core.proofs.EditedPart.{ending_free, first_known}
-use Rattle.worker_core.proofs.Refusals.{open_free}
+use Rattle.worker_core.proofs.Kept.{kept_part}
+use Rattle.worker_core.proofs.Refusals.{of_open, open_free}
 use Rattle.worker_core.specs.Orders as orders
 use Rattle.worker_core.specs.Worker as worker
 use Rattle.worker_core.specs.declared.end.End.{End}
@@ -34,7 +35,7 @@ use Rattle.world.proofs.HeldBySpawn.{good_record, held_claims}
 use Rattle.world.proofs.InPart.{fits_has, part_has}
 use Rattle.world.proofs.ShopPaths.{same_shop}
 use Rattle.world.proofs.WorkerAgrees.{AgreesThere, agrees_as, refused_or_agrees, worker_agrees}
-use Rattle.world.proofs.WorkerEdits.{changed_stored, edited_now, kept_entry, open_out, open_shown}
+use Rattle.world.proofs.WorkerEdits.{changed_stored, edited_now, kept_entry, open_has_part, open_out, open_shown, part_fits}
 use Rattle.world.specs.Controllers.{worker_of}
 use Rattle.world.specs.Shop as shop
 use Rattle.world.specs.ShopActs.{finished, in_phase, is_held_by}
@@ -61,9 +62,8 @@ root_spawned t r p valid good fits =
     ∙ at.named
 
 -- and the spawn holds it
-root_held : (m : master.Known) (s : ℕ) (r : SpawnRec) (e : Entry) → master.IsKept m → master.record_of m.records s ≡ Some r → is_out r ≡ true → Fits m.ticket r e.part → worker.IsKeptEntry e → is_held_by s (master.holder m) (worker.root_id e.part) ≡ true
-root_held m s r e ok found out fits kept =
-    let p = e.part in
+root_held : (m : master.Known) (s : ℕ) (r : SpawnRec) (e : Entry) (p : Copied) → master.IsKept m → master.record_of m.records s ≡ Some r → is_out r ≡ true → Fits m.ticket r p → worker.IsKeptPart e p → is_held_by s (master.holder m) (worker.root_id p) ≡ true
+root_held m s r e p ok found out fits kept =
     let x = worker.root_id p in
     let here : worker.has p x ≡ true = ap (λ b. b || mem x (resource_ids p.rw)) (among_ids x p.rows (node_among p.rows x (first_known p.rows p.rw p.ro kept.valid))) in
     held_claims m s r x ok found out ∙ sym (part_has m.ticket r x ok.valid (good_record m s r ok found out)) ∙ sym (fits_has m.ticket r p x fits) ∙ here
@@ -80,21 +80,25 @@ finish_agrees w v s how at ok found x h has_entry =
     let new = orders.finished_entry how at x in
     let moved : Step worker.Known Message = record { reply = Ok (reply.Finished s); next = next; sent = orders.order_message (order.Finish s how) at v } in
     let plain = steps.sends (reply.Finished s) (finished how at a p) (steps.Return s) in
-    let shown = open_shown c v.name s x h in
+    let kept = kept_entry w v s x ok found has_entry in
+    let shown = open_shown c v.name s x h ∙ sym (open_has_part x kept) in
     agrees_as c v
-    (unless_refused (unless (worker.is_open x) NotOpen) v moved)
+    (unless_refused (unless (is_some (worker.open_part x)) NotOpen) v moved)
     (unless_refused (unless (shop.is_open a.phase) NotOpen) v moved)
     (unless_refused (unless (shop.is_open a.phase) NotOpen) p plain)
     (unless_refused (unless (shop.is_open a.phase) NotOpen) p plain)
     (ap (λ b. unless_refused (unless b NotOpen) v moved) (sym shown))
     refl
     (refused_or_agrees c v (unless (shop.is_open a.phase) NotOpen) moved plain found (λ none.
-    let is_open = open_free x (ap (λ b. unless b NotOpen) (sym shown) ∙ none) in
-    let out = open_out c v.name s x h is_open in
-    let kept = kept_entry w v s x ok found has_entry in
+    let opened = open_free x (ap (λ b. unless b NotOpen) (sym shown) ∙ none) in
+    let q : Copied = opened.0 in
+    let of = of_open x q opened.1 in
+    let part = kept_part x q of.1 kept in
+    let out = open_out c v.name s x h of.0 in
+    let fits = part_fits c v.name s x q h out of.1 in
     let good = good_record c.master s r ok.master h.recorded out in
-    let root = root_spawned c.master.ticket r x.part ok.master.valid good (h.fits out) in
-    let held = root_held c.master s r x ok.master h.recorded out (h.fits out) kept in
+    let root = root_spawned c.master.ticket r q ok.master.valid good fits in
+    let held = root_held c.master s r x q ok.master h.recorded out fits part in
     let stored = changed_stored w v s x (orders.finished_entry how at) (λ y. refl) ok found has_entry h in
     record {
       reply = refl;
@@ -106,14 +110,15 @@ finish_agrees w v s how at ok found x h has_entry =
             job = refl;
             tree = refl;
             seen = λ y. refl;
-            now = λ y. edited_now c v.name s (orders.ending x.part how) at next x new h stored refl kept refl (ending_free x.part how kept.valid) held y
+            now = λ y. edited_now c v.name s (orders.ending q how) at next x new q h stored of.1 (ap (option_map (orders.ended_part how at)) of.1) part refl (ending_free q how part.valid) held y
                 ∙ ap (λ n. plain_rows (SetStatus n (worker.end_word how)) at (now_shown c) y) root;
             holder = λ y. refl;
             spawns = spawns_stored c v.name s next new r shop.Done stored (ap (λ b. phase_shown b (Some new)) out)
                 ∙ ap (λ n. in_phase shop.Done n (map (spawn_shown c) c.master.records)) (sym h.number);
           });
-      sent = ap (λ o. option_map tag_of (option_map (λ (e : Entry). orders.return_of v.name v.master (orders.finished_entry how at e)) o)) has_entry
-          ∙ ap (λ n. Some (steps.Return n)) h.own;
+      sent = ap (λ o. option_map tag_of (option_and_then (λ (e : Entry). orders.return_of v.name v.master (orders.finished_entry how at e)) o)) has_entry
+          ∙ ap (λ o. option_map tag_of (option_map (orders.part_return v.name v.master at) (option_map (orders.ended_part how at) o))) of.1
+          ∙ ap (λ n. Some (steps.Return n)) (part.own ∙ h.own);
     }))
 
 pub worker_finishes : (w : State) (v : worker.Known) (s : ℕ) (how : End) (at : ℕ) → IsKept w → worker_of w.controllers.workers v.name ≡ Some v → Agrees (worker_moved w.controllers v (ordered_worker (order.Finish s how) at v)) (steps.worker_does v.name (order.Finish s how) at (shop_shown w.controllers))

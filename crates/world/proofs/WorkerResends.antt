@@ -1,63 +1,96 @@
 -- A part that its worker sends back once more: the controllers' step and the shop's agree.
-use Rattle.std.proofs.Common.{◌≡◌, ◌∙◌, ◌&&◌, ℕ, Bool, true, false, not, List, Option, Some, None, Ok, refl, sym, ap, subst}
-use Rattle.std.specs.Option.{option_map, option_map_or}
-use Rattle.ticket_items.specs.declared.refusal.Refusal.TheVariants.{NotDone, UnknownEntry}
-use Rattle.ticket_rows.specs.Ticket.{unless}
+use Rattle.std.proofs.Common.{◌≡◌, ◌∙◌, ℕ, Bool, true, false, cond, not, List, [], ◌∷◌, Option, Some, None, IsSomeAnd, Ok, is_some, refl, sym, ap}
+use Rattle.std.proofs.lemmas.Bool.{not-true}
+use Rattle.std.specs.Option.{option_and_then, option_map}
+use Rattle.ticket_items.specs.declared.refusal.Refusal.{Refusal}
+use Rattle.ticket_items.specs.declared.refusal.Refusal.TheVariants.{Acknowledged, NotDone}
+use Rattle.ticket_rows.specs.Ticket.{first_of, unless}
+use Rattle.ticket_tree.specs.Part.{Copied}
 use Rattle.controller.specs.declared.message.Message.{Message}
 use Rattle.controller.specs.declared.reply.Reply.TheVariants as reply
-use Rattle.spawn.specs.Records as records
-use Rattle.worker_core.specs.Orders.{entry_refusal, return_of}
+use Rattle.spawn.proofs.Outside.{some_of}
+use Rattle.spawn.specs.Records.{is_out}
+use Rattle.worker_core.proofs.Kept.{kept_part}
+use Rattle.worker_core.proofs.Refusals.{done_free}
+use Rattle.worker_core.specs.Orders as orders
 use Rattle.worker_core.specs.Worker as worker
 use Rattle.worker_core.specs.declared.entry.Entry.{Entry}
-use Rattle.worker_core.specs.declared.order.Order.TheVariants.{Resend}
+use Rattle.worker_core.specs.declared.order.Order.TheVariants as order
 use Rattle.world.proofs.Agreeing.{Agrees}
-use Rattle.world.proofs.SameWorkers.{stored_same}
-use Rattle.world.proofs.TakenSpawns.{name_of, HasRecord, entry_record, none_shown, phase_of_entry, taken_shown}
+use Rattle.world.proofs.Cases.{split}
+use Rattle.world.proofs.EntryStored.{worker_as_it_was}
+use Rattle.world.proofs.TakenSpawns.{HasRecord}
+use Rattle.world.proofs.WorkerAgrees.{AgreesThere, agrees_as, refused_or_agrees, worker_agrees}
+use Rattle.world.proofs.WorkerEdits.{kept_entry, open_shown}
 use Rattle.world.specs.Controllers.{Controllers, worker_of}
-use Rattle.world.specs.Shop.{Shop, is_open}
-use Rattle.world.specs.ShopSteps.{Return, Tag, sends, spawn_worked, worker_does}
-use Rattle.world.specs.Showing.{phase_shown, shop_shown, spawn_shown}
+use Rattle.world.specs.Shop as shop
+use Rattle.world.specs.ShopSteps as steps
+use Rattle.world.specs.Showing.{phase_shown, shop_shown, spawn_shown, tag_of}
 use Rattle.world.specs.State.{IsKept, State}
-use Rattle.controller.specs.Step.{Step, refused, unless_refused}
+use Rattle.controller.specs.Step.{Step, unless_refused}
 use Rattle.worker_core.specs.Orders.{order_step as ordered_worker}
 use Rattle.world.specs.Stepping.{worker_moved}
 
--- the work on the spawn that is shown is open just if it is on its entry
-open_either : (out here : Bool) → (out ≡ false → here ≡ false) → (out && here) ≡ here
-open_either true here back = refl
-open_either false here back = sym (back refl)
+-- ---- an entry that is closed
 
-open_shown : (c : Controllers) (name : List ℕ) (s : ℕ) (e : Entry) → (h : HasRecord c name s e) → is_open (spawn_shown c h.spawn).phase ≡ worker.is_open e
-open_shown c name s e h =
-    let out = records.is_out h.spawn in
-    ap (λ o. is_open (phase_shown out o)) h.entered ∙ (phase_of_entry out e).open_so ∙ open_either out (worker.is_open e) h.back
+there_is : {X : Type 0} (P : X → Type 0) (o : Option X) → IsSomeAnd o P → is_some o ≡ true
+there_is P None h = absurd h
+there_is P (Some x) h = refl
 
--- a refusal of both, or what both send
-resent : (w : State) (v : worker.Known) (s : ℕ) (e : Entry) (here : Bool) → IsKept w → worker_of w.controllers.workers v.name ≡ Some v → e.part.spawn_id ≡ s
-    → Agrees (worker_moved w.controllers v (unless_refused (unless (not here) NotDone) v (record { reply = Ok (reply.Sent s); next = v; sent = Some (return_of v.name v.master e) })))
-    (unless_refused (unless (not here) NotDone) (shop_shown w.controllers) (sends (reply.Sent s) (shop_shown w.controllers) (Return s)))
-resent w v s e true ok found own = record { reply = refl; next = ap shop_shown (stored_same w v.name v ok found); sent = refl }
-resent w v s e false ok found own = record { reply = refl; next = ap shop_shown (stored_same w v.name v ok found); sent = ap (λ n. Some (Return n)) own }
+-- one whose spawn is out isn't
+out_not_closed : (c : Controllers) (name : List ℕ) (s : ℕ) (e : Entry) → (h : HasRecord c name s e) → worker.IsKeptEntry e → is_out h.spawn ≡ true → worker.is_closed e ≡ false
+out_not_closed c name s e h kept out = not-true _ (sym kept.held ∙ there_is _ e.part (h.fits out))
 
--- what agrees with a step agrees with one that is the same
-as_same : (moved : Step Controllers Message) (p q : Step Shop Tag) → q ≡ p → Agrees moved p → Agrees moved q
-as_same moved p q same h = subst (Agrees moved) (sym same) h
+never_closed : (b : Bool) → shop.is_closed (cond b shop.Open shop.Done) ≡ false
+never_closed true = refl
+never_closed false = refl
 
-by_entry : (w : State) (name : List ℕ) (v : worker.Known) (s at : ℕ) (o : Option Entry) → IsKept w → worker_of w.controllers.workers name ≡ Some v → worker_of w.controllers.workers v.name ≡ Some v → worker.entry_of v.entries s ≡ o
-    → Agrees (worker_moved w.controllers v (unless_refused (option_map_or (entry_refusal (Resend s)) o (Some UnknownEntry)) v (record { reply = Ok (reply.Sent s); next = v; sent = option_map (return_of v.name v.master) o })))
-    (worker_does name (Resend s) at (shop_shown w.controllers))
-by_entry w name v s at None ok found own none =
-    let p = shop_shown w.controllers in
-    let missing = none_shown w name s v ok found none in
-    as_same _ (refused UnknownEntry p) (worker_does name (Resend s) at p) (ap (λ a. option_map_or (spawn_worked (Resend s) at p) a (refused UnknownEntry p)) missing) (record { reply = refl; next = ap shop_shown (stored_same w v.name v ok own); sent = refl })
-by_entry w name v s at (Some e) ok found own there =
+closed_so : (b : Bool) → shop.is_closed (cond b shop.Closed shop.Merged) ≡ b
+closed_so true = refl
+closed_so false = refl
+
+-- its spawn is shown as closed just if it is
+closed_shown : (c : Controllers) (name : List ℕ) (s : ℕ) (e : Entry) → (h : HasRecord c name s e) → worker.IsKeptEntry e → shop.is_closed (spawn_shown c h.spawn).phase ≡ worker.is_closed e
+closed_shown c name s e h kept =
+    ap (λ o. shop.is_closed (phase_shown (is_out h.spawn) o)) h.entered
+    ∙ split (is_out h.spawn)
+    (λ out. ap (λ b. shop.is_closed (phase_shown b (Some e))) out ∙ never_closed (worker.is_open e) ∙ sym (out_not_closed c name s e h kept out))
+    (λ isn't. ap (λ b. shop.is_closed (phase_shown b (Some e))) isn't ∙ closed_so (worker.is_closed e))
+
+-- ---- the step
+
+-- why a part isn't given back once more, by these tests
+abbrev refusal_by : Bool → Bool → Option Refusal
+refusal_by is_open is_closed = first_of (unless (not is_open) NotDone ∷ unless (not is_closed) Acknowledged ∷ [])
+
+resend_agrees : (w : State) (v : worker.Known) (s at : ℕ) → IsKept w → worker_of w.controllers.workers v.name ≡ Some v → AgreesThere w v (order.Resend s) at
+resend_agrees w v s at ok found x h has_entry =
     let c = w.controllers in
     let p = shop_shown c in
-    let h = entry_record w name s v e ok found there in
-    as_same _ (unless_refused (unless (not (worker.is_open e)) NotDone) p (sends (reply.Sent s) p (Return s))) (worker_does name (Resend s) at p)
-    (ap (λ a. option_map_or (spawn_worked (Resend s) at p) a (refused UnknownEntry p)) (taken_shown c name s e h) ∙ ap (λ b. unless_refused (unless (not b) NotDone) p (sends (reply.Sent s) p (Return s))) (open_shown c name s e h))
-    (resent w v s e (worker.is_open e) ok own h.own)
+    let a = spawn_shown c h.spawn in
+    let kept = kept_entry w v s x ok found has_entry in
+    let moved : Step worker.Known Message = record { reply = Ok (reply.Sent s); next = orders.ordered (order.Resend s) at v; sent = orders.order_message (order.Resend s) at v } in
+    let plain = steps.sends (reply.Sent s) p (steps.Return s) in
+    let shown : steps.back_refusal a.phase ≡ orders.resend_refusal x =
+    ap (λ b. refusal_by b (shop.is_closed a.phase)) (open_shown c v.name s x h) ∙ ap (refusal_by (worker.is_open x)) (closed_shown c v.name s x h kept) in
+    agrees_as c v
+    (unless_refused (orders.resend_refusal x) v moved)
+    (unless_refused (steps.back_refusal a.phase) v moved)
+    (unless_refused (steps.back_refusal a.phase) p plain)
+    (unless_refused (steps.back_refusal a.phase) p plain)
+    (ap (λ why. unless_refused why v moved) (sym shown))
+    refl
+    (refused_or_agrees c v (steps.back_refusal a.phase) moved plain found (λ none.
+    let done = done_free x (sym shown ∙ none) in
+    let has = some_of x.part (kept.held ∙ ap not done.1) in
+    let q : Copied = has.0 in
+    record {
+      reply = refl;
+      next = worker_as_it_was c v found;
+      sent = ap (λ o. option_map tag_of (option_and_then (orders.return_of v.name v.master) o)) has_entry
+          ∙ ap (λ o. option_map tag_of (option_map (orders.part_return v.name v.master x.at) o)) has.1
+          ∙ ap (λ n. Some (steps.Return n)) ((kept_part x q has.1 kept).own ∙ h.own);
+    }))
 
-pub worker_resends : (w : State) (name : List ℕ) (v : worker.Known) (s at : ℕ) → IsKept w → worker_of w.controllers.workers name ≡ Some v
-    → Agrees (worker_moved w.controllers v (ordered_worker (Resend s) at v)) (worker_does name (Resend s) at (shop_shown w.controllers))
-worker_resends w name v s at ok found = by_entry w name v s at (worker.entry_of v.entries s) ok found (ap (worker_of w.controllers.workers) (name_of w.controllers name v found) ∙ found) refl
+pub worker_resends : (w : State) (v : worker.Known) (s at : ℕ) → IsKept w → worker_of w.controllers.workers v.name ≡ Some v → Agrees (worker_moved w.controllers v (ordered_worker (order.Resend s) at v)) (steps.worker_does v.name (order.Resend s) at (shop_shown w.controllers))
+worker_resends w v s at ok found = worker_agrees w v (order.Resend s) at ok found (resend_agrees w v s at ok found)

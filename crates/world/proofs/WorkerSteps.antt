@@ -1,34 +1,42 @@
 -- What a worker makes of an order or a message: the controllers are later, its entries have records, and what it sends is new.
-use Rattle.std.proofs.Common.{◌≡◌, ◌==◌, ℕ, Bool, true, false, cond, List, [], ◌∷◌, ◌++◌, Option, Some, None, IfSome, is_some, refl, sym, ap, ◌∙◌, subst}
-use Rattle.std.proofs.lemmas.Bool.{eqb-true}
-use Rattle.std.proofs.lemmas.List.Elements.{All-map, All-push, All-weaker}
+use Rattle.std.proofs.Common.{◌≡◌, ◌==◌, ◌&&◌, inl, inr, ℕ, Bool, true, false, cond, List, [], ◌∷◌, ◌++◌, Option, Some, None, IfSome, IsSomeAnd, is_none, is_ok, is_some, refl, sym, ap, ◌∙◌, subst}
+use Rattle.std.proofs.lemmas.Bool.{and_parts, eqb-true, true≢false}
+use Rattle.std.proofs.lemmas.List.Elements.{All-push}
 use Rattle.std.specs.List.{All}
-use Rattle.ticket_items.specs.declared.edit.Edit.{Edit}
+use Rattle.std.specs.Option.{option_map}
+use Rattle.std.specs.Str.{bytes_eq}
+use Rattle.ticket_items.proofs.Places.{same_found}
+use Rattle.ticket_items.specs.declared.refusal.Refusal.{Refusal}
 use Rattle.ticket_rows.proofs.AtHome.{find-passes}
-use Rattle.ticket_rows.specs.Edit.{is_structural}
-use Rattle.ticket_tree.specs.Part.{Copied}
+use Rattle.ticket_tree.specs.Part.{Copied, edited_part}
 use Rattle.controller.specs.declared.body.Body.{Body}
 use Rattle.controller.specs.declared.body.Body.TheVariants.{Submit, Return, Answer}
+use Rattle.controller.specs.declared.command.Command.TheVariants as command
 use Rattle.controller.specs.declared.message.Message.{Message}
 use Rattle.spawn.specs.Parts.{part_for}
 use Rattle.spawn.specs.Records.{is_out}
+use Rattle.spawn.specs.declared.records.spawn_rec.SpawnRec.{SpawnRec}
 use Rattle.merge.proofs.Lawful.{made_part_fits}
 use Rattle.merge.specs.Shape.{Fits}
-use Rattle.worker_core.proofs.AtNumber.{found_holds}
+use Rattle.worker_core.proofs.AtNumber.{All-each_at_number, found_holds}
+use Rattle.worker_core.proofs.Closing.{closed_number}
+use Rattle.worker_core.proofs.Kept.{kept_part, number_of}
 use Rattle.worker_core.proofs.MessageLaws.{message_keeps_entries}
 use Rattle.worker_core.proofs.OrderLaws.{order_keeps_entries, return_is_of_entry}
-use Rattle.worker_core.proofs.Refusals.{edit_free, ordered_on}
-use Rattle.worker_core.specs.Messages.{after_taking, take_refusal, taken, taken_entries}
-use Rattle.worker_core.specs.Orders.{after_order, edited_entry, ending, finished_entry, order_message, order_refusal, ordered, return_of, spawn_of_order}
-use Rattle.worker_core.specs.Worker.{IsKept, IsKeptEntry, Known, entry_of, is_of, is_open, new_entry, with_entry}
+use Rattle.worker_core.proofs.Refusals.{edit_free, for_free, ordered_on}
+use Rattle.worker_core.specs.Laws.{acknowledges}
+use Rattle.worker_core.specs.Messages.{after_taking, is_for_workers, take_refusal, taken, taken_entries}
+use Rattle.worker_core.specs.Orders.{after_order, edited_entry, ended_part, ending, finished_entry, order_message, order_refusal, ordered, part_return, spawn_of_order}
+use Rattle.worker_core.specs.Worker.{IsKept, IsKeptEntry, IsKeptPart, Known, closed_entry, entry_of, is_of, is_open, new_entry, with_entry}
 use Rattle.worker_core.specs.declared.entry.Entry.{Entry}
 use Rattle.worker_core.specs.declared.order.Order.{Order}
 use Rattle.worker_core.specs.declared.order.Order.TheVariants as order
 use Rattle.master_core.specs.Master.{record_of}
 use Rattle.world.proofs.EditedFits.{edited_fits}
-use Rattle.world.proofs.Later.{AreLater}
+use Rattle.world.proofs.Cases.{made_of}
+use Rattle.world.proofs.Later.{AreLater, IsSameOrClosed}
 use Rattle.world.proofs.Sending.{IsNew, new_message}
-use Rattle.world.proofs.Stored.{and_found, entry_stays, entry_there, found_and, if_some}
+use Rattle.world.proofs.Stored.{and_found, and_mapped, entry_goes_on, entry_there, found_and, if_some}
 use Rattle.world.specs.Controllers.{Controllers, with_worker, worker_of}
 use Rattle.world.specs.Messages.{IsInOrder, IsRecorded, entry_for}
 
@@ -37,12 +45,13 @@ abbrev pub with_next : Controllers → List ℕ → Known → Controllers
 with_next c name next = record c { workers = with_worker name next c.workers }
 
 -- what has ended at the worker has ended then
-pub worker_later : (c : Controllers) (v next : Known) → worker_of c.workers v.name ≡ Some v → next.name ≡ v.name → ((s : ℕ) (e : Entry) → entry_of v.entries s ≡ Some e → is_open e ≡ false → entry_of next.entries s ≡ Some e) → AreLater c (with_next c v.name next)
+pub worker_later : (c : Controllers) (v next : Known) → worker_of c.workers v.name ≡ Some v → next.name ≡ v.name
+    → ((s : ℕ) (e : Entry) → entry_of v.entries s ≡ Some e → is_open e ≡ false → (x : Entry) × (entry_of next.entries s ≡ Some x) × IsSameOrClosed e x) → AreLater c (with_next c v.name next)
 worker_later c v next found own stays =
     record {
       name = refl;
       records = λ s r there. record { next = r; found = there; worker = refl; same = λ out. refl; part = λ out. refl };
-      ended = λ n s e there ended. entry_stays v.name n v next c.workers s e found own (λ here. stays s e here ended) there;
+      ended = λ n s e there ended. entry_goes_on (IsSameOrClosed e) v.name n v next c.workers s e found own (inl refl) (λ here. stays s e here ended) there;
     }
 
 -- ---- orders
@@ -50,62 +59,65 @@ worker_later c v next found own stays =
 done_order : (o : Order) (at : ℕ) (v : Known) → order_refusal o v.entries ≡ None → after_order o at v ≡ ordered o at v
 done_order o at v none = ap (λ r. cond (is_some r) v (ordered o at v)) none
 
-pub ordered_stays : (o : Order) (at : ℕ) (v : Known) → IsKept v → order_refusal o v.entries ≡ None → (s : ℕ) (e : Entry) → entry_of v.entries s ≡ Some e → is_open e ≡ false → entry_of (ordered o at v).entries s ≡ Some e
+pub ordered_stays : (o : Order) (at : ℕ) (v : Known) → IsKept v → order_refusal o v.entries ≡ None → (s : ℕ) (e : Entry) → entry_of v.entries s ≡ Some e → is_open e ≡ false → (x : Entry) × (entry_of (ordered o at v).entries s ≡ Some x) × IsSameOrClosed e x
 ordered_stays o at v kept none s e found ended =
     let next = order_keeps_entries o at v s e kept found in
-    ap (λ (u : Known). entry_of u.entries s) (sym (done_order o at v none)) ∙ next.1 ∙ ap Some (next.2.finished ended)
+    (next.0, ap (λ (u : Known). entry_of u.entries s) (sym (done_order o at v none)) ∙ next.1, inl (next.2.finished ended))
 
-recorded_with : (c : Controllers) (name : List ℕ) (s : ℕ) (f : Entry → Entry) (entries : List Entry) → ((e : Entry) → IsRecorded c name e → IsRecorded c name (f e)) → All (IsRecorded c name) entries → All (IsRecorded c name) (with_entry s f entries)
-recorded_with c name s f entries keeps all = All-map (IsRecorded c name) (λ e. cond (is_of s e) (f e) e) entries (All-weaker (IsRecorded c name) (λ e. IsRecorded c name (cond (is_of s e) (f e) e)) (λ e h. either (is_of s e) e h) entries all)
-  where
-    either : (b : Bool) (e : Entry) → IsRecorded c name e → IsRecorded c name (cond b (f e) e)
-    either true e h = keeps e h
-    either false e h = h
-
--- an order makes no entry
-edited_recorded : (e : Edit) (at : ℕ) (c : Controllers) (name : List ℕ) (x : Entry) → is_structural e ≡ false → IsRecorded c name x → IsRecorded c name (edited_entry e at x)
-edited_recorded e at c name x plain h =
-    let there = and_found _ (record_of c.master.records x.part.spawn_id) h in
-    found_and _ (record_of c.master.records x.part.spawn_id) there.0 there.1 (there.2.0, λ out. edited_fits e at c.master.ticket there.0 x.part plain (there.2.1 out))
+-- an order makes no entry, and the part that one has fits still
+changed_recorded : (f : Copied → Copied) (c : Controllers) (name : List ℕ) (x y : Entry) → ((r : SpawnRec) (p : Copied) → Fits c.master.ticket r p → Fits c.master.ticket r (f p)) → y.spawn_id ≡ x.spawn_id → y.part ≡ option_map f x.part → IsRecorded c name x → IsRecorded c name y
+changed_recorded f c name x y fits number part h =
+    let there = and_found _ (record_of c.master.records x.spawn_id) h in
+    let r = there.0 in
+    found_and _ (record_of c.master.records y.spawn_id) r (ap (record_of c.master.records) number ∙ there.1) (
+      there.2.0,
+      λ out. subst (λ o. IsSomeAnd o (Fits c.master.ticket r)) (sym part) (and_mapped (Fits c.master.ticket r) (Fits c.master.ticket r) f x.part (fits r) (there.2.1 out)),
+    )
 
 pub ordered_recorded : (o : Order) (at : ℕ) (c : Controllers) (v : Known) → order_refusal o v.entries ≡ None → All (IsRecorded c v.name) v.entries → All (IsRecorded c v.name) (ordered o at v).entries
 ordered_recorded (order.Edit s e) at c v none all =
     let on = ordered_on (order.Edit s e) v.entries none in
-    recorded_with c v.name s (edited_entry e at) v.entries (λ x h. edited_recorded e at c v.name x (edit_free e on.0 on.2).plain h) all
-ordered_recorded (order.Finish s how) at c v none all = recorded_with c v.name s (finished_entry how at) v.entries (λ x h. edited_recorded (ending x.part how) at c v.name x refl h) all
+    let plain = (edit_free e on.0 on.2).plain in
+    All-each_at_number (IsRecorded c v.name) number_of s (edited_entry e at) v.entries
+    (λ x own h. changed_recorded (edited_part e at) c v.name x (edited_entry e at x) (λ r p. edited_fits e at c.master.ticket r p plain) refl refl h) all
+ordered_recorded (order.Finish s how) at c v none all =
+    All-each_at_number (IsRecorded c v.name) number_of s (finished_entry how at) v.entries
+    (λ x own h. changed_recorded (ended_part how at) c v.name x (finished_entry how at x) (λ r p. edited_fits (ending p how) at c.master.ticket r p refl) refl refl h) all
 ordered_recorded (order.Resend s) at c v none all = all
 
 -- an entry whose work has ended may be given back
-return_is_new : (c : Controllers) (messages : List Message) (v next : Known) (s : ℕ) (e : Entry) → worker_of c.workers v.name ≡ Some v → next.name ≡ v.name → v.master ≡ c.master.name → IsKept next → All (IsRecorded (with_next c v.name next) v.name) next.entries
-    → All (IsInOrder (with_next c v.name next)) messages → entry_of next.entries s ≡ Some e → is_open e ≡ false → IsNew (with_next c v.name next) messages (return_of v.name v.master e)
-return_is_new c messages v next s e found own knows kept recorded all here ended =
+return_is_new : (c : Controllers) (messages : List Message) (v next : Known) (s : ℕ) (e : Entry) (p : Copied) → worker_of c.workers v.name ≡ Some v → next.name ≡ v.name → v.master ≡ c.master.name → IsKept next → All (IsRecorded (with_next c v.name next) v.name) next.entries
+    → All (IsInOrder (with_next c v.name next)) messages → entry_of next.entries s ≡ Some e → is_open e ≡ false → e.part ≡ Some p → IsNew (with_next c v.name next) messages (part_return v.name v.master e.at p)
+return_is_new c messages v next s e p found own knows kept recorded all here ended has =
     let d = with_next c v.name next in
-    let number : e.part.spawn_id ≡ s = eqb-true e.part.spawn_id s (find-passes (is_of s) next.entries e here) in
-    let there = and_found _ (record_of c.master.records e.part.spawn_id) (found_holds (IsRecorded d v.name) (is_of s) next.entries e here recorded) in
+    let number : e.spawn_id ≡ s = eqb-true e.spawn_id s (find-passes (is_of s) next.entries e here) in
+    let there = and_found _ (record_of c.master.records e.spawn_id) (found_holds (IsRecorded d v.name) (is_of s) next.entries e here recorded) in
     let r = there.0 in
-    let id : r.id ≡ s = eqb-true r.id e.part.spawn_id (find-passes (λ q. q.id == e.part.spawn_id) c.master.records r there.1) ∙ number in
-    let valid : IsKeptEntry e = found_holds IsKeptEntry (is_of s) next.entries e here kept.each in
+    let id : r.id ≡ s = eqb-true r.id e.spawn_id (find-passes (λ q. q.id == e.spawn_id) c.master.records r there.1) ∙ number in
+    let part : IsKeptPart e p = kept_part e p has (found_holds IsKeptEntry (is_of s) next.entries e here kept.each) in
+    let entered : entry_for d r ≡ Some e = ap (λ n. entry_for d (record r { worker = n })) there.2.0 ∙ entry_there v.name v next c.workers r.id found own ∙ ap (entry_of next.entries) id ∙ here in
+    let named : part_return v.name v.master e.at p ≡ part_return r.worker c.master.name e.at p = ap (λ n. part_return n v.master e.at p) (sym there.2.0) ∙ ap (λ n. part_return r.worker n e.at p) knows in
     new_message d messages _ all
     (record {
       spawn = r;
-      recorded = there.1;
+      recorded = ap (record_of c.master.records) part.own ∙ there.1;
       from = sym there.2.0;
       to = knows;
-      says = found_and _ (entry_for d r) e
-          (ap (λ n. entry_for d (record r { worker = n })) there.2.0 ∙ entry_there v.name v next c.workers r.id found own ∙ ap (entry_of next.entries) id ∙ here)
-          (ended, ap (λ n. return_of n v.master e) (sym there.2.0) ∙ ap (λ n. return_of r.worker n e) knows);
-      for_master = valid.valid;
+      says = found_and _ (entry_for d r) e entered (ended, subst (λ o. IfSome (option_map (part_return r.worker c.master.name e.at) o) (λ n. part_return v.name v.master e.at p ≡ n)) (sym has) named);
+      for_master = part.valid;
       for_worker = tt;
       sound = tt;
     })
-    tt
+    (found_and _ (entry_for d r) e entered (ap is_some has))
 
 pub ordered_sends : (o : Order) (at : ℕ) (c : Controllers) (messages : List Message) (v : Known) → worker_of c.workers v.name ≡ Some v → v.master ≡ c.master.name → order_refusal o v.entries ≡ None → IsKept (ordered o at v) → All (IsRecorded (with_next c v.name (ordered o at v)) v.name) (ordered o at v).entries
     → All (IsInOrder (with_next c v.name (ordered o at v))) messages → IfSome (order_message o at v) (IsNew (with_next c v.name (ordered o at v)) messages)
 ordered_sends o at c messages v found knows none kept recorded all =
     if_some _ (order_message o at v) (λ m is.
     let gives = return_is_of_entry o at v m none is in
-    subst (IsNew (with_next c v.name (ordered o at v)) messages) (sym gives.3) (return_is_new c messages v (ordered o at v) (spawn_of_order o) gives.0 found refl knows kept recorded all gives.1 gives.2))
+    let e : Entry = gives.0 in
+    let made = made_of (part_return v.name v.master e.at) e.part m gives.3 in
+    subst (IsNew (with_next c v.name (ordered o at v)) messages) made.2 (return_is_new c messages v (ordered o at v) (spawn_of_order o) e made.0 found refl knows kept recorded all gives.1 gives.2 made.1))
 
 -- ---- messages
 
@@ -116,21 +128,40 @@ recorded_push (Some e) c name entries new all own = all
 same_part : (p q : Copied) → Submit p ≡ Submit q → p ≡ q
 same_part p q e = cc
 
-recorded_taken : (c : Controllers) (name sender receiver : List ℕ) (sent at : ℕ) (body : Body) (entries : List Entry) → receiver ≡ name → IsInOrder c (record { sender = sender; receiver = receiver; at = sent; body = body }) → All (IsRecorded c name) entries → All (IsRecorded c name) (taken_entries body at entries)
-recorded_taken c name sender receiver sent at (Submit p) entries own h all =
+-- an entry is closed where its spawn isn't out
+closed_recorded : (c : Controllers) (name : List ℕ) (s : ℕ) (r : SpawnRec) (e : Entry) → record_of c.master.records s ≡ Some r → is_out r ≡ false → (e.spawn_id == s) ≡ true → IsRecorded c name e → IsRecorded c name (closed_entry e)
+closed_recorded c name s r e found back own h =
+    let there = and_found _ (record_of c.master.records e.spawn_id) h in
+    let same : there.0 ≡ r = same_found there.0 r (record_of c.master.records s) (ap (record_of c.master.records) (sym (eqb-true e.spawn_id s own)) ∙ there.1) found in
+    found_and _ (record_of c.master.records (closed_entry e).spawn_id) there.0 (ap (record_of c.master.records) (closed_number e) ∙ there.1) (there.2.0, λ out. absurd (true≢false (sym out ∙ ap is_out same ∙ back)))
+
+recorded_answered : (ok : Bool) (c : Controllers) (name : List ℕ) (s : ℕ) (r : SpawnRec) (entries : List Entry) → record_of c.master.records s ≡ Some r → is_out r ≡ false → All (IsRecorded c name) entries → All (IsRecorded c name) (cond ok (with_entry s closed_entry entries) entries)
+recorded_answered false c name s r entries found back all = all
+recorded_answered true c name s r entries found back all = All-each_at_number (IsRecorded c name) number_of s closed_entry entries (λ e own h. closed_recorded c name s r e found back own h) all
+
+recorded_taken : (c : Controllers) (name sender receiver : List ℕ) (sent at : ℕ) (body : Body) (entries : List Entry) → receiver ≡ name → is_for_workers body ≡ true → IsInOrder c (record { sender = sender; receiver = receiver; at = sent; body = body }) → All (IsRecorded c name) entries → All (IsRecorded c name) (taken_entries body at entries)
+recorded_taken c name sender receiver sent at (Submit p) entries own theirs h all =
     let made = λ (out : is_out h.spawn ≡ true). same_part p (part_for c.master.ticket h.spawn) (ap (λ (m : Message). m.body) (h.says out)) in
     recorded_push (entry_of entries p.spawn_id) c name entries (new_entry p at) all
     (found_and _ (record_of c.master.records p.spawn_id) h.spawn h.recorded (sym h.to ∙ own, λ out. subst (Fits c.master.ticket h.spawn) (sym (made out)) (made_part_fits c.master.ticket h.spawn)))
-recorded_taken c name sender receiver sent at (Return p) entries own h all = all
-recorded_taken c name sender receiver sent at (Answer d s told) entries own h all = all
+recorded_taken c name sender receiver sent at (Return p) entries own theirs h all = all
+recorded_taken c name sender receiver sent at (Answer command.Submit s told) entries own theirs h all = absurd (true≢false (sym theirs))
+recorded_taken c name sender receiver sent at (Answer command.Return s told) entries own theirs h all = recorded_answered (is_ok told) c name s h.spawn entries h.recorded h.says.1 all
 
-recorded_either : (refused : Bool) (c : Controllers) (m : Message) (at : ℕ) (v : Known) → m.receiver ≡ v.name → IsInOrder c m → All (IsRecorded c v.name) v.entries → All (IsRecorded c v.name) (cond refused v (taken m.body at v)).entries
-recorded_either true c m at v own h all = all
-recorded_either false c m at v own h all = recorded_taken c v.name m.sender m.receiver m.at at m.body v.entries own h all
+recorded_either : (refusal : Option Refusal) (c : Controllers) (m : Message) (at : ℕ) (v : Known) → take_refusal m v ≡ refusal → m.receiver ≡ v.name → IsInOrder c m → All (IsRecorded c v.name) v.entries → All (IsRecorded c v.name) (cond (is_some refusal) v (taken m.body at v)).entries
+recorded_either (Some e) c m at v is own h all = all
+recorded_either None c m at v is own h all =
+    recorded_taken c v.name m.sender m.receiver m.at at m.body v.entries own (and_parts (bytes_eq m.receiver v.name) (is_for_workers m.body) (for_free m v is)).1 h all
 
 -- a part that is taken is of a spawn that has a record
 pub taken_recorded : (c : Controllers) (m : Message) (at : ℕ) (v : Known) → m.receiver ≡ v.name → IsInOrder c m → All (IsRecorded c v.name) v.entries → All (IsRecorded c v.name) (after_taking m at v).entries
-taken_recorded c m at v own h all = recorded_either (is_some (take_refusal m v)) c m at v own h all
+taken_recorded c m at v own h all = recorded_either (take_refusal m v) c m at v refl own h all
 
-pub taken_stays : (m : Message) (at : ℕ) (v : Known) (s : ℕ) (e : Entry) → entry_of v.entries s ≡ Some e → is_open e ≡ false → entry_of (after_taking m at v).entries s ≡ Some e
-taken_stays m at v s e found ended = message_keeps_entries m at v s e found
+same_or_closed : (b : Bool) (e : Entry) → IsSameOrClosed e (cond b (closed_entry e) e)
+same_or_closed true e = inr refl
+same_or_closed false e = inl refl
+
+pub taken_stays : (m : Message) (at : ℕ) (v : Known) (s : ℕ) (e : Entry) → entry_of v.entries s ≡ Some e → is_open e ≡ false → (x : Entry) × (entry_of (after_taking m at v).entries s ≡ Some x) × IsSameOrClosed e x
+taken_stays m at v s e found ended =
+    let told = is_none (take_refusal m v) && acknowledges s m.body in
+    (cond told (closed_entry e) e, message_keeps_entries m at v s e found, same_or_closed told e)

@@ -1,7 +1,7 @@
 -- What always holds of the messages that were sent: of one spawn one part goes out and one comes
 -- back, each is what the controllers know of the spawn, and each entry has a record.
 use Rattle.std.specs.Prelude.{◌≡◌, ℕ, true, false, List, if◌then◌else◌, is_some, Option, Some}
-use Rattle.std.specs.Prelude.{IsSomeAnd, is_ok, ⊤}
+use Rattle.std.specs.Prelude.{IfSome, IsSomeAnd, is_ok, ⊤}
 use Rattle.std.specs.List.{All, Contains}
 use Rattle.ticket_tree.specs.Part.{is_sound}
 use Rattle.controller.specs.Reply.{command_given, spawn_in}
@@ -28,11 +28,11 @@ abbrev pub entry_for : Controllers → SpawnRec → Option Entry
 entry_for c r = entry_at c.workers r.worker r.id
 
 -- an entry at the worker of a name is of a spawn whose record names that worker: so no two workers
--- have an entry of one spawn. While that spawn is out the part of the entry fits its claim
+-- have an entry of one spawn. While that spawn is out the entry has a part, which fits its claim
 abbrev pub IsRecorded : Controllers → List ℕ → Entry → Type 0
 IsRecorded c name e =
-    IsSomeAnd (record_of c.master.records e.part.spawn_id) (λ r.
-    (r.worker ≡ name) × (is_out r ≡ true → Fits c.master.ticket r e.part))
+    IsSomeAnd (record_of c.master.records e.spawn_id) (λ r.
+    (r.worker ≡ name) × (is_out r ≡ true → IsSomeAnd e.part (Fits c.master.ticket r)))
 
 -- and so is each entry of a worker
 abbrev pub AreRecorded : Controllers → Known → Type 0
@@ -57,13 +57,18 @@ HasEnded c r P = IsSomeAnd (entry_for c r) (λ e. (is_open e ≡ false) × P e)
 abbrev pub HasComeBack : Controllers → SpawnRec → Type 0
 HasComeBack c r = is_out r ≡ false → HasEnded c r (λ e. ⊤)
 
+-- a message is the one that gives back the part of an entry, from a name to another, while the
+-- entry has the part
+abbrev pub IsReturn : List ℕ → List ℕ → Message → Entry → Type 0
+IsReturn name master m e = IfSome (return_of name master e) (λ n. m ≡ n)
+
 -- a message that sends a part out is, while its spawn is out, the one that the master makes of its
--- ticket and the record; one that brings a part back is the one that the worker makes of its entry,
--- on which the work has ended; and where such a message is answered, it wasn't refused, and the
--- part was put in
+-- ticket and the record; one that brings a part back is of an entry on which the work has ended,
+-- and is, while that has the part, the one that the worker makes of it; and where such a message is
+-- answered, it wasn't refused, and the part was put in
 abbrev pub SaysRight : Controllers → SpawnRec → Message → Body → Type 0
 SaysRight c r m (Submit p) = is_out r ≡ true → m ≡ submit_of c.master.name c.master.ticket r
-SaysRight c r m (Return p) = HasEnded c r (λ e. m ≡ return_of r.worker c.master.name e)
+SaysRight c r m (Return p) = HasEnded c r (IsReturn r.worker c.master.name m)
 SaysRight c r m (Answer command.Submit s told) = ⊤
 SaysRight c r m (Answer command.Return s told) =
     (is_ok told ≡ true) × (is_out r ≡ false) × HasEnded c r (λ e. ⊤)

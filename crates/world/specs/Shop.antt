@@ -4,13 +4,14 @@ use Rattle.std.specs.List.{find}
 use Rattle.ticket_rows.specs.Place.{Place, Row}
 use Rattle.spawn.specs.declared.tables.holder.Holder.{Holder}
 
--- how far a spawn has come: its part is on the way to the worker, is worked on, is finished, or was
--- put in
+-- how far a spawn has come: its part is on the way to the worker, is worked on, is finished, was
+-- put in, or was put in and the worker has given it up
 pub data Phase : Type 0 where
   Away : Phase
   Open : Phase
   Done : Phase
   Merged : Phase
+  Closed : Phase
 
 -- a spawn of a node to a worker, with the resources of which copies went that may be changed
 pub record SpawnState : Type 0 where
@@ -66,18 +67,35 @@ is_away Away = true
 is_away Open = false
 is_away Done = false
 is_away Merged = false
+is_away Closed = false
 
 abbrev pub is_open : Phase → Bool
 is_open Away = false
 is_open Open = true
 is_open Done = false
 is_open Merged = false
+is_open Closed = false
 
 abbrev pub is_done : Phase → Bool
 is_done Away = false
 is_done Open = false
 is_done Done = true
 is_done Merged = false
+is_done Closed = false
+
+abbrev pub is_merged : Phase → Bool
+is_merged Away = false
+is_merged Open = false
+is_merged Done = false
+is_merged Merged = true
+is_merged Closed = false
+
+abbrev pub is_closed : Phase → Bool
+is_closed Away = false
+is_closed Open = false
+is_closed Done = false
+is_closed Merged = false
+is_closed Closed = true
 
 -- whether the part is still to be put in
 abbrev pub is_out : Phase → Bool
@@ -85,3 +103,4 @@ is_out Away = true
 is_out Open = true
 is_out Done = true
 is_out Merged = false
+is_out Closed = false

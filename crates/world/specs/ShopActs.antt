@@ -17,7 +17,8 @@ use Rattle.spawn.specs.declared.tables.holder.Holder.{Holder}
 use Rattle.spawn.specs.declared.tables.holder.Holder.TheVariants.{Master, Spawn}
 use Rattle.worker_core.specs.Worker.{end_word}
 use Rattle.worker_core.specs.declared.end.End.{End}
-use Rattle.world.specs.Shop.{Away, Done, Holders, Merged, Open, Phase, Rows, Shop, SpawnState}
+use Rattle.world.specs.Shop.{Away, Closed, Done, Holders, Merged, Open, Phase, Rows, Shop}
+use Rattle.world.specs.Shop.{SpawnState}
 use Rattle.world.specs.Shop.{has_number, next_number}
 
 -- ---- in the beginning
@@ -156,3 +157,9 @@ merged at a p =
       holder = given_back a.number p.holder;
       spawns = in_phase Merged a.number p.spawns;
     }
+
+-- ---- a close
+
+-- the worker gives up the part that was put in
+abbrev pub closed : ℕ → Shop → Shop
+closed s p = record p { spawns = in_phase Closed s p.spawns }

@@ -14,7 +14,7 @@ use Rattle.ticket_items.specs.declared.refusal.Refusal.TheVariants.{NotLinked, T
 use Rattle.ticket_items.specs.declared.refusal.Refusal.TheVariants.{NotOut}
 use Rattle.ticket_items.specs.declared.refusal.Refusal.TheVariants.{UnknownEntry, NotOpen, NotDone}
 use Rattle.ticket_items.specs.declared.refusal.Refusal.TheVariants.{NotForWorkers, NotInPart}
-use Rattle.ticket_items.specs.declared.refusal.Refusal.TheVariants.{ReadOnly}
+use Rattle.ticket_items.specs.declared.refusal.Refusal.TheVariants.{ReadOnly, Acknowledged}
 use Rattle.ticket_rows.specs.Edit.{is_of_node, is_structural, target}
 use Rattle.ticket_rows.specs.EditRefusal.{later_refusal, unknown_refusal}
 use Rattle.ticket_rows.specs.Place.{nodes_in, resources_in, up}
@@ -29,9 +29,10 @@ use Rattle.master_core.specs.declared.order.Order.TheVariants as to_master
 use Rattle.worker_core.specs.Orders.{spawn_of_order}
 use Rattle.worker_core.specs.declared.order.Order as worker_order
 use Rattle.worker_core.specs.declared.order.Order.TheVariants as to_worker
-use Rattle.world.specs.Shop.{Shop, SpawnState, has_number, is_away, is_done, is_open, is_out}
-use Rattle.world.specs.Shop.{next_number, spawn_of}
-use Rattle.world.specs.ShopActs.{edited, finished, is_held_by, merged, spawned, taken, worked}
+use Rattle.world.specs.Shop.{Phase, Shop, SpawnState, has_number, is_away, is_closed, is_done}
+use Rattle.world.specs.Shop.{is_merged, is_open, is_out, next_number, spawn_of}
+use Rattle.world.specs.ShopActs.{closed, edited, finished, is_held_by, merged, spawned, taken}
+use Rattle.world.specs.ShopActs.{worked}
 use Rattle.controller.specs.Step.{Step, refused, unless_refused}
 use Rattle.world.specs.Step.{StepOrWord}
 use Rattle.world_items.specs.declared.word.Word.TheVariants.{NoMessage}
@@ -115,6 +116,12 @@ work_refusal e a p =
     ∷ unless (is_held e a p || is_to_read e a p) NotInPart
     ∷ unless (not (is_to_read e a p)) ReadOnly ∷ later_refusal e (plain_lookups p.tree) ∷ [])
 
+-- why a part isn't given back once more, if it isn't: it is open, or the worker has given it up
+abbrev pub back_refusal : Phase → Option Refusal
+back_refusal phase =
+    first_of
+    (unless (not (is_open phase)) NotDone ∷ unless (not (is_closed phase)) Acknowledged ∷ [])
+
 -- the worker on an order about a spawn that it took
 abbrev pub spawn_worked : worker_order.Order → ℕ → Shop → SpawnState → Step Shop Tag
 spawn_worked (to_worker.Edit s e) at p a =
@@ -123,7 +130,7 @@ spawn_worked (to_worker.Finish s how) at p a =
     unless_refused (unless (is_open a.phase) NotOpen) p
     (sends (reply.Finished s) (finished how at a p) (Return s))
 spawn_worked (to_worker.Resend s) at p a =
-    unless_refused (unless (not (is_open a.phase)) NotDone) p (sends (reply.Sent s) p (Return s))
+    unless_refused (back_refusal a.phase) p (sends (reply.Sent s) p (Return s))
 
 -- the worker of a name on an order
 abbrev pub worker_does : List ℕ → worker_order.Order → ℕ → Shop → Step Shop Tag
@@ -148,6 +155,12 @@ return_comes at p a =
     then sends (reply.Merged a.number) (merged at a p) (ToReturn a.number)
     else sends (reply.Already a.number) p (ToReturn a.number)
 
+-- the worker is told that a part came back: it gives up one that was put in. It isn't told so of
+-- another; as if it was told before
+abbrev pub back_acknowledged : Shop → SpawnState → Step Shop Tag
+back_acknowledged p a =
+    replies (reply.Acked a.number) (if is_merged a.phase then closed a.number p else p)
+
 -- what comes of a spawn, by its number. No message tells of one that there isn't; as if none came
 abbrev pub comes_of : ℕ → Shop → (SpawnState → Step Shop Tag) → StepOrWord Shop Tag
 comes_of s p f = option_map_or (λ a. Ok (f a)) (spawn_of s p) (Err NoMessage)
@@ -157,4 +170,4 @@ abbrev pub message_comes : ℕ → Shop → Tag → StepOrWord Shop Tag
 message_comes at p (Submit s) = comes_of s p (submit_comes p)
 message_comes at p (Return s) = comes_of s p (return_comes at p)
 message_comes at p (ToSubmit s) = Ok (replies (reply.Noted s) p)
-message_comes at p (ToReturn s) = Ok (replies (reply.Acked s) p)
+message_comes at p (ToReturn s) = comes_of s p (back_acknowledged p)

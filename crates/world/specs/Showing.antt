@@ -2,6 +2,7 @@
 use Rattle.std.specs.Prelude.{ℕ, Bool, true, false, List, map, if◌then◌else◌, Option, Some, None}
 use Rattle.std.specs.Option.{option_and_then, option_map_or}
 use Rattle.ticket_rows.specs.Place.{Row, places, row_in}
+use Rattle.ticket_tree.specs.Part.{Copied}
 use Rattle.ticket_tree.specs.PartView.{part_row}
 use Rattle.controller.specs.declared.body.Body.{Body}
 use Rattle.controller.specs.declared.body.Body.TheVariants as body
@@ -17,15 +18,17 @@ use Rattle.worker_core.specs.declared.entry.Entry.{Entry}
 use Rattle.world.specs.Controllers.{Controllers}
 use Rattle.world.specs.Messages.{entry_for}
 use Rattle.world.specs.Replay.{Shown}
-use Rattle.world.specs.Shop.{Away, Done, Merged, Open, Phase, Rows, Shop, SpawnState}
+use Rattle.world.specs.Shop.{Away, Closed, Done, Merged, Open, Phase, Rows, Shop, SpawnState}
 use Rattle.world.specs.ShopSteps.{Return, Submit, Tag, ToReturn, ToSubmit}
 use Rattle.world.specs.State.{State}
 
 -- ---- spawns
 
--- how far a spawn has come, by whether its record is out and by its worker's entry of it
+-- how far a spawn has come, by whether its record is out and by its worker's entry of it, which is
+-- closed only where the record isn't out
 abbrev pub phase_shown : Bool → Option Entry → Phase
-phase_shown false entry = Merged
+phase_shown false None = Merged
+phase_shown false (Some e) = if worker.is_closed e then Closed else Merged
 phase_shown true None = Away
 phase_shown true (Some e) = if worker.is_open e then Open else Done
 
@@ -49,13 +52,17 @@ entry_of_spawn c s = option_and_then (entry_for c) (master.record_of c.master.re
 abbrev pub seen_shown : Controllers → Rows
 seen_shown c = row_in c.master.ticket.rows
 
+-- the part in it, until that is given up
+abbrev pub part_of_spawn : Controllers → ℕ → Option Copied
+part_of_spawn c s = option_and_then (λ e. e.part) (entry_of_spawn c s)
+
 -- the row of an id as its holder has it: where a spawn holds it that its worker took, as it is in
 -- the part there, and else as the master sees it
 abbrev pub row_at : Controllers → List ℕ → Option Holder → Option Row
 row_at c x None = seen_shown c x
 row_at c x (Some held_by.Master) = seen_shown c x
 row_at c x (Some (held_by.Spawn s)) =
-    option_map_or (λ e. part_row e.part x) (entry_of_spawn c s) (seen_shown c x)
+    option_map_or (λ p. part_row p x) (part_of_spawn c s) (seen_shown c x)
 
 abbrev pub now_shown : Controllers → Rows
 now_shown c x = row_at c x (master.holder c.master x)

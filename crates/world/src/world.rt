@@ -99,9 +99,10 @@ impl World {
     /// 1. The workers are those that the master names, each knows it as its master, and each
     /// controller is in order. So are the messages: of one spawn one part goes out and one comes
     /// back, however often, and each is the one that the master makes of its record while it is
-    /// out, or the worker of its entry once that is finished. Where a part was put in, the work on
-    /// its entry has ended. While a spawn is out, the part that goes out with it has what it holds
-    /// as it is seen, and the one that comes back as it is now.
+    /// out, or the worker of its entry while that is finished and not closed. Where a part was put
+    /// in, the work on its entry has ended, and where an entry is closed, its part was put in.
+    /// While a spawn is out, the part that goes out with it has what it holds as it is seen, and
+    /// the one that comes back as it is now.
     pub fn messages(&self) -> &[Message]
         ensures messages { result.now ≡ self.now.messages }
         ensures kept { state.IsKept self.now }

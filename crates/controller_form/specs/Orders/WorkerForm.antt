@@ -11,10 +11,9 @@ use Rattle.ticket_items.specs.declared.refusal.Refusal.{Refusal}
 use Rattle.json_items.specs.Edits.{edit_draft, edit_has_names, edit_has_texts}
 use Rattle.json_items.specs.Judged.{first_fault, judged}
 use Rattle.json_source.specs.Read.{◌>>=◌, provided, has_only, text_under}
-use Rattle.worker_core.specs.declared.end.End.{End}
-use Rattle.worker_core.specs.declared.end.End.TheVariants.{Completed, Aborted}
 use Rattle.worker_core.specs.declared.order.Order.{Order}
 use Rattle.worker_core.specs.declared.order.Order.TheVariants.{Edit, Finish, Resend}
+use Rattle.controller_form.specs.Orders.EndNamed.{end_named}
 use Rattle.controller_form.specs.Orders.SpawnNamed.{spawn_under}
 
 -- ---- by members and their kinds alone
@@ -29,12 +28,6 @@ edit_form d = do
   e ← option_and_then edit_draft (get (codes "Edit") d)
   s ← spawn_under d
   Some (Edit s e)
-
--- how the work on a part ends, by its word
-abbrev pub end_named : List ℕ → Option End
-end_named word =
-    if bytes_eq word (codes "Completed") then Some Completed else
-    (if bytes_eq word (codes "Aborted") then Some Aborted else None)
 
 abbrev pub finish_members : List (List ℕ)
 finish_members = codes "Order" ∷ codes "SpawnID" ∷ codes "Status" ∷ []

@@ -1,5 +1,6 @@
 -- What drafts are as values.
 use Rattle.std.specs.Prelude.{List, map}
+use Rattle.std.specs.Option.{option_map}
 use Rattle.json_shapes.specs.Draft.{are_bare, resources_of}
 use Rattle.json_items.specs.DraftedResources.{drafted_marked}
 use Rattle.json_reader.specs.DraftedPart.{drafted_part}
@@ -42,7 +43,13 @@ drafted_master d =
 
 -- an entry, and entries in order
 abbrev pub drafted_entry : EntryDraft → RawEntry
-drafted_entry d = record { phase = d.phase; part = drafted_part d.part; at = d.at }
+drafted_entry d =
+    record {
+      spawn = d.spawn;
+      phase = d.phase;
+      part = option_map drafted_part d.part;
+      at = d.at;
+    }
 
 abbrev pub drafted_entries : List EntryDraft → List RawEntry
 drafted_entries ds = map drafted_entry ds

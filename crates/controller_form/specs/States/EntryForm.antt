@@ -1,57 +1,144 @@
 -- The form of an entry of a worker as it is stored. In a draft the ids, names and texts may be any
--- bytes, and its rows no tree's.
-use Rattle.std.specs.Prelude.{ℕ, List, [], ◌∷◌, codes, if◌then◌else◌, Option, Some, None}
-use Rattle.std.specs.Option.{option_and_then}
+-- bytes, the spawn's id any text, and the rows of its part no tree's.
+use Rattle.std.specs.Prelude.{ℕ, ◌&&◌, Bool, true, false, List, [], ◌∷◌, codes, if◌then◌else◌}
+use Rattle.std.specs.Prelude.{Option, Some, None, is_some}
+use Rattle.std.specs.Option.{option_and_then, option_map, option_map_or}
 use Rattle.std.specs.Str.{bytes_eq}
-use Rattle.serde_json.specs.Data.{Data, no_members, member, number, unsigned, string, object}
+use Rattle.serde_json.specs.Data.{Data, Members, no_members, number, unsigned, string, object, put}
 use Rattle.serde_json.specs.Find.{get}
+use Rattle.ticket_items.specs.SpawnId.{is_spawn_number, spawn_text}
+use Rattle.ticket_items.specs.declared.refusal.Refusal.{Refusal}
+use Rattle.ticket_tree.specs.Part.{Copied}
 use Rattle.json_shapes.specs.PartDraft.{RawPart, part_draft}
-use Rattle.json_shapes.specs.PartForm.{copied}
+use Rattle.json_shapes.specs.PartForm as part_form
 use Rattle.json_source.specs.Read.{◌>>=◌, provided, has_only, number_under, text_under}
 use Rattle.json_writer.specs.PartWritten.{part_data}
-use Rattle.worker_core.specs.declared.end.End.TheVariants.{Completed, Aborted}
+use Rattle.worker_core.specs.Worker.{end_word}
+use Rattle.worker_core.specs.declared.end.End.{End}
 use Rattle.worker_core.specs.declared.entry.Entry.{Entry}
 use Rattle.worker_core.specs.declared.stage.Stage.{Stage}
-use Rattle.worker_core.specs.declared.stage.Stage.TheVariants.{Open, Done}
+use Rattle.worker_core.specs.declared.stage.Stage.TheVariants.{Open, Done, Closed}
+use Rattle.controller_form.specs.Orders.EndNamed.{end_named}
+use Rattle.controller_form.specs.Orders.SpawnNamed.{spawn_named}
+use Rattle.controller_form.specs.declared.states.format.Format.{Format}
+use Rattle.controller_form.specs.declared.states.format.Format.TheVariants.{First, Second}
 
 -- ---- read, by members and their kinds alone
 
--- a part, how far the worker is with it, and when it was taken or ended
+-- the spawn by its id's text, how far the worker is with the part, the part unless it was given up,
+-- and when it was taken or ended
 pub record RawEntry : Type 0 where
+  pub spawn : List ℕ
   pub phase : Stage
-  pub part : RawPart
+  pub part : Option RawPart
   pub at : ℕ
 
+-- the stage that a word names in which the worker has the part
 abbrev pub stage_named : List ℕ → Option Stage
 stage_named word =
-    if bytes_eq word (codes "Open") then Some Open
-    else (if bytes_eq word (codes "Completed") then Some (Done Completed)
-    else (if bytes_eq word (codes "Aborted") then Some (Done Aborted) else None))
+    if bytes_eq word (codes "Open") then Some Open else option_map Done (end_named word)
 
-abbrev pub entry_members : List (List ℕ)
-entry_members = codes "At" ∷ codes "Part" ∷ codes "Phase" ∷ []
+abbrev pub stage_under : Data → Option Stage
+stage_under d = text_under (codes "Phase") d >>= stage_named
 
-unfoldable pub entry_draft : Data → Option RawEntry
-entry_draft d = do
-  _ ← provided (has_only entry_members d)
+-- the members of an entry with its part: in the first format its id isn't among them
+abbrev pub held_members : Format → List (List ℕ)
+held_members First = codes "At" ∷ codes "Part" ∷ codes "Phase" ∷ []
+held_members Second = codes "At" ∷ codes "ID" ∷ codes "Part" ∷ codes "Phase" ∷ []
+
+-- the id of its spawn, which in the first format the part alone tells
+abbrev pub spawn_told : Format → RawPart → Data → Option (List ℕ)
+spawn_told First part d = Some part.spawn
+spawn_told Second part d = text_under (codes "ID") d
+
+-- an entry with its part
+unfoldable pub held_draft : Format → Data → Option RawEntry
+held_draft format d = do
+  _ ← provided (has_only (held_members format) d)
   at ← number_under (codes "At") d
+  phase ← stage_under d
   part ← option_and_then part_draft (get (codes "Part") d)
-  phase ← text_under (codes "Phase") d >>= stage_named
-  Some (record { phase = phase; part = part; at = at })
+  spawn ← spawn_told format part d
+  Some (record { spawn = spawn; phase = phase; part = Some part; at = at })
+
+abbrev pub closed_members : List (List ℕ)
+closed_members = codes "At" ∷ codes "End" ∷ codes "ID" ∷ codes "Phase" ∷ []
+
+-- how the work on it ended
+abbrev pub end_under : Data → Option End
+end_under d = text_under (codes "End") d >>= end_named
+
+-- an entry whose part was given up
+unfoldable pub closed_draft : Data → Option RawEntry
+closed_draft d = do
+  _ ← provided (has_only closed_members d)
+  at ← number_under (codes "At") d
+  end ← end_under d
+  spawn ← text_under (codes "ID") d
+  Some (record { spawn = spawn; phase = Closed end; part = None; at = at })
+
+-- whether data tells that the part was given up
+abbrev pub is_closed : Data → Bool
+is_closed d = option_map_or (bytes_eq (codes "Closed")) (text_under (codes "Phase") d) false
+
+-- an entry; the first format tells of no part that was given up
+unfoldable pub entry_draft : Format → Data → Option RawEntry
+entry_draft First d = held_draft First d
+entry_draft Second d = if is_closed d then closed_draft d else held_draft Second d
 
 -- the entry of a draft
 abbrev pub entry_in : RawEntry → Entry
-entry_in e = record { phase = e.phase; part = copied e.part; at = e.at }
+entry_in e =
+    record {
+      spawn_id = spawn_named e.spawn;
+      phase = e.phase;
+      part = option_map part_form.copied e.part;
+      at = e.at;
+    }
+
+-- ---- faults
+
+-- whether its id is a spawn's, and the ids and names of its part are valid
+abbrev pub entry_has_names : RawEntry → Bool
+entry_has_names e =
+    is_spawn_number (spawn_named e.spawn) && option_map_or part_form.has_names e.part true
+
+abbrev pub entry_has_texts : RawEntry → Bool
+entry_has_texts e = option_map_or part_form.has_texts e.part true
+
+-- what is wrong with its part, where the names and texts of that are valid
+abbrev pub entry_fault : RawEntry → Option Refusal
+entry_fault e = option_and_then part_form.built_fault e.part
 
 -- ---- written
 
 abbrev pub stage_word : Stage → List ℕ
 stage_word Open = codes "Open"
-stage_word (Done Completed) = codes "Completed"
-stage_word (Done Aborted) = codes "Aborted"
+stage_word (Done how) = end_word how
+stage_word (Closed how) = codes "Closed"
 
-abbrev pub entry_data : Entry → Data
-entry_data e =
-    object (member (codes "At") (number (unsigned e.at))
-    (member (codes "Part") (part_data e.part)
-    (member (codes "Phase") (string (stage_word e.phase)) no_members)))
+-- members, and the id of a spawn; the first format doesn't tell it
+abbrev pub with_id : Format → ℕ → Members → Members
+with_id First s members = members
+with_id Second s members = put (codes "ID") (string (spawn_text s)) members
+
+-- members, and the end of the work on a part that was given up
+abbrev pub with_end : Stage → Members → Members
+with_end (Closed how) members = put (codes "End") (string (end_word how)) members
+with_end stage members = members
+
+-- members, and the part that there is
+abbrev pub with_part : Option Copied → Members → Members
+with_part (Some p) members = put (codes "Part") (part_data p) members
+with_part None members = members
+
+abbrev pub entry_data : Format → Entry → Data
+entry_data format e =
+    object (with_part e.part (with_end e.phase (with_id format e.spawn_id
+    (put (codes "Phase") (string (stage_word e.phase))
+    (put (codes "At") (number (unsigned e.at)) no_members)))))
+
+-- whether a format can tell an entry; the first tells of no part that was given up
+abbrev pub is_told_in : Format → Entry → Bool
+is_told_in First e = is_some e.part
+is_told_in Second e = true

@@ -20,7 +20,9 @@ use Rattle.master_core.specs.Master.{Known, known}
 use Rattle.master_core.specs.Stored.{is_master}
 use Rattle.controller_form.specs.States.RecordForm.{record_data, record_form, record_has_names}
 use Rattle.controller_form.specs.States.RecordForm.{record_has_texts}
-use Rattle.controller_form.specs.States.StateFormat.{controller_under, in_format, state_data}
+use Rattle.controller_form.specs.States.StateFormat.{controller_under, format_of, read_in}
+use Rattle.controller_form.specs.States.StateFormat.{state_data, written}
+use Rattle.controller_form.specs.declared.states.format.Format.{Format}
 use Rattle.controller_form.specs.declared.states.record_draft.StoredRecord.{StoredRecord}
 
 -- ---- read, by members and their kinds alone
@@ -81,10 +83,10 @@ abbrev pub judged_master : Option RawMaster → Result Known Refusal
 judged_master draft =
     option_map_or (λ m. sound (master_fault m) (master_in m)) draft (Err NotProfile)
 
--- the master whose state the data is, or its first refusal
+-- the master whose state the data is, or its first refusal; both formats have its members
 abbrev pub master_state_read : Data → Result Known Refusal
-master_state_read d =
-    in_format d (judged_master (option_and_then master_draft (controller_under (codes "Master") d)))
+master_state_read d = read_in (format_of d) (λ format.
+    judged_master (option_and_then master_draft (controller_under (codes "Master") d)))
 
 -- ---- written
 
@@ -95,5 +97,10 @@ master_data m =
     (member (codes "Ticket") (ticket_data m.ticket)
     (member (codes "Workers") (texts_data m.workers) no_members))))
 
+-- its state in a format
+abbrev pub master_state_in : Format → Known → Data
+master_state_in format m = state_data format (codes "Master") (master_data m)
+
+-- its state as it is stored
 abbrev pub master_state_data : Known → Data
-master_state_data m = state_data (codes "Master") (master_data m)
+master_state_data m = master_state_in written m

@@ -12,15 +12,17 @@ use Rattle.ticket_items.specs.declared.refusal.Refusal.{Refusal}
 use Rattle.ticket_items.specs.declared.refusal.Refusal.TheVariants.{BadState}
 use Rattle.ticket_items.specs.declared.refusal.Refusal.TheVariants.{NotProfile}
 use Rattle.ticket_rows.specs.Ticket.{first_of, unless}
-use Rattle.json_shapes.specs.PartForm as part_form
 use Rattle.json_items.specs.Judged.{checked_fault, sound}
 use Rattle.json_items.specs.Listed.{data_items, list_form}
 use Rattle.json_source.specs.Read.{◌>>=◌, provided, has_only, text_under}
 use Rattle.worker_core.specs.Stored.{is_worker}
 use Rattle.worker_core.specs.Worker.{Known, known}
-use Rattle.controller_form.specs.States.EntryForm.{RawEntry, entry_data, entry_draft, entry_in}
+use Rattle.controller_form.specs.States.EntryForm.{RawEntry, entry_data, entry_draft, entry_fault}
+use Rattle.controller_form.specs.States.EntryForm.{entry_has_names, entry_has_texts, entry_in}
 use Rattle.controller_form.specs.States.PartFaults.{part_faults}
-use Rattle.controller_form.specs.States.StateFormat.{controller_under, in_format, state_data}
+use Rattle.controller_form.specs.States.StateFormat.{controller_under, format_of, read_in}
+use Rattle.controller_form.specs.States.StateFormat.{state_data, written}
+use Rattle.controller_form.specs.declared.states.format.Format.{Format}
 
 -- ---- read, by members and their kinds alone
 
@@ -33,10 +35,10 @@ pub record RawWorker : Type 0 where
 abbrev pub worker_members : List (List ℕ)
 worker_members = codes "Entries" ∷ codes "Master" ∷ codes "Name" ∷ []
 
-unfoldable pub worker_draft : Data → Option RawWorker
-worker_draft d = do
+unfoldable pub worker_draft : Format → Data → Option RawWorker
+worker_draft format d = do
   _ ← provided (has_only worker_members d)
-  entries ← option_and_then (list_form entry_draft) (get (codes "Entries") d)
+  entries ← option_and_then (list_form (entry_draft format)) (get (codes "Entries") d)
   master ← text_under (codes "Master") d
   name ← text_under (codes "Name") d
   Some (record { name = name; master = master; entries = entries })
@@ -49,16 +51,14 @@ worker_in w = known w.name w.master (map entry_in w.entries)
 
 -- whether all ids and names, and all texts, are valid
 abbrev pub worker_has_names : RawWorker → Bool
-worker_has_names w = is_name w.name && is_name w.master
-    && list_all (λ e. part_form.has_names e.part) w.entries
+worker_has_names w = is_name w.name && is_name w.master && list_all entry_has_names w.entries
 
 abbrev pub worker_has_texts : RawWorker → Bool
-worker_has_texts w = list_all (λ e. part_form.has_texts e.part) w.entries
+worker_has_texts w = list_all entry_has_texts w.entries
 
 -- whether this is what is wrong with the part of an entry
 abbrev pub is_fault : Refusal → RawEntry → Bool
-is_fault e entry =
-    option_map_or (λ f. number_of f == number_of e) (part_form.built_fault entry.part) false
+is_fault e entry = option_map_or (λ f. number_of f == number_of e) (entry_fault entry) false
 
 -- what is wrong with parts whose names and texts are valid: the first fault that one of them has,
 -- looked for in all of them before the next one is
@@ -84,15 +84,20 @@ judged_worker draft =
 
 -- the worker whose state the data is, or its first refusal
 abbrev pub worker_state_read : Data → Result Known Refusal
-worker_state_read d =
-    in_format d (judged_worker (option_and_then worker_draft (controller_under (codes "Worker") d)))
+worker_state_read d = read_in (format_of d) (λ format.
+    judged_worker (option_and_then (worker_draft format) (controller_under (codes "Worker") d)))
 
 -- ---- written
 
-abbrev pub worker_data : Known → Data
-worker_data w =
-    object (member (codes "Entries") (array (data_items entry_data w.entries))
+abbrev pub worker_data : Format → Known → Data
+worker_data format w =
+    object (member (codes "Entries") (array (data_items (entry_data format) w.entries))
     (member (codes "Master") (string w.master) (member (codes "Name") (string w.name) no_members)))
 
+-- its state in a format
+abbrev pub worker_state_in : Format → Known → Data
+worker_state_in format w = state_data format (codes "Worker") (worker_data format w)
+
+-- its state as it is stored
 abbrev pub worker_state_data : Known → Data
-worker_state_data w = state_data (codes "Worker") (worker_data w)
+worker_state_data w = worker_state_in written w

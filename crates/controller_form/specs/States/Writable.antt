@@ -1,10 +1,12 @@
 -- What is known of controllers that are written: their ids, names and texts are valid, and their
 -- tickets and parts are read again.
-use Rattle.std.specs.Prelude.{◌≡◌, ◌≤◌, true, false, Ok}
+use Rattle.std.specs.Prelude.{◌≡◌, ◌≤◌, true, false, Ok, IfSome}
 use Rattle.std.specs.List.{All, list_all}
 use Rattle.serde_json.specs.Data.{depth}
 use Rattle.serde_json.specs.Written.{has_float}
 use Rattle.ticket_items.specs.Names.{is_name}
+use Rattle.ticket_items.specs.SpawnId.{is_spawn_number}
+use Rattle.ticket_tree.specs.Part.{Copied}
 use Rattle.json_shapes.specs.Form.{ticket_read}
 use Rattle.json_shapes.specs.PartForm.{part_read}
 use Rattle.json_writer.specs.PartWritten.{part_data}
@@ -25,11 +27,16 @@ pub record IsWritableMaster (m : master.Known) : Type 0 where
   pub plain : has_float (ticket_data m.ticket) ≡ false
   pub low : depth (ticket_data m.ticket) ≤ 68
 
+-- a part
+pub record IsWritablePart (p : Copied) : Type 0 where
+  pub again : part_read (part_data p) ≡ Ok p
+  pub plain : has_float (part_data p) ≡ false
+  pub low : depth (part_data p) ≤ 68
+
 -- an entry
 pub record IsWritableEntry (e : Entry) : Type 0 where
-  pub again : part_read (part_data e.part) ≡ Ok e.part
-  pub plain : has_float (part_data e.part) ≡ false
-  pub low : depth (part_data e.part) ≤ 68
+  pub number : is_spawn_number e.spawn_id ≡ true
+  pub part : IfSome e.part IsWritablePart
 
 -- a worker
 pub record IsWritableWorker (w : worker.Known) : Type 0 where

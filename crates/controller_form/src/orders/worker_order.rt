@@ -1,12 +1,12 @@
 //! The orders of workers.
 
-ghost use Rattle.std.specs.Prelude.{◌≡◌};
 ghost use Rattle.serde_json.specs.View.{view};
 ghost use Rattle.json_items.specs.Judged.{Answers};
 ghost use Rattle.json_source.specs.Read.{Gives};
 ghost use Rattle.controller_form.specs.Orders.DraftedWorkerOrder.{drafted_worker_order};
 ghost use Rattle.controller_form.specs.Orders.WorkerForm as forms;
 
+use crate::orders::end_named::end_named;
 use crate::orders::spawn_named::names_spawn;
 use json_items::{AnyText, Borrowed, Checked, Draft, EditDraft, only, text_under, two, under};
 use serde_json::Value;
@@ -33,19 +33,6 @@ pub enum WorkerOrderDraft<'a> {
     Resend {
         spawn: Borrowed<'a, AnyText>,
     },
-}
-
-/// How the work on a part ends, by its word.
-fn end_named(word: &str) -> Option<End>
-    ensures { result ≡ forms.end_named word.now }
-{
-    if word == "Completed" {
-        Some(End::Completed)
-    } else if word == "Aborted" {
-        Some(End::Aborted)
-    } else {
-        None
-    }
 }
 
 /// An order to edit the part of a spawn.

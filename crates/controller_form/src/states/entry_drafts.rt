@@ -3,65 +3,51 @@
 ghost use Rattle.std.specs.Prelude.{◌≡◌, ◌⊎◌, None, Some, true, map, IfErr, IfOk, OnOk};
 ghost use Rattle.std.specs.List.{list_all};
 ghost use Rattle.serde_json.specs.View.{items_view};
-ghost use Rattle.json_shapes.specs.PartForm as part_form;
 ghost use Rattle.json_items.specs.Listed.{each};
-ghost use Rattle.json_reader.specs.DraftedPart.{drafted_part};
 ghost use Rattle.json_source.specs.Read.{Gives};
 ghost use Rattle.controller_form.specs.States.Drafted.{drafted_entries, drafted_entry};
-ghost use Rattle.controller_form.specs.States.EntryForm.{entry_draft, entry_in};
+ghost use Rattle.controller_form.specs.States.EntryForm.{entry_draft, entry_has_names};
+ghost use Rattle.controller_form.specs.States.EntryForm.{entry_has_texts, entry_in};
 ghost use Rattle.controller_form.specs.States.PartFaults as faults;
 ghost use Rattle.controller_form.specs.States.WorkerForm as form;
 
 use crate::states::entry_draft::EntryDraft;
+use crate::states::format::Format;
 use json_items::Checked;
 use serde_json::Value;
 use std::alloc::Global;
 use ticket_tree::Refusal;
 use worker_core::Entry;
 
-/// The drafts that the items are. Refuses `NotProfile`, and `Memory`.
-pub fn entry_drafts<'a>(alloc: Global, items: &'a [Value]) -> Result<Vec<EntryDraft<'a>>, Refusal>
+/// The drafts that the items are in a format. Refuses `NotProfile`, and `Memory`.
+pub fn entry_drafts<'a>(
+    alloc: Global,
+    items: &'a [Value],
+    format: Format,
+) -> Result<Vec<EntryDraft<'a>>, Refusal>
     ensures { Gives (λ v. drafted_entries v.items) result
-        (each entry_draft (items_view items.now)) }
+        (each (entry_draft format) (items_view items.now)) }
 {
     let mut drafts = Vec::with_capacity(alloc, items.len())?;
     for item in items {
-        let draft = EntryDraft::of(alloc, item)?;
+        let draft = EntryDraft::of(alloc, item, format)?;
         drafts.push(draft)?;
     }
     Ok(drafts)
 }
 
-/// Whether the ids and names of all parts are valid.
+/// Whether each id is a spawn's, and the ids and names of all parts are valid.
 pub fn have_names(drafts: &[EntryDraft<'_>]) -> bool
-    ensures { result ≡ list_all (λ d. part_form.has_names (drafted_part d.part)) drafts.now }
+    ensures { result ≡ list_all (λ d. entry_has_names (drafted_entry d)) drafts.now }
 {
-    drafts.iter().all(|draft| draft.part.has_names())
+    drafts.iter().all(|draft| draft.has_names())
 }
 
 /// Whether the texts of all parts are valid.
 pub fn have_texts(drafts: &[EntryDraft<'_>]) -> bool
-    ensures { result ≡ list_all (λ d. part_form.has_texts (drafted_part d.part)) drafts.now }
+    ensures { result ≡ list_all (λ d. entry_has_texts (drafted_entry d)) drafts.now }
 {
-    drafts.iter().all(|draft| draft.part.has_texts())
-}
-
-/// The entry of a draft whose names and texts are valid. Refuses what is wrong with its part, and
-/// `Memory`.
-fn build_entry(alloc: Global, draft: &EntryDraft<'_>) -> Result<Entry, Refusal>
-    requires names { part_form.has_names (drafted_part draft.now.part) ≡ true }
-    requires texts { part_form.has_texts (drafted_part draft.now.part) ≡ true }
-    ensures ok { IfOk result (λ entry. entry ≡ entry_in (drafted_entry draft.now)) }
-    ensures sound { OnOk result (part_form.built_fault (drafted_part draft.now.part) ≡ None) }
-    ensures refused { IfErr result (λ e. (e ≡ Refusal.Memory)
-        ⊎ (part_form.built_fault (drafted_part draft.now.part) ≡ Some e)) }
-{
-    let part = draft.part.build_known(alloc)?;
-    Ok(Entry {
-        phase: draft.phase,
-        part,
-        at: draft.at,
-    })
+    drafts.iter().all(|draft| draft.has_texts())
 }
 
 /// Whether a refusal says that memory ran out.
@@ -105,8 +91,8 @@ fn earliest(known: Option<Refusal>, fault: Refusal) -> Refusal
 /// The entries of drafts whose names and texts are valid. Refuses the first fault of their parts,
 /// looked for in all of them before the next one is; and `Memory`, which may come before any.
 pub fn build_entries(alloc: Global, drafts: &[EntryDraft<'_>]) -> Result<Vec<Entry>, Refusal>
-    requires names { list_all (λ d. part_form.has_names (drafted_part d.part)) drafts.now ≡ true }
-    requires texts { list_all (λ d. part_form.has_texts (drafted_part d.part)) drafts.now ≡ true }
+    requires names { list_all (λ d. entry_has_names (drafted_entry d)) drafts.now ≡ true }
+    requires texts { list_all (λ d. entry_has_texts (drafted_entry d)) drafts.now ≡ true }
     ensures ok { IfOk result
         (λ entries. entries.items ≡ map entry_in (drafted_entries drafts.now)) }
     ensures sound { OnOk result (form.parts_fault (drafted_entries drafts.now) ≡ None) }
@@ -116,7 +102,7 @@ pub fn build_entries(alloc: Global, drafts: &[EntryDraft<'_>]) -> Result<Vec<Ent
     let mut entries = Vec::with_capacity(alloc, drafts.len())?;
     let mut first = None;
     for draft in drafts {
-        match build_entry(alloc, draft) {
+        match draft.build_known(alloc) {
             Ok(entry) => entries.push(entry)?,
             Err(refusal) => {
                 if is_memory(&refusal) {

@@ -1,6 +1,6 @@
 //! The document that a state is stored as: its format, and the controller under its kind.
 
-ghost use Rattle.std.specs.Prelude.{◌≡◌, None, Some, IfErr, IfOk, OnOk};
+ghost use Rattle.std.specs.Prelude.{◌≡◌, IfOk};
 ghost use Rattle.serde_json.specs.View.{view};
 ghost use Rattle.json_source.specs.Read.{Gives};
 ghost use Rattle.controller_form.specs.States.StateFormat as format;
@@ -11,20 +11,36 @@ use serde_json::{Map, Value};
 use std::alloc::{AllocError, Global};
 use ticket_tree::Refusal;
 
-/// The number of the one format.
-const FORMAT: u64 = 1;
+/// The number of the format that is written.
+const WRITTEN: u64 = 2;
 
-/// Refuses `NotProfile` where no whole number stands under `Format`, and `BadState` where another
-/// than that of the one format does. Needs no memory.
-pub fn check_format(value: &Value) -> Result<(), Refusal>
-    ensures ok { OnOk result (format.format_fault (view value.now) ≡ None) }
-    ensures refused { IfErr result (λ e. format.format_fault (view value.now) ≡ Some e) }
+/// How a state is stored. Each format is read, and only the second is written.
+#[derive(Clone, Copy)]
+pub enum Format {
+    /// An entry of a worker has its part for good.
+    First,
+    /// An entry has the id of its spawn, and may have given its part up.
+    Second,
+}
+
+/// The format of a number.
+fn format_numbered(number: u64) -> Option<Format>
+    ensures { result ≡ format.format_numbered number }
 {
-    match number_under(value, "Format") {
-        Some(FORMAT) => Ok(()),
-        Some(_) => Err(Refusal::BadState),
-        None => Err(Refusal::NotProfile),
+    match number {
+        1 => Some(Format::First),
+        2 => Some(Format::Second),
+        _ => None,
     }
+}
+
+/// The format of a value. Refuses `NotProfile` where no whole number stands under `Format`, and
+/// `BadState` where that of no format does. Needs no memory.
+pub fn format_of(value: &Value) -> Result<Format, Refusal>
+    ensures { result ≡ format.format_of (view value.now) }
+{
+    let number = number_under(value, "Format").ok_or(Refusal::NotProfile)?;
+    format_numbered(number).ok_or(Refusal::BadState)
 }
 
 /// What stands under a kind of controller. Refuses `NotProfile` where nothing does, or something
@@ -37,12 +53,13 @@ pub fn controller_under<'a>(value: &'a Value, kind: &str) -> Result<&'a Value, R
     value.member(kind).ok_or(Refusal::NotProfile)
 }
 
-/// The state of a controller of a kind.
+/// The state of a controller of a kind, in the format that is written.
 pub fn state_value(alloc: Global, kind: &str, controller: Value) -> Result<Value, AllocError>
-    ensures { IfOk result (λ v. view v ≡ format.state_data kind.now (view controller)) }
+    ensures { IfOk result
+        (λ v. view v ≡ format.state_data format.written kind.now (view controller)) }
 {
     let mut members = Map::new(alloc);
-    put(alloc, &mut members, "Format", &FORMAT)?;
+    put(alloc, &mut members, "Format", &WRITTEN)?;
     put_value(alloc, &mut members, kind, controller)?;
     Ok(Value::Object(members))
 }

@@ -9,7 +9,7 @@ ghost use Rattle.json_items.specs.Judged.{Answers};
 ghost use Rattle.controller_form.specs.States.MasterForm as form;
 ghost use Rattle.controller_form.specs.States.Writable.{IsWritableMaster};
 
-use crate::states::format::{check_format, controller_under, state_value};
+use crate::states::format::{Format, controller_under, format_of, state_value};
 use crate::states::master_draft::MasterDraft;
 use crate::states::record_value::record_values;
 use json_items::{Checked, put, put_list, put_value, values_of};
@@ -19,16 +19,16 @@ use serde_json::{Map, Value};
 use std::alloc::{AllocError, Global};
 use ticket_tree::Refusal;
 
-/// The master whose state a value is. Refuses `NotProfile` where no whole number stands under
-/// `Format`, and `BadState` where another than 1 does; then the first of `NotProfile`, `BadId`
-/// (also where a spawn's `ID` names no spawn), `BadText`, `ReservedStatus`, `DuplicateId`,
-/// `TooDeep`, `UnresolvedLink` and `BadState` that stands in it (our own: what `Master::of_parts`
-/// refuses), each looked for in all of it before the next one is; `Memory` may come before any but
-/// the first two.
+/// The master whose state a value is, in either format. Refuses `NotProfile` where no whole number
+/// stands under `Format`, and `BadState` where another than 1 and 2 does; then the first of
+/// `NotProfile`, `BadId` (also where a spawn's `ID` names no spawn), `BadText`, `ReservedStatus`,
+/// `DuplicateId`, `TooDeep`, `UnresolvedLink` and `BadState` that stands in it (our own: what
+/// `Master::of_parts` refuses), each looked for in all of it before the next one is; `Memory` may
+/// come before any but the first two.
 pub fn master_state_of(alloc: Global, value: &Value) -> Result<Master, Refusal>
     ensures { Answers result (form.master_state_read (view value.now)) }
 {
-    check_format(value)?;
+    format_of(value)?;
     let controller = controller_under(value, "Master")?;
     let draft = MasterDraft::of(alloc, controller)?;
     draft.build(alloc)
@@ -50,10 +50,13 @@ fn master_value(alloc: Global, master: &Master) -> Result<Value, AllocError>
     Ok(Value::Object(members))
 }
 
-/// A master's state as a value, which `master_state_of` reads as that master.
+/// A master's state as a value, which `master_state_of` reads as that master; as it does what the
+/// first format tells of it.
 pub fn master_state_value(alloc: Global, master: &Master) -> Result<Value, AllocError>
     ensures value { IfOk result (λ v. view v ≡ form.master_state_data master.now) }
     ensures again { IfOk result (λ v. form.master_state_read (view v) ≡ Ok master.now) }
+    ensures first { OnOk result
+        (form.master_state_read (form.master_state_in Format.First master.now) ≡ Ok master.now) }
     ensures plain { IfOk result (λ v. has_float (view v) ≡ false) }
     ensures nests { IfOk result (λ v. depth (view v) ≤ max_depth) }
 {

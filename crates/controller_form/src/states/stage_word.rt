@@ -3,20 +3,19 @@
 ghost use Rattle.std.specs.Prelude.{◌≡◌};
 ghost use Rattle.controller_form.specs.States.EntryForm as form;
 
-use worker_core::{End, Stage};
+use crate::orders::end_named::end_named;
+use worker_core::Stage;
 
-/// The stage of an entry that a word names.
+/// The stage that a word names in which the worker has the part.
 pub fn stage_named(word: &str) -> Option<Stage>
     ensures { result ≡ form.stage_named word.now }
 {
     if word == "Open" {
-        Some(Stage::Open)
-    } else if word == "Completed" {
-        Some(Stage::Done(End::Completed))
-    } else if word == "Aborted" {
-        Some(Stage::Done(End::Aborted))
-    } else {
-        None
+        return Some(Stage::Open);
+    }
+    match end_named(word) {
+        Some(end) => Some(Stage::Done(end)),
+        None => None,
     }
 }
 
@@ -26,7 +25,7 @@ pub fn stage_word(stage: Stage) -> &'static str
 {
     match stage {
         Stage::Open => "Open",
-        Stage::Done(End::Completed) => "Completed",
-        Stage::Done(End::Aborted) => "Aborted",
+        Stage::Done(end) => end.word(),
+        Stage::Closed(_) => "Closed",
     }
 }

@@ -2,6 +2,7 @@
 
 use crate::states::entry_draft::EntryDraft;
 use crate::states::entry_drafts::{build_entries, entry_drafts, have_names, have_texts};
+use crate::states::format::Format;
 use json_items::{Borrowed, Checked, Draft, Drafts, build_two, only, two};
 use serde_json::Value;
 use std::alloc::Global;
@@ -27,13 +28,13 @@ impl<'a> WorkerDraft<'a> {
     ghost use Rattle.controller_form.specs.States.EntryForm.{entry_draft};
     ghost use Rattle.controller_form.specs.States.WorkerForm as form;
 
-    /// The draft that a value is. Refuses `NotProfile`, and `Memory`.
+    /// The draft that a value is in a format. Refuses `NotProfile`, and `Memory`.
     #[tactic(auto, unfolding(crate::specs::States::WorkerForm::worker_draft))]
-    pub fn of(alloc: Global, value: &'a Value) -> Result<WorkerDraft<'a>, Refusal>
-        ensures { Gives drafted_worker result (form.worker_draft (view value.now)) }
+    pub fn of(alloc: Global, value: &'a Value, format: Format) -> Result<WorkerDraft<'a>, Refusal>
+        ensures { Gives drafted_worker result (form.worker_draft format (view value.now)) }
     {
         only(value, &["Entries", "Master", "Name"])?;
-        let entries = WorkerDraft::entries(alloc, value)?;
+        let entries = WorkerDraft::entries(alloc, value, format)?;
         let (master, name) = two(alloc, value, "Master", "Name")?;
         Ok(WorkerDraft {
             name,
@@ -43,13 +44,17 @@ impl<'a> WorkerDraft<'a> {
     }
 
     /// The drafts of the entries under `Entries`.
-    fn entries(alloc: Global, value: &'a Value) -> Result<Drafts<EntryDraft<'a>>, Refusal>
-        ensures { Gives drafted_entries result
-            (option_and_then (list_form entry_draft) (get (codes "Entries") (view value.now))) }
+    fn entries(
+        alloc: Global,
+        value: &'a Value,
+        format: Format,
+    ) -> Result<Drafts<EntryDraft<'a>>, Refusal>
+        ensures { Gives drafted_entries result (option_and_then
+            (list_form (entry_draft format)) (get (codes "Entries") (view value.now))) }
     {
         let list = value.get("Entries").ok_or(Refusal::NotProfile)?;
         let items = list.as_array().ok_or(Refusal::NotProfile)?;
-        let drafts = entry_drafts(alloc, items.as_slice())?;
+        let drafts = entry_drafts(alloc, items.as_slice(), format)?;
         Ok(Drafts::new(drafts))
     }
 }

@@ -4,7 +4,7 @@
 
 use super::lent::Lent;
 use super::loads;
-use super::texts::{DONE_ENTRY, NO_ENTRY, RETURN_TAKEN, SUBMIT};
+use super::texts::{CLOSED_ENTRY, NO_ENTRY, RETURN_TAKEN, SUBMIT};
 use jdf_commands::{order_kept, take_kept};
 use keepers::{FailingKeep, Keep};
 use std::alloc::Global;
@@ -135,7 +135,10 @@ fn comes_to_the_same_end(rt: HostRuntime) -> Result<(), Fail> {
             }
             let done = does_all(rt.alloc(), &mut keep, usize::from(k), leaves_new);
             assert!(rt; done, "{k} {leaves_new}");
-            assert!(rt; loads(&mut keep, DONE_ENTRY.as_bytes()), "{k} {leaves_new}");
+            assert!(rt;
+                loads(&mut keep, CLOSED_ENTRY.as_bytes()),
+                "{k} {leaves_new}"
+            );
         }
     }
     Ok(())

@@ -1,15 +1,15 @@
 //! States of press, whose master is mis, and messages to it.
 
 /// A worker that has taken nothing yet.
-pub const NO_ENTRY: &str = r#"{"Format":1,"Worker":{"Entries":[],"Master":"mis","Name":"press"}}"#;
+pub const NO_ENTRY: &str = r#"{"Format":2,"Worker":{"Entries":[],"Master":"mis","Name":"press"}}"#;
 
 /// The worker that has taken the part of S1 at 110.
 pub const OPEN_ENTRY: &str =
-    r#"{"Format":1,"Worker":{"Entries":[{"At":110,"Part":{"AncestorPool":[{"JobPartID":"p0","NodeID":"n0"}],"Attr":{},"AuditPool":[],"ID":"n1","JDF":[],"JobID":"J1","JobPartID":"p1","ResourceLinkPool":[{"Usage":"Input","rRef":"r1"},{"Usage":"Output","rRef":"r2"}],"ResourcePool":[{"Attr":{},"Class":"Quantity","ID":"r2","Locked":false,"Name":"Component","SpawnIDs":["S1"],"SpawnStatus":"SpawnedRW","Status":"Unavailable"},{"Attr":{},"Class":"Consumable","ID":"r1","Locked":true,"Name":"Media","SpawnIDs":["S1"],"SpawnStatus":"SpawnedRO","Status":"Available"}],"SpawnID":"S1","Status":"Waiting","Type":"ConventionalPrinting"},"Phase":"Open"}],"Master":"mis","Name":"press"}}"#;
+    r#"{"Format":2,"Worker":{"Entries":[{"At":110,"ID":"S1","Part":{"AncestorPool":[{"JobPartID":"p0","NodeID":"n0"}],"Attr":{},"AuditPool":[],"ID":"n1","JDF":[],"JobID":"J1","JobPartID":"p1","ResourceLinkPool":[{"Usage":"Input","rRef":"r1"},{"Usage":"Output","rRef":"r2"}],"ResourcePool":[{"Attr":{},"Class":"Quantity","ID":"r2","Locked":false,"Name":"Component","SpawnIDs":["S1"],"SpawnStatus":"SpawnedRW","Status":"Unavailable"},{"Attr":{},"Class":"Consumable","ID":"r1","Locked":true,"Name":"Media","SpawnIDs":["S1"],"SpawnStatus":"SpawnedRO","Status":"Available"}],"SpawnID":"S1","Status":"Waiting","Type":"ConventionalPrinting"},"Phase":"Open"}],"Master":"mis","Name":"press"}}"#;
 
-/// The worker whose work on the part of S1 has ended at 130.
-pub const DONE_ENTRY: &str =
-    r#"{"Format":1,"Worker":{"Entries":[{"At":130,"Part":{"AncestorPool":[{"JobPartID":"p0","NodeID":"n0"}],"Attr":{},"AuditPool":[],"ID":"n1","JDF":[],"JobID":"J1","JobPartID":"p1","ResourceLinkPool":[{"Usage":"Input","rRef":"r1"},{"Usage":"Output","rRef":"r2"}],"ResourcePool":[{"Attr":{},"Class":"Quantity","ID":"r2","Locked":false,"Name":"Component","SpawnIDs":["S1"],"SpawnStatus":"SpawnedRW","Status":"Unavailable"},{"Attr":{},"Class":"Consumable","ID":"r1","Locked":true,"Name":"Media","SpawnIDs":["S1"],"SpawnStatus":"SpawnedRO","Status":"Available"}],"SpawnID":"S1","Status":"Completed","Type":"ConventionalPrinting"},"Phase":"Completed"}],"Master":"mis","Name":"press"}}"#;
+/// The worker whose work on the part of S1 ended at 130, and which gave it up.
+pub const CLOSED_ENTRY: &str =
+    r#"{"Format":2,"Worker":{"Entries":[{"At":130,"End":"Completed","ID":"S1","Phase":"Closed"}],"Master":"mis","Name":"press"}}"#;
 
 /// The part of S1 goes out to the worker.
 pub const SUBMIT: &str =

@@ -1,8 +1,9 @@
 -- What `show` writes of a controller.
-use Rattle.std.specs.Prelude.{ℕ, List, [], ◌∷◌, ◌++◌, codes}
+use Rattle.std.specs.Prelude.{ℕ, List, [], ◌∷◌, ◌++◌, codes, Option, Some, None}
 use Rattle.std.specs.List.{flat_map}
 use Rattle.serde_json.specs.Written.{compact_text}
 use Rattle.ticket_items.specs.SpawnId.{spawn_text}
+use Rattle.ticket_tree.specs.Part.{Copied}
 use Rattle.json_writer.specs.PartWritten.{part_data}
 use Rattle.json_writer.specs.Written.{shown_data}
 use Rattle.spawn.specs.Marking.{marks}
@@ -10,26 +11,31 @@ use Rattle.master_core.specs.Master as master
 use Rattle.worker_core.specs.Worker as worker
 use Rattle.worker_core.specs.declared.entry.Entry.{Entry}
 use Rattle.worker_core.specs.declared.stage.Stage.{Stage}
-use Rattle.worker_core.specs.declared.stage.Stage.TheVariants.{Open, Done}
+use Rattle.worker_core.specs.declared.stage.Stage.TheVariants.{Open, Done, Closed}
 
 -- the text of a master's ticket with the marks of what is out, and the end of its line
 abbrev pub master_text : master.Known → List ℕ
 master_text m =
     compact_text (shown_data (marks m.ticket.rows m.records) m.ticket) ++ 10 ∷ []
 
--- how far the work on a part is, in a word
-abbrev pub stage_word : Stage → List ℕ
-stage_word Open = codes "Open"
-stage_word (Done how) = worker.end_word how
+-- how far the work on a part is, in words
+abbrev pub stage_words : Stage → List ℕ
+stage_words Open = codes "Open"
+stage_words (Done how) = worker.end_word how
+stage_words (Closed how) = codes "Closed " ++ worker.end_word how
 
--- the id of a spawn and a word, with a space behind each
+-- the id of a spawn and words, with a space between
 abbrev pub entry_head : ℕ → List ℕ → List ℕ
-entry_head spawn word = spawn_text spawn ++ codes " " ++ word ++ codes " "
+entry_head spawn words = spawn_text spawn ++ codes " " ++ words
+
+-- the text of a part, if there is one, with a space before it
+abbrev pub part_tail : Option Copied → List ℕ
+part_tail None = []
+part_tail (Some p) = codes " " ++ compact_text (part_data p)
 
 -- the line of a worker's entry: its spawn, how far the work is, and the text of its part
 abbrev pub entry_line : Entry → List ℕ
-entry_line e =
-    entry_head e.part.spawn_id (stage_word e.phase) ++ compact_text (part_data e.part) ++ 10 ∷ []
+entry_line e = entry_head e.spawn_id (stage_words e.phase) ++ part_tail e.part ++ 10 ∷ []
 
 -- a line for each of several entries
 abbrev pub entry_lines : List Entry → List ℕ

@@ -31,22 +31,23 @@ fn master_text(alloc: Global, master: &Master) -> Result<Vec<u8>, Refusal>
     Ok(text)
 }
 
-/// How far the work on a part is, in a word.
-fn stage_word(stage: Stage) -> &'static str
-    ensures { result.now ≡ shown.stage_word stage }
+/// How far the work on a part is, in words.
+fn stage_words(stage: Stage) -> &'static str
+    ensures { result.now ≡ shown.stage_words stage }
 {
     match stage {
         Stage::Open => "Open",
-        Stage::Done(End::Completed) => "Completed",
-        Stage::Done(End::Aborted) => "Aborted",
+        Stage::Done(end) => end.word(),
+        Stage::Closed(End::Completed) => "Closed Completed",
+        Stage::Closed(End::Aborted) => "Closed Aborted",
     }
 }
 
-/// The id of a spawn and a word, with a space behind each.
-fn entry_head(alloc: Global, spawn: u32, word: &str) -> Result<String, AllocError>
-    ensures { IfOk result (λ head. string_bytes head ≡ shown.entry_head spawn word.now) }
+/// The id of a spawn and words, with a space between.
+fn entry_head(alloc: Global, spawn: u32, words: &str) -> Result<String, AllocError>
+    ensures { IfOk result (λ head. string_bytes head ≡ shown.entry_head spawn words.now) }
 {
-    format!(in alloc; "S{spawn} {word} ")
+    format!(in alloc; "S{spawn} {words}")
 }
 
 /// The text of a part.
@@ -57,13 +58,27 @@ fn part_text(alloc: Global, part: &Part) -> Result<Vec<u8>, AllocError>
     text_of(alloc, &value)
 }
 
+/// Appends the text of a part, if there is one, with a space before it.
+fn push_part(alloc: Global, line: &mut Vec<u8>, part: &Option<Part>) -> Result<(), AllocError>
+    ensures { OnOk result (line.new.items ≡ line.old.items ++ shown.part_tail part.now) }
+{
+    match part {
+        None => Ok(()),
+        Some(part) => {
+            let text = part_text(alloc, part)?;
+            line.push(b' ')?;
+            line.extend_from_slice(text.as_slice())
+        }
+    }
+}
+
 /// The line of an entry.
 fn entry_line(alloc: Global, entry: &Entry) -> Result<Vec<u8>, AllocError>
     ensures { IfOk result (λ line. line.items ≡ shown.entry_line entry.now) }
 {
-    let spawn = entry.part.spawn_id().number();
-    let mut line = entry_head(alloc, spawn, stage_word(entry.phase))?.into_bytes();
-    line.extend_from_slice(part_text(alloc, &entry.part)?.as_slice())?;
+    let spawn = entry.spawn_id.number();
+    let mut line = entry_head(alloc, spawn, stage_words(entry.phase))?.into_bytes();
+    push_part(alloc, &mut line, &entry.part)?;
     line.push(b'\n')?;
     Ok(line)
 }
@@ -79,8 +94,8 @@ fn push_entries(alloc: Global, text: &mut Vec<u8>, entries: &[Entry]) -> Result<
 }
 
 /// What a worker shows: a line for each of its entries in the order in which their parts were
-/// taken, with the spawn's id, `Open`, `Completed` or `Aborted`, and the part's text, with a space
-/// between. Refuses `Memory` alone.
+/// taken, with the spawn's id; `Open`, `Completed` or `Aborted` and the part's text, or `Closed` and
+/// one of the latter two where the part was given up; and a space between. Refuses `Memory` alone.
 pub fn worker_text(alloc: Global, worker: &Worker) -> Result<Vec<u8>, AllocError>
     ensures { IfOk result (λ text. text.items ≡ shown.worker_text worker.now) }
 {

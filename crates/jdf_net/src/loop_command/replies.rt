@@ -54,7 +54,7 @@ fn entry_of<'a>(worker: &'a Worker, spawn: SpawnId) -> Option<&'a Entry>
     worker
         .entries()
         .iter()
-        .find(|entry| entry.part.spawn_id() == spawn)
+        .find(|entry| entry.spawn_id == spawn)
 }
 
 /// What a worker takes an answer as.

@@ -1,7 +1,7 @@
 use Rattle.std.proofs.Common.{◌≡◌, ◌∙◌, ℕ, List, true, Some, Result, Ok, Err, OnOk, IfOk, refl, sym, ap, get_or, slice_set}
 use Rattle.std.proofs.lemmas.List.{set-get_or}
 use Rattle.std.specs.List.{position}
-use Rattle.std.specs.Option.{option_map}
+use Rattle.std.specs.Option.{option_and_then}
 use Rattle.controller.specs.declared.done.Done.{Done}
 use Rattle.worker_core.proofs.AtNumber.{found_there, write_at_number}
 use Rattle.worker_core.proofs.Kept.{number_of}
@@ -23,8 +23,8 @@ written (order.Resend s) at entries k x once here is = ap (slice_set entries k) 
 -- what goes out of the entry of an order's spawn
 gone_out : (o : Order) (at : ℕ) (w : Known) (x : Entry) → entry_of w.entries (spawn_of_order o) ≡ Some x → entry_message o w.name w.master (ordered_entry o at x) ≡ order_message o at w
 gone_out (order.Edit s e) at w x here = refl
-gone_out (order.Finish s how) at w x here = sym (ap (option_map (λ e. return_of w.name w.master (finished_entry how at e))) here)
-gone_out (order.Resend s) at w x here = sym (ap (option_map (return_of w.name w.master)) here)
+gone_out (order.Finish s how) at w x here = sym (ap (option_and_then (λ e. return_of w.name w.master (finished_entry how at e))) here)
+gone_out (order.Resend s) at w x here = sym (ap (option_and_then (return_of w.name w.master)) here)
 
 on_ok : {X E : Type 0} {P Q : Type 0} (result : Result X E) → OnOk result P → (P → Q) → OnOk result Q
 on_ok (Ok x) p f = f p

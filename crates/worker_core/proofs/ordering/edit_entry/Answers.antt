@@ -1,16 +1,14 @@
-use Rattle.std.proofs.Common.{◌≡◌, ◌∙◌, Option, None, Result, Ok, Err, IfNone, IfErr, subst}
-use Rattle.std.specs.Result.{IsErrAnd}
-use Rattle.ticket_items.specs.declared.refusal.Refusal.{Refusal}
-use Rattle.ticket_items.specs.declared.refusal.Refusal.TheVariants.{Memory}
+use Rattle.std.proofs.Common.{◌≡◌, None, IfSome, sym, subst}
 use Rattle.ticket_tree.specs.Part.{refusal_of_part}
-use Rattle.worker_core.proofs.Refusals.{edit_free}
+use Rattle.worker_core.proofs.Refusals.{edit_free, of_open}
 use Rattle.worker_core.proofs.ordering.edit_entry.Goals as goal
 
--- what isn't refused wants memory alone
-told_memory : {X : Type 0} (o : Option Refusal) (result : Result X Refusal) (e : Refusal) → IsErrAnd result (λ r. r ≡ e) → o ≡ None → IfNone o (e ≡ Memory) → IfErr result (λ r. r ≡ Memory)
-told_memory o (Ok x) e is free want = tt
-told_memory o (Err r) e is free want = is ∙ subst (λ q. IfNone q (e ≡ Memory)) free want
+pub edit_held-requires-clause-plain : goal.edit_held-requires-clause-plain
+edit_held-requires-clause-plain c = (edit_free c.args.edit c.args.entry.now c.requires).plain
 
-pub returns-in_err-apply-clause-memory : goal.returns-in_err-apply-clause-memory
-returns-in_err-apply-clause-memory c =
-    told_memory (refusal_of_part c.args.edit c.args.entry.now.part) c.from_residual.result c.in_err-apply.field-0.0 c.from_residual.ensures.1 (edit_free c.args.edit c.args.entry.now c.requires).part c.in_err-apply.ensures.memory
+pub edit_held-requires-clause-free : goal.edit_held-requires-clause-free
+edit_held-requires-clause-free c =
+    let e = c.args.edit in
+    let x = c.args.entry.now in
+    let free = edit_free e x c.requires in
+    subst (λ o. IfSome o (λ p. refusal_of_part e p ≡ None)) (sym (of_open x free.part free.opened).1) free.free

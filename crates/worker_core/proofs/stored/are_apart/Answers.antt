@@ -11,8 +11,8 @@ returns-then-not-branch c =
     let entries = c.args.entries.now in
     let i = c.loop-entry.entry-index in
     let e = c.entry-item.result in
-    let number : c.number.result ≡ e.part.spawn_id = c.number.ensures.value ∙ c.spawn_id.ensures in
-    let seen : has_number e.part.spawn_id (numbers (take i entries)) ≡ true =
+    let number : c.number.result ≡ e.spawn_id = c.number.ensures.value in
+    let seen : has_number e.spawn_id (numbers (take i entries)) ≡ true =
     ap (λ n. has_number n (numbers (take i entries))) (sym number) ∙ sym (c.loop-entry.invariant.seen c.number.result) ∙ not-false _ (sym c.in_ok-insert.ensures.added ∙ c.if-not-branch.true) in
     sym (entries_twice entries i e c.loop-entry-test.true c.entry-item.is seen)
 
@@ -22,14 +22,14 @@ loop-entry-preserved c =
     let i = c.loop-entry.entry-index in
     let e = c.entry-item.result in
     let so_far = numbers (take i entries) in
-    let number : c.number.result ≡ e.part.spawn_id = c.number.ensures.value ∙ c.spawn_id.ensures in
-    let more : numbers (take (i + 1) entries) ≡ so_far ++ e.part.spawn_id ∷ [] = ap numbers (front_more entries i e c.loop-entry-test.true c.entry-item.is) ∙ numbers_more (take i entries) e in
-    let new : has_number e.part.spawn_id so_far ≡ false =
+    let number : c.number.result ≡ e.spawn_id = c.number.ensures.value in
+    let more : numbers (take (i + 1) entries) ≡ so_far ++ e.spawn_id ∷ [] = ap numbers (front_more entries i e c.loop-entry-test.true c.entry-item.is) ∙ numbers_more (take i entries) e in
+    let new : has_number e.spawn_id so_far ≡ false =
     ap (λ n. has_number n so_far) (sym number) ∙ sym (c.loop-entry.invariant.seen c.number.result) ∙ not-true _ (sym c.in_ok-insert.ensures.added ∙ c.if-not-branch.false) in
     record {
       seen = λ n. inserted _ _ c.number.result c.in_ok-insert.ensures.updates n
           ∙ ap (λ b. b || (c.number.result == n)) (c.loop-entry.invariant.seen n)
           ∙ ap (λ m. has_number n so_far || (m == n)) number
-          ∙ sym (ap (has_number n) more ∙ has_more n e.part.spawn_id so_far);
-      apart = ap are_distinct_numbers more ∙ distinct-push e.part.spawn_id so_far c.loop-entry.invariant.apart new;
+          ∙ sym (ap (has_number n) more ∙ has_more n e.spawn_id so_far);
+      apart = ap are_distinct_numbers more ∙ distinct-push e.spawn_id so_far c.loop-entry.invariant.apart new;
     }

@@ -8,14 +8,14 @@ use Rattle.controller_form.proofs.states.entry_drafts.entry_drafts.Goals as goal
 
 pub returns-in_err-draft : goal.returns-in_err-draft
 returns-in_err-draft c =
-    let fails = Fails-each view c.in_err-draft.field-0.0 entry_draft c.args.items.now c.loop-item.item-index
+    let fails = Fails-each view c.in_err-draft.field-0.0 (entry_draft c.args.format) c.args.items.now c.loop-item.item-index
     c.item-item.result c.loop-item-test.true c.item-item.is c.in_err-draft.ensures in
     Gives-failed (λ v. drafted_entries v.items) c.from_residual-in_err-draft.result
     c.in_err-draft.field-0.0 _ c.from_residual-in_err-draft.ensures.1 fails
 
 pub loop-item-preserved : goal.loop-item-preserved
 loop-item-preserved c =
-    map-more_both (λ v. entry_draft (view v)) (λ d. Some (drafted_entry d))
+    map-more_both (λ v. entry_draft c.args.format (view v)) (λ d. Some (drafted_entry d))
     c.args.items.now c.loop-item.item-index c.item-item.result c.in_ok-draft.draft
     c.loop-item.drafts.items c.push.new.self.items c.loop-item-test.true c.item-item.is
     c.in_ok-draft.ensures c.loop-item.invariant c.in_ok-push.ensures.items
@@ -23,5 +23,5 @@ loop-item-preserved c =
 pub returns : goal.returns
 returns c =
     let all = sym (take_all c.loop-item.item-index c.args.items.now c.loop-item-test.false) in
-    each-all view entry_draft drafted_entry c.args.items.now c.loop-item.drafts.items
-    (ap (map (λ v. entry_draft (view v))) all ∙ c.loop-item.invariant)
+    each-all view (entry_draft c.args.format) drafted_entry c.args.items.now c.loop-item.drafts.items
+    (ap (map (λ v. entry_draft c.args.format (view v))) all ∙ c.loop-item.invariant)

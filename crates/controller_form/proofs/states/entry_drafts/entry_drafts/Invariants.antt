@@ -7,5 +7,5 @@ use Rattle.controller_form.proofs.states.entry_drafts.entry_drafts.Given as goal
 -- the drafts so far
 abbrev pub invariant-loop-item : goal.invariant-loop-item
 invariant-loop-item l =
-    map (λ v. entry_draft (view v)) (take l.item-index l.items)
+    map (λ v. entry_draft l.format (view v)) (take l.item-index l.items)
     ≡ map (λ d. Some (drafted_entry d)) l.drafts.items
