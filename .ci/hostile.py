@@ -13,6 +13,7 @@ import os
 import random
 import re
 import shutil
+import signal
 import socket
 import subprocess
 import sys
@@ -36,6 +37,16 @@ ROOM = 4 << 20
 # bytes for `{"a":1}`.
 AS_VALUES = 6
 SECONDS = 120
+# A child's memory counts that of the process that starts it, so a small one does: it leaves the
+# program's status and memory in a file.
+STARTS = """
+import os, subprocess, sys
+started = subprocess.Popen(sys.argv[2:])
+_, status, usage = os.wait4(started.pid, 0)
+started.returncode = status
+with open(sys.argv[1], "w") as measured:
+    print(status, usage.ru_maxrss * 1024, file=measured)
+"""
 
 
 class Ran:
@@ -44,12 +55,13 @@ class Ran:
     def __init__(self, words, given, file=None):
         self.given, self.words = given, words
         with tempfile.TemporaryFile() as stdin, tempfile.TemporaryFile() as out, \
-                tempfile.TemporaryFile() as told:
+                tempfile.TemporaryFile() as told, tempfile.NamedTemporaryFile("r") as measured:
             stdin.write(given)
             stdin.seek(0)
-            command = [ARGS.program, *words]
-            started = subprocess.Popen(command, stdin=stdin, stdout=out, stderr=told)
-            self.status, self.memory = ended(started)
+            command = [sys.executable, "-IS", "-c", STARTS, measured.name, ARGS.program, *words]
+            ended(subprocess.Popen(command, stdin=stdin, stdout=out, stderr=told, start_new_session=True))
+            status, self.memory = map(int, measured.read().split())
+            self.status = os.waitstatus_to_exitcode(status)
             out.seek(0)
             told.seek(0)
             self.out = out.read().decode("utf-8", "surrogateescape")
@@ -60,7 +72,7 @@ class Ran:
 def ended(started):
     """The status of a child, and the most memory that it had in bytes. It is killed if it hangs."""
     def hangs(*_):
-        started.kill()
+        os.killpg(os.getpgid(started.pid), signal.SIGKILL)
         raise AssertionError(f"no end within {SECONDS} s")
     signal_after(SECONDS, hangs)
     try:
@@ -72,7 +84,6 @@ def ended(started):
 
 
 def signal_after(seconds, call):
-    import signal
     signal.signal(signal.SIGALRM, call)
     signal.alarm(seconds)
 
@@ -242,7 +253,7 @@ def run_served(chance, folder):
     words = ["serve", "state.json", "--listen", "127.0.0.1:0", "--limit", "60"]
     with open("log", "wb") as log:
         served = subprocess.Popen([ARGS.program, *words, "--requests", str(count)],
-                                  stdout=subprocess.PIPE, stderr=log)
+                                  stdout=subprocess.PIPE, stderr=log, start_new_session=True)
     port = int(served.stdout.readline().decode().rsplit(":", 1)[1])
     size = 0
     for _ in range(count):

@@ -1,6 +1,5 @@
 mod commands;
 mod counts;
-mod exchanges;
 mod failing_keep;
 mod failing_streams;
 mod fakes;
