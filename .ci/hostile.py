@@ -58,10 +58,7 @@ class Ran:
                 tempfile.TemporaryFile() as told, tempfile.NamedTemporaryFile("r") as measured:
             stdin.write(given)
             stdin.seek(0)
-            command = [sys.executable, "-IS", "-c", STARTS, measured.name, ARGS.program, *words]
-            ended(subprocess.Popen(command, stdin=stdin, stdout=out, stderr=told, start_new_session=True))
-            status, self.memory = map(int, measured.read().split())
-            self.status = os.waitstatus_to_exitcode(status)
+            self.status, self.memory = ended(started(words, measured, stdin, out, told), measured)
             out.seek(0)
             told.seek(0)
             self.out = out.read().decode("utf-8", "surrogateescape")
@@ -69,18 +66,24 @@ class Ran:
         self.file = file
 
 
-def ended(started):
-    """The status of a child, and the most memory that it had in bytes. It is killed if it hangs."""
+def started(words, measured, stdin, out, told):
+    """A process that starts the program, and leaves what becomes of it in a file."""
+    return subprocess.Popen([sys.executable, "-IS", "-c", STARTS, measured.name, ARGS.program, *words],
+                            stdin=stdin, stdout=out, stderr=told, start_new_session=True)
+
+
+def ended(starter, measured):
+    """The program's status, and the most memory that it had in bytes. It is killed if it hangs."""
     def hangs(*_):
-        os.killpg(os.getpgid(started.pid), signal.SIGKILL)
+        os.killpg(starter.pid, signal.SIGKILL)
         raise AssertionError(f"no end within {SECONDS} s")
     signal_after(SECONDS, hangs)
     try:
-        _, status, usage = os.wait4(started.pid, 0)
+        starter.wait()
     finally:
         signal_after(0, hangs)
-    started.returncode = os.waitstatus_to_exitcode(status)
-    return started.returncode, usage.ru_maxrss * 1024
+    status, memory = map(int, measured.read().split())
+    return os.waitstatus_to_exitcode(status), memory
 
 
 def signal_after(seconds, call):
@@ -251,15 +254,15 @@ def run_served(chance, folder):
     put(state(chance, kind))
     count = chance.randrange(1, 12)
     words = ["serve", "state.json", "--listen", "127.0.0.1:0", "--limit", "60"]
-    with open("log", "wb") as log:
-        served = subprocess.Popen([ARGS.program, *words, "--requests", str(count)],
-                                  stdout=subprocess.PIPE, stderr=log, start_new_session=True)
-    port = int(served.stdout.readline().decode().rsplit(":", 1)[1])
-    size = 0
-    for _ in range(count):
-        size = max(size, ask(chance, port))
-    status, memory = ended(served)
-    served.stdout.close()
+    with open("log", "wb") as log, tempfile.NamedTemporaryFile("r") as measured:
+        words += ["--requests", str(count)]
+        served = started(words, measured, None, subprocess.PIPE, log)
+        port = int(served.stdout.readline().decode().rsplit(":", 1)[1])
+        size = 0
+        for _ in range(count):
+            size = max(size, ask(chance, port))
+        status, memory = ended(served, measured)
+        served.stdout.close()
     wants(status == 0, "status", status)
     needs_little(words, memory, size)
     wants(Ran(["show", "state.json"], b"").status == 0, "what was saved isn't read")
