@@ -1,0 +1,163 @@
+//! One exchange over HTTP, of which each read and each write is cut in turn. Both go a byte a call.
+
+use super::lent::Lent;
+use super::loads;
+use super::texts::{NO_ENTRY, OPEN_ENTRY, SUBMIT};
+use http_edge::{Counted, Cut, CutReader, CutWriter, EdgeFault, serve_one};
+use keepers::{Keep, MemoryKeep};
+use std::alloc::{AllocError, Global};
+use std::test::Fail;
+use stored_state::{Kept, Refused};
+use worker_core::Worker;
+
+const HEAD: &str = "POST /jmf HTTP/1.1\r\nHost: press\r\nContent-Length: 809\r\n\r\n";
+
+const RESPONSE: &str =
+    "HTTP/1.1 200 OK\r\nContent-Type: application/json\r\nContent-Length: 227\r\nConnection: close\r\n\r\n{\"JMF\":{\"ReceiverID\":\"mis\",\"Response\":{\"ID\":\"Q.S1.a\",\"QueueEntry\":{\"QueueEntryID\":\"S1\",\"Status\":\"Running\"},\"Reason\":0,\"ReturnCode\":0,\"Type\":\"SubmitQueueEntry\",\"refID\":\"Q.S1\"},\"SenderID\":\"press\",\"TimeStamp\":110,\"Version\":\"1.5\"}}";
+
+/// What is cut, and at which call; no call has the number 0.
+type CutAt = (Cut, usize);
+
+const WHOLE: CutAt = (Cut::Interrupts, 0);
+
+/// The request that carries the part.
+fn request(alloc: Global) -> Result<Vec<u8>, AllocError> {
+    let mut request = Vec::from_slice(alloc, HEAD.as_bytes())?;
+    request.extend_from_slice(SUBMIT.as_bytes())?;
+    Ok(request)
+}
+
+/// A keeper of a worker that has taken nothing.
+fn keep(alloc: Global) -> Result<MemoryKeep, AllocError> {
+    Ok(MemoryKeep::new(Vec::from_slice(alloc, NO_ENTRY.as_bytes())?))
+}
+
+/// What a request comes to, and what was written.
+#[derive(Drop)]
+struct Exchange {
+    status: Result<u16, EdgeFault>,
+    written: Vec<u8>,
+}
+
+/// Serves the request of a reader and a writer that are cut so.
+fn serve_kept<K: Keep>(
+    alloc: Global,
+    kept: &mut Kept<Worker, K>,
+    request: &[u8],
+    read: CutAt,
+    write: CutAt,
+) -> Exchange {
+    let mut reader = Counted::new(CutReader::new(request, read.0, read.1 as u64));
+    let mut writer = Counted::new(CutWriter::new(alloc, write.0, write.1 as u64));
+    let served = serve_one(alloc, &mut reader, &mut writer, kept, 110);
+    Exchange {
+        status: served.map(|served| served.status),
+        written: writer.into_inner().taken,
+    }
+}
+
+/// The same, to the worker that a keeper holds. None where it can't be opened.
+fn serve_over(
+    alloc: Global,
+    keep: &mut MemoryKeep,
+    request: &[u8],
+    read: CutAt,
+    write: CutAt,
+) -> Option<Exchange> {
+    let opened: Result<Kept<Worker, Lent<'_, MemoryKeep>>, Refused> = Kept::open(
+        alloc,
+        Lent::new(keep),
+    );
+    match opened {
+        Ok(mut kept) => {
+            let exchange = serve_kept(alloc, &mut kept, request, read, write);
+            drop(kept);
+            Some(exchange)
+        }
+        Err(_) => None,
+    }
+}
+
+/// Whether the exchange comes to this, and as many bytes of the response are written.
+fn comes_to(exchange: Option<Exchange>, status: Result<u16, EdgeFault>, length: usize) -> bool {
+    match exchange {
+        Some(exchange) => {
+            exchange.status == status
+                && exchange.written.len() == length
+                && RESPONSE.as_bytes().starts_with(exchange.written.as_slice())
+        }
+        None => false,
+    }
+}
+
+/// Whether a request of which this read fails changes nothing and is answered by nothing.
+fn is_unread(alloc: Global, keep: &mut MemoryKeep, request: &[u8], read: CutAt) -> bool {
+    let exchange = serve_over(alloc, keep, request, read, WHOLE);
+    comes_to(exchange, Err(EdgeFault::ReadFailed), 0) && loads(keep, NO_ENTRY.as_bytes())
+}
+
+/// Whether a request of which no read fails is answered, and its part taken.
+fn is_served(alloc: Global, keep: &mut MemoryKeep, request: &[u8], read: CutAt) -> bool {
+    let exchange = serve_over(alloc, keep, request, read, WHOLE);
+    comes_to(exchange, Ok(200), RESPONSE.len()) && loads(keep, OPEN_ENTRY.as_bytes())
+}
+
+/// Whether the part is taken where this write fails, and the request, that comes again, is answered.
+fn is_unwritten(alloc: Global, keep: &mut MemoryKeep, request: &[u8], write: CutAt) -> bool {
+    let written = write.1.saturating_sub(1);
+    let exchange = serve_over(alloc, keep, request, WHOLE, write);
+    comes_to(exchange, Err(EdgeFault::WriteFailed), written)
+        && loads(keep, OPEN_ENTRY.as_bytes())
+        && is_served(alloc, keep, request, WHOLE)
+}
+
+#[test]
+fn a_read_fails(rt: HostRuntime) -> Result<(), Fail> {
+    let request = request(rt.alloc())?;
+    let mut keep = keep(rt.alloc())?;
+    for at in 1..=request.len() {
+        let read = (Cut::Fails, at);
+        assert!(rt;
+            is_unread(rt.alloc(), &mut keep, request.as_slice(), read),
+            "{at}"
+        );
+    }
+    for at in [1, 57] {
+        let read = (Cut::InterruptsOn, at);
+        assert!(rt;
+            is_unread(rt.alloc(), &mut keep, request.as_slice(), read),
+            "{at}"
+        );
+    }
+    Ok(())
+}
+
+#[test]
+fn a_read_is_made_again(rt: HostRuntime) -> Result<(), Fail> {
+    let request = request(rt.alloc())?;
+    for at in 0..=request.len() {
+        let mut keep = keep(rt.alloc())?;
+        let read = (Cut::Interrupts, at);
+        assert!(rt;
+            is_served(rt.alloc(), &mut keep, request.as_slice(), read),
+            "{at}"
+        );
+    }
+    Ok(())
+}
+
+#[test]
+fn a_write_fails(rt: HostRuntime) -> Result<(), Fail> {
+    let request = request(rt.alloc())?;
+    for cut in [Cut::Fails, Cut::Ends, Cut::Interrupts] {
+        for at in 1..=RESPONSE.len() {
+            let mut keep = keep(rt.alloc())?;
+            let write = (cut, at);
+            assert!(rt;
+                is_unwritten(rt.alloc(), &mut keep, request.as_slice(), write),
+                "{at}"
+            );
+        }
+    }
+    Ok(())
+}
