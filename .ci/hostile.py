@@ -4,8 +4,7 @@
 Each case has a number, and is the same in each run. It is a text that fits, as a rule damaged: cut,
 doubled, swapped. The program must end by itself, with a status that is documented, and tell what
 is documented; leave a file as it was where it refuses the form of what it reads; and need at most
-as many times the memory of its input as --times says (0: any), or six times that where it isn't
-`edit`. The last line says how many cases passed. --first and --cases run one again by its number.
+as many times the memory of its input as --times says (0: any), or 150 times where it isn't `edit`. The last line says how many cases passed. --first and --cases run one again by its number.
 """
 import argparse
 import json
@@ -35,7 +34,7 @@ LINE = re.compile(f"(?:{REFUSED}|{REPLIES}|Stopped|Restarted|NoMessage)(?: #[1-9
 ROOM = 4 << 20
 # What is read as values of `serde_json`, not as a tree, needs so many times more: some 800
 # bytes for `{"a":1}`.
-AS_VALUES = 6
+AS_VALUES = 150
 SECONDS = 120
 # A child's memory counts that of the process that starts it, so a small one does: it leaves the
 # program's status and memory in a file.
@@ -150,8 +149,8 @@ def ends_well(ran):
 
 def needs_little(words, memory, size):
     """Memory by the size of the input."""
-    times = ARGS.times * (1 if words in ([], ["edit"]) else AS_VALUES)
-    wants(not times or memory <= times * size + ARGS.base, memory, "bytes of memory for", size)
+    times = ARGS.times if words in ([], ["edit"]) else AS_VALUES
+    wants(not ARGS.times or memory <= times * size + ARGS.base, memory, "bytes of memory for", size)
 
 
 def reads_json(ran):
@@ -375,7 +374,7 @@ def arguments():
     parser.add_argument("program", type=os.path.realpath)
     parser.add_argument("--cases", type=int, default=1500)
     parser.add_argument("--first", type=int, default=1)
-    parser.add_argument("--times", type=int, default=25)
+    parser.add_argument("--times", type=int, default=40)
     parser.add_argument("--most", type=int, default=4 << 20)
     return parser.parse_args()
 
