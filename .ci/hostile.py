@@ -4,7 +4,8 @@
 Each case has a number, and is the same in each run. It is a text that fits, as a rule damaged: cut,
 doubled, swapped. The program must end by itself, with a status that is documented, and tell what
 is documented; leave a file as it was where it refuses the form of what it reads; and need at most
-as many times the memory of its input as --times says (0: any), or 150 times where it isn't `edit`. The last line says how many cases passed. --first and --cases run one again by its number.
+as many times the memory of its input as --times says (0: any), or 150 times where it isn't
+`edit`. The last line says how many cases passed. --first and --cases run one again by its number.
 """
 import argparse
 import json
