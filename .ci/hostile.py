@@ -4,8 +4,9 @@
 Each case has a number, and is the same in each run. It is a text that fits, as a rule damaged: cut,
 doubled, swapped. The program must end by itself, with a status that is documented, and tell what
 is documented; leave a file as it was where it refuses the form of what it reads; and need at most
-as many times the memory of its input as --times says (0: any), or 150 times where it isn't
-`edit`. The last line says how many cases passed. --first and --cases run one again by its number.
+as many times the memory of its input as --times says (0: any), or six times that where it isn't
+`edit`; four large inputs may need more. The last line says how many cases passed. --first and
+--cases run one again by its number.
 """
 import argparse
 import json
@@ -35,7 +36,9 @@ LINE = re.compile(f"(?:{REFUSED}|{REPLIES}|Stopped|Restarted|NoMessage)(?: #[1-9
 ROOM = 4 << 20
 # What is read as values of `serde_json`, not as a tree, needs so many times more: some 800
 # bytes for `{"a":1}`.
-AS_VALUES = 150
+AS_VALUES = 6
+# Large inputs that need more than they should, and how many times their size.
+NEED_MORE = {"members for edit": 35, "pairs for edit": 35, "notes": 35, "links": 40}
 SECONDS = 120
 # A child's memory counts that of the process that starts it, so a small one does: it leaves the
 # program's status and memory in a file.
@@ -134,7 +137,7 @@ def depth_of(text):
     return most
 
 
-def ends_well(ran):
+def ends_well(ran, times=None):
     """A status that is documented, what it goes with, and memory by the size of the input."""
     wants(ran.status in (0, 1, 2, 3, 4), "status", ran.status, ran.told)
     if ran.status == 0:
@@ -145,12 +148,12 @@ def ends_well(ran):
         told = TOLD.fullmatch(ran.told)
         wants(told and NAMES.get(told[1]) == told[2], "told", ran.told)
         wants(ran.status == 4 or ran.out == "", "printed beside status 3:", ran.out[:200])
-    needs_little(ran.words, ran.memory, len(ran.given))
+    needs_little(ran.words, ran.memory, len(ran.given), times)
 
 
-def needs_little(words, memory, size):
-    """Memory by the size of the input."""
-    times = ARGS.times if words in ([], ["edit"]) else AS_VALUES
+def needs_little(words, memory, size, times=None):
+    """Memory by the size of the input: at most so many times that, or what the arguments say."""
+    times = times or ARGS.times * (1 if words in ([], ["edit"]) else AS_VALUES)
     wants(not ARGS.times or memory <= times * size + ARGS.base, memory, "bytes of memory for", size)
 
 
@@ -362,7 +365,7 @@ def large(name, words, given):
     def call(chance, folder):
         put(state(chance, "master"))
         ran = Ran(words, given)
-        ends_well(ran)
+        ends_well(ran, NEED_MORE.get(name))
         reads_json(ran)
         times = (ran.memory - ARGS.base + ROOM) / len(given)
         print(f"  {name}: {len(given)} bytes, status {ran.status}, memory {times:.1f} times that")
@@ -375,7 +378,7 @@ def arguments():
     parser.add_argument("program", type=os.path.realpath)
     parser.add_argument("--cases", type=int, default=1500)
     parser.add_argument("--first", type=int, default=1)
-    parser.add_argument("--times", type=int, default=40)
+    parser.add_argument("--times", type=int, default=25)
     parser.add_argument("--most", type=int, default=4 << 20)
     return parser.parse_args()
 
