@@ -1,7 +1,7 @@
 use std::io::ErrorKind;
 
-/// What becomes of a call of a reader or a writer that is cut, for tests of what stands on them (our
-/// own).
+/// What becomes of a call of a reader or a writer that is cut, for tests of what stands on them
+/// (our own).
 #[derive(Clone, Copy)]
 pub enum Cut {
     /// It fails, and so do those behind it.

@@ -1,10 +1,9 @@
 -- Calls over files.
-use Rattle.std.proofs.Common.{◌≡◌, ℕ, refl, subst, sym}
+use Rattle.std.proofs.Common.{◌≡◌, ℕ, refl}
 use Rattle.jdf_commands.specs.Calls.{EndsCall}
 use Rattle.jdf_words.specs.declared.call.Call.{Call}
 use Rattle.jdf_words.specs.declared.call.Call.TheVariants.{Edit, World, Loop, New, Order, SendOrder, Take, Show, Serve, Send}
 use Rattle.streams.specs.Streams.{Use}
-use Rattle.jdf_net.specs.OrderCommand.{EndsSendOrder}
 use Rattle.jdf_net.specs.Words.{EndsAnyCall}
 
 -- a call that is none over the network ends as it does over files
@@ -22,7 +21,3 @@ over_files (Take file at) i o t s loops orders serves sends ends = ends
 over_files (Show file) i o t s loops orders serves sends ends = ends
 over_files (Serve file listen limit requests) i o t s loops orders serves sends ends = absurd (serves file listen limit requests refl)
 over_files (Send url file) i o t s loops orders serves sends ends = absurd (sends url file refl)
-
--- one that sends an order's message on ends as that does
-pub sends_on : (call : Call) (file : _) (at : ℕ) (url : _) (input output told : Use) (status : ℕ) → call ≡ SendOrder file at url → EndsSendOrder (Order file at) input output told status → EndsAnyCall call input output told status
-sends_on call file at url i o t s is ends = subst (λ (x : Call). EndsAnyCall x i o t s) (sym is) ends

@@ -42,7 +42,8 @@ pub record TellsHelp (words : List (String Global)) (input output : Use) (status
   pub unwritten : IsUntouched output
   pub no_call : status ≡ NO_CALL
 
--- the call of the words is run; or they are told to stand for none; or memory ran out for reading them
+-- the call of the words is run; or they are told to stand for none; or memory ran out for reading
+-- them
 abbrev pub EndsWords : List (String Global) → Use → Use → Use → ℕ → Type 0
 EndsWords words input output told status =
     ((call : Call) × IsCallOf words call × EndsAnyCall call input output told status)

@@ -1,5 +1,5 @@
-//! The command `order` with `--send`: an order, what it sends to a controller that serves over HTTP,
-//! and what that answers.
+//! The command `order` with `--send`: an order, what it sends to a controller that serves over
+//! HTTP, and what that answers.
 
 mod run;
 mod send_order;

@@ -90,7 +90,8 @@ impl<'a> NodeDraft<'a> {
         show_nothing(self.resources.as_slice())
     }
 
-    /// Whether its ids and names, and its texts, are valid, and its resources show nothing of spawns.
+    /// Whether its ids and names, and its texts, are valid, and its resources show nothing of
+    /// spawns.
     pub fn checks(&self) -> Checks
         ensures { result ≡ row_checks (drafted_raw self.now) }
     {

@@ -52,8 +52,8 @@ fn tell(alloc: Global, ticket: &mut Ticket, spawn: &SpawnRec, at: u64) -> Result
     ticket.append(alloc, &parent, audit)
 }
 
-/// Merges a part that fits, as `merge` does, without asking whether it does. Refuses `Memory` alone,
-/// and then changes nothing.
+/// Merges a part that fits, as `merge` does, without asking whether it does. Refuses `Memory`
+/// alone, and then changes nothing.
 pub fn merge_fitting(
     alloc: Global,
     ticket: &mut Ticket,

@@ -1,5 +1,6 @@
 -- The row that an edit changes, by its place.
-use Rattle.std.specs.Prelude.{ℕ, ◌+◌, List, drop, if◌then◌else◌, nat_le, Option, slice_get, slice_set}
+use Rattle.std.specs.Prelude.{ℕ, ◌+◌, List, drop, if◌then◌else◌, nat_le, Option, slice_get}
+use Rattle.std.specs.Prelude.{slice_set}
 use Rattle.std.specs.List.{list_any, position, position_or_len}
 use Rattle.std.specs.Option.{option_map_or}
 use Rattle.std.specs.Str.{bytes_eq}

@@ -15,12 +15,7 @@ use ticket_items::{Id, NodeRow};
 pub(crate) type HomeIndex = IndexMap<Id, Spot>;
 
 /// Puts a spot under an id, unless there is one.
-fn add_spot(
-    homes: &mut HomeIndex,
-    id: &Id,
-    home: &Id,
-    place: usize,
-) -> Result<(), AllocError>
+fn add_spot(homes: &mut HomeIndex, id: &Id, home: &Id, place: usize) -> Result<(), AllocError>
     ensures { OnOk result ((x : List ℕ) → get bytes_eq homes.new x
         ≡ option_map_or Some (get bytes_eq homes.old x)
         (if bytes_eq id.now x then Some (spot_at home.now place) else None)) }

@@ -8,7 +8,8 @@ use std::alloc::{AllocError, Global};
 use std::marker::Model;
 use ticket_items::{Audit, Duplicate, Edit, Id, NodeRow, Resource, copies};
 
-/// The nodes of a ticket in preorder. Each node and each resource is found by its id without a walk.
+/// The nodes of a ticket in preorder. Each node and each resource is found by its id without a
+/// walk.
 #[derive(Drop)]
 pub struct IndexedRows {
     rows: Vec<NodeRow>,
@@ -215,10 +216,7 @@ impl IndexedRows {
             self.old ≡ Some home }
         ensures { self.new ≡ one.replaced_resource resource self.old }
     {
-        let from = self
-            .homes
-            .get(&resource.id)
-            .map_or(0, |spot| spot.place);
+        let from = self.homes.get(&resource.id).map_or(0, |spot| spot.place);
         at_place::replace_resource(&mut self.rows, home, from, resource);
     }
 }

@@ -118,12 +118,12 @@ fn send_on<R: Locks + Net + Clock, W: Write, F: Write>(
 }
 
 /// Gives the controller in a file the order that the input is, as `order` does, and writes the line
-/// of its reply. A message that goes out is posted to the controller that serves at a URL, as `send`
-/// does, in place of being written; the answer is handed to the controller in the file, as `take`
-/// does at the same time, and what that writes is written. Each step is saved before its line is
-/// written; the file is locked for each step alone. Answers the exit status: 0; 1 where the order,
-/// the message or the answer was refused; for a text that is no such URL 2, and then nothing is
-/// read; else that of the fault, which is told, as of `order`, `send` or `take`. The message may
+/// of its reply. A message that goes out is posted to the controller that serves at a URL, as
+/// `send` does, in place of being written; the answer is handed to the controller in the file, as
+/// `take` does at the same time, and what that writes is written. Each step is saved before its
+/// line is written; the file is locked for each step alone. Answers the exit status: 0; 1 where the
+/// order, the message or the answer was refused; for a text that is no such URL 2, and then nothing
+/// is read; else that of the fault, which is told, as of `order`, `send` or `take`. The message may
 /// have been taken then; it can be sent once more by `Resend`.
 pub fn run_send_order<R: Locks + Net + Clock, I: Read, W: Write, F: Write>(
     rt: &R,

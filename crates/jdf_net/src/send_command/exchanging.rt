@@ -41,8 +41,8 @@ pub(crate) fn read_message<R: Files, I: Read>(
 }
 
 /// Posts a message to a URL, and reads the response, for `EXCHANGE_SECONDS` at most. Refuses
-/// `NoConnection`, also where the clock can't be read; `WriteFailed`; and what `receive` refuses the
-/// response for.
+/// `NoConnection`, also where the clock can't be read; `WriteFailed`; and what `receive` refuses
+/// the response for.
 pub(crate) fn post<R: Net + Clock>(
     rt: &R,
     alloc: Global,

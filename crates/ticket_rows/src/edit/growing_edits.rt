@@ -46,7 +46,8 @@ fn last_spot(row: &NodeRow) -> Result<Spot, AllocError>
     })
 }
 
-/// Puts a node last among the children of the one at a place, and its id into the index of the rows.
+/// Puts a node last among the children of the one at a place, and its id into the index of the
+/// rows.
 pub fn add_node(
     alloc: Global,
     rows: &mut Vec<NodeRow>,
