@@ -3,11 +3,11 @@
 use super::lent::Lent;
 use super::loads;
 use super::texts::{NO_ENTRY, OPEN_ENTRY, SUBMIT};
-use http_edge::{Counted, Cut, CutReader, CutWriter, EdgeFault, serve_one};
+use http_edge::{Counted, Cut, CutReader, CutWriter, EdgeFault, Served, serve_one};
 use keepers::{Keep, MemoryKeep};
 use std::alloc::{AllocError, Global};
 use std::test::Fail;
-use stored_state::{Kept, Refused};
+use stored_state::{Kept, Refused, Stored};
 use worker_core::Worker;
 
 const HEAD: &str = "POST /jmf HTTP/1.1\r\nHost: press\r\nContent-Length: 809\r\n\r\n";
@@ -39,24 +39,28 @@ struct Exchange {
     written: Vec<u8>,
 }
 
-/// Serves the request of a reader and a writer that are cut so.
-fn serve_kept<K: Keep>(
-    alloc: Global,
-    kept: &mut Kept<Worker, K>,
-    request: &[u8],
-    read: CutAt,
-    write: CutAt,
-) -> Exchange {
-    let mut reader = Counted::new(CutReader::new(request, read.0, read.1 as u64));
-    let mut writer = Counted::new(CutWriter::new(alloc, write.0, write.1 as u64));
-    let served = serve_one(alloc, &mut reader, &mut writer, kept, 110);
-    Exchange {
-        status: served.map(|served| served.status),
-        written: writer.into_inner().taken,
+/// The status of what was served.
+fn status_of(served: Result<Served, EdgeFault>) -> Result<u16, EdgeFault> {
+    match served {
+        Ok(served) => Ok(served.status),
+        Err(fault) => Err(fault),
     }
 }
 
-/// The same, to the worker that a keeper holds. None where it can't be opened.
+/// Serves the request of a reader that is cut so.
+fn serve_kept<C: Stored, K: Keep>(
+    alloc: Global,
+    kept: &mut Kept<C, K>,
+    request: &[u8],
+    read: CutAt,
+    writer: &mut Counted<CutWriter>,
+) -> Result<u16, EdgeFault> {
+    let mut reader = Counted::new(CutReader::new(request, read.0, read.1 as u64));
+    status_of(serve_one(alloc, &mut reader, writer, kept, 110))
+}
+
+/// Serves the request of a reader and a writer that are cut so, to the worker that is kept. None
+/// where it can't be opened.
 fn serve_over(
     alloc: Global,
     keep: &mut MemoryKeep,
@@ -64,18 +68,19 @@ fn serve_over(
     read: CutAt,
     write: CutAt,
 ) -> Option<Exchange> {
+    let mut writer = Counted::new(CutWriter::new(alloc, write.0, write.1 as u64));
     let opened: Result<Kept<Worker, Lent<'_, MemoryKeep>>, Refused> = Kept::open(
         alloc,
         Lent::new(keep),
     );
-    match opened {
-        Ok(mut kept) => {
-            let exchange = serve_kept(alloc, &mut kept, request, read, write);
-            drop(kept);
-            Some(exchange)
-        }
-        Err(_) => None,
-    }
+    let status = match opened {
+        Ok(mut kept) => serve_kept(alloc, &mut kept, request, read, &mut writer),
+        Err(_) => return None,
+    };
+    Some(Exchange {
+        status,
+        written: writer.into_inner().taken,
+    })
 }
 
 /// Whether the exchange comes to this, and as many bytes of the response are written.
