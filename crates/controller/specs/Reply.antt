@@ -1,11 +1,12 @@
 -- What a controller replies, and the answer that a command gets.
-use Rattle.std.specs.Prelude.{ℕ, List, codes, Option, Some, None, Result, Ok, Err}
+use Rattle.std.specs.Prelude.{ℕ, Bool, true, false, List, codes, Option, Some, None, Result, Ok}
+use Rattle.std.specs.Prelude.{Err}
 use Rattle.std.specs.Option.{option_map}
 use Rattle.ticket_items.specs.Refusal.{number_of}
 use Rattle.ticket_items.specs.declared.refusal.Refusal.{Refusal}
 pub use Rattle.controller.specs.Words.{is_answer, spawn_in}
 use Rattle.controller.specs.declared.body.Body.{Body}
-use Rattle.controller.specs.declared.body.Body.TheVariants.{Submit, Return, Answer}
+use Rattle.controller.specs.declared.body.Body.TheVariants.{Submit, Return, Abort, Answer}
 use Rattle.controller.specs.declared.command.Command.{Command}
 use Rattle.controller.specs.declared.command.Command.TheVariants as command
 use Rattle.controller.specs.declared.message.Message.{Message}
@@ -17,6 +18,7 @@ use Rattle.controller.specs.declared.reply.Reply.TheVariants as replies
 abbrev pub command_given : Body → Option Command
 command_given (Submit p) = Some command.Submit
 command_given (Return p) = Some command.Return
+command_given (Abort s) = Some command.Abort
 command_given (Answer c s told) = None
 
 -- a reply, or the refusal in its place
@@ -52,6 +54,10 @@ word_of (replies.Noted s) = codes "Noted"
 word_of (replies.Taken s) = codes "Taken"
 word_of (replies.Again s) = codes "Again"
 word_of (replies.Acked s) = codes "Acked"
+word_of (replies.Asked s) = codes "Asked"
+word_of (replies.Declined s) = codes "Declined"
+word_of (replies.Ended s) = codes "Ended"
+word_of (replies.Freed s) = codes "Freed"
 
 -- the spawn that a reply tells of
 abbrev pub spawn_told : Reply → Option ℕ
@@ -65,3 +71,12 @@ spawn_told (replies.Noted s) = Some s
 spawn_told (replies.Taken s) = Some s
 spawn_told (replies.Again s) = Some s
 spawn_told (replies.Acked s) = Some s
+spawn_told (replies.Asked s) = Some s
+spawn_told (replies.Declined s) = Some s
+spawn_told (replies.Ended s) = Some s
+spawn_told (replies.Freed s) = Some s
+
+-- whether a reply tells that a spawn is freed
+abbrev pub is_freed : Reply → Bool
+is_freed (replies.Freed s) = true
+is_freed _ = false

@@ -4,7 +4,7 @@ use Rattle.std.specs.Prelude.{Option, Some, None, Result, Ok, Err}
 use Rattle.std.specs.Str.{bytes_eq}
 use Rattle.ticket_items.specs.SpawnId.{spawn_text}
 use Rattle.controller.specs.declared.body.Body.{Body}
-use Rattle.controller.specs.declared.body.Body.TheVariants.{Submit, Return, Answer}
+use Rattle.controller.specs.declared.body.Body.TheVariants.{Submit, Return, Abort, Answer}
 use Rattle.controller.specs.declared.command.Command.{Command}
 use Rattle.controller.specs.declared.command.Command.TheVariants as commands
 use Rattle.controller.specs.declared.queue_status.QueueStatus.{QueueStatus}
@@ -27,11 +27,13 @@ place_of sender = codes "jmf:" ++ sender
 abbrev pub type_of : Command → List ℕ
 type_of commands.Submit = codes "SubmitQueueEntry"
 type_of commands.Return = codes "ReturnQueueEntry"
+type_of commands.Abort = codes "AbortQueueEntry"
 
 -- what the ID of a command begins with
 abbrev pub mark_of : Command → List ℕ
 mark_of commands.Submit = codes "Q."
 mark_of commands.Return = codes "R."
+mark_of commands.Abort = codes "A."
 
 -- the ID of the command of a spawn
 abbrev pub command_id : Command → ℕ → List ℕ
@@ -51,7 +53,8 @@ status_word Aborted = codes "Aborted"
 abbrev pub command_named : List ℕ → Option Command
 command_named kind =
     if bytes_eq kind (type_of commands.Submit) then Some commands.Submit else
-    (if bytes_eq kind (type_of commands.Return) then Some commands.Return else None)
+    (if bytes_eq kind (type_of commands.Return) then Some commands.Return else
+    (if bytes_eq kind (type_of commands.Abort) then Some commands.Abort else None))
 
 -- the Status of a word
 abbrev pub status_named : List ℕ → Option QueueStatus
@@ -64,24 +67,28 @@ status_named word =
 abbrev pub message_id : Body → List ℕ
 message_id (Submit part) = command_id commands.Submit part.spawn_id
 message_id (Return part) = command_id commands.Return part.spawn_id
+message_id (Abort spawn) = command_id commands.Abort spawn
 message_id (Answer asked spawn result) = answer_id asked spawn
 
 -- the command that a message gives, or that it answers
 abbrev pub command_in : Body → Command
 command_in (Submit part) = commands.Submit
 command_in (Return part) = commands.Return
+command_in (Abort spawn) = commands.Abort
 command_in (Answer asked spawn result) = asked
 
 -- the spawn that it is about
 abbrev pub spawn_in : Body → ℕ
 spawn_in (Submit part) = part.spawn_id
 spawn_in (Return part) = part.spawn_id
+spawn_in (Abort spawn) = spawn
 spawn_in (Answer asked spawn result) = spawn
 
 -- whether it is an answer
 abbrev pub is_answer : Body → Bool
 is_answer (Submit part) = false
 is_answer (Return part) = false
+is_answer (Abort spawn) = false
 is_answer (Answer asked spawn result) = true
 
 -- the number of a refusal is 1 to 999
@@ -97,4 +104,5 @@ is_told (Err reason) = is_reason reason
 abbrev pub may_be_sent : Body → Bool
 may_be_sent (Submit part) = true
 may_be_sent (Return part) = true
+may_be_sent (Abort spawn) = true
 may_be_sent (Answer asked spawn result) = is_told result

@@ -17,6 +17,7 @@ pub fn spawn_in(body: &Body) -> SpawnId
     match body {
         Body::Submit(part) => part.spawn_id(),
         Body::Return(part) => part.spawn_id(),
+        Body::Abort(spawn_id) => *spawn_id,
         Body::Answer { spawn_id, .. } => *spawn_id,
     }
 }
@@ -28,6 +29,7 @@ pub fn command_in(body: &Body) -> Option<Command>
     match body {
         Body::Submit(_) => Some(Command::Submit),
         Body::Return(_) => Some(Command::Return),
+        Body::Abort(_) => Some(Command::Abort),
         Body::Answer { .. } => None,
     }
 }

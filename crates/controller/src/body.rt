@@ -9,6 +9,8 @@ pub enum Body {
     Submit(Part),
     /// The part of a spawn comes back.
     Return(Part),
+    /// The worker of a spawn is to give it up.
+    Abort(SpawnId),
     /// A command of a spawn was taken, and this is the Status of its queue entry; or it was
     /// refused, for the refusal of this number.
     Answer {

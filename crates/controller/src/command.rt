@@ -5,6 +5,8 @@ pub enum Command {
     Submit,
     /// ReturnQueueEntry: a part comes back from a worker.
     Return,
+    /// AbortQueueEntry: a worker is to give a part up.
+    Abort,
 }
 
 impl Command {
@@ -20,6 +22,8 @@ impl Command {
             Some(Command::Submit)
         } else if kind == "ReturnQueueEntry" {
             Some(Command::Return)
+        } else if kind == "AbortQueueEntry" {
+            Some(Command::Abort)
         } else {
             None
         }
@@ -32,6 +36,7 @@ impl Command {
         match self {
             Command::Submit => "SubmitQueueEntry",
             Command::Return => "ReturnQueueEntry",
+            Command::Abort => "AbortQueueEntry",
         }
     }
 
@@ -42,6 +47,7 @@ impl Command {
         match self {
             Command::Submit => "Q.",
             Command::Return => "R.",
+            Command::Abort => "A.",
         }
     }
 }

@@ -1,5 +1,6 @@
-ghost use Rattle.std.specs.Prelude.{◌≡◌, ◌≢◌, ℕ, List, Err, true};
+ghost use Rattle.std.specs.Prelude.{◌≡◌, ◌≢◌, ℕ, List, Err, true, false};
 ghost use Rattle.std.specs.Prelude.{IfErr, IfOk, IfSome, IsOk, OnErr};
+ghost use Rattle.controller.specs.Reply.{is_freed};
 ghost use Rattle.controller.specs.Step.{Step, done_step, outcome_step, refused};
 ghost use Rattle.controller.specs.Words.{is_answer, may_be_sent};
 ghost use Rattle.controller.specs.declared.message.Message.{Message as MessageSeen};
@@ -47,12 +48,14 @@ pub trait Controller: Drop {
 
     /// Takes a message, whoever sent it and whatever it says, at a time in seconds since 1970. The
     /// reply is what it was taken as, or why it was refused. A command is answered, refused or not;
-    /// an answer isn't, and takes no memory. Where memory runs out nothing is changed.
+    /// an answer isn't, and takes no memory unless it frees a spawn. Where memory runs out nothing
+    /// is changed.
     fn take(&mut self, alloc: Global, message: Message, at: u64) -> Result<Outcome, AllocError>
         ensures ok { IfOk result
             (λ outcome. outcome_step outcome self.new ≡ take_step message at self.old) }
         ensures sendable { IfOk result
             (λ outcome. IfSome outcome.answer (λ m. may_be_sent m.body ≡ true)) }
         ensures err { OnErr result (self.new ≡ self.old) }
-        ensures answers { is_answer message.body ≡ true → IsOk result };
+        ensures answers { is_answer message.body ≡ true
+            → IfOk (take_step message at self.old).reply (λ r. is_freed r ≡ false) → IsOk result };
 }

@@ -1,5 +1,5 @@
 //! What all controllers share (JMF; JDF 1.5, 5): the messages between them, a part that goes out,
-//! a part that comes back and the answer to either; and their steps.
+//! one that comes back, one that is to be given up and the answer to each; and their steps.
 #![tactic(auto)]
 
 pub mod answering;

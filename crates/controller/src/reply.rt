@@ -23,6 +23,14 @@ pub enum Reply {
     Again(SpawnId),
     /// The part of a spawn that was given back has come.
     Acked(SpawnId),
+    /// The worker of a spawn is asked to give it up.
+    Asked(SpawnId),
+    /// A spawn of which nothing was taken won't be.
+    Declined(SpawnId),
+    /// The work on the part of a spawn has ended, as it was asked to be given up.
+    Ended(SpawnId),
+    /// A spawn that its worker declined is withdrawn.
+    Freed(SpawnId),
 }
 
 impl Reply {
@@ -44,6 +52,10 @@ impl Reply {
             Reply::Taken(_) => "Taken",
             Reply::Again(_) => "Again",
             Reply::Acked(_) => "Acked",
+            Reply::Asked(_) => "Asked",
+            Reply::Declined(_) => "Declined",
+            Reply::Ended(_) => "Ended",
+            Reply::Freed(_) => "Freed",
         }
     }
 
@@ -61,7 +73,11 @@ impl Reply {
             | Reply::Noted(spawn)
             | Reply::Taken(spawn)
             | Reply::Again(spawn)
-            | Reply::Acked(spawn) => Some(spawn),
+            | Reply::Acked(spawn)
+            | Reply::Asked(spawn)
+            | Reply::Declined(spawn)
+            | Reply::Ended(spawn)
+            | Reply::Freed(spawn) => Some(spawn),
         }
     }
 }

@@ -1,7 +1,8 @@
 -- A master's state that was written is read again.
-use Rattle.std.proofs.Common.{◌≡◌, ◌∙◌, ℕ, ◌&&◌, Bool, true, false, List, [], ◌∷◌, map, Option, Some, None, Ok, refl, ap}
+use Rattle.std.proofs.Common.{◌≡◌, ◌∙◌, ℕ, ◌&&◌, Bool, true, false, cond, List, [], ◌∷◌, map, Option, Some, None, Ok, refl, ap}
 use Rattle.std.proofs.lemmas.Bool.{and_from}
 use Rattle.std.specs.List.{list_all}
+use Rattle.std.specs.Option.{option_and_then}
 use Rattle.serde_json.specs.Data.{string}
 use Rattle.serde_json.specs.Find.{as_str}
 use Rattle.ticket_items.specs.declared.refusal.Refusal.{Refusal}
@@ -18,10 +19,10 @@ use Rattle.json_writer.specs.Written.{ticket_data}
 use Rattle.master_core.proofs.KeptStored.{a_kept_master_is_stored}
 use Rattle.master_core.specs.Master.{Known, known}
 use Rattle.master_core.specs.Stored.{is_master}
-use Rattle.controller_form.specs.States.MasterForm.{RawMaster, judged_master, master_built_fault, master_data}
+use Rattle.controller_form.specs.States.MasterForm.{RawMaster, any_master_draft, in_format, judged_master, master_built_fault, master_data}
 use Rattle.controller_form.specs.States.MasterForm.{master_draft, master_has_names, master_has_texts}
 use Rattle.controller_form.specs.States.MasterForm.{master_in, master_state_in, master_state_read, records_are_bare}
-use Rattle.controller_form.specs.States.RecordForm.{record_has_names, record_has_texts}
+use Rattle.controller_form.specs.States.RecordForm.{are_told_in, record_has_names, record_has_texts}
 use Rattle.controller_form.specs.States.RecordForm.{spawn_has_names, spawn_has_texts}
 use Rattle.controller_form.specs.States.Writable.{IsWritableMaster}
 use Rattle.controller_form.specs.declared.states.format.Format.{Format}
@@ -37,12 +38,21 @@ raw m t = record { name = m.name; workers = m.workers; ticket = t; records = map
 abbrev with_read : Known → List (List ℕ) → RawTicket → List SpawnRec → RawMaster
 with_read m workers t records = record { name = m.name; workers = workers; ticket = t; records = map bare records }
 
-drafted : (m : Known) (t : RawTicket) → list_all spawn_has_names m.records ≡ true → ticket_draft (ticket_data m.ticket) ≡ Some t → master_draft (master_data m) ≡ Some (raw m t)
-unfolding master_draft
+spawns_of : (rs : List SpawnRec) → map (λ r. r.spawn) (map bare rs) ≡ rs
+spawns_of [] = refl
+spawns_of (r ∷ rs) = ap (λ more. r ∷ more) (spawns_of rs)
+
+drafted : (m : Known) (t : RawTicket) → list_all spawn_has_names m.records ≡ true → ticket_draft (ticket_data m.ticket) ≡ Some t → any_master_draft (master_data m) ≡ Some (raw m t)
+unfolding any_master_draft
 drafted m t names read =
     ap (λ o. o >>= λ records. ticket_draft (ticket_data m.ticket) >>= λ u. list_form as_str (texts_data m.workers) >>= λ ws. Some (record { name = m.name; workers = ws; ticket = u; records = records })) (records_again m.records names)
     ∙ ap (λ o. o >>= λ u. list_form as_str (texts_data m.workers) >>= λ ws. Some (record { name = m.name; workers = ws; ticket = u; records = map bare m.records })) read
     ∙ ap (λ o. o >>= λ ws. Some (record { name = m.name; workers = ws; ticket = t; records = map bare m.records })) (list_again as_str string text_again m.workers)
+
+drafted_in : (format : Format) (m : Known) (t : RawTicket) → list_all spawn_has_names m.records ≡ true → are_told_in format m.records ≡ true → ticket_draft (ticket_data m.ticket) ≡ Some t → master_draft format (master_data m) ≡ Some (raw m t)
+drafted_in format m t names told read =
+    ap (option_and_then (in_format format)) (drafted m t names read)
+    ∙ ap (λ b. cond b (Some (raw m t)) None) (ap (are_told_in format) (spawns_of m.records) ∙ told)
 
 -- ---- nothing is wrong with it
 
@@ -58,10 +68,6 @@ texts_of : (rs : List SpawnRec) → list_all record_has_texts (map bare rs) ≡ 
 texts_of [] = refl
 texts_of (r ∷ rs) = ap (λ b. spawn_has_texts r && b) (texts_of rs)
 
-spawns_of : (rs : List SpawnRec) → map (λ r. r.spawn) (map bare rs) ≡ rs
-spawns_of [] = refl
-spawns_of (r ∷ rs) = ap (λ more. r ∷ more) (spawns_of rs)
-
 master_of : (m : Known) (t : RawTicket) → t.job ≡ m.ticket → master_in (raw m t) ≡ m
 master_of m t same = ap (λ j. known m.name m.workers j (map (λ r. r.spawn) (map bare m.records))) same ∙ ap (known m.name m.workers m.ticket) (spawns_of m.records)
 
@@ -73,8 +79,8 @@ no_built_fault false stored f p q r = cc
 
 -- ---- the whole
 
-judged : (m : Known) → IsWritableMaster m → judged_master (master_draft (master_data m)) ≡ Ok m
-judged m known' =
+judged : (format : Format) (m : Known) → IsWritableMaster m → are_told_in format m.records ≡ true → judged_master (master_draft format (master_data m)) ≡ Ok m
+judged format m known' told =
     let read : IsSoundDraft ticket_form.ticket_fault (λ (t : RawTicket). t.job) (ticket_draft (ticket_data m.ticket)) m.ticket = sound_draft ticket_form.ticket_fault (λ t. t.job) (ticket_draft (ticket_data m.ticket)) m.ticket known'.again in
     let t = read.draft in
     let passed = all_pass _ _ _ read.sound in
@@ -83,11 +89,16 @@ judged m known' =
     let texts : master_has_texts (raw m t) ≡ true = and_from _ _ passed.texts (texts_of m.records ∙ known'.texts) in
     let stored : is_master (master_in (raw m t)) ≡ true = ap is_master is ∙ a_kept_master_is_stored m known'.kept in
     let built : master_built_fault (raw m t) ≡ None = no_built_fault _ _ _ (all_bare m.records) passed.none stored in
-    ap judged_master (drafted m t known'.names read.there)
+    ap judged_master (drafted_in format m t known'.names told read.there)
     ∙ ap (λ f. sound f (master_in (raw m t))) (nothing_wrong _ _ _ names texts built)
     ∙ ap (λ k. Ok k) is
 
--- in either format
-pub master_again : (format : Format) (m : Known) → IsWritableMaster m → master_state_read (master_state_in format m) ≡ Ok m
-master_again First m known' = judged m known'
-master_again Second m known' = judged m known'
+-- in either format, where that can tell it
+pub master_again : (format : Format) (m : Known) → IsWritableMaster m → are_told_in format m.records ≡ true → master_state_read (master_state_in format m) ≡ Ok m
+master_again First m known' told = judged First m known' told
+master_again Second m known' told = judged Second m known' told
+
+-- the second format can tell each
+pub all_told : (rs : List SpawnRec) → are_told_in Second rs ≡ true
+all_told [] = refl
+all_told (r ∷ rs) = all_told rs

@@ -10,7 +10,7 @@ use Rattle.ticket_items.proofs.SpawnTexts.{spawn_of-spawn_text}
 use Rattle.ticket_items.specs.SpawnId.{is_spawn_number, spawn_text}
 use Rattle.ticket_items.specs.declared.resource.Resource.{Resource}
 use Rattle.spawn.specs.declared.records.phase.Phase.{Phase}
-use Rattle.spawn.specs.declared.records.phase.Phase.TheVariants.{Out, Merged}
+use Rattle.spawn.specs.declared.records.phase.Phase.TheVariants.{Out, Merged, Withdrawn}
 use Rattle.spawn.specs.declared.records.spawn_rec.SpawnRec.{SpawnRec}
 use Rattle.json_shapes.specs.Draft.{are_bare, resources_of}
 use Rattle.json_items.specs.Again.{list_again, marked_again, text_again}
@@ -32,6 +32,7 @@ bare r = record { spawn = r; bare = true }
 phase_again : (phase : Phase) → phase_named (phase_word phase) ≡ Some phase
 phase_again Out = refl
 phase_again Merged = refl
+phase_again Withdrawn = refl
 
 bare_all : (rs : List Resource) → are_bare (all_showing nothing_shown rs) ≡ true
 bare_all [] = refl

@@ -16,7 +16,7 @@ use Rattle.master_core.specs.Master as master
 use Rattle.worker_core.specs.Worker as worker
 use Rattle.worker_core.specs.declared.entry.Entry.{Entry}
 use Rattle.worker_core.specs.declared.stage.Stage.{Stage}
-use Rattle.worker_core.specs.declared.stage.Stage.TheVariants.{Open, Done, Closed}
+use Rattle.worker_core.specs.declared.stage.Stage.TheVariants.{Open, Done, Closed, Declined}
 use Rattle.controller_form.specs.States.EntryForm.{entry_data}
 use Rattle.controller_form.specs.States.MasterForm.{master_state_data}
 use Rattle.controller_form.specs.States.RecordForm.{record_data}
@@ -42,6 +42,8 @@ entry_plain s (Done how) None at known = refl
 entry_plain s (Done how) (Some p) at known = or_from _ _ known.plain refl
 entry_plain s (Closed how) None at known = refl
 entry_plain s (Closed how) (Some p) at known = or_from _ _ known.plain refl
+entry_plain s Declined None at known = refl
+entry_plain s Declined (Some p) at known = or_from _ _ known.plain refl
 
 entries_plain : (es : List Entry) → All IsWritableEntry es → items_have_float (data_items (entry_data written) es) ≡ false
 entries_plain [] known = refl
@@ -68,6 +70,8 @@ entry_low s (Done how) None at known = omega arith
 entry_low s (Done how) (Some p) at known = omega (arith, known.low)
 entry_low s (Closed how) None at known = omega arith
 entry_low s (Closed how) (Some p) at known = omega (arith, known.low)
+entry_low s Declined None at known = omega arith
+entry_low s Declined (Some p) at known = omega (arith, known.low)
 
 entries_low : (es : List Entry) → All IsWritableEntry es → items_depth (data_items (entry_data written) es) ≤ 69
 entries_low [] known = omega arith

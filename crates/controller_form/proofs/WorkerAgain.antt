@@ -4,7 +4,7 @@ use Rattle.std.proofs.lemmas.Bool.{and_from, and_parts, or_from}
 use Rattle.std.proofs.lemmas.List.Elements.{All-head, All-tail}
 use Rattle.std.specs.List.{All, list_all, list_any}
 use Rattle.std.specs.Option.{option_map, option_map_or}
-use Rattle.std.specs.Prelude.{codes, is_some, not}
+use Rattle.std.specs.Prelude.{codes, is_some}
 use Rattle.std.specs.Str.{bytes_eq}
 use Rattle.serde_json.specs.Data.{Data, no_members, number, object, put, string, unsigned}
 use Rattle.ticket_items.specs.Refusal.{number_of}
@@ -22,15 +22,15 @@ use Rattle.json_source.specs.Read.{◌>>=◌}
 use Rattle.json_writer.specs.PartWritten.{part_data}
 use Rattle.worker_core.proofs.KeptStored.{a_kept_worker_is_stored}
 use Rattle.worker_core.specs.Stored.{is_worker}
-use Rattle.worker_core.specs.Worker.{IsKeptEntry, IsKeptPart, Known, end_word, is_closed_stage, known}
+use Rattle.worker_core.specs.Worker.{IsKeptEntry, IsKeptPart, Known, end_word, keeps_part, known}
 use Rattle.worker_core.specs.declared.end.End.{End}
 use Rattle.worker_core.specs.declared.end.End.TheVariants.{Completed, Aborted}
 use Rattle.worker_core.specs.declared.entry.Entry.{Entry}
 use Rattle.worker_core.specs.declared.stage.Stage.{Stage}
-use Rattle.worker_core.specs.declared.stage.Stage.TheVariants.{Open, Done, Closed}
+use Rattle.worker_core.specs.declared.stage.Stage.TheVariants.{Open, Done, Closed, Declined}
 use Rattle.controller_form.specs.Orders.EndNamed.{end_named}
 use Rattle.controller_form.specs.Orders.SpawnNamed.{spawn_named}
-use Rattle.controller_form.specs.States.EntryForm.{RawEntry, closed_draft, entry_data, entry_draft, entry_fault}
+use Rattle.controller_form.specs.States.EntryForm.{RawEntry, closed_draft, declined_draft, entry_data, entry_draft, entry_fault}
 use Rattle.controller_form.specs.States.EntryForm.{entry_has_names, entry_has_texts, entry_in, held_draft, is_told_in}
 use Rattle.controller_form.specs.States.EntryForm.{stage_named, with_id}
 use Rattle.controller_form.specs.States.WorkerForm.{RawWorker, is_fault, judged_worker, parts_fault}
@@ -56,6 +56,10 @@ done_again Aborted = refl
 no_end_is_closed : (how : End) → bytes_eq (codes "Closed") (end_word how) ≡ false
 no_end_is_closed Completed = refl
 no_end_is_closed Aborted = refl
+
+no_end_is_declined : (how : End) → bytes_eq (codes "Declined") (end_word how) ≡ false
+no_end_is_declined Completed = refl
+no_end_is_declined Aborted = refl
 
 -- ---- an entry with its part
 
@@ -84,14 +88,17 @@ held_there Second s word stage p at raw named read =
     ap (λ o. o >>= λ x. part_draft (part_data p) >>= λ q. Some (held Second s x at q)) named
     ∙ ap (λ o. o >>= λ q. Some (held Second s stage at q)) read
 
-not_closed : (s : ℕ) (word : List ℕ) (p : Copied) (at : ℕ) (raw : Option RawEntry) → bytes_eq (codes "Closed") word ≡ false → held_draft Second (held_data Second s word p at) ≡ raw → entry_draft Second (held_data Second s word p at) ≡ raw
+is_held : (s : ℕ) (word : List ℕ) (p : Copied) (at : ℕ) (raw : Option RawEntry) → bytes_eq (codes "Closed") word ≡ false → bytes_eq (codes "Declined") word ≡ false → held_draft Second (held_data Second s word p at) ≡ raw → entry_draft Second (held_data Second s word p at) ≡ raw
 unfolding entry_draft
-not_closed s word p at raw isnt is = ap (λ b. cond b (closed_draft (held_data Second s word p at)) (held_draft Second (held_data Second s word p at))) isnt ∙ is
+is_held s word p at raw open' taken is =
+    let d = held_data Second s word p at in
+    ap (λ b. cond b (closed_draft d) (cond (bytes_eq (codes "Declined") word) (declined_draft d) (held_draft Second d))) open'
+    ∙ ap (λ b. cond b (declined_draft d) (held_draft Second d)) taken ∙ is
 
-entry_there : (format : Format) (s : ℕ) (word : List ℕ) (stage : Stage) (p : Copied) (at : ℕ) (raw : RawPart) → bytes_eq (codes "Closed") word ≡ false → stage_named word ≡ Some stage → part_draft (part_data p) ≡ Some raw → entry_draft format (held_data format s word p at) ≡ Some (held format s stage at raw)
+entry_there : (format : Format) (s : ℕ) (word : List ℕ) (stage : Stage) (p : Copied) (at : ℕ) (raw : RawPart) → bytes_eq (codes "Closed") word ≡ false → bytes_eq (codes "Declined") word ≡ false → stage_named word ≡ Some stage → part_draft (part_data p) ≡ Some raw → entry_draft format (held_data format s word p at) ≡ Some (held format s stage at raw)
 unfolding entry_draft
-entry_there First s word stage p at raw isnt named read = held_there First s word stage p at raw named read
-entry_there Second s word stage p at raw isnt named read = not_closed s word p at _ isnt (held_there Second s word stage p at raw named read)
+entry_there First s word stage p at raw open' taken named read = held_there First s word stage p at raw named read
+entry_there Second s word stage p at raw open' taken named read = is_held s word p at _ open' taken (held_there Second s word stage p at raw named read)
 
 -- its spawn is that of its part
 id_again : (format : Format) (s : ℕ) (raw : RawPart) (p : Copied) → is_spawn_number s ≡ true → copied raw ≡ p → p.spawn_id ≡ s → spawn_named (id_told format s raw) ≡ s
@@ -135,19 +142,35 @@ closed_read s how at numbered =
       none = refl;
     }
 
+declined_read : (s at : ℕ) → is_spawn_number s ≡ true → IsRead Second (entry s Declined None at)
+unfolding entry_draft declined_draft
+declined_read s at numbered =
+    let id = number_again s numbered in
+    record {
+      raw = record { spawn = spawn_text s; phase = Declined; part = None; at = at };
+      there = refl;
+      same = ap (λ n. entry n Declined None at) id;
+      names = and_from _ _ (ap is_spawn_number id ∙ numbered) refl;
+      texts = refl;
+      none = refl;
+    }
+
 read_part : (p : Copied) → IsWritablePart p → IsSoundDraft part_form.part_fault copied (part_draft (part_data p)) p
 read_part p known' = sound_draft part_form.part_fault copied (part_draft (part_data p)) p known'.again
 
 -- an entry that a format can tell
-entry_read : (format : Format) (s : ℕ) (stage : Stage) (part : Option Copied) (at : ℕ) → is_some part ≡ not (is_closed_stage stage) → IfSome part (λ p. p.spawn_id ≡ s) → is_spawn_number s ≡ true → IfSome part IsWritablePart → is_told_in format (entry s stage part at) ≡ true → IsRead format (entry s stage part at)
+entry_read : (format : Format) (s : ℕ) (stage : Stage) (part : Option Copied) (at : ℕ) → is_some part ≡ keeps_part stage → IfSome part (λ p. p.spawn_id ≡ s) → is_spawn_number s ≡ true → IfSome part IsWritablePart → is_told_in format (entry s stage part at) ≡ true → IsRead format (entry s stage part at)
 entry_read format s Open (Some p) at has own numbered known' told =
     let read = read_part p known' in
-    held_read format s Open p at numbered own read (entry_there format s (codes "Open") Open p at read.draft refl refl read.there)
+    held_read format s Open p at numbered own read (entry_there format s (codes "Open") Open p at read.draft refl refl refl read.there)
 entry_read format s (Done how) (Some p) at has own numbered known' told =
     let read = read_part p known' in
-    held_read format s (Done how) p at numbered own read (entry_there format s (end_word how) (Done how) p at read.draft (no_end_is_closed how) (done_again how) read.there)
+    held_read format s (Done how) p at numbered own read (entry_there format s (end_word how) (Done how) p at read.draft (no_end_is_closed how) (no_end_is_declined how) (done_again how) read.there)
 entry_read Second s (Closed how) None at has own numbered known' told = closed_read s how at numbered
+entry_read Second s Declined None at has own numbered known' told = declined_read s at numbered
 entry_read First s (Closed how) None at has own numbered known' told = cc
+entry_read First s Declined None at has own numbered known' told = cc
+entry_read format s Declined (Some p) at has own numbered known' told = cc
 entry_read format s (Closed how) (Some p) at has own numbered known' told = cc
 entry_read format s Open None at has own numbered known' told = cc
 entry_read format s (Done how) None at has own numbered known' told = cc

@@ -11,7 +11,7 @@ use Rattle.controller.specs.Words.{answer_id, command_id, command_in, is_answer,
 use Rattle.controller.specs.declared.body.Body.{Body}
 use Rattle.controller.specs.declared.body.Body.TheVariants as bodies
 use Rattle.controller.specs.declared.command.Command.{Command}
-use Rattle.controller.specs.declared.command.Command.TheVariants.{Submit, Return}
+use Rattle.controller.specs.declared.command.Command.TheVariants.{Submit, Return, Abort}
 
 -- ---- what stands behind digits
 
@@ -76,6 +76,7 @@ id_with asked n false = command_id asked n
 id_of : (b : Body) → message_id b ≡ id_with (command_in b) (spawn_in b) (is_answer b)
 id_of (bodies.Submit part) = refl
 id_of (bodies.Return part) = refl
+id_of (bodies.Abort n) = refl
 id_of (bodies.Answer asked n result) = refl
 
 -- what stands behind the mark and the letter of a spawn
@@ -84,6 +85,8 @@ tail Submit n true = refl
 tail Submit n false = sym (append-nil (decimal n))
 tail Return n true = refl
 tail Return n false = sym (append-nil (decimal n))
+tail Abort n true = refl
+tail Abort n false = sym (append-nil (decimal n))
 
 -- the letter of the mark
 abbrev first : List ℕ → ℕ
@@ -93,18 +96,26 @@ first (c ∷ cs) = c
 abbrev letter : Command → ℕ
 letter Submit = 81
 letter Return = 82
+letter Abort = 65
 
 first_letter : (asked : Command) (n : ℕ) (answer : Bool) → first (id_with asked n answer) ≡ letter asked
 first_letter Submit n true = refl
 first_letter Submit n false = refl
 first_letter Return n true = refl
 first_letter Return n false = refl
+first_letter Abort n true = refl
+first_letter Abort n false = refl
 
 letter_same : (c d : Command) → letter c ≡ letter d → c ≡ d
 letter_same Submit Submit h = refl
 letter_same Submit Return h = absurd (omega (arith, h))
+letter_same Submit Abort h = absurd (omega (arith, h))
 letter_same Return Submit h = absurd (omega (arith, h))
 letter_same Return Return h = refl
+letter_same Return Abort h = absurd (omega (arith, h))
+letter_same Abort Submit h = absurd (omega (arith, h))
+letter_same Abort Return h = absurd (omega (arith, h))
+letter_same Abort Abort h = refl
 
 ids_differ : (a b : Body) → is_spawn_number (spawn_in a) ≡ true → is_spawn_number (spawn_in b) ≡ true → message_id a ≡ message_id b → SaysTheSame a b
 ids_differ a b number other h =

@@ -6,4 +6,5 @@ pub mod Saying
 pub mod Shape
 pub mod Tests
 mod Worked
+mod WorkedAborts
 mod WorkedCommands

@@ -18,7 +18,7 @@ use Rattle.jmf_message.specs.Again.{jmf_again}
 use Rattle.jmf_message.specs.Decoded.{draft_read, message_fault, message_read, message_saying, message_with}
 use Rattle.jmf_message.specs.DocumentForm.{RawMessage, document_form, part_beside}
 use Rattle.jmf_message.specs.Known.{IsKnown, IsWritten}
-use Rattle.jmf_message.specs.Said.{body_with, command_body, response_body, result_in, same_command, same_response}
+use Rattle.jmf_message.specs.Said.{abort_body, body_with, command_body, response_body, result_in, same_command, same_response}
 use Rattle.controller.specs.Words.{may_be_sent}
 use Rattle.jmf_message.specs.Written.{command_for, jmf_for, message_data, response_for}
 use Rattle.controller.specs.declared.body.Body.{Body}
@@ -54,6 +54,16 @@ command_says sender commands.Return n raw number spawn =
     ap (λ o. o >>= λ s. provided (same_command (command_for sender commands.Return n) (command_for sender commands.Return s) && bytes_eq raw.spawn (spawn_text s)) >>= λ _. Some (body_with commands.Return (part.copied raw)))
     (spawn_of-spawn_text n number)
     ∙ command_again_at sender commands.Return n raw spawn
+command_says sender commands.Abort n raw number spawn =
+    ap (λ o. o >>= λ s. provided (same_command (command_for sender commands.Abort n) (command_for sender commands.Abort s) && bytes_eq raw.spawn (spawn_text s)) >>= λ _. Some (body_with commands.Abort (part.copied raw)))
+    (spawn_of-spawn_text n number)
+    ∙ command_again_at sender commands.Abort n raw spawn
+
+abort_says : (sender : List ℕ) (n : ℕ) → is_spawn_number n ≡ true → abort_body sender (command_for sender commands.Abort n) ≡ Some (bodies.Abort n)
+unfolding abort_body
+abort_says sender n number =
+    ap (λ o. o >>= λ s. provided (same_command (command_for sender commands.Abort n) (command_for sender commands.Abort s)) >>= λ _. Some (bodies.Abort s)) (spawn_of-spawn_text n number)
+    ∙ passed _ _ (command_same (command_for sender commands.Abort n))
 
 -- ---- what a response says
 
@@ -84,8 +94,10 @@ pub response_says : (asked : Command) (n : ℕ) (result : Result QueueStatus ℕ
 unfolding response_body
 response_says commands.Submit n (Ok status) number may = answered_all commands.Submit n (Ok status) _ _ (spawn_of-spawn_text n number) (result_told commands.Submit n (Ok status) may)
 response_says commands.Return n (Ok status) number may = answered_all commands.Return n (Ok status) _ _ (spawn_of-spawn_text n number) (result_told commands.Return n (Ok status) may)
+response_says commands.Abort n (Ok status) number may = answered_all commands.Abort n (Ok status) _ _ (spawn_of-spawn_text n number) (result_told commands.Abort n (Ok status) may)
 response_says commands.Submit n (Err reason) number may = answered_all commands.Submit n (Err reason) _ _ (spawn_of-spawn_text n number) (result_told commands.Submit n (Err reason) may)
 response_says commands.Return n (Err reason) number may = answered_all commands.Return n (Err reason) _ _ (spawn_of-spawn_text n number) (result_told commands.Return n (Err reason) may)
+response_says commands.Abort n (Err reason) number may = answered_all commands.Abort n (Err reason) _ _ (spawn_of-spawn_text n number) (result_told commands.Abort n (Err reason) may)
 
 -- ---- documents
 
@@ -95,18 +107,29 @@ with_part jmf found = Some (record { jmf = jmf; part = found })
 abbrev part_after : Data → Jmf → Option RawMessage
 part_after d jmf = option_map Some (part_draft d) >>= λ p. with_part jmf p
 
--- the document of a command with its part
-command_document : (m : Message) (asked : Command) (p : Copied) (raw : RawPart) → part_draft (part_data p) ≡ Some raw
-    → document_form (message_data (record m { body = body_with asked p })) ≡ Some (record { jmf = jmf_for (record m { body = body_with asked p }); part = Some raw })
+-- the documents of commands with their parts
+submit_document : (m : Message) (p : Copied) (raw : RawPart) → part_draft (part_data p) ≡ Some raw
+    → document_form (message_data (record m { body = bodies.Submit p })) ≡ Some (record { jmf = jmf_for (record m { body = bodies.Submit p }); part = Some raw })
 unfolding document_form
-command_document m commands.Submit p raw drafted =
+submit_document m p raw drafted =
     let j = jmf_for (record m { body = bodies.Submit p }) in
     ap (λ o. o >>= λ jmf. part_beside jmf.family (Some (part_data p)) >>= λ found. with_part jmf found) (jmf_again j)
     ∙ ap (λ o. option_map Some o >>= λ found. with_part j found) drafted
-command_document m commands.Return p raw drafted =
+
+return_document : (m : Message) (p : Copied) (raw : RawPart) → part_draft (part_data p) ≡ Some raw
+    → document_form (message_data (record m { body = bodies.Return p })) ≡ Some (record { jmf = jmf_for (record m { body = bodies.Return p }); part = Some raw })
+unfolding document_form
+return_document m p raw drafted =
     let j = jmf_for (record m { body = bodies.Return p }) in
     ap (λ o. o >>= λ jmf. part_beside jmf.family (Some (part_data p)) >>= λ found. with_part jmf found) (jmf_again j)
     ∙ ap (λ o. option_map Some o >>= λ found. with_part j found) drafted
+
+-- and of messages without one
+abort_document : (m : Message) (n : ℕ)
+    → document_form (message_data (record m { body = bodies.Abort n })) ≡ Some (record { jmf = jmf_for (record m { body = bodies.Abort n }); part = None })
+unfolding document_form
+abort_document m n =
+    ap (λ o. o >>= λ jmf. part_beside jmf.family None >>= λ found. with_part jmf found) (jmf_again (jmf_for (record m { body = bodies.Abort n })))
 
 answer_document : (m : Message) (asked : Command) (n : ℕ) (result : Result QueueStatus ℕ)
     → document_form (message_data (record m { body = bodies.Answer asked n result })) ≡ Some (record { jmf = jmf_for (record m { body = bodies.Answer asked n result }); part = None })
@@ -121,24 +144,35 @@ saying : (raw : RawMessage) (said : Option Body) (b : Body) (m : Message) → sa
 saying raw said b m e fault same =
     ap (message_saying raw) e ∙ ap (λ f. sound f (message_with raw b)) fault ∙ ap Ok same
 
-command_read : (m : Message) (asked : Command) (p : Copied) → is_name m.sender ≡ true → is_name m.receiver ≡ true → IsWritten p
-    → message_read (message_data (record m { body = body_with asked p })) ≡ Ok (record m { body = body_with asked p })
-command_read m commands.Submit p sender receiver written =
+submit_read : (m : Message) (p : Copied) → is_name m.sender ≡ true → is_name m.receiver ≡ true → IsWritten p
+    → message_read (message_data (record m { body = bodies.Submit p })) ≡ Ok (record m { body = bodies.Submit p })
+submit_read m p sender receiver written =
     let found = read_of (part_data p) p written.again in
     let raw = found.raw in
     let whole = record m { body = bodies.Submit p } in
     let said = command_says m.sender commands.Submit p.spawn_id raw written.number (spawn_named raw p found.faultless.names found.same) in
     let faultless = no_fault-back _ _ _ (record { names = and_from _ _ (and_from _ _ sender receiver) found.faultless.names; texts = found.faultless.texts; built = found.faultless.built }) in
-    ap (λ o. option_map_or draft_read o (Err NotProfile)) (command_document m commands.Submit p raw found.drafted)
+    ap (λ o. option_map_or draft_read o (Err NotProfile)) (submit_document m p raw found.drafted)
     ∙ saying (record { jmf = jmf_for whole; part = Some raw }) _ _ whole said faultless (ap (λ q. record m { body = bodies.Submit q }) found.same)
-command_read m commands.Return p sender receiver written =
+
+return_read : (m : Message) (p : Copied) → is_name m.sender ≡ true → is_name m.receiver ≡ true → IsWritten p
+    → message_read (message_data (record m { body = bodies.Return p })) ≡ Ok (record m { body = bodies.Return p })
+return_read m p sender receiver written =
     let found = read_of (part_data p) p written.again in
     let raw = found.raw in
     let whole = record m { body = bodies.Return p } in
     let said = command_says m.sender commands.Return p.spawn_id raw written.number (spawn_named raw p found.faultless.names found.same) in
     let faultless = no_fault-back _ _ _ (record { names = and_from _ _ (and_from _ _ sender receiver) found.faultless.names; texts = found.faultless.texts; built = found.faultless.built }) in
-    ap (λ o. option_map_or draft_read o (Err NotProfile)) (command_document m commands.Return p raw found.drafted)
+    ap (λ o. option_map_or draft_read o (Err NotProfile)) (return_document m p raw found.drafted)
     ∙ saying (record { jmf = jmf_for whole; part = Some raw }) _ _ whole said faultless (ap (λ q. record m { body = bodies.Return q }) found.same)
+
+abort_read : (m : Message) (n : ℕ) → is_name m.sender ≡ true → is_name m.receiver ≡ true → is_spawn_number n ≡ true
+    → message_read (message_data (record m { body = bodies.Abort n })) ≡ Ok (record m { body = bodies.Abort n })
+abort_read m n sender receiver number =
+    let whole = record m { body = bodies.Abort n } in
+    let faultless = no_fault-back _ _ _ (record { names = and_from _ _ (and_from _ _ sender receiver) refl; texts = refl; built = refl }) in
+    ap (λ o. option_map_or draft_read o (Err NotProfile)) (abort_document m n)
+    ∙ saying (record { jmf = jmf_for whole; part = None }) _ _ whole (abort_says m.sender n number) faultless refl
 
 answer_read : (m : Message) (asked : Command) (n : ℕ) (result : Result QueueStatus ℕ) → is_name m.sender ≡ true → is_name m.receiver ≡ true → is_spawn_number n ≡ true
     → may_be_sent (bodies.Answer asked n result) ≡ true
@@ -151,8 +185,9 @@ answer_read m asked n result sender receiver number may =
 
 again_at : (m : Message) (b : Body) → is_name m.sender ≡ true → is_name m.receiver ≡ true → IsKnown b → may_be_sent b ≡ true
     → message_read (message_data (record m { body = b })) ≡ Ok (record m { body = b })
-again_at m (bodies.Submit p) sender receiver known may = command_read m commands.Submit p sender receiver known
-again_at m (bodies.Return p) sender receiver known may = command_read m commands.Return p sender receiver known
+again_at m (bodies.Submit p) sender receiver known may = submit_read m p sender receiver known
+again_at m (bodies.Return p) sender receiver known may = return_read m p sender receiver known
+again_at m (bodies.Abort n) sender receiver known may = abort_read m n sender receiver known
 again_at m (bodies.Answer asked n result) sender receiver known may = answer_read m asked n result sender receiver known may
 
 pub message_again : (m : Message) → is_name m.sender ≡ true → is_name m.receiver ≡ true → IsKnown m.body → may_be_sent m.body ≡ true → message_read (message_data m) ≡ Ok m

@@ -7,7 +7,7 @@ use Rattle.std.specs.Str.{bytes_eq}
 use Rattle.jmf_message.specs.Said.{same_command, same_entry, same_params, same_response}
 use Rattle.jmf_message.specs.declared.command_message.CommandMessage.{CommandMessage}
 use Rattle.jmf_message.specs.declared.params.Params.{Params}
-use Rattle.jmf_message.specs.declared.params.Params.TheVariants.{Submission, Return}
+use Rattle.jmf_message.specs.declared.params.Params.TheVariants.{Submission, Return, Abort}
 use Rattle.jmf_message.specs.declared.queue_entry.QueueEntry.{QueueEntry}
 use Rattle.jmf_message.specs.declared.response_message.ResponseMessage.{ResponseMessage}
 
@@ -20,6 +20,7 @@ nat_eq-same n = (Decides-eqb n n).1 refl
 params_same : (p : Params) → same_params p p ≡ true
 params_same (Submission p) = and_from _ _ (and_from _ _ (and_from _ _ (bytes_eq-same p.entry) (bytes_eq-same p.return_jmf)) (bytes_eq-same p.return_url)) (bytes_eq-same p.url)
 params_same (Return p) = and_from _ _ (bytes_eq-same p.entry) (bytes_eq-same p.url)
+params_same (Abort p) = bytes_eq-same p.entry
 
 pub command_same : (c : CommandMessage) → same_command c c ≡ true
 command_same c = and_from _ _ (and_from _ _ (bytes_eq-same c.id) (bytes_eq-same c.kind)) (params_same c.params)

@@ -4,9 +4,11 @@ use Rattle.std.specs.Option.{option_map}
 use Rattle.std.proofs.Common.{ap}
 use Rattle.json_source.specs.Read.{◌>>=◌}
 use Rattle.jmf_message.specs.CommandForm.{submission_form, submission_data, return_form}
-use Rattle.jmf_message.specs.CommandForm.{return_data, command_form, command_data}
+use Rattle.jmf_message.specs.CommandForm.{return_data, abort_form, abort_data, command_form}
+use Rattle.jmf_message.specs.CommandForm.{command_data}
 use Rattle.jmf_message.specs.JmfForm.{jmf_form, jmf_data}
 use Rattle.jmf_message.specs.ResponseForm.{entry_form, entry_data, response_form, response_data}
+use Rattle.jmf_message.specs.declared.abort_params.AbortParams.{AbortParams}
 use Rattle.jmf_message.specs.declared.command_message.CommandMessage.{CommandMessage}
 use Rattle.jmf_message.specs.declared.family.Family.{Family}
 use Rattle.jmf_message.specs.declared.family.Family.TheVariants as families
@@ -26,6 +28,10 @@ pub return_again : (p : ReturnParams) → return_form (return_data p) ≡ Some p
 unfolding return_form
 return_again p = refl
 
+pub abort_again : (p : AbortParams) → abort_form (abort_data p) ≡ Some p
+unfolding abort_form
+abort_again p = refl
+
 command_again_at : (c : CommandMessage) (p : Params)
     → command_form (command_data (record c { params = p })) ≡ Some (record c { params = p })
 unfolding command_form
@@ -35,6 +41,9 @@ command_again_at c (params.Submission p) =
 command_again_at c (params.Return p) =
     ap (λ o. option_map params.Return o >>=
     λ q. Some (record { id = c.id; kind = c.kind; params = q })) (return_again p)
+command_again_at c (params.Abort p) =
+    ap (λ o. option_map params.Abort o >>=
+    λ q. Some (record { id = c.id; kind = c.kind; params = q })) (abort_again p)
 
 pub command_again : (c : CommandMessage) → command_form (command_data c) ≡ Some c
 command_again c = command_again_at c c.params

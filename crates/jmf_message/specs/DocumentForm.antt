@@ -1,10 +1,12 @@
--- The form of a message's document: the JMF object, and the part beside a command.
-use Rattle.std.specs.Prelude.{ℕ, List, [], ◌∷◌, codes, Option, Some, None}
+-- The form of a message's document: the JMF object, and the part beside a command that has one.
+use Rattle.std.specs.Prelude.{ℕ, Bool, false, List, [], ◌∷◌, if◌then◌else◌, codes, Option, Some}
+use Rattle.std.specs.Prelude.{None}
 use Rattle.std.specs.Option.{option_map, option_and_then}
 use Rattle.serde_json.specs.Data.{Data}
 use Rattle.serde_json.specs.Find.{get}
 use Rattle.json_shapes.specs.PartDraft.{RawPart, part_draft}
 use Rattle.json_source.specs.Read.{◌>>=◌, provided, has_only}
+use Rattle.jmf_message.specs.CommandForm as commands
 use Rattle.jmf_message.specs.JmfForm.{jmf_form}
 use Rattle.jmf_message.specs.declared.family.Family.{Family}
 use Rattle.jmf_message.specs.declared.family.Family.TheVariants.{Command, Response}
@@ -15,12 +17,15 @@ pub record RawMessage : Type 0 where
   pub jmf : Jmf
   pub part : Option RawPart
 
--- a part stands beside a command, and none beside a response
+-- whether a part goes with a message: it does with a command that submits or returns one
+abbrev pub has_part : Family → Bool
+has_part (Command c) = commands.has_part c.params
+has_part (Response r) = false
+
+-- a part stands beside such a message, and none beside another
 abbrev pub part_beside : Family → Option Data → Option (Option RawPart)
-part_beside (Command c) (Some d) = option_map Some (part_draft d)
-part_beside (Response r) None = Some None
-part_beside (Command c) None = None
-part_beside (Response r) (Some d) = None
+part_beside f (Some d) = if has_part f then option_map Some (part_draft d) else None
+part_beside f None = if has_part f then None else Some None
 
 abbrev pub document_members : List (List ℕ)
 document_members = codes "JDF" ∷ codes "JMF" ∷ []

@@ -7,7 +7,7 @@ use Rattle.json_writer.specs.PartWritten.{part_data}
 use Rattle.ticket_items.specs.SpawnId.{is_spawn_number}
 use Rattle.ticket_tree.specs.Part.{Copied}
 use Rattle.controller.specs.declared.body.Body.{Body}
-use Rattle.controller.specs.declared.body.Body.TheVariants.{Submit, Return, Answer}
+use Rattle.controller.specs.declared.body.Body.TheVariants.{Submit, Return, Abort, Answer}
 
 -- a part that is read again, and whose data has no float and nests little
 pub record IsWritten (part : Copied) : Type 0 where
@@ -20,4 +20,5 @@ pub record IsWritten (part : Copied) : Type 0 where
 abbrev pub IsKnown : Body → Type 0
 IsKnown (Submit part) = IsWritten part
 IsKnown (Return part) = IsWritten part
+IsKnown (Abort spawn) = is_spawn_number spawn ≡ true
 IsKnown (Answer asked spawn result) = is_spawn_number spawn ≡ true

@@ -20,7 +20,7 @@ use Rattle.jmf_message.specs.declared.command_message.CommandMessage.{CommandMes
 use Rattle.jmf_message.specs.declared.family.Family.{Family}
 use Rattle.jmf_message.specs.declared.family.Family.TheVariants as families
 use Rattle.jmf_message.specs.declared.params.Params.{Params}
-use Rattle.jmf_message.specs.declared.params.Params.TheVariants.{Submission, Return}
+use Rattle.jmf_message.specs.declared.params.Params.TheVariants.{Submission, Return, Abort}
 use Rattle.jmf_message.specs.declared.queue_entry.QueueEntry.{QueueEntry}
 use Rattle.controller.specs.declared.queue_status.QueueStatus.{QueueStatus}
 use Rattle.jmf_message.specs.declared.response_message.ResponseMessage.{ResponseMessage}
@@ -32,8 +32,13 @@ same_params (Submission p) (Submission q) = bytes_eq p.entry q.entry
     && bytes_eq p.return_jmf q.return_jmf && bytes_eq p.return_url q.return_url
     && bytes_eq p.url q.url
 same_params (Return p) (Return q) = bytes_eq p.entry q.entry && bytes_eq p.url q.url
+same_params (Abort p) (Abort q) = bytes_eq p.entry q.entry
 same_params (Submission p) (Return q) = false
+same_params (Submission p) (Abort q) = false
 same_params (Return p) (Submission q) = false
+same_params (Return p) (Abort q) = false
+same_params (Abort p) (Submission q) = false
+same_params (Abort p) (Return q) = false
 
 abbrev pub same_command : CommandMessage → CommandMessage → Bool
 same_command c d = bytes_eq c.id d.id && bytes_eq c.kind d.kind && same_params c.params d.params
@@ -54,14 +59,18 @@ same_response r s = bytes_eq r.id s.id && same_entry r.entry s.entry && r.reason
 abbrev pub command_of : Params → Command
 command_of (Submission p) = commands.Submit
 command_of (Return p) = commands.Return
+command_of (Abort p) = commands.Abort
 
 abbrev pub entry_of : Params → List ℕ
 entry_of (Submission p) = p.entry
 entry_of (Return p) = p.entry
+entry_of (Abort p) = p.entry
 
+-- the body of a command of the spawn of a part
 abbrev pub body_with : Command → Copied → Body
 body_with commands.Submit part = bodies.Submit part
 body_with commands.Return part = bodies.Return part
+body_with commands.Abort part = bodies.Abort part.spawn_id
 
 -- a sender's command with a part has to be the command of the spawn that its params name, and the
 -- part this spawn's
@@ -72,6 +81,13 @@ command_body sender c p = do
       (same_command c (command_for sender (command_of c.params) spawn)
       && bytes_eq p.spawn (spawn_text spawn))
   Some (body_with (command_of c.params) (copied p))
+
+-- a sender's command without a part has to be that to abort the spawn that its params name
+unfoldable pub abort_body : List ℕ → CommandMessage → Option Body
+abort_body sender c = do
+  spawn ← spawn_of (entry_of c.params)
+  _ ← provided (same_command c (command_for sender commands.Abort spawn))
+  Some (bodies.Abort spawn)
 
 -- ---- responses
 
@@ -105,7 +121,7 @@ response_body r = do
 abbrev pub said_by : List ℕ → Family → Option RawPart → Option Body
 said_by sender (families.Command c) (Some p) = command_body sender c p
 said_by sender (families.Response r) None = response_body r
-said_by sender (families.Command c) None = None
+said_by sender (families.Command c) None = abort_body sender c
 said_by sender (families.Response r) (Some p) = None
 
 -- the body of a message that says what it may

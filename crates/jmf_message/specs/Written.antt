@@ -8,7 +8,7 @@ use Rattle.jmf_message.specs.JmfForm.{jmf_data}
 use Rattle.controller.specs.Words.{answer_id, command_id, no_place, place_of, status_word}
 use Rattle.controller.specs.Words.{type_of, version}
 use Rattle.controller.specs.declared.body.Body.{Body}
-use Rattle.controller.specs.declared.body.Body.TheVariants.{Submit, Return, Answer}
+use Rattle.controller.specs.declared.body.Body.TheVariants.{Submit, Return, Abort, Answer}
 use Rattle.controller.specs.declared.command.Command.{Command}
 use Rattle.controller.specs.declared.command.Command.TheVariants as commands
 use Rattle.jmf_message.specs.declared.command_message.CommandMessage.{CommandMessage}
@@ -34,6 +34,7 @@ params_for sender commands.Submit spawn =
     })
 params_for sender commands.Return spawn =
     params.Return (record { entry = spawn_text spawn; url = no_place })
+params_for sender commands.Abort spawn = params.Abort (record { entry = spawn_text spawn })
 
 -- a sender's command of a spawn
 abbrev pub command_for : List ℕ → Command → ℕ → CommandMessage
@@ -71,6 +72,7 @@ family_for sender (Submit part) =
     families.Command (command_for sender commands.Submit part.spawn_id)
 family_for sender (Return part) =
     families.Command (command_for sender commands.Return part.spawn_id)
+family_for sender (Abort spawn) = families.Command (command_for sender commands.Abort spawn)
 family_for sender (Answer asked spawn result) = families.Response (response_for asked spawn result)
 
 abbrev pub jmf_for : Message → Jmf
@@ -82,10 +84,11 @@ jmf_for m = record {
   family = family_for m.sender m.body;
 }
 
--- the part stands beside a command
+-- the part stands beside a command that has one
 abbrev pub put_part : Body → Members → Members
 put_part (Submit part) ms = put (codes "JDF") (part_data part) ms
 put_part (Return part) ms = put (codes "JDF") (part_data part) ms
+put_part (Abort spawn) ms = ms
 put_part (Answer asked spawn result) ms = ms
 
 -- the data of a message

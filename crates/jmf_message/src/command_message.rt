@@ -11,6 +11,7 @@ use ticket_tree::Refusal;
 
 /// The members of a command.
 const COMMAND_MEMBERS: &[&str] = &[
+    "AbortQueueEntryParams",
     "ID",
     "QueueSubmissionParams",
     "ReturnQueueEntryParams",

@@ -14,7 +14,7 @@ use crate::document_draft::DocumentDraft;
 use crate::family::Family;
 use crate::jmf::Jmf;
 use crate::response_message::ResponseMessage;
-use crate::said::{body_with, is_right_command, response_body};
+use crate::said::{abort_body, body_with, is_right_command, response_body};
 use crate::table::VERSION;
 use controller::Message;
 use json_items::Checked;
@@ -50,6 +50,23 @@ fn answer(alloc: Global, jmf: &Jmf, response: &ResponseMessage) -> Result<Messag
     ensures sent { IfOk result (λ message. may_be_sent message.body ≡ true) }
 {
     let body = response_body(alloc, response)?;
+    let Parties { sender, receiver } = parties_of(alloc, jmf)?;
+    Ok(Message {
+        sender,
+        receiver,
+        at: jmf.at,
+        body,
+    })
+}
+
+/// The message of a JMF object with a command that has no part.
+fn abort(alloc: Global, jmf: &Jmf, command: &CommandMessage) -> Result<Message, Refusal>
+    ensures answers { Answers result (decoded.message_saying
+        (record { jmf = jmf.now; part = None })
+        (said.abort_body jmf.now.sender command.now)) }
+    ensures sent { IfOk result (λ message. may_be_sent message.body ≡ true) }
+{
+    let body = abort_body(alloc, jmf.sender.as_str(), command)?;
     let Parties { sender, receiver } = parties_of(alloc, jmf)?;
     Ok(Message {
         sender,
@@ -95,7 +112,7 @@ fn message_of(alloc: Global, draft: &DocumentDraft<'_>) -> Result<Message, Refus
     match (&draft.jmf.family, &draft.part) {
         (Family::Command(asked), Some(part)) => command(alloc, &draft.jmf, asked, part),
         (Family::Response(response), None) => answer(alloc, &draft.jmf, response),
-        (Family::Command(_), None) => Err(Refusal::WrongMessage),
+        (Family::Command(asked), None) => abort(alloc, &draft.jmf, asked),
         (Family::Response(_), Some(_)) => Err(Refusal::WrongMessage),
     }
 }

@@ -24,7 +24,7 @@ impl<'a> DocumentDraft<'a> {
     ghost use Rattle.jmf_message.specs.DocumentForm as forms;
     ghost use Rattle.jmf_message.specs.Drafted.{drafted_document};
 
-    /// The draft of the part beside a command.
+    /// The draft of the part beside a message with which one goes.
     fn part_beside(
         alloc: Global,
         family: &Family,
@@ -34,11 +34,19 @@ impl<'a> DocumentDraft<'a> {
             (forms.part_beside family.now (get (codes "JDF") (view document.now))) }
     {
         let part = document.get("JDF");
-        match (family, part) {
-            (Family::Command(_), Some(part)) => Ok(Some(PartDraft::of(alloc, part)?)),
-            (Family::Response(_), None) => Ok(None),
-            (Family::Command(_), None) => Err(Refusal::NotProfile),
-            (Family::Response(_), Some(_)) => Err(Refusal::NotProfile),
+        match part {
+            Some(part) => {
+                if !family.has_part() {
+                    return Err(Refusal::NotProfile);
+                }
+                Ok(Some(PartDraft::of(alloc, part)?))
+            }
+            None => {
+                if family.has_part() {
+                    return Err(Refusal::NotProfile);
+                }
+                Ok(None)
+            }
         }
     }
 

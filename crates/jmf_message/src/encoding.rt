@@ -81,6 +81,10 @@ fn put_part_of(
     match body {
         Body::Submit(part) => put_part(alloc, members, part),
         Body::Return(part) => put_part(alloc, members, part),
+        Body::Abort(spawn_id) => {
+            let _number = spawn_id.number();
+            Ok(())
+        }
         Body::Answer { spawn_id, .. } => {
             let _number = spawn_id.number();
             Ok(())

@@ -17,6 +17,7 @@ impl Family {
     ghost use Rattle.std.specs.Prelude.{◌≡◌, OnOk};
     ghost use Rattle.serde_json.specs.View.{members_view};
     ghost use Rattle.json_source.specs.Read.{Gives};
+    ghost use Rattle.jmf_message.specs.DocumentForm.{has_part};
     ghost use Rattle.jmf_message.specs.JmfForm as forms;
 
     /// The message among the members of a JMF object, of exactly one of the two families.
@@ -30,6 +31,16 @@ impl Family {
             (None, Some(message)) => Ok(Family::Response(ResponseMessage::of(alloc, message)?)),
             (None, None) => Err(Refusal::NotProfile),
             (Some(_), Some(_)) => Err(Refusal::NotProfile),
+        }
+    }
+
+    /// Whether a part goes with it.
+    pub fn has_part(&self) -> bool
+        ensures { result ≡ has_part self.now }
+    {
+        match self {
+            Family::Command(message) => message.params.has_part(),
+            Family::Response(_) => false,
         }
     }
 

@@ -1,7 +1,8 @@
-//! Messages between controllers: a part that goes out, one that comes back, and the answers to
-//! both, as JMF in JSON.
+//! Messages between controllers: a part that goes out, one that comes back, one that is to be given
+//! up, and the answers to each, as JMF in JSON.
 #![tactic(auto)]
 
+mod abort_params;
 mod command_message;
 mod decoding;
 mod document_draft;

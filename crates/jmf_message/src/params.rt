@@ -1,3 +1,4 @@
+use crate::abort_params::AbortParams;
 use crate::return_params::ReturnParams;
 use crate::submission_params::SubmissionParams;
 use controller::Command;
@@ -12,6 +13,7 @@ use ticket_tree::Refusal;
 pub enum Params {
     Submission(SubmissionParams),
     Return(ReturnParams),
+    Abort(AbortParams),
 }
 
 impl Params {
@@ -21,17 +23,23 @@ impl Params {
     ghost use Rattle.jmf_message.specs.CommandForm as forms;
     ghost use Rattle.jmf_message.specs.Said as said;
 
-    /// The params among a command's members, of exactly one of the two kinds.
+    /// The params among a command's members, of exactly one of the three kinds.
     pub fn among<S: Source>(alloc: Global, command: &S) -> Result<Params, Refusal>
         ensures { Gives (λ params. params) result (forms.params_form (S.content command.now)) }
     {
         let submission = command.member("QueueSubmissionParams");
         let returning = command.member("ReturnQueueEntryParams");
-        match (submission, returning) {
-            (Some(params), None) => Ok(Params::Submission(SubmissionParams::of(alloc, params)?)),
-            (None, Some(params)) => Ok(Params::Return(ReturnParams::of(alloc, params)?)),
-            (None, None) => Err(Refusal::NotProfile),
-            (Some(_), Some(_)) => Err(Refusal::NotProfile),
+        let aborting = command.member("AbortQueueEntryParams");
+        match (submission, returning, aborting) {
+            (Some(params), None, None) => {
+                Ok(Params::Submission(SubmissionParams::of(alloc, params)?))
+            }
+            (None, Some(params), None) => Ok(Params::Return(ReturnParams::of(alloc, params)?)),
+            (None, None, Some(params)) => Ok(Params::Abort(AbortParams::of(alloc, params)?)),
+            (None, None, None) => Err(Refusal::NotProfile),
+            (Some(_), Some(_), _) => Err(Refusal::NotProfile),
+            (Some(_), None, Some(_)) => Err(Refusal::NotProfile),
+            (None, Some(_), Some(_)) => Err(Refusal::NotProfile),
         }
     }
 
@@ -47,6 +55,7 @@ impl Params {
         match self {
             Params::Submission(params) => put(alloc, members, "QueueSubmissionParams", params),
             Params::Return(params) => put(alloc, members, "ReturnQueueEntryParams", params),
+            Params::Abort(params) => put(alloc, members, "AbortQueueEntryParams", params),
         }
     }
 
@@ -57,6 +66,18 @@ impl Params {
         match self {
             Params::Submission(_) => Command::Submit,
             Params::Return(_) => Command::Return,
+            Params::Abort(_) => Command::Abort,
+        }
+    }
+
+    /// Whether a part goes with the command.
+    pub fn has_part(&self) -> bool
+        ensures { result ≡ forms.has_part self.now }
+    {
+        match self {
+            Params::Submission(_) => true,
+            Params::Return(_) => true,
+            Params::Abort(_) => false,
         }
     }
 
@@ -67,6 +88,7 @@ impl Params {
         match self {
             Params::Submission(params) => params.entry.as_str(),
             Params::Return(params) => params.entry.as_str(),
+            Params::Abort(params) => params.entry.as_str(),
         }
     }
 
@@ -77,8 +99,13 @@ impl Params {
         match (self, other) {
             (Params::Submission(params), Params::Submission(others)) => params.are_same(others),
             (Params::Return(params), Params::Return(others)) => params.are_same(others),
+            (Params::Abort(params), Params::Abort(others)) => params.are_same(others),
             (Params::Submission(_), Params::Return(_)) => false,
+            (Params::Submission(_), Params::Abort(_)) => false,
             (Params::Return(_), Params::Submission(_)) => false,
+            (Params::Return(_), Params::Abort(_)) => false,
+            (Params::Abort(_), Params::Submission(_)) => false,
+            (Params::Abort(_), Params::Return(_)) => false,
         }
     }
 }

@@ -36,7 +36,7 @@ pub fn is_right_command(
     Ok(command.is_same(&right) && part.spawn() == entry)
 }
 
-/// The body of a command with its part.
+/// The body of a command of the spawn of a part.
 pub fn body_with(asked: Command, part: Part) -> Body
     ensures body { result ≡ said.body_with asked part }
     ensures sent { may_be_sent result ≡ true }
@@ -44,7 +44,26 @@ pub fn body_with(asked: Command, part: Part) -> Body
     match asked {
         Command::Submit => Body::Submit(part),
         Command::Return => Body::Return(part),
+        Command::Abort => Body::Abort(part.spawn_id()),
     }
+}
+
+/// The body of a sender's command without a part. Refuses `WrongMessage` where it doesn't say what
+/// it may, and `Memory`.
+#[tactic(auto, unfolding(crate::specs::Said::abort_body))]
+pub fn abort_body(alloc: Global, sender: &str, command: &CommandMessage) -> Result<Body, Refusal>
+    ensures answers { Answers result
+        (option_map_or Ok (said.abort_body sender.now command.now) (Err Refusal.WrongMessage)) }
+    ensures sent { IfOk result (λ body. may_be_sent body ≡ true) }
+{
+    let Ok(spawn) = SpawnId::parse(command.params.entry()) else {
+        return Err(Refusal::WrongMessage);
+    };
+    let right = command_for(alloc, sender, Command::Abort, spawn)?;
+    if !command.is_same(&right) {
+        return Err(Refusal::WrongMessage);
+    }
+    Ok(Body::Abort(spawn))
 }
 
 /// What stands behind the front of a text, if the text begins so.

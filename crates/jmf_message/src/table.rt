@@ -6,6 +6,7 @@ ghost use Rattle.ticket_items.specs.SpawnId.{spawn_text};
 ghost use Rattle.controller.specs.Words.{place_of};
 ghost use Rattle.jmf_message.specs.Written as written;
 
+use crate::abort_params::AbortParams;
 use crate::command_message::CommandMessage;
 use crate::family::Family;
 use crate::ids::{answer_id, command_id};
@@ -72,6 +73,9 @@ fn params_for(
         Command::Return => Ok(Params::Return(ReturnParams {
             entry: spawn_word(alloc, spawn)?,
             url: AnyText::new(alloc, NO_PLACE)?,
+        })),
+        Command::Abort => Ok(Params::Abort(AbortParams {
+            entry: spawn_word(alloc, spawn)?,
         })),
     }
 }
@@ -155,6 +159,10 @@ pub fn family_for(alloc: Global, sender: &str, body: &Body) -> Result<Family, Al
         }
         Body::Return(part) => {
             let command = command_for(alloc, sender, Command::Return, part.spawn_id())?;
+            Ok(Family::Command(command))
+        }
+        Body::Abort(spawn_id) => {
+            let command = command_for(alloc, sender, Command::Abort, *spawn_id)?;
             Ok(Family::Command(command))
         }
         Body::Answer {

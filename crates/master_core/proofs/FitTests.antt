@@ -1,7 +1,6 @@
--- Why a part that comes back is refused, as it is tested.
-use Rattle.std.proofs.Common.{◌≡◌, ◌↔◌, ◌||◌, Bool, true, false, not, Some, None, IsTrue, refl, sym}
-use Rattle.ticket_items.specs.declared.refusal.Refusal.TheVariants.{WrongShape}
-use Rattle.ticket_rows.specs.Ticket.{Job, unless}
+-- Whether a part that comes back fits, as it is tested.
+use Rattle.std.proofs.Common.{◌≡◌, ◌↔◌, Bool, true, false, IsTrue, refl, sym}
+use Rattle.ticket_rows.specs.Ticket.{Job}
 use Rattle.ticket_tree.specs.Part.{Copied}
 use Rattle.spawn.specs.declared.records.spawn_rec.SpawnRec.{SpawnRec}
 use Rattle.merge.proofs.Fitting.{fits_part, part_fits}
@@ -16,17 +15,3 @@ same_test false false to from = refl
 -- what tells whether a part fits is the test of it
 pub fit_told : (b : Bool) (t : Job) (r : SpawnRec) (p : Copied) → (IsTrue b ↔ Fits t r p) → b ≡ is_fit t r p
 fit_told b t r p tells = same_test b (is_fit t r p) (λ e. fits_part t r p (tells.0 e)) (λ e. tells.1 (part_fits t r p e))
-
-pub shape_refused : (out fit : Bool) → out ≡ true → fit ≡ false → Some WrongShape ≡ unless (not out || fit) WrongShape
-shape_refused true false o f = refl
-shape_refused true true o f = cc
-shape_refused false fit o f = cc
-
-pub fit_free : (out fit : Bool) → fit ≡ true → None ≡ unless (not out || fit) WrongShape
-fit_free true true f = refl
-fit_free false fit f = refl
-fit_free true false f = cc
-
-pub merged_free : (out fit : Bool) → out ≡ false → None ≡ unless (not out || fit) WrongShape
-merged_free false fit o = refl
-merged_free true fit o = cc

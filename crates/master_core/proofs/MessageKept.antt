@@ -1,5 +1,5 @@
 -- What always holds of a master holds after a message.
-use Rattle.std.proofs.Common.{◌≡◌, ◌∙◌, ℕ, Bool, true, false, cond, List, [], ◌∷◌, Option, Some, None, is_some, get_or, refl, sym, ap, subst}
+use Rattle.std.proofs.Common.{◌≡◌, ◌∙◌, ℕ, Bool, true, false, cond, List, [], ◌∷◌, Option, Some, None, Result, is_some, get_or, refl, sym, ap, subst}
 use Rattle.std.proofs.lemmas.List.Elements.{All-map}
 use Rattle.std.specs.List.{All}
 use Rattle.std.specs.Option.{option_map_or}
@@ -10,15 +10,23 @@ use Rattle.ticket_items.specs.declared.resource.Resource.{Resource}
 use Rattle.ticket_rows.specs.Copies.{with_copies}
 use Rattle.ticket_rows.specs.Place.{places}
 use Rattle.ticket_rows.specs.Ticket.{IsValid, are_unreserved}
+use Rattle.ticket_tree.proofs.PlainOneRow.{append_of_places}
+use Rattle.ticket_tree.proofs.StaysValid.{append_is_valid}
 use Rattle.ticket_tree.specs.Part.{Copied}
 use Rattle.controller.specs.Reply.{spawn_in}
 use Rattle.controller.specs.declared.body.Body.{Body}
-use Rattle.controller.specs.declared.body.Body.TheVariants.{Submit, Return, Answer}
+use Rattle.controller.specs.declared.body.Body.TheVariants.{Submit, Return, Abort, Answer}
+use Rattle.controller.specs.declared.command.Command.{Command}
 use Rattle.controller.specs.declared.message.Message.{Message}
+use Rattle.controller.specs.declared.queue_status.QueueStatus.{QueueStatus}
+use Rattle.spawn.proofs.Ended.{end_keeps_apart}
 use Rattle.spawn.proofs.Lawful.{Placed, placed}
 use Rattle.spawn.specs.Laws.{StandApart}
 use Rattle.spawn.specs.Records.{is_out}
+use Rattle.spawn.specs.Spawning.{parent_of}
 use Rattle.spawn.specs.Stored.{stands_in}
+use Rattle.spawn.specs.declared.records.phase.Phase.{Phase}
+use Rattle.spawn.specs.declared.records.phase.Phase.TheVariants.{Merged, Withdrawn}
 use Rattle.spawn.specs.declared.records.spawn_rec.SpawnRec.{SpawnRec}
 use Rattle.merge.proofs.Fitting.{part_fits}
 use Rattle.merge.proofs.MergedHolders.{merge_keeps_apart}
@@ -26,12 +34,13 @@ use Rattle.merge.proofs.PutPlaces.{put_of_places}
 use Rattle.merge.proofs.PutValid.{put_is_valid}
 use Rattle.merge.specs.Put.{put}
 use Rattle.merge.specs.Shape.{Fits}
-use Rattle.master_core.proofs.Recorded.{merged_at_place, merged_if, merged_worker, numbered_merged}
+use Rattle.merge.specs.Withdrawal.{withdrawn, withdrawn_audit}
+use Rattle.master_core.proofs.Recorded.{phase_at_place, phase_if, phase_numbered, phase_worker}
 use Rattle.master_core.proofs.Refusals.{part_free, take_free}
 use Rattle.master_core.proofs.StandsIn.{still_stands}
 use Rattle.master_core.specs.Laws.{MessageIsKept}
-use Rattle.master_core.specs.Master.{IsKept, Known, is_of, merged_record, record_of, with_merged}
-use Rattle.master_core.specs.Messages.{IsValidBody, body_refusal, merged, take_refusal, taken}
+use Rattle.master_core.specs.Master.{IsKept, Known, in_phase, is_of, record_of, with_phase}
+use Rattle.master_core.specs.Messages.{IsValidBody, body_refusal, freed, is_declined, made_if_out, merged, take_refusal, taken}
 
 -- ---- what a valid part says
 
@@ -40,20 +49,22 @@ pub unreserved_rows : (rows : List NodeRow) (rw ro : List Resource) → are_unre
 unreserved_rows [] rw ro e = e
 unreserved_rows (r ∷ rows) rw ro e = e
 
--- ---- a part put in
+-- ---- a record in a phase
 
-sent_merged : (s : ℕ) (workers : List (List ℕ)) (records : List SpawnRec) → All (λ (r : SpawnRec). mem r.worker workers ≡ true) records → All (λ (r : SpawnRec). mem r.worker workers ≡ true) (with_merged s records)
-sent_merged s workers records sent =
-    All-map (λ (r : SpawnRec). mem r.worker workers ≡ true) (merged_if s) records (λ k d within. ap (λ x. mem x workers) (merged_worker s (get_or records k d)) ∙ sent k d within)
+phase_sent : (ph : Phase) (s : ℕ) (workers : List (List ℕ)) (records : List SpawnRec) → All (λ (r : SpawnRec). mem r.worker workers ≡ true) records → All (λ (r : SpawnRec). mem r.worker workers ≡ true) (with_phase ph s records)
+phase_sent ph s workers records sent =
+    All-map (λ (r : SpawnRec). mem r.worker workers ≡ true) (phase_if ph s) records (λ k d within. ap (λ x. mem x workers) (phase_worker ph s (get_or records k d)) ∙ sent k d within)
 
-recorded_merged : (s : ℕ) (rows later : List NodeRow) (records : List SpawnRec) → places later ≡ places rows → All (λ (r : SpawnRec). stands_in rows r ≡ true) records → All (λ (r : SpawnRec). stands_in later r ≡ true) (with_merged s records)
-recorded_merged s rows later records same recorded =
-    All-map (λ (r : SpawnRec). stands_in later r ≡ true) (merged_if s) records
-    (λ k d within. merged_still (is_of s (get_or records k d)) later (get_or records k d) ∙ still_stands rows later (get_or records k d) same (recorded k d within))
+phase_recorded : (ph : Phase) (s : ℕ) (rows later : List NodeRow) (records : List SpawnRec) → places later ≡ places rows → All (λ (r : SpawnRec). stands_in rows r ≡ true) records → All (λ (r : SpawnRec). stands_in later r ≡ true) (with_phase ph s records)
+phase_recorded ph s rows later records same recorded =
+    All-map (λ (r : SpawnRec). stands_in later r ≡ true) (phase_if ph s) records
+    (λ k d within. still (is_of s (get_or records k d)) later (get_or records k d) ∙ still_stands rows later (get_or records k d) same (recorded k d within))
   where
-    merged_still : (b : Bool) (rows : List NodeRow) (r : SpawnRec) → stands_in rows (cond b (merged_record r) r) ≡ stands_in rows r
-    merged_still true rows r = refl
-    merged_still false rows r = refl
+    still : (b : Bool) (rows : List NodeRow) (r : SpawnRec) → stands_in rows (cond b (in_phase ph r) r) ≡ stands_in rows r
+    still true rows r = refl
+    still false rows r = refl
+
+-- ---- a part put in
 
 merged_kept : (p : Copied) (at : ℕ) (w : Known) (r : SpawnRec) → IsValid (with_copies p.rows p.rw p.ro) → IsKept w → Placed w.records r → is_out r ≡ true → Fits w.ticket r p → IsKept (merged p at w r)
 merged_kept p at w r valid kept place out fits =
@@ -61,10 +72,10 @@ merged_kept p at w r valid kept place out fits =
     record {
       names = kept.names;
       valid = put_is_valid w.ticket r p at kept.valid good fits (unreserved_rows p.rows p.rw p.ro valid.unreserved);
-      numbered = numbered_merged r.id w.records kept.numbered;
-      sent = sent_merged r.id w.workers w.records kept.sent;
-      recorded = recorded_merged r.id w.ticket.rows (put w.ticket r p at).rows w.records (put_of_places w.ticket r p at kept.valid (kept.apart.good place.place r place.there out) fits) kept.recorded;
-      apart = subst (StandApart (put w.ticket r p at).rows) (sym (merged_at_place w.records place.place r kept.numbered place.there)) (merge_keeps_apart w.ticket w.records place.place r p at kept.valid kept.apart place.there out fits);
+      numbered = phase_numbered Merged r.id w.records kept.numbered;
+      sent = phase_sent Merged r.id w.workers w.records kept.sent;
+      recorded = phase_recorded Merged r.id w.ticket.rows (put w.ticket r p at).rows w.records (put_of_places w.ticket r p at kept.valid (kept.apart.good place.place r place.there out) fits) kept.recorded;
+      apart = subst (StandApart (put w.ticket r p at).rows) (sym (phase_at_place Merged w.records place.place r kept.numbered place.there)) (merge_keeps_apart w.ticket w.records place.place r p at kept.valid kept.apart place.there out fits);
     }
 
 out_kept : (out : Bool) (p : Copied) (at : ℕ) (w : Known) (r : SpawnRec) → is_out r ≡ out → IsValid (with_copies p.rows p.rw p.ro) → IsKept w → Placed w.records r → body_refusal (Return p) w r ≡ None → IsKept (cond out (merged p at w r) w)
@@ -75,10 +86,40 @@ taken_kept : (p : Copied) (at : ℕ) (w : Known) (r : SpawnRec) → IsValid (wit
 taken_kept p at w r valid kept found none =
     subst IsKept (sym (ap (λ o. option_map_or (λ q. cond (is_out q) (merged p at w q) w) o w) found)) (out_kept (is_out r) p at w r refl valid kept (placed (is_of p.spawn_id) w.records r found) none)
 
+-- ---- a spawn withdrawn
+
+freed_kept : (at : ℕ) (w : Known) (r : SpawnRec) → IsKept w → Placed w.records r → is_out r ≡ true → IsKept (freed at w r)
+freed_kept at w r kept place out =
+    let rows = w.ticket.rows in
+    let above = parent_of rows r.node in
+    let audit = withdrawn_audit r at in
+    let later = (withdrawn w.ticket r at).rows in
+    let still : places later ≡ places rows = append_of_places above audit rows in
+    record {
+      names = kept.names;
+      valid = append_is_valid above audit rows kept.valid;
+      numbered = phase_numbered Withdrawn r.id w.records kept.numbered;
+      sent = phase_sent Withdrawn r.id w.workers w.records kept.sent;
+      recorded = phase_recorded Withdrawn r.id rows later w.records still kept.recorded;
+      apart = subst (StandApart later) (sym (phase_at_place Withdrawn w.records place.place r kept.numbered place.there)) (end_keeps_apart rows later w.records place.place r (in_phase Withdrawn r) still kept.apart place.there out refl);
+    }
+
+free_if_out : (out : Bool) (at : ℕ) (w : Known) (r : SpawnRec) → is_out r ≡ out → IsKept w → Placed w.records r → IsKept (cond out (freed at w r) w)
+free_if_out true at w r out kept place = freed_kept at w r kept place out
+free_if_out false at w r out kept place = kept
+
+answered_kept : (declined : Bool) (c : Command) (s : ℕ) (told : Result QueueStatus ℕ) (at : ℕ) (w : Known) (r : SpawnRec) → is_declined c told ≡ declined → IsKept w → record_of w.records s ≡ Some r → IsKept (taken (Answer c s told) at w)
+answered_kept false c s told at w r declined kept found = subst IsKept (sym (ap (λ b. cond b (made_if_out (freed at w) s w) w) declined)) kept
+answered_kept true c s told at w r declined kept found =
+    subst IsKept (sym (ap (λ b. cond b (made_if_out (freed at w) s w) w) declined ∙ ap (λ o. option_map_or (λ q. cond (is_out q) (freed at w q) w) o w) found)) (free_if_out (is_out r) at w r refl kept (placed (is_of s) w.records r found))
+
+-- ---- messages
+
 kept_at : (body : Body) (at : ℕ) (w : Known) → IsValidBody body → IsKept w → (r : SpawnRec) → record_of w.records (spawn_in body) ≡ Some r → body_refusal body w r ≡ None → IsKept (taken body at w)
 kept_at (Submit p) at w valid kept r found none = kept
 kept_at (Return p) at w valid kept r found none = taken_kept p at w r valid kept found none
-kept_at (Answer c s told) at w valid kept r found none = kept
+kept_at (Abort s) at w valid kept r found none = kept
+kept_at (Answer c s told) at w valid kept r found none = answered_kept (is_declined c told) c s told at w r refl kept found
 
 kept_either : (refusal : Option Refusal) (m : Message) (at : ℕ) (w : Known) → take_refusal m w ≡ refusal → IsValidBody m.body → IsKept w → IsKept (cond (is_some refusal) w (taken m.body at w))
 kept_either (Some e) m at w refused valid kept = kept

@@ -54,3 +54,4 @@ never_memory (to_master.Spawn n v rw) w =
     (spawns (has_node rows n) (is_some (up (node_places rows) n)) (list_all (has_resource rows) rw) (list_all (λ x. mem x (ids_of (linked_outside (places rows) n))) rw) (is_spawn_number (master.next_number w.records)) (spawning.not_held (places rows) w.records n rw) (claimed (slice_get (spawning.holding_claimed (places rows) w.records n rw) 0)))
     none)
 never_memory (to_master.Resend s) w = test _ _ (other refusals.NotOut refl)
+never_memory (to_master.Withdraw s) w = test _ _ (other refusals.NotOut refl)

@@ -55,6 +55,7 @@ pub ordered_kept : (o : Order) (at : ℕ) (w : Known) → IsKept w → order_ref
 ordered_kept (order.Edit e) at w kept none = edit_kept e at w kept none
 ordered_kept (order.Spawn node worker rw) at w kept none = spawn_kept node worker rw at w kept none
 ordered_kept (order.Resend s) at w kept none = kept
+ordered_kept (order.Withdraw s) at w kept none = kept
 
 kept_either : (refusal : Option Refusal) (o : Order) (at : ℕ) (w : Known) → order_refusal o w ≡ refusal → IsKept w → IsKept (cond (is_some refusal) w (ordered o at w))
 kept_either None o at w none kept = ordered_kept o at w kept none

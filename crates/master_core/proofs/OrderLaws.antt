@@ -6,11 +6,11 @@ use Rattle.controller.specs.declared.message.Message.{Message}
 use Rattle.spawn.specs.Records.{is_out}
 use Rattle.spawn.specs.declared.records.spawn_rec.SpawnRec.{SpawnRec}
 use Rattle.master_core.proofs.Recorded.{found_last, found_still}
-use Rattle.master_core.proofs.Refusals.{edit_free, resend_free}
-use Rattle.master_core.specs.Laws.{EditIsOfHeld, NothingIsSent, SubmitIsOfRecord}
+use Rattle.master_core.proofs.Refusals.{edit_free, resend_free, withdraw_free}
+use Rattle.master_core.specs.Laws.{AbortIsOfRecord, EditIsOfHeld, NothingIsSent, SubmitIsOfRecord}
 use Rattle.master_core.specs.Master.{Known, next_number, record_of}
 use Rattle.spawn.specs.Table.{is_masters}
-use Rattle.master_core.specs.Orders.{after_order, next_record, order_message, order_refusal, ordered, submit_of}
+use Rattle.master_core.specs.Orders.{abort_of, after_order, next_record, order_message, order_refusal, ordered, submit_of}
 use Rattle.master_core.specs.declared.order.Order.{Order}
 use Rattle.master_core.specs.declared.order.Order.TheVariants as order
 
@@ -25,6 +25,7 @@ ordered_still : (o : Order) (at : ℕ) (w : Known) (s : ℕ) (r : SpawnRec) → 
 ordered_still (order.Edit e) at w s r found = found
 ordered_still (order.Spawn node worker copies) at w s r found = found_still w.records (next_record w node worker copies at) s r found
 ordered_still (order.Resend t) at w s r found = found
+ordered_still (order.Withdraw t) at w s r found = found
 
 still_either : (refusal : Option Refusal) (o : Order) (at : ℕ) (w : Known) (s : ℕ) (r : SpawnRec) → record_of w.records s ≡ Some r → record_of (cond (is_some refusal) w (ordered o at w)).records s ≡ Some r
 still_either None o at w s r found = ordered_still o at w s r found
@@ -61,8 +62,29 @@ submit_is_of_record (order.Spawn node worker copies) at w s kept none sent =
 submit_is_of_record (order.Resend t) at w s kept none sent =
     subst (λ n. Sends w w n (order_message (order.Resend t) at w)) (same_spawn t s sent)
     (sent_again (record_of w.records t) t w refl (resend_free w t none))
+submit_is_of_record (order.Withdraw t) at w s kept none sent = cc
+
+-- what asks for it
+abbrev Asks : Known → ℕ → Option Message → Type 0
+Asks w s sent =
+    (r : SpawnRec) × (record_of w.records s ≡ Some r) × (is_out r ≡ true)
+    × (sent ≡ Some (abort_of w.name r))
+
+asked : (o : Option SpawnRec) (s : ℕ) (w : Known) → record_of w.records s ≡ o
+    → option_map_or is_out o false ≡ true → Asks w s (option_map (abort_of w.name) o)
+asked None s w found out = cc
+asked (Some r) s w found out = (r, found, out, refl)
+
+pub abort_is_of_record : AbortIsOfRecord
+abort_is_of_record (order.Edit e) at w s none is = cc
+abort_is_of_record (order.Spawn node worker copies) at w s none is = cc
+abort_is_of_record (order.Resend t) at w s none is = cc
+abort_is_of_record (order.Withdraw t) at w s none is =
+    subst (λ n. Asks w n (order_message (order.Withdraw t) at w)) (same_spawn t s is)
+    (asked (record_of w.records t) t w refl (withdraw_free w t none))
 
 pub nothing_is_sent : NothingIsSent
-nothing_is_sent (order.Edit e) at w none = refl
-nothing_is_sent (order.Spawn node worker copies) at w none = cc
-nothing_is_sent (order.Resend s) at w none = cc
+nothing_is_sent (order.Edit e) at w none unasked = refl
+nothing_is_sent (order.Spawn node worker copies) at w none unasked = cc
+nothing_is_sent (order.Resend s) at w none unasked = cc
+nothing_is_sent (order.Withdraw s) at w none unasked = cc

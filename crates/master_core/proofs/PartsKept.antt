@@ -1,5 +1,5 @@
--- The part of a spawn that is out stays the same as another is merged or goes out, and as the
--- master edits what it holds.
+-- The part of a spawn that is out stays the same as another is merged, withdrawn or goes out, and as
+-- the master edits what it holds.
 use Rattle.std.proofs.Common.{◌≡◌, ◌∙◌, ◌⊎◌, ℕ, ◌++◌, true, false, cond, List, [], ◌∷◌, Option, Some, None, Ok, is_some, length, slice_get, inl, inr, refl, sym, ap, subst}
 use Rattle.std.proofs.lemmas.Bool.{and_from}
 use Rattle.std.proofs.lemmas.Slice.Eq.{bytes_eq-Decides}
@@ -33,6 +33,7 @@ use Rattle.spawn.specs.Parts.{part_for}
 use Rattle.spawn.specs.Records.{is_out}
 use Rattle.spawn.specs.Spawning.{parent_of, spawned, spawned_audit}
 use Rattle.spawn.specs.Table.{holder_at, holder_of, holding}
+use Rattle.spawn.specs.declared.records.phase.Phase.TheVariants.{Merged, Withdrawn}
 use Rattle.spawn.specs.declared.records.spawn_rec.SpawnRec.{SpawnRec}
 use Rattle.spawn.specs.declared.tables.holder.Holder.TheVariants.{Master, Spawn}
 use Rattle.merge.proofs.PutPlaces.{put_of_places}
@@ -41,17 +42,18 @@ use Rattle.merge.proofs.PutValid.{put_is_valid}
 use Rattle.merge.specs.PlainPut.{merged_rows}
 use Rattle.merge.specs.Put.{put}
 use Rattle.merge.specs.Shape.{Fits}
+use Rattle.merge.specs.Withdrawal.{withdrawn, withdrawn_audit}
 use Rattle.master_core.proofs.EditedParts.{edit_keeps_parts, same_ancestors}
 use Rattle.merge.proofs.Fitting.{part_fits}
 use Rattle.controller.specs.declared.reply.Reply.TheVariants as reply
 use Rattle.master_core.proofs.MessageKept.{unreserved_rows}
-use Rattle.master_core.proofs.MessageLaws.{message_changes_by_merge}
+use Rattle.master_core.proofs.MessageLaws.{message_ends_spawns}
 use Rattle.master_core.proofs.OrderLaws.{records_stay}
-use Rattle.master_core.proofs.Recorded.{found_merged, get_front, get_last, merged_if, merged_or, number_is}
+use Rattle.master_core.proofs.Recorded.{found_phase, get_front, get_last, number_is, phase_if, phase_or}
 use Rattle.master_core.proofs.Refusals.{edit_free, part_free, spawn_free, take_free}
 use Rattle.master_core.specs.Laws.{MessageKeepsSpawns, OrderKeepsSpawns}
-use Rattle.master_core.specs.Master.{IsKept, Known, is_of, merged_record, next_number, record_of}
-use Rattle.master_core.specs.Messages.{IsValidBody, body_refusal, merged, take_refusal, taken_reply}
+use Rattle.master_core.specs.Master.{IsKept, Known, is_of, merged_record, next_number, record_of, withdrawn_record}
+use Rattle.master_core.specs.Messages.{IsValidBody, body_refusal, freed, merged, take_refusal, taken_reply}
 use Rattle.master_core.specs.Orders.{next_record, order_refusal, ordered}
 use Rattle.master_core.specs.declared.order.Order.{Order}
 use Rattle.master_core.specs.declared.order.Order.TheVariants as order
@@ -98,6 +100,17 @@ merge_keeps_part t recs j q k r p at valid valid' apart fits at_q out_q at_r out
     ∙ untouched (parent_of t.rows q.node) _ (merged_rows t q p) x (claimed_not_parent t.rows recs j q k r x valid apart at_q out_q at_r out_r there)
     ∙ merged_elsewhere t q p x (ap (λ o. option_map_or (is_claimed q.node q.rw) o false) found.1 ∙ off))
 
+-- ---- as another spawn is withdrawn
+
+withdrawal_keeps_part : (t : Job) (recs : List SpawnRec) (j : ℕ) (q : SpawnRec) (k : ℕ) (r : SpawnRec) (at : ℕ) → IsValid t.rows → StandApart t.rows recs → slice_get recs j ≡ Some q → is_out q ≡ true → slice_get recs k ≡ Some r
+    → is_out r ≡ true → part_for (withdrawn t q at) r ≡ part_for t r
+withdrawal_keeps_part t recs j q k r at valid apart at_q out_q at_r out_r =
+    let u = parent_of t.rows q.node in
+    let audit = withdrawn_audit q at in
+    let known = (above_apart t.rows q.node valid (apart.good j q at_q out_q).has_parent).1 in
+    unmoved t (withdrawn t q at) r valid (append_is_valid u audit t.rows valid) refl (append_of_places u audit t.rows)
+    (λ x there. append_of_rows u audit t.rows valid known x ∙ untouched u _ (row_in t.rows) x (claimed_not_parent t.rows recs j q k r x valid apart at_q out_q at_r out_r there))
+
 -- ---- as another spawn goes out
 
 spawn_keeps_part : (w : Known) (node worker : List ℕ) (copies : List (List ℕ)) (at k : ℕ) (r : SpawnRec) → IsKept w → order_refusal (order.Spawn node worker copies) w ≡ None → slice_get w.records k ≡ Some r → is_out r ≡ true
@@ -129,6 +142,7 @@ ordered_parts (order.Edit e) at w k r kept none there out =
     edit_keeps_parts w.ticket w.records e at k r kept.valid kept.apart free.rows free.held there out
 ordered_parts (order.Spawn node worker copies) at w k r kept none there out = spawn_keeps_part w node worker copies at k r kept none there out
 ordered_parts (order.Resend s) at w k r kept none there out = refl
+ordered_parts (order.Withdraw s) at w k r kept none there out = refl
 
 parts_either : (refusal : Option Refusal) (o : Order) (at : ℕ) (w : Known) (k : ℕ) (r : SpawnRec) → IsKept w → order_refusal o w ≡ refusal → slice_get w.records k ≡ Some r → is_out r ≡ true → part_for (cond (is_some refusal) w (ordered o at w)).ticket r ≡ part_for w.ticket r
 parts_either None o at w k r kept none there out = ordered_parts o at w k r kept none there out
@@ -145,7 +159,8 @@ other_place recs j k q r at_q at_r other same = other (ap (λ o. option_map_or (
 abbrev Stays : Message → Known → Known → ℕ → SpawnRec → Type 0
 Stays m w later s r =
     ((is_out r ≡ true) × (taken_reply m w ≡ Ok (reply.Merged s)) × (record_of later.records s ≡ Some (merged_record r)))
-    ⊎ ((record_of later.records s ≡ Some r) × (is_out r ≡ true → part_for later.ticket r ≡ part_for w.ticket r))
+    ⊎ (((is_out r ≡ true) × (taken_reply m w ≡ Ok (reply.Freed s)) × (record_of later.records s ≡ Some (withdrawn_record r)))
+    ⊎ ((record_of later.records s ≡ Some r) × (is_out r ≡ true → part_for later.ticket r ≡ part_for w.ticket r)))
 
 -- a record, and the part of its spawn, as a part that fits is put in
 put_keeps : (m : Message) (p : Copied) (at : ℕ) (w : Known) (q : SpawnRec) (s : ℕ) (r : SpawnRec)
@@ -156,18 +171,36 @@ put_keeps : (m : Message) (p : Copied) (at : ℕ) (w : Known) (q : SpawnRec) (s 
 put_keeps m p at w q s r kept free fits found_q out_q told found =
     let place_q = placed (is_of p.spawn_id) w.records q found_q in
     let place = placed (is_of s) w.records r found in
-    let later = found_merged q.id w.records s ∙ ap (option_map (merged_if q.id)) found in
+    let later = found_phase Merged q.id w.records s ∙ ap (option_map (phase_if Merged q.id)) found in
     let valid = put_is_valid w.ticket q p at kept.valid (kept.apart.good place_q.place q place_q.there out_q) fits free in
-    elim (merged_or q.id r) [
+    elim (phase_or Merged q.id r) [
       | inl own ↦
           let is : p.spawn_id ≡ s = sym (number_is w.records p.spawn_id q found_q) ∙ sym own.0 ∙ number_is w.records s r found in
           let same : q ≡ r = same_found q r (record_of w.records s) (ap (record_of w.records) (sym is) ∙ found_q) found in
           inl (ap is_out (sym same) ∙ out_q, told ∙ ap (λ n. Ok (reply.Merged n)) is, later ∙ ap Some own.1)
       | inr other ↦
-          inr (
+          inr (inr (
             later ∙ ap Some other.1,
             λ out. merge_keeps_part w.ticket w.records place_q.place q place.place r p at kept.valid valid kept.apart fits place_q.there out_q place.there out (other_place w.records place_q.place place.place q r place_q.there place.there other.0),
-          )
+          ))
+    ]
+
+-- and as a spawn is withdrawn
+free_keeps : (m : Message) (t at : ℕ) (w : Known) (q : SpawnRec) (s : ℕ) (r : SpawnRec) → IsKept w → record_of w.records t ≡ Some q → is_out q ≡ true → taken_reply m w ≡ Ok (reply.Freed t) → record_of w.records s ≡ Some r → Stays m w (freed at w q) s r
+free_keeps m t at w q s r kept found_q out_q told found =
+    let place_q = placed (is_of t) w.records q found_q in
+    let place = placed (is_of s) w.records r found in
+    let later = found_phase Withdrawn q.id w.records s ∙ ap (option_map (phase_if Withdrawn q.id)) found in
+    elim (phase_or Withdrawn q.id r) [
+      | inl own ↦
+          let is : t ≡ s = sym (number_is w.records t q found_q) ∙ sym own.0 ∙ number_is w.records s r found in
+          let same : q ≡ r = same_found q r (record_of w.records s) (ap (record_of w.records) (sym is) ∙ found_q) found in
+          inr (inl (ap is_out (sym same) ∙ out_q, told ∙ ap (λ n. Ok (reply.Freed n)) is, later ∙ ap Some own.1))
+      | inr other ↦
+          inr (inr (
+            later ∙ ap Some other.1,
+            λ out. withdrawal_keeps_part w.ticket w.records place_q.place q place.place r at kept.valid kept.apart place_q.there out_q place.there out,
+          ))
     ]
 
 returned_fits : (m : Message) (p : Copied) (w : Known) (q : SpawnRec) → m.body ≡ Return p → take_refusal m w ≡ None → record_of w.records p.spawn_id ≡ Some q → is_out q ≡ true → Fits w.ticket q p
@@ -178,12 +211,16 @@ returned_fits m p w q is none found out =
 
 pub message_keeps_spawns : MessageKeepsSpawns
 message_keeps_spawns m at w s r valid kept found =
-    elim (message_changes_by_merge m at w) [
-      | inl same ↦ inr (ap (λ (v : Known). record_of v.records s) same ∙ found, λ out. ap (λ (v : Known). part_for v.ticket r) same)
-      | inr put' ↦
-          let p = put'.0 in
-          let body : IsValidBody (Return p) = subst IsValidBody put'.2 valid in
-          let free = unreserved_rows p.rows p.rw p.ro body.unreserved in
-          let fits = returned_fits m p w put'.1 put'.2 put'.3 put'.4 put'.5 in
-          subst (λ v. Stays m w v s r) (sym put'.7) (put_keeps m p at w put'.1 s r kept free fits put'.4 put'.5 put'.6 found)
+    elim (message_ends_spawns m at w) [
+      | inl same ↦ inr (inr (ap (λ (v : Known). record_of v.records s) same ∙ found, λ out. ap (λ (v : Known). part_for v.ticket r) same))
+      | inr ends ↦
+          elim ends [
+            | inl put' ↦
+                let p = put'.0 in
+                let body : IsValidBody (Return p) = subst IsValidBody put'.2 valid in
+                let free = unreserved_rows p.rows p.rw p.ro body.unreserved in
+                let fits = returned_fits m p w put'.1 put'.2 put'.3 put'.4 put'.5 in
+                subst (λ v. Stays m w v s r) (sym put'.7) (put_keeps m p at w put'.1 s r kept free fits put'.4 put'.5 put'.6 found)
+            | inr free ↦ subst (λ v. Stays m w v s r) (sym free.7) (free_keeps m free.0 at w free.1 s r kept free.4 free.5 free.6 found)
+          ]
     ]

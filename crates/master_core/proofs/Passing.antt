@@ -1,9 +1,12 @@
 -- What is told of a refusal, as it is passed on.
-use Rattle.std.proofs.Common.{◌≡◌, ◌∙◌, Bool, true, false, [], ◌∷◌, Option, Some, None, Result, Ok, Err, IfErr, IfNone, IfOk, IfSome, OnOk, is_some, refl, sym, ap, subst}
+use Rattle.std.proofs.Common.{◌≡◌, ◌∙◌, ℕ, ◌&&◌, Bool, true, false, cond, [], ◌∷◌, Option, Some, None, Result, Ok, Err, IfErr, IfNone, IfOk, IfSome, IsOk, OnOk, is_some, refl, sym, ap, subst}
 use Rattle.std.specs.Result.{IsErrAnd, result_and}
 use Rattle.ticket_items.specs.declared.refusal.Refusal.{Refusal}
 use Rattle.ticket_items.specs.declared.refusal.Refusal.TheVariants.{Memory}
 use Rattle.ticket_rows.specs.Ticket.{first_of, unless}
+use Rattle.controller.specs.Reply.{is_freed, refused_or}
+use Rattle.controller.specs.declared.reply.Reply.{Reply}
+use Rattle.controller.specs.declared.reply.Reply.TheVariants as reply
 
 -- what was refused is refused where it is passed on
 pub refused_through : {X Y : Type 0} (o : Option Refusal) (inner : Result X Refusal) (outer : Result Y Refusal) (e : Refusal) → IfSome o (λ r. inner ≡ Err r) → inner ≡ Err e → IsErrAnd outer (λ r. r ≡ e) → IfSome o (λ r. outer ≡ Err r)
@@ -65,6 +68,22 @@ behind_test false r o passed = cc
 pub no_refusal : (o : Option Refusal) (b : Bool) → b ≡ is_some o → b ≡ false → o ≡ None
 no_refusal None b told e = refl
 no_refusal (Some r) b told e = cc
+
+-- what is told as no refusal, and frees no spawn
+pub replied_free : (o : Option Refusal) (b : Bool) (r : Reply) → b ≡ is_some o → IfOk (refused_or o r) (λ q. is_freed q ≡ false) → b ≡ false → is_freed r ≡ false
+replied_free None b r told free passed = free
+replied_free (Some e) b r told free passed = cc
+
+-- a spawn that is declined and isn't freed isn't out
+pub not_freed : (declined out : Bool) (s : ℕ) → declined ≡ true → is_freed (cond (declined && out) (reply.Freed s) (reply.Noted s)) ≡ false → out ≡ false
+not_freed true true s d e = cc
+not_freed true false s d e = refl
+not_freed false out s d e = cc
+
+-- where the first went well so did both
+pub ok_of_both : {X Y E : Type 0} (first : Result X E) (y : Y) (both : Result Y E) → both ≡ result_and first (Ok y) → IsOk first → IsOk both
+ok_of_both (Ok x) y both is ok = subst IsOk (sym is) refl
+ok_of_both (Err e) y both is ok = cc
 
 -- what follows where the first went well holds of the answer of both
 pub of_both : {X Y E : Type 0} {P : Type 0} (Q : Y → Type 0) (first : Result X E) (y : Y) (both : Result Y E) → both ≡ result_and first (Ok y) → OnOk first P → (P → Q y) → IfOk both Q

@@ -1,5 +1,5 @@
 -- What an order or a message that isn't refused says.
-use Rattle.std.proofs.Common.{◌≡◌, ◌∙◌, cond, ℕ, ◌||◌, ◌&&◌, Bool, true, false, not, List, [], ◌∷◌, Option, Some, None, is_some, refl, sym, ap}
+use Rattle.std.proofs.Common.{◌≡◌, ◌∙◌, cond, ℕ, ◌&&◌, Bool, true, false, not, List, [], ◌∷◌, Option, Some, None, is_some, refl, sym, ap}
 use Rattle.std.specs.List.{filter}
 use Rattle.std.specs.Option.{option_map, option_map_or}
 use Rattle.std.specs.Str.{bytes_eq}
@@ -8,7 +8,7 @@ use Rattle.ticket_items.specs.declared.edit.Edit.{Edit}
 use Rattle.ticket_items.specs.declared.edit.Edit.TheVariants.{SetStatus, SetAttr, SetResStatus, SetResAttr, Note, AddNode, AddResource, AddLink}
 use Rattle.ticket_items.specs.declared.node_row.NodeRow.{NodeRow}
 use Rattle.ticket_items.specs.declared.refusal.Refusal.{Refusal}
-use Rattle.ticket_items.specs.declared.refusal.Refusal.TheVariants.{UnknownNode, UnknownResource, UnknownWorker, UnknownSpawn, NotOut, WrongMessage, WrongSender, WrongShape}
+use Rattle.ticket_items.specs.declared.refusal.Refusal.TheVariants.{UnknownNode, UnknownResource, UnknownWorker, UnknownSpawn, NotOut, WrongMessage, WrongSender}
 use Rattle.ticket_rows.specs.Edit.{lookups, refusal_of, target}
 use Rattle.ticket_rows.specs.EditRefusal.{later_refusal, unknown_refusal}
 use Rattle.ticket_rows.specs.Homes.{has_resource}
@@ -19,15 +19,17 @@ use Rattle.ticket_tree.specs.Part.{Copied}
 use Rattle.controller.specs.Reply.{spawn_in}
 use Rattle.controller.specs.declared.body.Body.TheVariants.{Return}
 use Rattle.controller.specs.declared.message.Message.{Message}
-use Rattle.spawn.specs.Records.{is_out}
+use Rattle.spawn.specs.Records.{is_out, is_out_phase}
 use Rattle.spawn.specs.Spawning.{spawn_refusal}
 use Rattle.spawn.specs.Table.{holder_at}
+use Rattle.spawn.specs.declared.records.phase.Phase.{Phase}
+use Rattle.spawn.specs.declared.records.phase.Phase.TheVariants.{Out, Merged, Withdrawn}
 use Rattle.spawn.specs.declared.records.spawn_rec.SpawnRec.{SpawnRec}
 use Rattle.spawn.specs.declared.tables.holder.Holder.{Holder}
 use Rattle.spawn.specs.declared.tables.holder.Holder.TheVariants as held_by
 use Rattle.merge.specs.Alike.{is_fit}
 use Rattle.master_core.specs.Master.{Known, holder, is_spawn_out, next_number, record_of}
-use Rattle.master_core.specs.Messages.{body_refusal, is_for_masters, record_refusal, take_refusal}
+use Rattle.master_core.specs.Messages.{body_refusal, is_for_masters, record_refusal, return_refusal, take_refusal}
 use Rattle.master_core.specs.Orders.{edit_refusal, held_refusal, not_held, order_refusal}
 use Rattle.master_core.specs.declared.order.Order.TheVariants as order
 
@@ -119,9 +121,12 @@ only_out : (a : Bool) → unless a NotOut ≡ None → a ≡ true
 only_out true e = refl
 only_out false e = cc
 
--- what is sent once more is out
+-- what is sent once more, or is to be given up, is out
 pub resend_free : (w : Known) (s : ℕ) → order_refusal (order.Resend s) w ≡ None → is_spawn_out w.records s ≡ true
 resend_free w s none = only_out (is_spawn_out w.records s) none
+
+pub withdraw_free : (w : Known) (s : ℕ) → order_refusal (order.Withdraw s) w ≡ None → is_spawn_out w.records s ≡ true
+withdraw_free w s none = only_out (is_spawn_out w.records s) none
 
 -- ---- messages
 
@@ -146,11 +151,12 @@ take_free m w none =
     let there = record_there (record_refusal m w) (record_of w.records (spawn_in m.body)) (bytes_eq m.receiver w.name && is_for_masters m.body) none in
     (there.0, there.1, sent_free (bytes_eq m.sender there.0.worker) (body_refusal m.body w there.0) there.2)
 
-fit_if_out : (a b : Bool) → unless (not a || b) WrongShape ≡ None → a ≡ true → b ≡ true
-fit_if_out true true e out = refl
-fit_if_out true false e out = cc
-fit_if_out false b e out = cc
+fit_if_out : (phase : Phase) (fit : Bool) → return_refusal phase fit ≡ None → is_out_phase phase ≡ true → fit ≡ true
+fit_if_out Out true e out = refl
+fit_if_out Out false e out = cc
+fit_if_out Merged fit e out = cc
+fit_if_out Withdrawn fit e out = cc
 
 -- and a part that comes back fits while its spawn is out
 pub part_free : (p : Copied) (w : Known) (r : SpawnRec) → body_refusal (Return p) w r ≡ None → is_out r ≡ true → is_fit w.ticket r p ≡ true
-part_free p w r none out = fit_if_out (is_out r) (is_fit w.ticket r p) none out
+part_free p w r none out = fit_if_out r.phase (is_fit w.ticket r p) none out

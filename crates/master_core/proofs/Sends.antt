@@ -1,4 +1,5 @@
--- What a master sends may be sent: a part, or an answer with the number of a refusal.
+-- What a master sends may be sent: a part, that one is to be given up, or an answer with the number
+-- of a refusal.
 use Rattle.std.proofs.Common.{◌≡◌, ℕ, List, true, Option, Some, None, refl}
 use Rattle.std.specs.Option.{option_map}
 use Rattle.std.specs.Prelude.{IfSome}
@@ -10,9 +11,9 @@ use Rattle.ticket_rows.specs.Ticket.{Job}
 use Rattle.spawn.specs.declared.records.spawn_rec.SpawnRec.{SpawnRec}
 use Rattle.master_core.specs.Master.{Known}
 use Rattle.master_core.specs.Messages.{end_of, take_refusal, take_step, taken_result}
-use Rattle.master_core.specs.Orders.{order_message, order_refusal, order_reply, order_step, ordered, submit_of}
+use Rattle.master_core.specs.Orders.{abort_of, order_message, order_refusal, order_reply, order_step, ordered, submit_of}
 use Rattle.master_core.specs.declared.order.Order.{Order}
-use Rattle.master_core.specs.declared.order.Order.TheVariants.{Edit, Spawn, Resend}
+use Rattle.master_core.specs.declared.order.Order.TheVariants.{Edit, Spawn, Resend, Withdraw}
 
 -- these may
 abbrev pub IsSendable : Option Message → Type 0
@@ -22,10 +23,15 @@ again : (name : List ℕ) (t : Job) (r : Option SpawnRec) → IsSendable (option
 again name t None = tt
 again name t (Some r) = refl
 
+asked : (name : List ℕ) (r : Option SpawnRec) → IsSendable (option_map (abort_of name) r)
+asked name None = tt
+asked name (Some r) = refl
+
 message : (o : Order) (at' : ℕ) (w : Known) → IsSendable (order_message o at' w)
 message (Edit e) at' w = tt
 message (Spawn node worker rw) at' w = refl
 message (Resend s) at' w = again w.name w.ticket _
+message (Withdraw s) at' w = asked w.name _
 
 pub by_order : (o : Order) (at' : ℕ) (w : Known) → IsSendable (order_step o at' w).sent
 by_order o at' w = sends_so (order_refusal o w) (order_reply o w) (order_message o at' w) w (ordered o at' w) (λ m. may_be_sent m.body ≡ true) (message o at' w)

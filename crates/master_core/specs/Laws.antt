@@ -1,10 +1,13 @@
 -- Laws of masters: what they may change, what orders and messages change, and what goes out.
-use Rattle.std.specs.Prelude.{◌≡◌, ◌⊎◌, ℕ, true, false, List, Some, None, Ok}
+use Rattle.std.specs.Prelude.{◌≡◌, ◌⊎◌, ℕ, true, false, List, Some, None, Ok, Err, IfOk}
+use Rattle.ticket_items.specs.Refusal.{number_of}
 use Rattle.ticket_items.specs.declared.edit.Edit.{Edit}
+use Rattle.ticket_items.specs.declared.refusal.Refusal.TheVariants.{Declined}
 use Rattle.ticket_rows.specs.Edit.{target}
 use Rattle.ticket_tree.specs.Part.{Copied}
-use Rattle.controller.specs.Reply.{is_answer}
-use Rattle.controller.specs.declared.body.Body.TheVariants.{Return}
+use Rattle.controller.specs.Reply.{is_answer, is_freed}
+use Rattle.controller.specs.declared.body.Body.TheVariants.{Return, Answer}
+use Rattle.controller.specs.declared.command.Command.TheVariants.{Abort}
 use Rattle.controller.specs.declared.message.Message.{Message}
 use Rattle.controller.specs.declared.reply.Reply.TheVariants as reply
 use Rattle.spawn.specs.Parts.{part_for}
@@ -12,10 +15,11 @@ use Rattle.spawn.specs.Records.{is_out}
 use Rattle.spawn.specs.declared.records.spawn_rec.SpawnRec.{SpawnRec}
 use Rattle.spawn.specs.declared.tables.holder.Holder.TheVariants as held_by
 use Rattle.master_core.specs.Master.{IsKept, Known, holder, is_spawn_out, may_change, merged_record}
-use Rattle.master_core.specs.Master.{record_of}
-use Rattle.master_core.specs.Messages.{IsValidBody, after_taking, merged, take_refusal, taken_reply}
-use Rattle.master_core.specs.Orders.{after_order, order_message, order_refusal, ordered}
-use Rattle.master_core.specs.Orders.{spawn_sent, submit_of}
+use Rattle.master_core.specs.Master.{record_of, withdrawn_record}
+use Rattle.master_core.specs.Messages.{IsValidBody, after_taking, freed, merged, take_refusal}
+use Rattle.master_core.specs.Messages.{taken_reply}
+use Rattle.master_core.specs.Orders.{abort_of, after_order, order_message, order_refusal, ordered}
+use Rattle.master_core.specs.Orders.{spawn_asked, spawn_sent, submit_of}
 use Rattle.master_core.specs.declared.order.Order.{Order}
 use Rattle.master_core.specs.declared.order.Order.TheVariants as order
 
@@ -54,30 +58,45 @@ MessageIsKept =
     (m : Message) (at : ℕ) (w : Known) → IsValidBody m.body → IsKept w
     → IsKept (after_taking m at w)
 
--- a message changes nothing but where a part that comes back is put in
-abbrev pub MessageChangesByMerge : Type 0
-MessageChangesByMerge =
+-- a part that comes back is put in, of a spawn that is out
+abbrev pub Merges : Message → ℕ → Known → Known → Type 0
+Merges m at w later =
+    (p : Copied) × (r : SpawnRec) × (m.body ≡ Return p) × (take_refusal m w ≡ None)
+    × (record_of w.records p.spawn_id ≡ Some r) × (is_out r ≡ true)
+    × (taken_reply m w ≡ Ok (reply.Merged p.spawn_id)) × (later ≡ merged p at w r)
+
+-- a spawn that is out is withdrawn, as its worker declines it
+abbrev pub Frees : Message → ℕ → Known → Known → Type 0
+Frees m at w later =
+    (s : ℕ) × (r : SpawnRec) × (m.body ≡ Answer Abort s (Err (number_of Declined)))
+    × (take_refusal m w ≡ None) × (record_of w.records s ≡ Some r) × (is_out r ≡ true)
+    × (taken_reply m w ≡ Ok (reply.Freed s)) × (later ≡ freed at w r)
+
+-- a message changes nothing else
+abbrev pub MessageEndsSpawns : Type 0
+MessageEndsSpawns =
     (m : Message) (at : ℕ) (w : Known)
     → (after_taking m at w ≡ w)
-    ⊎ ((p : Copied) × (r : SpawnRec) × (m.body ≡ Return p) × (take_refusal m w ≡ None)
-    × (record_of w.records p.spawn_id ≡ Some r) × (is_out r ≡ true)
-    × (taken_reply m w ≡ Ok (reply.Merged p.spawn_id)) × (after_taking m at w ≡ merged p at w r))
+    ⊎ (Merges m at w (after_taking m at w) ⊎ Frees m at w (after_taking m at w))
 
--- an answer changes nothing
-abbrev pub AnswerChangesNothing : Type 0
-AnswerChangesNothing =
-    (m : Message) (at : ℕ) (w : Known) → is_answer m.body ≡ true → after_taking m at w ≡ w
+-- an answer changes nothing but as it frees a spawn
+abbrev pub AnswerFreesAlone : Type 0
+AnswerFreesAlone =
+    (m : Message) (at : ℕ) (w : Known) → is_answer m.body ≡ true
+    → IfOk (taken_reply m w) (λ r. is_freed r ≡ false) → after_taking m at w ≡ w
 
--- a message changes the record of a spawn only as it merges it, which was out, and no part of one
--- that stays out
+-- a message changes the record of a spawn only as it merges or frees it, which was out, and no part
+-- of one that stays out
 abbrev pub MessageKeepsSpawns : Type 0
 MessageKeepsSpawns =
     (m : Message) (at : ℕ) (w : Known) (s : ℕ) (r : SpawnRec) → IsValidBody m.body → IsKept w
     → record_of w.records s ≡ Some r
     → ((is_out r ≡ true) × (taken_reply m w ≡ Ok (reply.Merged s))
     × (record_of (after_taking m at w).records s ≡ Some (merged_record r)))
+    ⊎ (((is_out r ≡ true) × (taken_reply m w ≡ Ok (reply.Freed s))
+    × (record_of (after_taking m at w).records s ≡ Some (withdrawn_record r)))
     ⊎ ((record_of (after_taking m at w).records s ≡ Some r)
-    × (is_out r ≡ true → part_for (after_taking m at w).ticket r ≡ part_for w.ticket r))
+    × (is_out r ≡ true → part_for (after_taking m at w).ticket r ≡ part_for w.ticket r)))
 
 -- ---- merged once
 
@@ -112,7 +131,15 @@ SubmitIsOfRecord =
     → (r : SpawnRec) × (record_of (ordered o at w).records s ≡ Some r) × (is_out r ≡ true)
     × (order_message o at w ≡ Some (submit_of w.name (ordered o at w).ticket r))
 
--- and where no spawn is sent nothing goes out
+-- what asks a worker to give a spawn up is made of the record of that, which is out
+abbrev pub AbortIsOfRecord : Type 0
+AbortIsOfRecord =
+    (o : Order) (at : ℕ) (w : Known) (s : ℕ) → order_refusal o w ≡ None → spawn_asked o ≡ Some s
+    → (r : SpawnRec) × (record_of w.records s ≡ Some r) × (is_out r ≡ true)
+    × (order_message o at w ≡ Some (abort_of w.name r))
+
+-- and where no spawn is sent or asked for nothing goes out
 abbrev pub NothingIsSent : Type 0
 NothingIsSent =
-    (o : Order) (at : ℕ) (w : Known) → spawn_sent o w ≡ None → order_message o at w ≡ None
+    (o : Order) (at : ℕ) (w : Known) → spawn_sent o w ≡ None → spawn_asked o ≡ None
+    → order_message o at w ≡ None

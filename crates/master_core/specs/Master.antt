@@ -10,7 +10,8 @@ use Rattle.spawn.specs.Laws.{StandApart}
 use Rattle.spawn.specs.Records.{is_out}
 use Rattle.spawn.specs.Stored.{stands_in}
 use Rattle.spawn.specs.Table.{holder_of, is_masters}
-use Rattle.spawn.specs.declared.records.phase.Phase.TheVariants.{Merged}
+use Rattle.spawn.specs.declared.records.phase.Phase.{Phase}
+use Rattle.spawn.specs.declared.records.phase.Phase.TheVariants.{Merged, Withdrawn}
 use Rattle.spawn.specs.declared.records.spawn_rec.SpawnRec.{SpawnRec}
 use Rattle.spawn.specs.declared.tables.holder.Holder.{Holder}
 
@@ -44,13 +45,28 @@ record_of records s = find (is_of s) records
 abbrev pub is_spawn_out : List SpawnRec → ℕ → Bool
 is_spawn_out records s = option_map_or is_out (record_of records s) false
 
--- the record of a spawn whose part was put in
-abbrev pub merged_record : SpawnRec → SpawnRec
-merged_record r = record r { phase = Merged }
+-- the record of a spawn in a phase
+abbrev pub in_phase : Phase → SpawnRec → SpawnRec
+in_phase phase r = record r { phase = phase }
 
--- the records, with that of a spawn merged
+-- the records, with that of a spawn in a phase
+abbrev pub with_phase : Phase → ℕ → List SpawnRec → List SpawnRec
+with_phase phase s records =
+    map (λ (r : SpawnRec). if is_of s r then in_phase phase r else r) records
+
+-- a record, and the records with that of a spawn, once its part was put in
+abbrev pub merged_record : SpawnRec → SpawnRec
+merged_record r = in_phase Merged r
+
 abbrev pub with_merged : ℕ → List SpawnRec → List SpawnRec
-with_merged s records = map (λ (r : SpawnRec). if is_of s r then merged_record r else r) records
+with_merged s records = with_phase Merged s records
+
+-- the same, once it was withdrawn
+abbrev pub withdrawn_record : SpawnRec → SpawnRec
+withdrawn_record r = in_phase Withdrawn r
+
+abbrev pub with_withdrawn : ℕ → List SpawnRec → List SpawnRec
+with_withdrawn s records = with_phase Withdrawn s records
 
 -- ---- who holds what
 
@@ -70,8 +86,8 @@ IsNumbered records = (k : ℕ) (r : SpawnRec) → slice_get records k ≡ Some r
 
 -- no two controllers have one name; the ticket is valid; the records are in order, each spawn went
 -- to a worker, and its node and the resources of its copies stand in the ticket, also once it is
--- merged; and they stand well beside the ticket: each that is out is good, and no two of those
--- claim one thing
+-- merged or withdrawn; and they stand well beside the ticket: each that is out is good, and no two
+-- of those claim one thing
 pub record IsKept (w : Known) : Type 0 where
   pub names : are_distinct (w.name ∷ w.workers) ≡ true
   pub valid : IsValid w.ticket.rows

@@ -11,7 +11,7 @@ use Rattle.ticket_rows.specs.Edit.{edited, lookups, target}
 use Rattle.ticket_rows.specs.EditRefusal.{later_refusal, unknown_refusal}
 use Rattle.ticket_rows.specs.Ticket.{Job, first_of, unless}
 use Rattle.controller.specs.Step.{Step, unless_refused}
-use Rattle.controller.specs.declared.body.Body.TheVariants.{Submit}
+use Rattle.controller.specs.declared.body.Body.TheVariants.{Submit, Abort}
 use Rattle.controller.specs.declared.message.Message.{Message}
 use Rattle.controller.specs.declared.reply.Reply.{Reply}
 use Rattle.controller.specs.declared.reply.Reply.TheVariants as reply
@@ -51,6 +51,7 @@ order_refusal (order.Spawn node worker rw) w =
     (unless (mem worker w.workers) UnknownWorker
     ∷ spawn_refusal w.ticket.rows w.records (next_number w.records) node rw ∷ [])
 order_refusal (order.Resend s) w = unless (is_spawn_out w.records s) NotOut
+order_refusal (order.Withdraw s) w = unless (is_spawn_out w.records s) NotOut
 
 -- ---- what becomes of the ticket and the records
 
@@ -68,6 +69,7 @@ ordered (order.Spawn node worker rw) at w =
       records = w.records ++ next_record w node worker rw at ∷ [];
     }
 ordered (order.Resend s) at w = w
+ordered (order.Withdraw s) at w = w
 
 -- the master after an order at a time. A refusal changes nothing
 abbrev pub after_order : Order → ℕ → Known → Known
@@ -79,19 +81,33 @@ abbrev pub order_reply : Order → Known → Reply
 order_reply (order.Edit e) w = reply.Edited
 order_reply (order.Spawn node worker rw) w = reply.Spawned (next_number w.records)
 order_reply (order.Resend s) w = reply.Sent s
+order_reply (order.Withdraw s) w = reply.Asked s
 
 -- the spawn whose part an order sends out
 abbrev pub spawn_sent : Order → Known → Option ℕ
 spawn_sent (order.Edit e) w = None
 spawn_sent (order.Spawn node worker rw) w = Some (next_number w.records)
 spawn_sent (order.Resend s) w = Some s
+spawn_sent (order.Withdraw s) w = None
+
+-- the spawn whose worker an order asks to give it up
+abbrev pub spawn_asked : Order → Option ℕ
+spawn_asked (order.Edit e) = None
+spawn_asked (order.Spawn node worker rw) = None
+spawn_asked (order.Resend s) = None
+spawn_asked (order.Withdraw s) = Some s
 
 -- the message by which the master of a name sends the part of a spawn out, as its ticket is
 abbrev pub submit_of : List ℕ → Job → SpawnRec → Message
 submit_of name t r =
     record { sender = name; receiver = r.worker; at = r.at; body = Submit (part_for t r) }
 
--- the message that goes out: the part of a spawn, as the ticket is after the order
+-- the message by which the master of a name asks the worker of a spawn to give it up
+abbrev pub abort_of : List ℕ → SpawnRec → Message
+abort_of name r = record { sender = name; receiver = r.worker; at = r.at; body = Abort r.id }
+
+-- the message that goes out: the part of a spawn, as the ticket is after the order, or that its
+-- worker is to give it up
 abbrev pub order_message : Order → ℕ → Known → Option Message
 order_message (order.Edit e) at w = None
 order_message (order.Spawn node worker rw) at w =
@@ -100,6 +116,7 @@ order_message (order.Spawn node worker rw) at w =
     (next_record w node worker rw at))
 order_message (order.Resend s) at w =
     option_map (submit_of w.name w.ticket) (record_of w.records s)
+order_message (order.Withdraw s) at w = option_map (abort_of w.name) (record_of w.records s)
 
 -- ---- the step
 

@@ -18,11 +18,12 @@ pub fn an_order_changes_no_spawn()
     ensures kept { law.OrderIsKept }
 {}
 
-/// A message changes nothing but where it puts in a part that comes back, and then no part of
-/// another spawn that is out; an answer changes nothing. What always holds of a master holds then.
-pub fn a_message_changes_by_a_merge_alone()
-    ensures merge { law.MessageChangesByMerge }
-    ensures answers { law.AnswerChangesNothing }
+/// A message changes nothing but where it puts in a part that comes back, or where it frees a spawn
+/// that its worker declines, and then no part of another spawn that is out; an answer changes
+/// nothing else. What always holds of a master holds then.
+pub fn a_message_changes_as_it_ends_a_spawn()
+    ensures ends { law.MessageEndsSpawns }
+    ensures answers { law.AnswerFreesAlone }
     ensures spawns { law.MessageKeepsSpawns }
     ensures kept { law.MessageIsKept }
 {}
@@ -35,10 +36,11 @@ pub fn a_spawn_is_merged_once()
     ensures again { law.ReturnIsAlready }
 {}
 
-/// What goes out is made of the record of the new spawn, or of the one that is sent once more, and
-/// that spawn is out; an edit sends nothing.
+/// What goes out is made of the record of the new spawn, or of the one that is sent once more or
+/// asked for, and that spawn is out; an edit sends nothing.
 pub fn what_goes_out_tells_the_record()
     ensures sent { law.SubmitIsOfRecord }
+    ensures asked { law.AbortIsOfRecord }
     ensures none { law.NothingIsSent }
 {}
 

@@ -2,6 +2,7 @@
 #![tactic(auto)]
 
 mod editing;
+mod freeing;
 pub mod laws;
 mod master;
 mod master_controller;

@@ -37,7 +37,7 @@ impl Master {
     ghost use Rattle.std.specs.Prelude.{◌≡◌, ◌⊎◌, ◌∷◌, true, false, [], Err, OnOk, OnErr};
     ghost use Rattle.std.specs.Prelude.{IfOk, IfErr, IsErrOf, IsOk};
     ghost use Rattle.ticket_items.specs.Ids.{are_distinct};
-    ghost use Rattle.controller.specs.Reply.{is_answer};
+    ghost use Rattle.controller.specs.Reply.{is_answer, is_freed};
     ghost use Rattle.controller.specs.Step.{done_step, outcome_step};
     ghost use Rattle.spawn.specs.Marking as marking;
     ghost use Rattle.master_core.specs.Master as master;
@@ -176,12 +176,13 @@ impl Master {
     }
 
     /// Does what it is told, at a time in seconds since 1970: it edits its ticket, spawns a node to
-    /// a worker, or sends the part of a spawn once more. Refuses the first that holds, without
+    /// a worker, sends the part of a spawn once more, or asks the worker of a spawn to give it up,
+    /// which changes nothing until the worker declines it. Refuses the first that holds, without
     /// memory: an edit as `UnknownNode` or `UnknownResource` where what it names isn't there, as
     /// `NotHeld` where a spawn that is out holds its target, and then as `Ticket::apply` does; a
     /// spawn as `UnknownWorker` where no worker has the name, and then as `spawn::may_spawn` says;
-    /// to send once more as `NotOut` where no spawn that is out has the number. Then refuses
-    /// `Memory`. A refusal changes nothing.
+    /// to send once more, or to ask, as `NotOut` where no spawn that is out has the number. Then
+    /// refuses `Memory`. A refusal changes nothing.
     pub fn order(&mut self, alloc: Global, order: Order, at: u64) -> Result<Done, Refusal>
         ensures ok { IfOk result
             (λ done. done_step done self.new ≡ orders.order_step order at self.old) }
@@ -205,17 +206,20 @@ impl Master {
 
     /// Takes a message, whoever sent it and whatever it says, at a time in seconds since 1970. The
     /// reply is what it was taken as, or the first refusal that holds: `WrongMessage` where it is
-    /// for another, or is neither a part that comes back nor the answer to one that went out;
+    /// for another, or is neither a part that comes back nor the answer to what a master sends;
     /// `UnknownSpawn` where there is no record of the spawn; `WrongSender` where it isn't from the
-    /// worker to whom that went; and for a part that comes back while the spawn is out `WrongShape`
-    /// where it doesn't fit. A refusal changes nothing, nor does an answer or a part that was put
-    /// in before. A command is answered, refused or not; an answer isn't, and takes no memory.
-    /// Where memory runs out nothing is changed.
+    /// worker to whom that went; for a part that comes back `NotOut` where the spawn was withdrawn,
+    /// and `WrongShape` where it is out and the part doesn't fit. A refusal changes nothing, nor
+    /// does a part that was put in before, nor an answer, unless its worker declines a spawn that
+    /// is out: that is then withdrawn. A command is answered, refused or not; an answer isn't, and
+    /// takes no memory unless it frees a spawn. Where memory runs out nothing is changed.
     pub fn take(&mut self, alloc: Global, message: Message, at: u64) -> Result<Outcome, AllocError>
         ensures ok { IfOk result
             (λ outcome. outcome_step outcome self.new ≡ messages.take_step message at self.old) }
         ensures err { OnErr result (self.new ≡ self.old) }
-        ensures answers { is_answer message.body ≡ true → IsOk result }
+        ensures answers { is_answer message.body ≡ true
+            → IfOk (messages.taken_reply message self.old) (λ r. is_freed r ≡ false)
+            → IsOk result }
     {
         let refusal = taking::refusal_of(self, &message);
         let refused = refusal.is_some();

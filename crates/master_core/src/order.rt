@@ -10,4 +10,6 @@ pub enum Order {
     Spawn { node: Id, worker: Id, rw: Ids },
     /// To send the part of a spawn once more.
     Resend(SpawnId),
+    /// To ask the worker of a spawn to give it up.
+    Withdraw(SpawnId),
 }

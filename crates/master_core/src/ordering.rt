@@ -105,6 +105,20 @@ fn submit_of(
     })
 }
 
+/// The message by which the master of a name asks the worker of a spawn to give it up.
+fn abort_of(alloc: Global, name: &Id, spawn: &SpawnRec) -> Result<Message, Refusal>
+    ensures ok { IfOk result (λ message. message ≡ orders.abort_of name.now spawn.now) }
+    ensures memory { IfErr result (λ e. e ≡ Refusal.Memory) }
+{
+    let (sender, receiver) = names_of(alloc, name, &spawn.worker)?;
+    Ok(Message {
+        sender,
+        receiver,
+        at: spawn.at,
+        body: Body::Abort(spawn.id),
+    })
+}
+
 /// The record of a spawn that is out.
 fn record_out<'a>(records: &'a [SpawnRec], spawn: SpawnId) -> Result<&'a SpawnRec, Refusal>
     requires { master.IsNumbered records.now }
@@ -175,6 +189,14 @@ pub fn do_order(
             let message = submit_of(alloc, name, ticket, record)?;
             Ok(Done {
                 reply: Reply::Sent(spawn),
+                message: Some(message),
+            })
+        }
+        Order::Withdraw(spawn) => {
+            let record = record_out(records.as_slice(), spawn)?;
+            let message = abort_of(alloc, name, record)?;
+            Ok(Done {
+                reply: Reply::Asked(spawn),
                 message: Some(message),
             })
         }

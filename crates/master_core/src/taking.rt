@@ -15,14 +15,15 @@ ghost use Rattle.merge.specs.Put.{put};
 ghost use Rattle.master_core.specs.Master as masters;
 ghost use Rattle.master_core.specs.Messages as messages;
 
+use crate::freeing::free;
 use crate::master::Master;
 use crate::records::{is_spawn_out, place_of, record_of};
 use controller::answering::{answer_to, spawn_in, told_of};
 use controller::{Body, Command, Message, Outcome, QueueStatus, Reply};
 use merge::{fits, merge_fitting};
-use spawn::{Holder, Holders, SpawnRec};
+use spawn::{Holder, Holders, Phase, SpawnRec};
 use std::alloc::{AllocError, Global};
-use ticket_tree::{Part, Refusal, Ticket};
+use ticket_tree::{Part, Refusal, SpawnId, Ticket};
 
 /// Whether a message is one for a master.
 fn is_for_masters(body: &Body) -> bool
@@ -31,10 +32,30 @@ fn is_for_masters(body: &Body) -> bool
     match body {
         Body::Submit(_) => false,
         Body::Return(_) => true,
+        Body::Abort(_) => false,
         Body::Answer { of, .. } => match of {
             Command::Submit => true,
             Command::Return => false,
+            Command::Abort => true,
         },
+    }
+}
+
+/// Why a part that comes back from a spawn is refused.
+fn return_refusal(ticket: &Ticket, spawn: &SpawnRec, part: &Part) -> Option<Refusal>
+    ensures { result
+        ≡ messages.return_refusal spawn.now.phase (alike.is_fit ticket.now spawn.now part.now) }
+{
+    match spawn.phase {
+        Phase::Out => {
+            if fits(ticket, spawn, part) {
+                None
+            } else {
+                Some(Refusal::WrongShape)
+            }
+        }
+        Phase::Merged => None,
+        Phase::Withdrawn => Some(Refusal::NotOut),
     }
 }
 
@@ -44,13 +65,8 @@ fn body_refusal(master: &Master, spawn: &SpawnRec, body: &Body) -> Option<Refusa
 {
     match body {
         Body::Submit(_) => None,
-        Body::Return(part) => {
-            if spawn.is_out() && !fits(master.ticket(), spawn, part) {
-                Some(Refusal::WrongShape)
-            } else {
-                None
-            }
-        }
+        Body::Return(part) => return_refusal(master.ticket(), spawn, part),
+        Body::Abort(_) => None,
         Body::Answer { .. } => None,
     }
 }
@@ -73,6 +89,18 @@ pub fn refusal_of(master: &Master, message: &Message) -> Option<Refusal>
     }
 }
 
+/// Whether the answer to a command tells that its taker declines a spawn that it hasn't begun.
+fn is_declined(asked: Command, told: Result<QueueStatus, u16>) -> bool
+    ensures { result ≡ messages.is_declined asked told }
+{
+    match (asked, told) {
+        (Command::Submit, _) => false,
+        (Command::Return, _) => false,
+        (Command::Abort, Ok(_)) => false,
+        (Command::Abort, Err(reason)) => reason == Refusal::Declined.number(),
+    }
+}
+
 /// What a message is taken as.
 fn reply_to(master: &Master, body: &Body) -> Reply
     ensures { result ≡ messages.take_reply body.now master.now }
@@ -86,7 +114,18 @@ fn reply_to(master: &Master, body: &Body) -> Reply
                 Reply::Already(part.spawn_id())
             }
         }
-        Body::Answer { spawn_id, .. } => Reply::Noted(*spawn_id),
+        Body::Abort(spawn_id) => Reply::Noted(*spawn_id),
+        Body::Answer {
+            of,
+            spawn_id,
+            result,
+        } => {
+            if is_declined(*of, *result) && is_spawn_out(master.records(), *spawn_id) {
+                Reply::Freed(*spawn_id)
+            } else {
+                Reply::Noted(*spawn_id)
+            }
+        }
     }
 }
 
@@ -123,6 +162,7 @@ fn end_of(body: &Body) -> QueueStatus
     match body {
         Body::Submit(part) => end_of_part(part),
         Body::Return(part) => end_of_part(part),
+        Body::Abort(_) => QueueStatus::Completed,
         Body::Answer { .. } => QueueStatus::Completed,
     }
 }
@@ -213,7 +253,41 @@ fn take_part(
     }
 }
 
-/// Takes what a message says that isn't refused. An answer takes no memory.
+/// Takes the answer to a command, at a time. It takes no memory unless it frees its spawn.
+fn take_answer(
+    alloc: Global,
+    ticket: &mut Ticket,
+    records: &mut Vec<SpawnRec>,
+    holders: &mut Holders,
+    asked: Command,
+    spawn: SpawnId,
+    told: Result<QueueStatus, u16>,
+    at: u64,
+) -> Result<(), AllocError>
+    requires numbered { masters.IsNumbered records.old.items }
+    requires valid { IsValid ticket.old.rows }
+    requires apart { StandApart ticket.old.rows records.old.items }
+    requires table { IsTable ticket.old.rows records.old.items holders.old }
+    ensures ok { (name : List ℕ) (workers : List (List ℕ)) → OnOk result
+        (masters.known name workers ticket.new records.new.items
+        ≡ messages.taken (Body.Answer asked spawn told) at
+        (masters.known name workers ticket.old records.old.items)) }
+    ensures table { OnOk result (IsTable ticket.new.rows records.new.items holders.new) }
+    ensures ticket_stays { OnErr result (ticket.new ≡ ticket.old) }
+    ensures records_stay { OnErr result (records.new.items ≡ records.old.items) }
+    ensures holders_stay { OnErr result (holders.new ≡ holders.old) }
+    ensures noted { (name : List ℕ) (workers : List (List ℕ))
+        → replies.is_freed (messages.take_reply (Body.Answer asked spawn told)
+        (masters.known name workers ticket.old records.old.items)) ≡ false → IsOk result }
+{
+    if is_declined(asked, told) {
+        free(alloc, ticket, records, holders, spawn, at)
+    } else {
+        Ok(())
+    }
+}
+
+/// Takes what a message says that isn't refused. An answer takes no memory unless it frees a spawn.
 fn take_body(
     alloc: Global,
     ticket: &mut Ticket,
@@ -237,16 +311,24 @@ fn take_body(
     ensures records_stay { OnErr result (records.new.items ≡ records.old.items) }
     ensures holders_stay { OnErr result (holders.new ≡ holders.old) }
     ensures valid { messages.IsValidBody body }
-    ensures answers { replies.is_answer body ≡ true → IsOk result }
+    ensures answers { (name : List ℕ) (workers : List (List ℕ)) → replies.is_answer body ≡ true
+        → replies.is_freed (messages.take_reply body
+        (masters.known name workers ticket.old records.old.items)) ≡ false → IsOk result }
 {
     match body {
         Body::Submit(_) => Ok(()),
         Body::Return(part) => take_part(alloc, ticket, records, holders, part, at),
-        Body::Answer { .. } => Ok(()),
+        Body::Abort(_) => Ok(()),
+        Body::Answer {
+            of,
+            spawn_id,
+            result,
+        } => take_answer(alloc, ticket, records, holders, of, spawn_id, result, at),
     }
 }
 
-/// Takes what a message says, unless it is refused. An answer takes no memory.
+/// Takes what a message says, unless it is refused. An answer takes no memory unless it frees a
+/// spawn.
 pub fn take_unless(
     refused: bool,
     alloc: Global,
@@ -272,7 +354,9 @@ pub fn take_unless(
     ensures records_stay { OnErr result (records.new.items ≡ records.old.items) }
     ensures holders_stay { OnErr result (holders.new ≡ holders.old) }
     ensures valid { refused ≡ false → messages.IsValidBody body }
-    ensures answers { replies.is_answer body ≡ true → IsOk result }
+    ensures answers { (name : List ℕ) (workers : List (List ℕ)) → replies.is_answer body ≡ true
+        → (refused ≡ false → replies.is_freed (messages.take_reply body
+        (masters.known name workers ticket.old records.old.items)) ≡ false) → IsOk result }
 {
     if refused {
         drop(body);

@@ -11,3 +11,4 @@ pub mod PutPlaces
 pub mod PutRows
 pub mod PutValid
 pub mod MergedHolders
+mod Withdrawn

@@ -18,6 +18,7 @@ use Rattle.ticket_items.specs.declared.usage.Usage.TheVariants.{Input, Output}
 use Rattle.merge.specs.PlainPut.{merged_recs, merged_rows}
 use Rattle.merge.specs.Put.{put}
 use Rattle.merge.specs.Shape.{Fits, Shape}
+use Rattle.merge.specs.Withdrawal.{withdrawn}
 use Rattle.spawn.specs.Parts.{part_for}
 use Rattle.spawn.specs.Table.{holder_of}
 use Rattle.spawn.specs.declared.tables.holder.Holder.TheVariants.{Master, Spawn}
@@ -91,6 +92,14 @@ printed_put : put job first (printed (taken ∷ made ∷ []) (washed ∷ [])) 30
 }
 unfolding digits
 printed_put = refl
+
+-- as the spawn is withdrawn a note stands at the parent, and all else is as it was
+printing_withdrawn : withdrawn job first 120 ≡ record {
+  job_id = codes "J1";
+  rows = product (paper ∷ sheets (codes "Unavailable") ∷ []) (Notification 120 (codes "Withdrawn S1") ∷ []) ∷ waiting ∷ cutting ∷ [];
+}
+unfolding digits
+printing_withdrawn = refl
 
 -- of the rows by id those of the printing and of its sheets are the part's
 abbrev now : List ℕ → List Audit → Row

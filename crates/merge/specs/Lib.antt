@@ -1,5 +1,6 @@
 pub mod Shape
 pub mod Put
+pub mod Withdrawal
 pub mod PlainPut
 pub mod Alike
 pub mod InOrder

@@ -9,9 +9,9 @@ ghost use Rattle.merge.specs.Put as puts;
 ghost use Rattle.merge.specs.Put.{put};
 ghost use Rattle.merge.specs.Shape.{Fits};
 
-use crate::parent::parent_of;
 use crate::replacing::put_back;
 use crate::shape::fits;
+use crate::telling::tell;
 use spawn::{Phase, SpawnRec};
 use std::alloc::{AllocError, Global};
 use ticket_tree::{Audit, Duplicate, Part, Refusal, Ticket};
@@ -32,7 +32,12 @@ fn merged_audit(alloc: Global, spawn: &SpawnRec, at: u64) -> Result<Audit, Alloc
 }
 
 /// Puts the audit that tells of the merge of a spawn at the parent of its node.
-fn tell(alloc: Global, ticket: &mut Ticket, spawn: &SpawnRec, at: u64) -> Result<(), Refusal>
+fn tell_of_merge(
+    alloc: Global,
+    ticket: &mut Ticket,
+    spawn: &SpawnRec,
+    at: u64,
+) -> Result<(), Refusal>
     requires { IsGood ticket.old.rows spawn.now }
     ensures ok { OnOk result (ticket.new
         ≡ record ticket.old {
@@ -42,14 +47,8 @@ fn tell(alloc: Global, ticket: &mut Ticket, spawn: &SpawnRec, at: u64) -> Result
     ensures err { OnErr result (ticket.new ≡ ticket.old) }
     ensures memory { IfErr result (λ e. e ≡ Refusal.Memory) }
 {
-    // What its rows tell: the ticket is valid, so that a parent stands in it.
-    let _rows = ticket.rows();
-    let Some(parent) = parent_of(ticket, &spawn.node) else {
-        return Err(Refusal::UnknownNode);
-    };
-    let parent = parent.copy(alloc)?;
     let audit = merged_audit(alloc, spawn, at)?;
-    ticket.append(alloc, &parent, audit)
+    tell(alloc, ticket, spawn, audit)
 }
 
 /// Merges a part that fits, as `merge` does, without asking whether it does. Refuses `Memory`
@@ -72,7 +71,7 @@ pub fn merge_fitting(
     // What their rows tell: both are valid.
     let _rows = ticket.rows();
     let _part_rows = part.rows();
-    match tell(alloc, ticket, spawn, at) {
+    match tell_of_merge(alloc, ticket, spawn, at) {
         Ok(()) => {
             put_back(ticket, part);
             spawn.phase = Phase::Merged;

@@ -1,13 +1,10 @@
 -- A table of holders that is kept in step with a ticket and its records, as a spawn goes out and as
--- it is merged.
-use Rattle.std.proofs.Common.{◌≡◌, ◌∙◌, ◌⊎◌, ℕ, zero, suc, ◌&&◌, ◌||◌, Bool, true, false, cond, List}
-use Rattle.std.proofs.Common.{[], ◌∷◌, ◌++◌, Option, Some, None, slice_get, slice_set, inl, inr, refl}
-use Rattle.std.proofs.Common.{sym, ap, arith}
-use Rattle.std.proofs.lemmas.Bool.{true≢false, and_from}
+-- it ends.
+use Rattle.std.proofs.Common.{◌≡◌, ◌∙◌, ℕ, ◌&&◌, ◌||◌, Bool, true, false, cond, List}
+use Rattle.std.proofs.Common.{[], ◌∷◌, ◌++◌, Option, Some, None, slice_set, refl}
+use Rattle.std.proofs.Common.{sym, ap}
 use Rattle.std.proofs.lemmas.List.Folds.{find-append}
-use Rattle.std.specs.List.{find}
 use Rattle.std.specs.Option.{option_map, option_map_or, option_or}
-use Rattle.ticket_rows.proofs.AtHome.{find-passes}
 use Rattle.ticket_rows.specs.OneRow.{appended}
 use Rattle.ticket_rows.specs.Place.{Place, place_at, places}
 use Rattle.ticket_rows.specs.Ticket.{IsValid}
@@ -16,22 +13,19 @@ use Rattle.ticket_tree.proofs.StaysValid.{append_is_valid}
 use Rattle.ticket_items.specs.Ids.{mem}
 use Rattle.ticket_items.specs.declared.node_row.NodeRow.{NodeRow}
 use Rattle.spawn.proofs.ClaimedIds.{below_rows}
+use Rattle.spawn.proofs.Ended.{find_set, holds_nothing, none_holds}
 use Rattle.spawn.proofs.Holdings.{held_given}
 use Rattle.spawn.proofs.KeptApart.{free, wanted_too}
-use Rattle.spawn.proofs.Lawful.{placed}
 use Rattle.spawn.proofs.Standing.{named}
 use Rattle.spawn.proofs.Winner.{none_held}
 use Rattle.spawn.specs.Claim.{is_claimed}
 use Rattle.spawn.specs.Holdings.{Holdings, IsTable, claim_given, held_by}
-use Rattle.spawn.specs.HoldingsLaws.{MergeKeepsTable, SpawnKeepsTable}
-use Rattle.spawn.specs.Laws.{StandApart}
-use Rattle.spawn.specs.Records.{is_out}
+use Rattle.spawn.specs.HoldingsLaws.{EndKeepsTable, SpawnKeepsTable}
 use Rattle.spawn.specs.Spawning.{new_record, parent_of, spawned_audit}
 use Rattle.spawn.specs.Stored.{claims_id}
 use Rattle.spawn.specs.Table.{holder_at, holding, holds}
 use Rattle.spawn.specs.declared.tables.holder.Holder.{Holder}
 use Rattle.spawn.specs.declared.tables.holder.Holder.TheVariants.{Master, Spawn}
-use Rattle.spawn.specs.declared.records.phase.Phase.TheVariants.{Merged}
 use Rattle.spawn.specs.declared.records.spawn_rec.SpawnRec.{SpawnRec}
 
 -- ---- a claim given to one holder
@@ -118,58 +112,12 @@ spawn_keeps_table t recs number n worker ids time h valid none table =
       others = λ x p there off. ap whose (find-append (holds p) recs (r ∷ []) ∙ or_else (holding recs p) r (holds p r) off);
     }) table
 
--- ---- a merge
+-- ---- the end of a spawn
 
-abbrev pub as_merged : SpawnRec → SpawnRec
-as_merged r = record r { phase = Merged }
-
--- a record is the one that was put in, or stands elsewhere as it did
-pub set_found : (xs : List SpawnRec) (k j : ℕ) (v y : SpawnRec)
-    → slice_get (slice_set xs k v) j ≡ Some y → (y ≡ v) ⊎ ((j ≡ k → ⊥) × (slice_get xs j ≡ Some y))
-set_found [] k j v y e = cc
-set_found (x ∷ xs) zero zero v y e = inl (sym (ap (λ o. option_map_or (λ s. s) o v) e))
-set_found (x ∷ xs) zero (suc j) v y e = inr (λ same. absurd (omega (arith, same)), e)
-set_found (x ∷ xs) (suc k) zero v y e = inr (λ same. absurd (omega (arith, same)), e)
-set_found (x ∷ xs) (suc k) (suc j) v y e =
-    elim (set_found xs k j v y e) [
-      | inl new ↦ inl new
-      | inr old ↦ inr (λ same. old.0 (omega (arith, same)), old.1)
-    ]
-
--- what fails before and after isn't missed
-pub find_set : (f : SpawnRec → Bool) (xs : List SpawnRec) (k : ℕ) (r v : SpawnRec)
-    → slice_get xs k ≡ Some r → f r ≡ false → f v ≡ false → find f (slice_set xs k v) ≡ find f xs
-find_set f [] k r v there old new = cc
-find_set f (x ∷ xs) zero r v there old new =
-    let same : f x ≡ false = ap (λ o. option_map_or f o false) there ∙ old in
-    ap (λ b. cond b (Some v) (find f xs)) new ∙ sym (ap (λ b. cond b (Some x) (find f xs)) same)
-find_set f (x ∷ xs) (suc k) r v there old new = ap (cond (f x) (Some x)) (find_set f xs k r v there old new)
-
--- what is merged holds nothing
-pub holds_nothing : (p : Place) (r s : SpawnRec) → s ≡ as_merged r → holds p s ≡ true → ⊥
-holds_nothing p r s same held = true≢false (sym held ∙ ap (holds p) same)
-
--- no record holds what was claimed
-pub none_holds : (o : Option SpawnRec) (rows : List NodeRow) (recs : List SpawnRec) (k : ℕ)
-    (r : SpawnRec) (x : List ℕ) (p : Place)
-    → StandApart rows recs → slice_get recs k ≡ Some r → is_out r ≡ true
-    → place_at (places rows) x ≡ Some p → is_claimed r.node r.rw p ≡ true
-    → holding (slice_set recs k (as_merged r)) p ≡ o → o ≡ None
-none_holds None rows recs k r x p apart at out there claims e = refl
-none_holds (Some s) rows recs k r x p apart at out there claims e =
-    let news = slice_set recs k (as_merged r) in
-    let held = find-passes (holds p) news s e in
-    let place = placed (holds p) news s e in
-    elim (set_found recs k place.place (as_merged r) s place.there) [
-      | inl new ↦ absurd (holds_nothing p r s new held)
-      | inr old ↦ absurd (old.0 (apart.apart x p place.place k s r there old.1 at held (and_from _ _ out claims)))
-    ]
-
-pub merge_keeps_table : MergeKeepsTable
-merge_keeps_table rows later recs k r h valid still apart at out table =
-    let news = slice_set recs k (as_merged r) in
-    claim_kept rows later recs news r Master h valid still
+pub end_keeps_table : EndKeepsTable
+end_keeps_table rows later recs k r ended h valid still apart at out off table =
+    claim_kept rows later recs (slice_set recs k ended) r Master h valid still
     (record {
-      own = λ x p there claims. ap whose (none_holds (holding news p) rows recs k r x p apart at out there claims refl);
-      others = λ x p there off. ap whose (find_set (holds p) recs k r (as_merged r) at (ap (λ b. b && is_claimed r.node r.rw p) out ∙ off) refl);
+      own = λ x p there claims. ap whose (none_holds (holding (slice_set recs k ended) p) rows recs k r ended x p apart at out off there claims refl);
+      others = λ x p there free. ap whose (find_set (holds p) recs k r ended at (ap (λ b. b && is_claimed r.node r.rw p) out ∙ free) (holds_nothing p ended off));
     }) table

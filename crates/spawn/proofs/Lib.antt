@@ -40,5 +40,6 @@ pub mod BelowRoot
 pub mod StandingSets
 pub mod Holdings
 pub mod HoldingsEdited
+pub mod Ended
 pub mod HoldingsKept
 pub mod HoldingsHeld

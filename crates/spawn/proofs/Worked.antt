@@ -26,7 +26,7 @@ use Rattle.spawn.specs.Spawning.{spawn_refusal, new_record, spawned}
 use Rattle.spawn.specs.Stored.{are_apart, are_good, stands_in}
 use Rattle.spawn.specs.Table.{holder_of}
 use Rattle.spawn.specs.declared.tables.holder.Holder.TheVariants.{Master, Spawn}
-use Rattle.spawn.specs.declared.records.phase.Phase.TheVariants.{Out, Merged}
+use Rattle.spawn.specs.declared.records.phase.Phase.TheVariants.{Out, Merged, Withdrawn}
 use Rattle.spawn.specs.declared.records.spawn_rec.SpawnRec.{SpawnRec}
 
 abbrev paper : Resource
@@ -187,6 +187,11 @@ first_merged : marks told (record first { phase = Merged } ∷ second ∷ []) �
 }
 first_merged = refl
 
+-- a spawn that was withdrawn leaves as little
+first_withdrawn : marks told (record first { phase = Withdrawn } ∷ second ∷ [])
+    ≡ marks told (record first { phase = Merged } ∷ second ∷ [])
+first_withdrawn = refl
+
 -- ---- holders by id
 
 abbrev all_ids : List (List ℕ)
@@ -201,10 +206,14 @@ both_given : claim_given told second (Spawn 2) (claim_given told first (Spawn 1)
     ≡ table told (first ∷ second ∷ [])
 both_given = refl
 
--- and once the first is merged
+-- and once the first is merged or withdrawn
 first_given_back : claim_given told first Master (table told (first ∷ second ∷ []))
     ≡ table told (record first { phase = Merged } ∷ second ∷ [])
 first_given_back = refl
+
+first_taken_back : claim_given told first Master (table told (first ∷ second ∷ []))
+    ≡ table told (record first { phase = Withdrawn } ∷ second ∷ [])
+first_taken_back = refl
 
 -- of two claims that share something, the first of the records has it
 shared_claim : map (held_by (table told (first ∷ record second { rw = codes "r2" ∷ []; ro = [] } ∷ []))) all_ids

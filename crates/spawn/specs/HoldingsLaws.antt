@@ -1,5 +1,5 @@
 -- How a table of holders is kept in step with a ticket and its records.
-use Rattle.std.specs.Prelude.{◌≡◌, ℕ, true, List, [], ◌∷◌, ◌++◌, Some, None, slice_get}
+use Rattle.std.specs.Prelude.{◌≡◌, ℕ, true, false, List, [], ◌∷◌, ◌++◌, Some, None, slice_get}
 use Rattle.std.specs.Prelude.{slice_set}
 use Rattle.std.specs.Option.{option_map_or}
 use Rattle.ticket_rows.specs.Edit.{added_id, edited_rows, refusal_of, target}
@@ -14,7 +14,6 @@ use Rattle.spawn.specs.Spawning.{new_record, spawn_refusal, spawned}
 use Rattle.spawn.specs.Table.{holder_of}
 use Rattle.spawn.specs.declared.tables.holder.Holder.{Holder}
 use Rattle.spawn.specs.declared.tables.holder.Holder.TheVariants.{Master, Spawn}
-use Rattle.spawn.specs.declared.records.phase.Phase.TheVariants.{Merged}
 use Rattle.spawn.specs.declared.records.spawn_rec.SpawnRec.{SpawnRec}
 
 -- the table after an edit: the id that it adds, if it does, stands last, and the master holds it
@@ -45,13 +44,14 @@ SpawnKeepsTable =
     (claim_given (spawned t (new_record t.rows number n worker rw at)).rows
     (new_record t.rows number n worker rw at) (Spawn number) h)
 
--- the table after a merge, which moves nothing: the claim is given back to the master
-abbrev pub MergeKeepsTable : Type 0
-MergeKeepsTable =
-    (rows later : List NodeRow) (recs : List SpawnRec) (k : ℕ) (r : SpawnRec) (h : Holdings)
+-- the table after a spawn has ended, as its part is merged or it is withdrawn, which moves nothing:
+-- the claim is given back to the master
+abbrev pub EndKeepsTable : Type 0
+EndKeepsTable =
+    (rows later : List NodeRow) (recs : List SpawnRec) (k : ℕ) (r ended : SpawnRec) (h : Holdings)
     → IsValid later → places later ≡ places rows → StandApart rows recs
-    → slice_get recs k ≡ Some r → is_out r ≡ true → IsTable rows recs h
-    → IsTable later (slice_set recs k (record r { phase = Merged })) (claim_given later r Master h)
+    → slice_get recs k ≡ Some r → is_out r ≡ true → is_out ended ≡ false → IsTable rows recs h
+    → IsTable later (slice_set recs k ended) (claim_given later r Master h)
 
 -- an id that was added is taken out again
 abbrev pub LastIsTakenOut : Type 0

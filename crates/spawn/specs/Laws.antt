@@ -1,6 +1,6 @@
 -- Laws of spawning, in the words of the plain ticket.
 use Rattle.std.specs.Prelude.{◌≡◌, ℕ, true, false, List, [], ◌∷◌, ◌++◌, length, map, Some, None}
-use Rattle.std.specs.Prelude.{slice_get}
+use Rattle.std.specs.Prelude.{slice_get, slice_set}
 use Rattle.std.specs.List.{filter}
 use Rattle.std.specs.Option.{option_map_or}
 use Rattle.ticket_rows.specs.Edit.{edited_rows, refusal_of, target}
@@ -55,6 +55,35 @@ SpawnKeepsApart =
     → IsValid t.rows → StandApart t.rows recs → spawn_refusal t.rows recs number n rw ≡ None
     → StandApart (spawned t (new_record t.rows number n worker rw at)).rows
     (recs ++ new_record t.rows number n worker rw at ∷ [])
+
+-- as a spawn that is out ends, so that its record isn't out, and nothing moves, the records go on
+-- to stand well beside the ticket
+abbrev pub EndKeepsApart : Type 0
+EndKeepsApart =
+    (rows later : List NodeRow) (recs : List SpawnRec) (k : ℕ) (r ended : SpawnRec)
+    → places later ≡ places rows → StandApart rows recs → slice_get recs k ≡ Some r
+    → is_out r ≡ true → is_out ended ≡ false
+    → StandApart later (slice_set recs k ended)
+
+-- the master then holds what the spawn claimed
+abbrev pub EndedClaimIsMasters : Type 0
+EndedClaimIsMasters =
+    (rows later : List NodeRow) (recs : List SpawnRec) (k : ℕ) (r ended : SpawnRec)
+    → places later ≡ places rows → StandApart rows recs → slice_get recs k ≡ Some r
+    → is_out r ≡ true → is_out ended ≡ false
+    → (x : List ℕ) (p : Place) → place_at (places rows) x ≡ Some p
+    → is_claimed r.node r.rw p ≡ true
+    → holder_of later (slice_set recs k ended) x ≡ Some Master
+
+-- and all else has the holder that it had
+abbrev pub EndKeepsOthers : Type 0
+EndKeepsOthers =
+    (rows later : List NodeRow) (recs : List SpawnRec) (k : ℕ) (r ended : SpawnRec)
+    → places later ≡ places rows → slice_get recs k ≡ Some r → is_out r ≡ true
+    → is_out ended ≡ false
+    → (x : List ℕ)
+    → option_map_or (is_claimed r.node r.rw) (place_at (places rows) x) false ≡ false
+    → holder_of later (slice_set recs k ended) x ≡ holder_of rows recs x
 
 -- the part of a good record is sound
 abbrev pub PartIsSound : Type 0

@@ -4,12 +4,14 @@ use Rattle.ticket_rows.specs.Place.{fixed, fixed_at, places, node_places, up}
 use Rattle.ticket_items.specs.declared.node_row.NodeRow.{NodeRow}
 use Rattle.spawn.specs.Claim.{ids_of, linked_rw, linked_ro}
 use Rattle.spawn.specs.declared.records.phase.Phase.{Phase}
-use Rattle.spawn.specs.declared.records.phase.Phase.TheVariants.{Out, Merged}
+use Rattle.spawn.specs.declared.records.phase.Phase.TheVariants.{Out, Merged, Withdrawn}
 use Rattle.spawn.specs.declared.records.spawn_rec.SpawnRec.{SpawnRec}
 
+-- whether the part of a spawn is with another controller: it was neither merged nor withdrawn
 abbrev pub is_out_phase : Phase → Bool
 is_out_phase Out = true
 is_out_phase Merged = false
+is_out_phase Withdrawn = false
 
 abbrev pub is_out : SpawnRec → Bool
 is_out r = is_out_phase r.phase

@@ -17,8 +17,8 @@ use Rattle.spawn.specs.Records.{is_out}
 use Rattle.spawn.specs.Table.{holds}
 use Rattle.spawn.specs.declared.records.spawn_rec.SpawnRec.{SpawnRec}
 
--- whether a record stands in a ticket, also once it is merged: its node stands below another, and
--- each of its copies is that of a resource of the ticket
+-- whether a record stands in a ticket, also once it is merged or withdrawn: its node stands below
+-- another, and each of its copies is that of a resource of the ticket
 abbrev pub stands_in : List NodeRow → SpawnRec → Bool
 stands_in rows r =
     is_some (up (node_places rows) r.node) && list_all (has_resource rows) r.rw

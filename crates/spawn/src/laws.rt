@@ -23,6 +23,15 @@ pub fn a_spawn_keeps_claims_apart()
     ensures { law.SpawnKeepsApart }
 {}
 
+/// As a spawn that is out ends, so that its record isn't out, and nothing moves, the records go on
+/// to stand well beside the ticket. The master then holds what the spawn claimed, and all else has
+/// the holder that it had.
+pub fn a_spawn_that_ends_gives_its_claim_back()
+    ensures apart { law.EndKeepsApart }
+    ensures claimed { law.EndedClaimIsMasters }
+    ensures others { law.EndKeepsOthers }
+{}
+
 /// The part of a good record is sound.
 pub fn the_part_of_a_good_record_is_sound()
     ensures { law.PartIsSound }
@@ -61,12 +70,12 @@ pub fn whether_records_stand_well_is_a_test()
 {}
 
 /// Holders that are those of a ticket and its records go on to be so: an edit of what the master
-/// holds adds its new id, a spawn gives its claim to it, and a merge gives the claim back. An id
-/// that an edit may add isn't among them, and once added it is what `unadd` takes out.
+/// holds adds its new id, a spawn gives its claim to it, and the end of a spawn gives the claim
+/// back. An id that an edit may add isn't among them, and once added it is what `unadd` takes out.
 pub fn holders_are_kept_in_step()
     ensures edits { holdings.EditKeepsTable }
     ensures new { holdings.AddedIsNew }
     ensures unadded { holdings.LastIsTakenOut }
     ensures spawns { holdings.SpawnKeepsTable }
-    ensures merges { holdings.MergeKeepsTable }
+    ensures ends { holdings.EndKeepsTable }
 {}

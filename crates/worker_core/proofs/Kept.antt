@@ -1,5 +1,5 @@
 -- What always holds of a worker holds after an order and after a message.
-use Rattle.std.proofs.Common.{◌≡◌, ℕ, ◌||◌, Bool, true, false, not, cond, List, [], ◌∷◌, ◌++◌, Option, Some, None, IfSome, Result, Ok, Err, OnOk, OnErr, is_ok, is_some, refl, sym, ap, ◌∙◌, subst}
+use Rattle.std.proofs.Common.{◌≡◌, ℕ, ◌||◌, Bool, true, false, cond, List, [], ◌∷◌, ◌++◌, Option, Some, None, IfSome, Result, Ok, Err, OnOk, OnErr, is_ok, is_some, refl, sym, ap, ◌∙◌, subst}
 use Rattle.std.proofs.lemmas.Bool.{true≢false}
 use Rattle.std.proofs.lemmas.List.{map-append}
 use Rattle.std.proofs.lemmas.List.Elements.{All-push}
@@ -13,23 +13,24 @@ use Rattle.ticket_rows.specs.Ticket.{IsValid, unless}
 use Rattle.ticket_tree.proofs.PartEdits.{part_edit_is_valid}
 use Rattle.ticket_tree.specs.Part.{Copied, edited_part, is_sound}
 use Rattle.controller.specs.declared.body.Body.{Body}
-use Rattle.controller.specs.declared.body.Body.TheVariants.{Submit, Return, Answer}
+use Rattle.controller.specs.declared.body.Body.TheVariants.{Submit, Return, Abort, Answer}
 use Rattle.controller.specs.declared.message.Message.{Message}
 use Rattle.worker_core.proofs.AtNumber.{All-at_number, All-each_at_number, any_number, distinct-push, found_holds, numbers_stay}
-use Rattle.worker_core.proofs.Closing.{closed_kept, closed_number}
+use Rattle.worker_core.proofs.Closing.{aborted_number, aborted_shut, closed_kept, closed_number}
 use Rattle.worker_core.proofs.EditedPart.{edited_sound, ending_free, root_ended}
 use Rattle.worker_core.proofs.Refusals.{body_free, edit_free, of_open, open_free, ordered_on}
 use Rattle.worker_core.specs.Laws.{MessageIsKept, OrderIsKept}
-use Rattle.worker_core.specs.Messages.{IsValidBody, after_taking, body_refusal, take_refusal, taken}
+use Rattle.worker_core.specs.Messages.{IsValidBody, aborted_entry, after_taking, body_refusal, take_refusal, taken}
 use Rattle.worker_core.specs.Numbers.{are_distinct_numbers, has_number}
 use Rattle.worker_core.specs.Orders.{edit_refusal, edited_entry, ended_part, ending, finished_entry, order_refusal, ordered, ordered_entries}
-use Rattle.worker_core.specs.Worker.{IsKept, IsKeptEntry, IsKeptPart, Known, closed_entry, entry_of, has_ended_so, is_closed, is_closed_stage, is_of, is_open_stage, known, new_entry, numbers, open_part, with_entry}
+use Rattle.worker_core.specs.Worker.{IsKept, IsKeptEntry, IsKeptPart, Known, closed_entry, entry_of, declined_entry, has_ended_so, is_of, is_open, is_open_stage, keeps_part, known, new_entry, numbers, open_part, with_entry}
+use Rattle.worker_core.specs.declared.end.End.TheVariants.{Aborted}
 use Rattle.worker_core.specs.declared.end.End.{End}
 use Rattle.worker_core.specs.declared.entry.Entry.{Entry}
 use Rattle.worker_core.specs.declared.order.Order.{Order}
 use Rattle.worker_core.specs.declared.order.Order.TheVariants as order
 use Rattle.worker_core.specs.declared.stage.Stage.{Stage}
-use Rattle.worker_core.specs.declared.stage.Stage.TheVariants.{Open, Done, Closed}
+use Rattle.worker_core.specs.declared.stage.Stage.TheVariants.{Open, Done, Closed, Declined}
 
 -- the spawn's number of an entry
 abbrev pub number_of : Entry → ℕ
@@ -41,19 +42,21 @@ open_ended : (stage : Stage) (p : Copied) → is_open_stage stage ≡ true → h
 open_ended Open p e = refl
 open_ended (Done how) p e = absurd (true≢false (sym e))
 open_ended (Closed how) p e = absurd (true≢false (sym e))
+open_ended Declined p e = absurd (true≢false (sym e))
 
-not_closed : (stage : Stage) → is_open_stage stage ≡ true → is_closed_stage stage ≡ false
-not_closed Open e = refl
-not_closed (Done how) e = refl
-not_closed (Closed how) e = absurd (true≢false (sym e))
+open_keeps : (stage : Stage) → is_open_stage stage ≡ true → keeps_part stage ≡ true
+open_keeps Open e = refl
+open_keeps (Done how) e = refl
+open_keeps (Closed how) e = absurd (true≢false (sym e))
+open_keeps Declined e = absurd (true≢false (sym e))
 
 -- the part of an entry
 pub kept_part : (x : Entry) (p : Copied) → x.part ≡ Some p → IsKeptEntry x → IsKeptPart x p
 kept_part x p has kept = subst (λ o. IfSome o (IsKeptPart x)) has kept.part
 
--- an entry that isn't closed and has a part that is kept
-with_part : (x : Entry) (p : Copied) → x.part ≡ Some p → is_closed x ≡ false → IsKeptPart x p → IsKeptEntry x
-with_part x p has open' own = record { held = ap is_some has ∙ sym (ap not open'); part = subst (λ o. IfSome o (IsKeptPart x)) (sym has) own }
+-- an entry that keeps a part and has one that is kept
+with_part : (x : Entry) (p : Copied) → x.part ≡ Some p → keeps_part x.phase ≡ true → IsKeptPart x p → IsKeptEntry x
+with_part x p has keeps own = record { held = ap is_some has ∙ sym keeps; part = subst (λ o. IfSome o (IsKeptPart x)) (sym has) own }
 
 kept_edit : (e : Edit) (at : ℕ) (x : Entry) → IsKeptEntry x → edit_refusal e x ≡ None → IsKeptEntry (edited_entry e at x)
 kept_edit e at x kept none =
@@ -61,7 +64,7 @@ kept_edit e at x kept none =
     let p = free.part in
     let of = of_open x p free.opened in
     let own = kept_part x p of.1 kept in
-    with_part (edited_entry e at x) (edited_part e at p) (ap (option_map (edited_part e at)) of.1) (not_closed x.phase of.0)
+    with_part (edited_entry e at x) (edited_part e at p) (ap (option_map (edited_part e at)) of.1) (open_keeps x.phase of.0)
     (record {
       own = own.own;
       valid = part_edit_is_valid e at p own.valid free.plain free.free;
@@ -138,6 +141,33 @@ submit_kept None p at w e valid kept none =
       each = All-push IsKeptEntry w.entries (new_entry p at) kept.each (record { held = refl; part = record { own = refl; valid = valid; sound = sound_part (is_sound p) none; ended = refl } });
     }
 
+-- an open entry has a part
+opened_part : (o : Option Copied) (x : Entry) → x.part ≡ o → is_some o ≡ true → is_open x ≡ true → unless (is_some (open_part x)) NotOpen ≡ None
+opened_part (Some p) x has some open' = ap (λ b. unless (is_some (cond b x.part None)) NotOpen) open' ∙ ap (λ o. unless (is_some o) NotOpen) has
+opened_part None x has some open' = absurd (true≢false (sym some))
+
+aborted_by : (b : Bool) (at : ℕ) (x : Entry) → is_open x ≡ b → IsKeptEntry x → IsKeptEntry (aborted_entry at x)
+aborted_by true at x open' kept =
+    subst (λ b. IsKeptEntry (cond b (finished_entry Aborted at x) x)) (sym open') (kept_finish Aborted at x kept (opened_part x.part x refl (kept.held ∙ open_keeps x.phase open') open'))
+aborted_by false at x shut kept = subst IsKeptEntry (sym (aborted_shut at x shut)) kept
+
+pub aborted_kept : (at : ℕ) (x : Entry) → IsKeptEntry x → IsKeptEntry (aborted_entry at x)
+aborted_kept at x kept = aborted_by (is_open x) at x refl kept
+
+abort_kept : (found : Option Entry) (s at : ℕ) (w : Known) → entry_of w.entries s ≡ found → IsKept w → IsKept (record w { entries = cond (is_some found) (with_entry s (aborted_entry at) w.entries) (w.entries ++ declined_entry s at ∷ []) })
+abort_kept (Some x) s at w e kept =
+    record {
+      apart = kept.apart;
+      once = ap are_distinct_numbers (numbers_stay number_of s (aborted_entry at) w.entries (aborted_number at)) ∙ kept.once;
+      each = All-each_at_number IsKeptEntry number_of s (aborted_entry at) w.entries (λ y is own. aborted_kept at y own) kept.each;
+    }
+abort_kept None s at w e kept =
+    record {
+      apart = kept.apart;
+      once = ap are_distinct_numbers (map-append number_of w.entries (declined_entry s at ∷ [])) ∙ distinct-push s (numbers w.entries) kept.once (no_number w.entries s e);
+      each = All-push IsKeptEntry w.entries (declined_entry s at) kept.each (record { held = refl; part = tt });
+    }
+
 answer_kept : (ok : Bool) (s : ℕ) (w : Known) → IsKept w → IsKept (record w { entries = cond ok (with_entry s closed_entry w.entries) w.entries })
 answer_kept false s w kept = record { apart = kept.apart; once = kept.once; each = kept.each }
 answer_kept true s w kept =
@@ -150,6 +180,7 @@ answer_kept true s w kept =
 pub kept_taken : (body : Body) (at : ℕ) (w : Known) → IsValidBody body → IsKept w → body_refusal body w.entries ≡ None → IsKept (taken body at w)
 kept_taken (Submit p) at w valid kept none = submit_kept (entry_of w.entries p.spawn_id) p at w refl valid kept none
 kept_taken (Return p) at w valid kept none = record { apart = kept.apart; once = kept.once; each = kept.each }
+kept_taken (Abort s) at w valid kept none = abort_kept (entry_of w.entries s) s at w refl kept
 kept_taken (Answer c s told) at w valid kept none = answer_kept (is_ok told) s w kept
 
 message_either : (refusal : Option Refusal) (m : Message) (at : ℕ) (w : Known) → take_refusal m w ≡ refusal → (refusal ≡ None → IsValidBody m.body) → IsKept w → IsKept (cond (is_some refusal) w (taken m.body at w))

@@ -14,7 +14,7 @@ use Rattle.ticket_tree.specs.Part.{Copied, is_sound}
 use Rattle.worker_core.proofs.Kept.{number_of}
 use Rattle.worker_core.specs.Numbers.{are_distinct_numbers, has_number}
 use Rattle.worker_core.specs.Stored.{AKeptWorkerIsStored, is_entry, is_part_of}
-use Rattle.worker_core.specs.Worker.{IsKeptEntry, IsKeptPart, has_ended_so, is_closed, numbers}
+use Rattle.worker_core.specs.Worker.{IsKeptEntry, IsKeptPart, has_ended_so, keeps_part, numbers}
 use Rattle.worker_core.specs.declared.entry.Entry.{Entry}
 
 -- ---- entries
@@ -23,13 +23,9 @@ part_passes : (e : Entry) (p : Copied) → IsKeptPart e p → is_part_of e p ≡
 part_passes e p kept =
     and_from ((p.spawn_id == e.spawn_id) && is_sound p) (has_ended_so e.phase p) (and_from (p.spawn_id == e.spawn_id) (is_sound p) (eq-eqb p.spawn_id e.spawn_id kept.own) kept.sound) kept.ended
 
-turned : (b : Bool) → false ≡ not b → b ≡ true
-turned true e = refl
-turned false e = absurd (true≢false (sym e))
-
-held_passes : (o : Option Copied) (e : Entry) → is_some o ≡ not (is_closed e) → IfSome o (IsKeptPart e) → option_map_or (λ p. not (is_closed e) && is_part_of e p) o (is_closed e) ≡ true
-held_passes None e held kept = turned (is_closed e) held
-held_passes (Some p) e held kept = and_from (not (is_closed e)) (is_part_of e p) (sym held) (part_passes e p kept)
+held_passes : (o : Option Copied) (e : Entry) → is_some o ≡ keeps_part e.phase → IfSome o (IsKeptPart e) → option_map_or (λ p. keeps_part e.phase && is_part_of e p) o (not (keeps_part e.phase)) ≡ true
+held_passes None e held kept = sym (ap not held)
+held_passes (Some p) e held kept = and_from (keeps_part e.phase) (is_part_of e p) (sym held) (part_passes e p kept)
 
 entry_passes : (e : Entry) → IsKeptEntry e → is_entry e ≡ true
 entry_passes e kept = held_passes e.part e kept.held kept.part

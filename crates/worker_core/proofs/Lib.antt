@@ -6,6 +6,7 @@ pub mod Kept
 pub mod Places
 pub mod OrderLaws
 pub mod MessageLaws
+pub mod GivingUp
 pub mod NeverMemory
 pub mod Sends
 mod Worked

@@ -1,23 +1,26 @@
 -- What a message changes, and what it is taken as.
-use Rattle.std.proofs.Common.{◌≡◌, ℕ, ◌==◌, ◌&&◌, ◌||◌, Bool, true, false, cond, List, [], ◌∷◌, ◌++◌, Option, Some, None, Ok, is_none, is_ok, is_some, refl, sym, ap, ◌∙◌}
-use Rattle.std.proofs.lemmas.Bool.{eq-eqb}
-use Rattle.std.specs.Option.{option_map_or}
+use Rattle.std.proofs.Common.{◌≡◌, ℕ, ◌==◌, ◌&&◌, ◌||◌, Bool, true, false, cond, List, [], ◌∷◌, ◌++◌, Option, Some, None, Ok, Err, is_none, is_ok, is_some, refl, sym, ap, ◌∙◌}
+use Rattle.std.proofs.lemmas.Bool.{eq-eqb, eqb-true}
+use Rattle.std.specs.Option.{option_map, option_map_or}
+use Rattle.ticket_items.specs.Refusal.{number_of}
 use Rattle.ticket_items.specs.declared.refusal.Refusal.{Refusal}
+use Rattle.ticket_items.specs.declared.refusal.Refusal.TheVariants as refusals
 use Rattle.ticket_items.specs.declared.refusal.Refusal.TheVariants.{BadPart, WrongMessage, WrongSender}
 use Rattle.ticket_rows.specs.Ticket.{first_of, unless}
 use Rattle.ticket_tree.specs.Part.{Copied, is_sound}
-use Rattle.controller.specs.Reply.{refused_or, spawn_in, told_of}
+use Rattle.controller.specs.Reply.{refused_or, spawn_in}
 use Rattle.controller.specs.declared.body.Body.{Body}
-use Rattle.controller.specs.declared.body.Body.TheVariants.{Submit, Return, Answer}
+use Rattle.controller.specs.declared.body.Body.TheVariants.{Submit, Return, Abort, Answer}
 use Rattle.controller.specs.declared.message.Message.{Message}
 use Rattle.controller.specs.declared.queue_status.QueueStatus.TheVariants as queue
 use Rattle.controller.specs.declared.reply.Reply.TheVariants as reply
-use Rattle.worker_core.proofs.AtNumber.{find-behind, find-push}
-use Rattle.worker_core.proofs.Closing.{found_closed, status_closed}
+use Rattle.worker_core.proofs.AtNumber.{find-at_number, find-behind, find-push}
+use Rattle.worker_core.proofs.Closing.{aborted_number, aborted_shut, closed_declined, declined_shut, found_aborted, found_closed, told_closed}
+use Rattle.worker_core.proofs.OrderLaws.{order_keeps_entries}
 use Rattle.worker_core.proofs.Refusals.{for_free, from_free, is_from}
-use Rattle.worker_core.specs.Laws.{MessageKeepsEntries, RefusalChangesNothing, SubmitIsAgain, SubmitIsTaken, acknowledges}
-use Rattle.worker_core.specs.Messages.{after_taking, body_refusal, take_refusal, take_reply, taken}
-use Rattle.worker_core.specs.Worker.{Known, closed_entry, entry_of, is_of, new_entry, status_in, status_of_stage, with_entry}
+use Rattle.worker_core.specs.Laws.{AbortIsDeclined, DeclinedStays, MessageKeepsEntries, RefusalChangesNothing, SubmitIsAgain, SubmitIsTaken, entry_after}
+use Rattle.worker_core.specs.Messages.{abort_reply, aborted_entry, after_taking, again_reply, body_refusal, take_refusal, take_reply, taken, taken_entries, told_or}
+use Rattle.worker_core.specs.Worker.{Known, closed_entry, declined_entry, entry_of, is_declined, is_of, new_entry, told_in, told_of_stage, with_entry}
 use Rattle.worker_core.specs.declared.entry.Entry.{Entry}
 
 -- ---- entries
@@ -26,46 +29,58 @@ push_either : (found : Option Entry) (p : Copied) (at : ℕ) (entries : List Ent
 push_either None p at entries s e here = find-push (is_of s) entries (new_entry p at ∷ []) e here
 push_either (Some x) p at entries s e here = here
 
-taken_keeps : (body : Body) (at : ℕ) (w : Known) (s : ℕ) (e : Entry) → entry_of w.entries s ≡ Some e → entry_of (taken body at w).entries s ≡ Some (cond (acknowledges s body) (closed_entry e) e)
+abort_either : (found : Option Entry) (same : Bool) (t at : ℕ) (entries : List Entry) (s : ℕ) (e : Entry) → entry_of entries t ≡ found → (t == s) ≡ same → entry_of entries s ≡ Some e
+    → entry_of (cond (is_some found) (with_entry t (aborted_entry at) entries) (entries ++ declined_entry t at ∷ [])) s ≡ Some (cond same (aborted_entry at e) e)
+abort_either (Some x) same t at entries s e there is here = found_aborted same t at entries s e is here
+abort_either None false t at entries s e there is here = find-push (is_of s) entries (declined_entry t at ∷ []) e here
+abort_either None true t at entries s e there is here =
+    let one : t ≡ s = eqb-true t s is in
+    let none : entry_of entries s ≡ None = ap (entry_of entries) (sym one) ∙ there in
+    absurd (some_none (sym here ∙ none))
+  where
+    some_none : {X : Type 0} {x : X} → ◌≡◌ {A = Option X} (Some x) None → ⊥
+    some_none e = cc
+
+taken_keeps : (body : Body) (at : ℕ) (w : Known) (s : ℕ) (e : Entry) → entry_of w.entries s ≡ Some e → entry_of (taken body at w).entries s ≡ Some (entry_after s body at e)
 taken_keeps (Submit p) at w s e here = push_either (entry_of w.entries p.spawn_id) p at w.entries s e here
 taken_keeps (Return p) at w s e here = here
+taken_keeps (Abort t) at w s e here = abort_either (entry_of w.entries t) (t == s) t at w.entries s e refl refl here
 taken_keeps (Answer c t told) at w s e here = found_closed (is_ok told) (t == s) t w.entries s e refl here
 
 either_keeps : (refusal : Option Refusal) (m : Message) (at : ℕ) (w : Known) (s : ℕ) (e : Entry) → entry_of w.entries s ≡ Some e
-    → entry_of (cond (is_some refusal) w (taken m.body at w)).entries s ≡ Some (cond (is_none refusal && acknowledges s m.body) (closed_entry e) e)
+    → entry_of (cond (is_some refusal) w (taken m.body at w)).entries s ≡ Some (cond (is_none refusal) (entry_after s m.body at e) e)
 either_keeps None m at w s e here = taken_keeps m.body at w s e here
 either_keeps (Some r) m at w s e here = here
 
 pub message_keeps_entries : MessageKeepsEntries
 message_keeps_entries m at w s e here = either_keeps (take_refusal m w) m at w s e here
 
--- ---- the Status that is told
+-- ---- what is told
 
 new_is_of : (p : Copied) (at : ℕ) → entry_of (new_entry p at ∷ []) p.spawn_id ≡ Some (new_entry p at)
 new_is_of p at = ap (λ b. cond b (Some (new_entry p at)) None) (eq-eqb p.spawn_id p.spawn_id refl)
 
-status_pushed : (found : Option Entry) (p : Copied) (at : ℕ) (entries : List Entry) → entry_of entries p.spawn_id ≡ found
-    → status_in (cond (is_some found) entries (entries ++ new_entry p at ∷ [])) p.spawn_id ≡ status_in entries p.spawn_id
-status_pushed (Some x) p at entries here = refl
-status_pushed None p at entries none =
-    ap (λ o. option_map_or (λ e. status_of_stage e.phase) o queue.Running) (find-behind (is_of p.spawn_id) entries (new_entry p at ∷ []) none ∙ new_is_of p at) ∙ sym (ap (λ o. option_map_or (λ e. status_of_stage e.phase) o queue.Running) none)
+declined_is_of : (s at : ℕ) → entry_of (declined_entry s at ∷ []) s ≡ Some (declined_entry s at)
+declined_is_of s at = ap (λ b. cond b (Some (declined_entry s at)) None) (eq-eqb s s refl)
 
-status_answered : (ok : Bool) (s : ℕ) (entries : List Entry) → status_in (cond ok (with_entry s closed_entry entries) entries) s ≡ status_in entries s
-status_answered true s entries = status_closed s entries
-status_answered false s entries = refl
+-- a part that comes, or an answer, leaves what a command of the spawn is told: one of which there is no entry is running, as a new one is, and one that is closed has its end still
+pub told_pushed : (found : Option Entry) (p : Copied) (at : ℕ) (entries : List Entry) → entry_of entries p.spawn_id ≡ found
+    → told_in (cond (is_some found) entries (entries ++ new_entry p at ∷ [])) p.spawn_id ≡ told_in entries p.spawn_id
+told_pushed (Some x) p at entries here = refl
+told_pushed None p at entries none =
+    ap (λ o. option_map_or (λ e. told_of_stage e.phase) o (Ok queue.Running)) (find-behind (is_of p.spawn_id) entries (new_entry p at ∷ []) none ∙ new_is_of p at) ∙ sym (ap (λ o. option_map_or (λ e. told_of_stage e.phase) o (Ok queue.Running)) none)
 
-status_taken : (body : Body) (at : ℕ) (w : Known) → status_in (taken body at w).entries (spawn_in body) ≡ status_in w.entries (spawn_in body)
-status_taken (Submit p) at w = status_pushed (entry_of w.entries p.spawn_id) p at w.entries refl
-status_taken (Return p) at w = refl
-status_taken (Answer c s told) at w = status_answered (is_ok told) s w.entries
+pub told_answered : (ok : Bool) (s : ℕ) (entries : List Entry) → told_in (cond ok (with_entry s closed_entry entries) entries) s ≡ told_in entries s
+told_answered true s entries = told_closed s entries
+told_answered false s entries = refl
 
-status_either : (refusal : Option Refusal) (body : Body) (at : ℕ) (w : Known) → status_in (cond (is_some refusal) w (taken body at w)).entries (spawn_in body) ≡ status_in w.entries (spawn_in body)
-status_either None body at w = status_taken body at w
-status_either (Some r) body at w = refl
-
--- a message leaves the Status of its queue entry: one of which there is no entry is running, as a new one is, and one that is closed has its end still
-pub status_stays : (m : Message) (at : ℕ) (w : Known) → status_in (after_taking m at w).entries (spawn_in m.body) ≡ status_in w.entries (spawn_in m.body)
-status_stays m at w = status_either (take_refusal m w) m.body at w
+-- one that is to be given up is told how it is then
+pub told_aborted : (found : Option Entry) (s at : ℕ) (entries : List Entry) → entry_of entries s ≡ found
+    → told_in (cond (is_some found) (with_entry s (aborted_entry at) entries) (entries ++ declined_entry s at ∷ [])) s ≡ option_map_or (λ e. told_of_stage (aborted_entry at e).phase) found (Err (number_of refusals.Declined))
+told_aborted (Some x) s at entries here =
+    ap (λ o. option_map_or (λ (e : Entry). told_of_stage e.phase) o (Ok queue.Running)) (find-at_number (λ (e : Entry). e.spawn_id) s (aborted_entry at) entries (aborted_number at) ∙ ap (option_map (aborted_entry at)) here)
+told_aborted None s at entries none =
+    ap (λ o. option_map_or (λ (e : Entry). told_of_stage e.phase) o (Ok queue.Running)) (find-behind (is_of s) entries (declined_entry s at ∷ []) none ∙ declined_is_of s at)
 
 -- ---- answers
 
@@ -86,11 +101,11 @@ submit_is_again m at w p e says none here =
     let state : after_taking m at w ≡ w = same_either (is_some (take_refusal m w)) w (taken m.body at w) (ap (λ body. taken body at w) says ∙ submit_again p at w e here) in
     record {
       state = state;
-      reply = ap (λ r. refused_or r (take_reply m.body w.entries)) none ∙ ap (λ body. Ok (take_reply body w.entries)) says ∙ ap (λ o. Ok (cond (is_some o) (reply.Again p.spawn_id) (reply.Taken p.spawn_id))) here;
-      told = ap (λ r. told_of r (status_in (after_taking m at w).entries (spawn_in m.body))) none
-          ∙ ap (λ (v : Known). Ok (status_in v.entries (spawn_in m.body))) state
-          ∙ ap (λ body. Ok (status_in w.entries (spawn_in body))) says
-          ∙ ap (λ o. Ok (option_map_or (λ x. status_of_stage x.phase) o queue.Running)) here;
+      reply = ap (λ r. refused_or r (take_reply m.body w.entries)) none ∙ ap (λ body. Ok (take_reply body w.entries)) says ∙ ap (λ o. Ok (option_map_or (again_reply p.spawn_id) o (reply.Taken p.spawn_id))) here;
+      told = ap (λ r. told_or r (told_in (taken_entries m.body at w.entries) (spawn_in m.body))) none
+          ∙ ap (λ body. told_in (taken_entries body at w.entries) (spawn_in body)) says
+          ∙ told_pushed (entry_of w.entries p.spawn_id) p at w.entries refl
+          ∙ ap (λ o. option_map_or (λ (x : Entry). told_of_stage x.phase) o (Ok queue.Running)) here;
     }
 
 -- ---- a part that was taken
@@ -117,3 +132,38 @@ submit_is_taken m at w p says none =
           ∙ ap (λ body. first_of (None ∷ None ∷ body_refusal body next.entries ∷ [])) says
           ∙ ap (λ o. first_of (None ∷ None ∷ o ∷ [])) (free_again p next.entries e has.1),
     )
+
+-- ---- a spawn that is declined
+
+declined_has : (found : Option Entry) (s at : ℕ) (entries : List Entry) → entry_of entries s ≡ found → found ≡ None
+    → entry_of (cond (is_some found) (with_entry s (aborted_entry at) entries) (entries ++ declined_entry s at ∷ [])) s ≡ Some (declined_entry s at)
+declined_has None s at entries none is = find-behind (is_of s) entries (declined_entry s at ∷ []) none ∙ declined_is_of s at
+declined_has (Some x) s at entries here is = cc
+
+pub abort_is_declined : AbortIsDeclined
+abort_is_declined m at w s says free none =
+    let after : after_taking m at w ≡ taken (Abort s) at w = ap (λ r. cond (is_some r) w (taken m.body at w)) free ∙ ap (λ body. taken body at w) says in (
+      ap (λ r. refused_or r (take_reply m.body w.entries)) free ∙ ap (λ body. Ok (take_reply body w.entries)) says ∙ ap (λ o. Ok (option_map_or (abort_reply s) o (reply.Declined s))) none,
+      (declined_entry s at, ap (λ (v : Known). entry_of v.entries s) after ∙ declined_has (entry_of w.entries s) s at w.entries refl none, refl),
+    )
+
+same_if : (b : Bool) (new old : Entry) → new ≡ old → cond b new old ≡ old
+same_if true new old e = e
+same_if false new old e = refl
+
+-- a message makes nothing of an entry that was declined
+declined_after : (s : ℕ) (body : Body) (at : ℕ) (e : Entry) → is_declined e ≡ true → entry_after s body at e ≡ e
+declined_after s (Submit p) at e is = refl
+declined_after s (Return p) at e is = refl
+declined_after s (Abort t) at e is = same_if (t == s) (aborted_entry at e) e (aborted_shut at e (declined_shut e is))
+declined_after s (Answer c t told) at e is = same_if ((t == s) && is_ok told) (closed_entry e) e (closed_declined e is)
+
+pub declined_stays : DeclinedStays
+declined_stays w s e here is = (
+  λ o at kept.
+      let next = order_keeps_entries o at w s e kept here in
+      next.1 ∙ ap Some (next.2.finished (declined_shut e is)),
+  λ m at.
+      message_keeps_entries m at w s e here
+      ∙ ap Some (same_if (is_none (take_refusal m w)) (entry_after s m.body at e) e (declined_after s m.body at e is)),
+)

@@ -34,11 +34,20 @@ resends false b = other refusals.NotDone refl
 resends true false = other refusals.Acknowledged refl
 resends true true = tt
 
-in_entry : (o : worker_order.Order) (e : Entry) → IsOther (worker_orders.entry_refusal o e)
-in_entry (to_worker.Edit s edit) e = edits edit (worker.open_part e)
-in_entry (to_worker.Finish s how) e = test _ _ (other refusals.NotOpen refl)
-in_entry (to_worker.Resend s) e =
+in_work : (o : worker_order.Order) (e : Entry) → IsOther (worker_orders.work_refusal o e)
+in_work (to_worker.Edit s edit) e = edits edit (worker.open_part e)
+in_work (to_worker.Finish s how) e = test _ _ (other refusals.NotOpen refl)
+in_work (to_worker.Resend s) e =
     resends (not (worker.is_open e)) (not (worker.is_closed e))
+
+-- one, and another where that isn't
+after_test : (b : Bool) (l : Option Refusal) → IsOther l → IsOther (first_of (unless b refusals.UnknownEntry ∷ l ∷ []))
+after_test false l isnt = other refusals.UnknownEntry refl
+after_test true (Some e) isnt = isnt
+after_test true None isnt = tt
+
+in_entry : (o : worker_order.Order) (e : Entry) → IsOther (worker_orders.entry_refusal o e)
+in_entry o e = after_test (not (worker.is_declined e)) (worker_orders.work_refusal o e) (in_work o e)
 
 found : (o : worker_order.Order) (e : Option Entry) → IsOther (option_map_or (worker_orders.entry_refusal o) e (Some refusals.UnknownEntry))
 found o None = other refusals.UnknownEntry refl

@@ -26,6 +26,7 @@ use Rattle.ticket_tree.specs.PartView.{part_row}
 use Rattle.ticket_tree.specs.PlainEdit.{plain_changed, touch}
 use Rattle.controller.specs.declared.message.Message.{Message}
 use Rattle.worker_core.proofs.AtNumber.{find-at_number, find-other, found_holds}
+use Rattle.worker_core.proofs.Closing.{has_ended}
 use Rattle.worker_core.proofs.EditedPart.{ending_free, first_known}
 use Rattle.worker_core.proofs.Kept.{kept_part, number_of}
 use Rattle.worker_core.proofs.Refusals.{done_free, edit_free, of_open, open_free, ordered_on}
@@ -37,7 +38,7 @@ use Rattle.worker_core.specs.declared.entry.Entry.{Entry}
 use Rattle.worker_core.specs.declared.order.Order.{Order}
 use Rattle.worker_core.specs.declared.order.Order.TheVariants as order
 use Rattle.worker_core.specs.declared.stage.Stage.{Stage}
-use Rattle.worker_core.specs.declared.stage.Stage.TheVariants.{Open, Done, Closed}
+use Rattle.worker_core.specs.declared.stage.Stage.TheVariants.{Open, Done, Closed, Declined}
 
 -- ---- what may be changed
 
@@ -45,6 +46,7 @@ open_stage : (stage : Stage) → is_open_stage stage ≡ true → stage ≡ Open
 open_stage Open e = refl
 open_stage (Done how) e = absurd (true≢false (sym e))
 open_stage (Closed how) e = absurd (true≢false (sym e))
+open_stage Declined e = absurd (true≢false (sym e))
 
 -- an entry through which something may be changed, and its part
 abbrev pub HeldIn : Option Entry → List ℕ → Type 0
@@ -216,7 +218,7 @@ return_is_of_entry (order.Finish s how) at w m none made =
     )
 return_is_of_entry (order.Resend s) at w m none made =
     let on = ordered_on (order.Resend s) w.entries none in
-    (on.0, on.1, (done_free on.0 on.2).0, sym (ap (option_and_then (return_of w.name w.master)) on.1) ∙ made)
+    (on.0, on.1, has_ended on.0 (done_free on.0 on.2).0 on.3, sym (ap (option_and_then (return_of w.name w.master)) on.1) ∙ made)
 
 then_mapped : (f : Entry → Entry) (g : Entry → Option Message) (found : Option Entry) → option_and_then g (option_map f found) ≡ option_and_then (λ e. g (f e)) found
 then_mapped f g None = refl

@@ -14,8 +14,8 @@ use Rattle.ticket_rows.specs.Ticket.{first_of, is_reserved, unless}
 use Rattle.ticket_tree.specs.Part.{Copied, refusal_of_part}
 use Rattle.controller.specs.declared.message.Message.{Message}
 use Rattle.worker_core.specs.Messages.{body_refusal, is_for_workers, take_refusal}
-use Rattle.worker_core.specs.Orders.{edit_refusal, entry_refusal, is_here, is_to_read, order_refusal, part_edit_refusal, resend_refusal, spawn_of_order}
-use Rattle.worker_core.specs.Worker.{Known, entry_of, is_closed, is_open, open_part}
+use Rattle.worker_core.specs.Orders.{edit_refusal, entry_refusal, is_here, is_to_read, order_refusal, part_edit_refusal, resend_refusal, spawn_of_order, work_refusal}
+use Rattle.worker_core.specs.Worker.{Known, entry_of, is_closed, is_declined, is_open, open_part}
 use Rattle.worker_core.specs.declared.entry.Entry.{Entry}
 use Rattle.worker_core.specs.declared.order.Order.{Order}
 
@@ -25,9 +25,33 @@ found_in : (f : Entry → Option Refusal) (o : Option Entry) → option_map_or f
 found_in f None none = cc
 found_in f (Some e) none = (e, refl, none)
 
--- an order that isn't refused has its entry
-pub ordered_on : (o : Order) (entries : List Entry) → order_refusal o entries ≡ None → (e : Entry) × (entry_of entries (spawn_of_order o) ≡ Some e) × (entry_refusal o e ≡ None)
-ordered_on o entries none = found_in (entry_refusal o) (entry_of entries (spawn_of_order o)) none
+taken_free : (b : Bool) (l : Option Refusal) → first_of (unless (not b) UnknownEntry ∷ l ∷ []) ≡ None → (b ≡ false) × (l ≡ None)
+taken_free false None e = (refl, refl)
+taken_free false (Some r) e = cc
+taken_free true l e = cc
+
+-- an order that isn't refused on an entry is of one that wasn't declined
+pub work_free : (o : Order) (e : Entry) → entry_refusal o e ≡ None → (is_declined e ≡ false) × (work_refusal o e ≡ None)
+work_free o e none = taken_free (is_declined e) (work_refusal o e) none
+
+-- on an entry that wasn't declined an order is refused for the work on it
+pub of_taken : (o : Order) (e : Entry) → is_declined e ≡ false → entry_refusal o e ≡ work_refusal o e
+of_taken o e taken = ap (λ b. first_of (unless (not b) UnknownEntry ∷ work_refusal o e ∷ [])) taken ∙ one_first (work_refusal o e)
+  where
+    one_first : (l : Option Refusal) → first_of (None ∷ l ∷ []) ≡ l
+    one_first None = refl
+    one_first (Some r) = refl
+
+-- and on one that was declined as if there were none
+pub of_declined : (o : Order) (e : Entry) → is_declined e ≡ true → entry_refusal o e ≡ Some UnknownEntry
+of_declined o e declined = ap (λ b. first_of (unless (not b) UnknownEntry ∷ work_refusal o e ∷ [])) declined
+
+-- an order that isn't refused has its entry, which wasn't declined
+pub ordered_on : (o : Order) (entries : List Entry) → order_refusal o entries ≡ None → (e : Entry) × (entry_of entries (spawn_of_order o) ≡ Some e) × (work_refusal o e ≡ None) × (is_declined e ≡ false)
+ordered_on o entries none =
+    let found = found_in (entry_refusal o) (entry_of entries (spawn_of_order o)) none in
+    let free = work_free o found.0 found.2 in
+    (found.0, found.1, free.1, free.0)
 
 -- an order is refused for what it is refused for on its entry
 pub refused_on : (o : Order) (entries : List Entry) (e : Entry) → entry_of entries (spawn_of_order o) ≡ Some e → order_refusal o entries ≡ entry_refusal o e

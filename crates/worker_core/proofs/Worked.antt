@@ -11,11 +11,12 @@ use Rattle.ticket_items.specs.declared.resource.Resource.{Resource}
 use Rattle.ticket_items.specs.declared.usage.Usage.TheVariants.{Input, Output}
 use Rattle.ticket_tree.specs.Part.{Copied}
 use Rattle.controller.specs.declared.body.Body.{Body}
-use Rattle.controller.specs.declared.body.Body.TheVariants.{Submit, Return, Answer}
+use Rattle.controller.specs.declared.body.Body.TheVariants.{Submit, Return, Abort, Answer}
 use Rattle.controller.specs.declared.command.Command.TheVariants as command
 use Rattle.controller.specs.declared.message.Message.{Message}
-use Rattle.controller.specs.declared.queue_status.QueueStatus.TheVariants.{Running, Completed}
+use Rattle.controller.specs.declared.queue_status.QueueStatus.TheVariants.{Running, Completed, Aborted}
 use Rattle.controller.specs.declared.reply.Reply.TheVariants.{Again, Acked, Noted, Taken}
+use Rattle.controller.specs.declared.reply.Reply.TheVariants as reply
 use Rattle.worker_core.specs.Messages.{after_taking, taken_answer, taken_reply}
 use Rattle.worker_core.specs.Orders.{order_message, order_refusal, ordered}
 use Rattle.worker_core.specs.Stored.{is_worker}
@@ -23,6 +24,7 @@ use Rattle.worker_core.specs.Worker.{Known, known, may_change}
 use Rattle.worker_core.specs.declared.end.End.TheVariants as end
 use Rattle.worker_core.specs.declared.order.Order.TheVariants.{Edit, Finish, Resend}
 use Rattle.worker_core.specs.declared.stage.Stage.TheVariants.{Open, Done, Closed}
+use Rattle.worker_core.specs.declared.stage.Stage.TheVariants as stage
 
 abbrev paper : Resource
 paper = record { id = codes "r1"; name = codes "Media"; class = codes "Consumable"; status = codes "Available"; attrs = [] }
@@ -229,9 +231,75 @@ bad_part = refl
 bad_again : taken_reply (from_to (codes "mis") (codes "press") 100 (Submit (record (part (codes "Waiting")) { ancestors = [] }))) taken ≡ Ok (Again 1)
 bad_again = refl
 
+-- ---- to be given up
+
+abbrev asked : Message
+asked = from_to (codes "mis") (codes "press") 100 (Abort 1)
+
+abbrev declining : Known
+declining = after_taking asked 120 press
+
+abbrev ended : Known
+ended = after_taking asked 120 taken
+
+-- before the part is taken it is declined, for good
+declined : taken_reply asked press ≡ Ok (reply.Declined 1)
+declined = refl
+
+declined_answer : taken_answer asked 120 press ≡ Some (from_to (codes "press") (codes "mis") 120 (Answer command.Abort 1 (Err 38)))
+declined_answer = refl
+
+declined_entries : declining.entries ≡ record { spawn_id = 1; phase = stage.Declined; part = None; at = 120 } ∷ []
+declined_entries = refl
+
+declined_again : taken_reply asked declining ≡ Ok (reply.Declined 1)
+declined_again = refl
+
+late_part : taken_reply sent declining ≡ Ok (reply.Declined 1)
+late_part = refl
+
+late_part_answer : taken_answer sent 121 declining ≡ Some (from_to (codes "press") (codes "mis") 121 (Answer command.Submit 1 (Err 38)))
+late_part_answer = refl
+
+late_part_state : after_taking sent 121 declining ≡ declining
+late_part_state = refl
+
+declined_orders : map (λ o. order_refusal o declining.entries) (Edit 1 (Note (codes "n1") (codes "late")) ∷ Finish 1 end.Aborted ∷ Resend 1 ∷ []) ≡ Some UnknownEntry ∷ Some UnknownEntry ∷ Some UnknownEntry ∷ []
+declined_orders = refl
+
+acked_declined : taken_reply acknowledged declining ≡ Err UnknownEntry
+acked_declined = refl
+
+-- the work on an open one ends, and its part goes back as it is sent once more
+ends : taken_reply asked taken ≡ Ok (reply.Ended 1)
+ends = refl
+
+ends_answer : taken_answer asked 120 taken ≡ Some (from_to (codes "press") (codes "mis") 120 (Answer command.Abort 1 (Ok Aborted)))
+ends_answer = refl
+
+ended_entries : ended.entries ≡ record { spawn_id = 1; phase = Done end.Aborted; part = Some (part (codes "Aborted")); at = 120 } ∷ []
+ended_entries = refl
+
+ended_return : order_message (Resend 1) 123 ended ≡ Some (from_to (codes "press") (codes "mis") 120 (Return (part (codes "Aborted"))))
+ended_return = refl
+
+-- one that is finished or closed stays so
+too_late : map (λ w. taken_reply asked w) (ended ∷ done ∷ closed ∷ []) ≡ Ok (Again 1) ∷ Ok (Again 1) ∷ Ok (Again 1) ∷ []
+too_late = refl
+
+too_late_answer : taken_answer asked 140 done ≡ Some (from_to (codes "press") (codes "mis") 140 (Answer command.Abort 1 (Ok Completed)))
+too_late_answer = refl
+
+too_late_states : map (λ w. after_taking asked 140 w) (ended ∷ done ∷ closed ∷ []) ≡ ended ∷ done ∷ closed ∷ []
+too_late_states = refl
+
+-- a worker asks for nothing to be given up, and is told of none
+answer_to_none : taken_reply (from_to (codes "mis") (codes "press") 130 (Answer command.Abort 1 (Ok Aborted))) taken ≡ Err WrongMessage
+answer_to_none = refl
+
 -- ---- what was stored
 
-stored : map is_worker (press ∷ taken ∷ done ∷ closed ∷ []) ≡ true ∷ true ∷ true ∷ true ∷ []
+stored : map is_worker (press ∷ taken ∷ done ∷ closed ∷ declining ∷ ended ∷ []) ≡ true ∷ true ∷ true ∷ true ∷ true ∷ true ∷ []
 stored = refl
 
 same_name : is_worker (record done { master = codes "press" }) ≡ false
@@ -248,6 +316,9 @@ other_spawn = refl
 
 closed_with_part : is_worker (record done { entries = record { spawn_id = 1; phase = Closed end.Completed; part = Some (part (codes "Completed")); at = 120 } ∷ [] }) ≡ false
 closed_with_part = refl
+
+declined_with_part : is_worker (record done { entries = record { spawn_id = 1; phase = stage.Declined; part = Some (part (codes "Completed")); at = 120 } ∷ [] }) ≡ false
+declined_with_part = refl
 
 done_without_part : is_worker (record done { entries = record { spawn_id = 1; phase = Done end.Completed; part = None; at = 120 } ∷ [] }) ≡ false
 done_without_part = refl

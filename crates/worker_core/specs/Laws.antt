@@ -1,5 +1,5 @@
 -- Laws of workers: what they may change, what orders and messages change, and what is given back.
-use Rattle.std.specs.Prelude.{◌≡◌, ◌==◌, ◌&&◌, ◌⊎◌, ℕ, Bool, true, false, List, Some, None}
+use Rattle.std.specs.Prelude.{◌≡◌, ◌==◌, ◌&&◌, ◌⊎◌, ℕ, true, false, List, Some, None}
 use Rattle.std.specs.Prelude.{if◌then◌else◌, is_none, is_ok, Ok, Err}
 use Rattle.ticket_items.specs.declared.edit.Edit.{Edit}
 use Rattle.ticket_rows.specs.Edit.{target}
@@ -7,16 +7,16 @@ use Rattle.ticket_rows.specs.Place.{places}
 use Rattle.ticket_tree.specs.Part.{Copied}
 use Rattle.ticket_tree.specs.PartView.{own_rows, part_row}
 use Rattle.controller.specs.declared.body.Body.{Body}
-use Rattle.controller.specs.declared.body.Body.TheVariants.{Answer, Submit}
+use Rattle.controller.specs.declared.body.Body.TheVariants.{Abort, Answer, Submit}
 use Rattle.controller.specs.declared.command.Command.{Command}
 use Rattle.controller.specs.declared.message.Message.{Message}
 use Rattle.controller.specs.declared.reply.Reply.TheVariants as reply
-use Rattle.worker_core.specs.Messages.{IsValidBody, after_taking, take_refusal, taken_reply}
-use Rattle.worker_core.specs.Messages.{taken_result}
+use Rattle.worker_core.specs.Messages.{IsValidBody, aborted_entry, after_taking, again_reply}
+use Rattle.worker_core.specs.Messages.{take_refusal, taken_reply, taken_result}
 use Rattle.worker_core.specs.Orders.{after_order, order_message, order_refusal, ordered, return_of}
 use Rattle.worker_core.specs.Orders.{spawn_of_order}
 use Rattle.worker_core.specs.Worker.{IsKept, Known, closed_entry, entry_of, has, is_open}
-use Rattle.worker_core.specs.Worker.{may_change, status_of_stage}
+use Rattle.worker_core.specs.Worker.{is_declined, is_ended, may_change, told_of_stage}
 use Rattle.worker_core.specs.declared.end.End.{End}
 use Rattle.worker_core.specs.declared.entry.Entry.{Entry}
 use Rattle.worker_core.specs.declared.order.Order.{Order}
@@ -77,19 +77,19 @@ OrderIsKept = (o : Order) (at : ℕ) (w : Known) → IsKept w → IsKept (after_
 
 -- ---- what a message changes
 
--- whether a message tells that the part of a spawn, which was given back, has come
-abbrev pub acknowledges : ℕ → Body → Bool
-acknowledges s (Answer c t told) = (t == s) && is_ok told
-acknowledges s body = false
+-- the entry of a spawn after a message at a time that isn't refused: one whose part, which was given
+-- back, has come is closed, and one that is to be given up is ended if it is open
+abbrev pub entry_after : ℕ → Body → ℕ → Entry → Entry
+entry_after s (Answer c t told) at e = if (t == s) && is_ok told then closed_entry e else e
+entry_after s (Abort t) at e = if t == s then aborted_entry at e else e
+entry_after s body at e = e
 
--- each entry stays, but that one whose part has come, as a message that isn't refused tells, is
--- closed
+-- each entry stays, but for what a message that isn't refused makes of it
 abbrev pub MessageKeepsEntries : Type 0
 MessageKeepsEntries =
     (m : Message) (at : ℕ) (w : Known) (s : ℕ) (e : Entry) → entry_of w.entries s ≡ Some e
     → entry_of (after_taking m at w).entries s
-    ≡ Some
-    (if is_none (take_refusal m w) && acknowledges s m.body then closed_entry e else e)
+    ≡ Some (if is_none (take_refusal m w) then entry_after s m.body at e else e)
 
 -- what always holds of a worker holds after a message
 abbrev pub MessageIsKept : Type 0
@@ -102,12 +102,12 @@ RefusalChangesNothing =
     (m : Message) (at : ℕ) (w : Known) (c : Command) (s reason : ℕ)
     → m.body ≡ Answer c s (Err reason) → after_taking m at w ≡ w
 
--- a part of which there is an entry changes nothing, is taken as one that came again, and is told
--- how far the entry is
+-- a part of which there is an entry changes nothing, is taken as one that came again or was
+-- declined, and is told how far the entry is
 pub record IsAgain (m : Message) (at : ℕ) (w : Known) (s : ℕ) (e : Entry) : Type 0 where
   pub state : after_taking m at w ≡ w
-  pub reply : taken_reply m w ≡ Ok (reply.Again s)
-  pub told : taken_result m at w ≡ Ok (status_of_stage e.phase)
+  pub reply : taken_reply m w ≡ Ok (again_reply s e)
+  pub told : taken_result m at w ≡ told_of_stage e.phase
 
 abbrev pub SubmitIsAgain : Type 0
 SubmitIsAgain =
@@ -122,6 +122,22 @@ SubmitIsTaken =
     → (e : Entry) × (entry_of (after_taking m at w).entries p.spawn_id ≡ Some e)
     × (take_refusal m (after_taking m at w) ≡ None)
 
+-- a spawn that is to be given up, of which there is no entry, is declined, and has an entry that
+-- says so
+abbrev pub AbortIsDeclined : Type 0
+AbortIsDeclined =
+    (m : Message) (at : ℕ) (w : Known) (s : ℕ) → m.body ≡ Abort s → take_refusal m w ≡ None
+    → entry_of w.entries s ≡ None
+    → (taken_reply m w ≡ Ok (reply.Declined s))
+    × ((e : Entry) × (entry_of (after_taking m at w).entries s ≡ Some e) × (is_declined e ≡ true))
+
+-- and that entry stays as it is, whatever is ordered or comes
+abbrev pub DeclinedStays : Type 0
+DeclinedStays =
+    (w : Known) (s : ℕ) (e : Entry) → entry_of w.entries s ≡ Some e → is_declined e ≡ true
+    → ((o : Order) (at : ℕ) → IsKept w → entry_of (after_order o at w).entries s ≡ Some e)
+    × ((m : Message) (at : ℕ) → entry_of (after_taking m at w).entries s ≡ Some e)
+
 -- ---- what is given back
 
 -- a message that goes out is that of the entry as it is after the order, which is finished
@@ -130,7 +146,7 @@ ReturnIsOfEntry =
     (o : Order) (at : ℕ) (w : Known) (m : Message) → order_refusal o w.entries ≡ None
     → order_message o at w ≡ Some m
     → (e : Entry) × (entry_of (ordered o at w).entries (spawn_of_order o) ≡ Some e)
-    × (is_open e ≡ false) × (return_of w.name w.master e ≡ Some m)
+    × (is_ended e ≡ true) × (return_of w.name w.master e ≡ Some m)
 
 -- and so it is the same once more
 abbrev pub ResentIsSame : Type 0

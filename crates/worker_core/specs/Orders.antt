@@ -27,8 +27,8 @@ use Rattle.worker_core.specs.declared.entry.Entry.{Entry}
 use Rattle.worker_core.specs.declared.order.Order.{Order}
 use Rattle.worker_core.specs.declared.order.Order.TheVariants as order
 use Rattle.worker_core.specs.declared.stage.Stage.TheVariants.{Done}
-use Rattle.worker_core.specs.Worker.{Known, end_word, entry_of, is_closed, is_open, open_part}
-use Rattle.worker_core.specs.Worker.{root_id, with_entry}
+use Rattle.worker_core.specs.Worker.{Known, end_word, entry_of, is_closed, is_declined, is_open}
+use Rattle.worker_core.specs.Worker.{open_part, root_id, with_entry}
 
 -- the spawn that an order is about
 abbrev pub spawn_of_order : Order → ℕ
@@ -67,11 +67,16 @@ resend_refusal entry =
     first_of
     (unless (not (is_open entry)) NotDone ∷ unless (not (is_closed entry)) Acknowledged ∷ [])
 
--- why an order on an entry is refused, if it is
+-- why an order on an entry whose part was taken is refused, if it is
+abbrev pub work_refusal : Order → Entry → Option Refusal
+work_refusal (order.Edit s e) entry = edit_refusal e entry
+work_refusal (order.Finish s how) entry = unless (is_some (open_part entry)) NotOpen
+work_refusal (order.Resend s) entry = resend_refusal entry
+
+-- why an order on an entry is refused, if it is: on one that was declined as if there were none
 abbrev pub entry_refusal : Order → Entry → Option Refusal
-entry_refusal (order.Edit s e) entry = edit_refusal e entry
-entry_refusal (order.Finish s how) entry = unless (is_some (open_part entry)) NotOpen
-entry_refusal (order.Resend s) entry = resend_refusal entry
+entry_refusal o entry =
+    first_of (unless (not (is_declined entry)) UnknownEntry ∷ work_refusal o entry ∷ [])
 
 -- why an order is refused, if it is
 abbrev pub order_refusal : Order → List Entry → Option Refusal

@@ -5,17 +5,17 @@ use Rattle.std.specs.Option.{option_map_or}
 use Rattle.std.specs.Str.{bytes_eq}
 use Rattle.ticket_tree.specs.Part.{Copied, is_sound}
 use Rattle.worker_core.specs.Numbers.{are_distinct_numbers}
-use Rattle.worker_core.specs.Worker.{IsKept, Known, has_ended_so, is_closed, numbers}
+use Rattle.worker_core.specs.Worker.{IsKept, Known, has_ended_so, keeps_part, numbers}
 use Rattle.worker_core.specs.declared.entry.Entry.{Entry}
 
 -- whether a part can be an entry's: it is of its spawn, is sound, and has the Status of its end
 abbrev pub is_part_of : Entry → Copied → Bool
 is_part_of e p = (p.spawn_id == e.spawn_id) && is_sound p && has_ended_so e.phase p
 
--- whether an entry can be a worker's: it is closed and has no part, or it isn't and its part can be
--- its
+-- whether an entry can be a worker's: where it keeps a part it has one that can be its, and else none
 abbrev pub is_entry : Entry → Bool
-is_entry e = option_map_or (λ p. not (is_closed e) && is_part_of e p) e.part (is_closed e)
+is_entry e =
+    option_map_or (λ p. keeps_part e.phase && is_part_of e p) e.part (not (keeps_part e.phase))
 
 -- whether this can be a worker: its name is not its master's, no two of its entries are of one
 -- spawn, and each can be a worker's

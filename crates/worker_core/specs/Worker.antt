@@ -1,11 +1,15 @@
--- A worker: the parts that it took and hasn't given up, and what of them it may change.
-use Rattle.std.specs.Prelude.{◌≡◌, ℕ, ◌==◌, ◌||◌, Bool, true, false, not, List, [], codes, map}
+-- A worker: the parts that it took and hasn't given up, the spawns that it declined, and what of the
+-- parts it may change.
+use Rattle.std.specs.Prelude.{◌≡◌, ℕ, ◌==◌, ◌||◌, Bool, true, false, List, [], codes, map}
 use Rattle.std.specs.Prelude.{if◌then◌else◌, slice_get, Option, Some, None, is_some, IfSome}
+use Rattle.std.specs.Prelude.{Result, Ok, Err}
 use Rattle.std.specs.List.{All, find}
 use Rattle.std.specs.Option.{option_and_then, option_map_or}
 use Rattle.std.specs.Str.{bytes_eq}
 use Rattle.ticket_items.specs.Ids.{mem}
+use Rattle.ticket_items.specs.Refusal.{number_of}
 use Rattle.ticket_items.specs.Resource.{resource_ids}
+use Rattle.ticket_items.specs.declared.refusal.Refusal.TheVariants as refusals
 use Rattle.ticket_rows.specs.Copies.{with_copies}
 use Rattle.ticket_rows.specs.Ticket.{IsValid, ids}
 use Rattle.ticket_tree.specs.Part.{Copied, is_sound}
@@ -15,7 +19,7 @@ use Rattle.worker_core.specs.declared.end.End.{End}
 use Rattle.worker_core.specs.declared.end.End.TheVariants.{Completed, Aborted}
 use Rattle.worker_core.specs.declared.entry.Entry.{Entry}
 use Rattle.worker_core.specs.declared.stage.Stage.{Stage}
-use Rattle.worker_core.specs.declared.stage.Stage.TheVariants.{Open, Done, Closed}
+use Rattle.worker_core.specs.declared.stage.Stage.TheVariants.{Open, Done, Closed, Declined}
 use Rattle.worker_core.specs.Numbers.{are_distinct_numbers}
 
 -- what a worker knows: its name, its master's, and its entries in the order in which they were
@@ -34,22 +38,46 @@ abbrev pub is_open_stage : Stage → Bool
 is_open_stage Open = true
 is_open_stage (Done how) = false
 is_open_stage (Closed how) = false
+is_open_stage Declined = false
 
 abbrev pub is_closed_stage : Stage → Bool
 is_closed_stage Open = false
 is_closed_stage (Done how) = false
 is_closed_stage (Closed how) = true
+is_closed_stage Declined = false
+
+abbrev pub is_declined_stage : Stage → Bool
+is_declined_stage Open = false
+is_declined_stage (Done how) = false
+is_declined_stage (Closed how) = false
+is_declined_stage Declined = true
+
+-- whether the work on the part has ended
+abbrev pub is_ended_stage : Stage → Bool
+is_ended_stage Open = false
+is_ended_stage (Done how) = true
+is_ended_stage (Closed how) = true
+is_ended_stage Declined = false
+
+-- whether there is a part: it was taken, and wasn't given up
+abbrev pub keeps_part : Stage → Bool
+keeps_part Open = true
+keeps_part (Done how) = true
+keeps_part (Closed how) = false
+keeps_part Declined = false
 
 -- the Status of the queue entry of a part whose work ended so
 abbrev pub status_of_end : End → QueueStatus
 status_of_end Completed = queue.Completed
 status_of_end Aborted = queue.Aborted
 
--- and of any part: while it is open `Running`, else its end
-abbrev pub status_of_stage : Stage → QueueStatus
-status_of_stage Open = queue.Running
-status_of_stage (Done how) = status_of_end how
-status_of_stage (Closed how) = status_of_end how
+-- what a command on an entry is told: while it is open that it is `Running`, then its end; or that
+-- it was declined
+abbrev pub told_of_stage : Stage → Result QueueStatus ℕ
+told_of_stage Open = Ok queue.Running
+told_of_stage (Done how) = Ok (status_of_end how)
+told_of_stage (Closed how) = Ok (status_of_end how)
+told_of_stage Declined = Err (number_of refusals.Declined)
 
 -- the Status of the node of a part whose work ended so
 abbrev pub end_word : End → List ℕ
@@ -58,15 +86,24 @@ end_word Aborted = codes "Aborted"
 
 -- ---- entries
 
--- an entry that is new
+-- an entry that is new: of a part that is taken, and of a spawn that is declined
 abbrev pub new_entry : Copied → ℕ → Entry
 new_entry p at = record { spawn_id = p.spawn_id; phase = Open; part = Some p; at = at }
+
+abbrev pub declined_entry : ℕ → ℕ → Entry
+declined_entry s at = record { spawn_id = s; phase = Declined; part = None; at = at }
 
 abbrev pub is_open : Entry → Bool
 is_open e = is_open_stage e.phase
 
 abbrev pub is_closed : Entry → Bool
 is_closed e = is_closed_stage e.phase
+
+abbrev pub is_declined : Entry → Bool
+is_declined e = is_declined_stage e.phase
+
+abbrev pub is_ended : Entry → Bool
+is_ended e = is_ended_stage e.phase
 
 -- the part of an entry that may be changed: it is open
 abbrev pub open_part : Entry → Option Copied
@@ -77,6 +114,7 @@ abbrev pub closed_in : Stage → Entry → Entry
 closed_in Open e = e
 closed_in (Done how) e = record e { phase = Closed how; part = None }
 closed_in (Closed how) e = e
+closed_in Declined e = e
 
 abbrev pub closed_entry : Entry → Entry
 closed_entry e = closed_in e.phase e
@@ -97,10 +135,10 @@ entry_of entries s = find (is_of s) entries
 abbrev pub with_entry : ℕ → (Entry → Entry) → List Entry → List Entry
 with_entry s f entries = map (λ (e : Entry). if is_of s e then f e else e) entries
 
--- the Status of the queue entry of a spawn, which is running while there is none
-abbrev pub status_in : List Entry → ℕ → QueueStatus
-status_in entries s =
-    option_map_or (λ e. status_of_stage e.phase) (entry_of entries s) queue.Running
+-- what a command of a spawn is told, which is running while there is no entry
+abbrev pub told_in : List Entry → ℕ → Result QueueStatus ℕ
+told_in entries s =
+    option_map_or (λ e. told_of_stage e.phase) (entry_of entries s) (Ok queue.Running)
 
 -- ---- what may be changed
 
@@ -128,6 +166,7 @@ abbrev pub has_ended_so : Stage → Copied → Bool
 has_ended_so Open p = true
 has_ended_so (Done how) p = bytes_eq (root_status p) (end_word how)
 has_ended_so (Closed how) p = bytes_eq (root_status p) (end_word how)
+has_ended_so Declined p = true
 
 -- an entry's part is of its spawn, is a valid ticket with its copies, can have come from a ticket,
 -- and has the Status of its end
@@ -137,9 +176,9 @@ pub record IsKeptPart (e : Entry) (p : Copied) : Type 0 where
   pub sound : is_sound p ≡ true
   pub ended : has_ended_so e.phase p ≡ true
 
--- an entry has a part just until it is closed, and that is as above
+-- an entry has a part just while it keeps one, and that is as above
 pub record IsKeptEntry (e : Entry) : Type 0 where
-  pub held : is_some e.part ≡ not (is_closed e)
+  pub held : is_some e.part ≡ keeps_part e.phase
   pub part : IfSome e.part (IsKeptPart e)
 
 -- a worker's name is not its master's, no two of its entries are of one spawn, and each is as above

@@ -25,13 +25,13 @@ pub fn entry_of<'a>(entries: &'a [Entry], spawn: SpawnId) -> Option<&'a Entry>
     entries.iter().find(|entry| entry.spawn_id == spawn)
 }
 
-/// The Status of the queue entry of a spawn, which is running while there is none.
-pub fn status_of(entries: &[Entry], spawn: SpawnId) -> QueueStatus
-    ensures { result ≡ worker.status_in entries.now spawn }
+/// What a command of a spawn is told, which is running while there is no entry.
+pub fn told_in(entries: &[Entry], spawn: SpawnId) -> Result<QueueStatus, u16>
+    ensures { result ≡ worker.told_in entries.now spawn }
 {
     match entry_of(entries, spawn) {
-        None => QueueStatus::Running,
-        Some(entry) => entry.phase.status(),
+        None => Ok(QueueStatus::Running),
+        Some(entry) => entry.phase.told(),
     }
 }
 

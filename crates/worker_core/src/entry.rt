@@ -1,16 +1,17 @@
 use crate::stage::Stage;
 use ticket_tree::{Duplicate, Part, SpawnId};
 
-/// A part that a worker took. It is kept for good, but for the part itself once that was given back
-/// and has come.
+/// A part that a worker took, or a spawn that it declined. It is kept for good, but for the part
+/// itself once that was given back and has come.
 #[derive(Clone, Drop)]
 pub struct Entry {
-    /// The spawn of the part.
+    /// The spawn.
     pub spawn_id: SpawnId,
     pub phase: Stage,
-    /// There is none just where the entry is closed.
+    /// There is none just where the entry is closed or declined.
     pub part: Option<Part>,
-    /// When it was taken or, from the end on, when the work ended; in seconds since 1970.
+    /// When it was taken or declined or, from the end on, when the work ended; in seconds since
+    /// 1970.
     pub at: u64,
 }
 
@@ -32,6 +33,18 @@ impl Entry {
             spawn_id: part.spawn_id(),
             phase: Stage::Open,
             part: Some(part),
+            at,
+        }
+    }
+
+    /// The entry of a spawn that is declined at a time.
+    pub(crate) fn declined(spawn_id: SpawnId, at: u64) -> Entry
+        ensures { result ≡ worker.declined_entry spawn_id at }
+    {
+        Entry {
+            spawn_id,
+            phase: Stage::Declined,
+            part: None,
             at,
         }
     }

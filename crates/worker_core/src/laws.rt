@@ -20,8 +20,9 @@ pub fn an_order_changes_what_may_be_changed()
 {}
 
 /// After a message each entry is there still, and is the same; but one that is done gives up its
-/// part once a message that isn't refused tells that it has come. An answer that tells of a refusal
-/// changes nothing. What always holds of a worker holds then.
+/// part once a message that isn't refused tells that it has come, and an open one ends as it is to
+/// be given up. An answer that tells of a refusal changes nothing. What always holds of a worker
+/// holds then.
 pub fn a_message_keeps_or_closes_entries()
     ensures entries { law.MessageKeepsEntries }
     ensures answers { law.RefusalChangesNothing }
@@ -33,6 +34,13 @@ pub fn a_message_keeps_or_closes_entries()
 pub fn a_part_is_taken_once()
     ensures taken { law.SubmitIsTaken }
     ensures again { law.SubmitIsAgain }
+{}
+
+/// A spawn of which there is no entry as it is to be given up is declined, and stays so, whatever
+/// is ordered or comes: no late part of it is ever taken.
+pub fn a_declined_spawn_stays_so()
+    ensures declined { law.AbortIsDeclined }
+    ensures stays { law.DeclinedStays }
 {}
 
 /// What goes out is made of a finished entry alone, and is the same each time.

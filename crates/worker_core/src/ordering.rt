@@ -33,9 +33,9 @@ fn resend_refusal(entry: &Entry) -> Option<Refusal>
     None
 }
 
-/// Why an order on an entry is refused: the first reason that holds.
-fn entry_refusal(order: &Order, entry: &Entry) -> Option<Refusal>
-    ensures { result ≡ orders.entry_refusal order.now entry.now }
+/// Why an order on an entry whose part was taken is refused: the first reason that holds.
+fn work_refusal(order: &Order, entry: &Entry) -> Option<Refusal>
+    ensures { result ≡ orders.work_refusal order.now entry.now }
 {
     match order {
         Order::Edit(_, edit) => edits::refusal_of(edit, entry),
@@ -48,6 +48,16 @@ fn entry_refusal(order: &Order, entry: &Entry) -> Option<Refusal>
         }
         Order::Resend(_) => resend_refusal(entry),
     }
+}
+
+/// Why an order on an entry is refused: the first reason that holds.
+fn entry_refusal(order: &Order, entry: &Entry) -> Option<Refusal>
+    ensures { result ≡ orders.entry_refusal order.now entry.now }
+{
+    if entry.phase.is_declined() {
+        return Some(Refusal::UnknownEntry);
+    }
+    work_refusal(order, entry)
 }
 
 /// Where the entry stands that an order is about, or why the order is refused: the first reason
@@ -144,7 +154,7 @@ fn copy_of(alloc: Global, part: &Option<Part>) -> Result<Option<Part>, AllocErro
 }
 
 /// Ends the work on an entry.
-fn end_entry(alloc: Global, entry: &mut Entry, end: End, at: u64) -> Result<(), Refusal>
+pub fn end_entry(alloc: Global, entry: &mut Entry, end: End, at: u64) -> Result<(), Refusal>
     ensures ok { OnOk result (entry.new ≡ orders.finished_entry end at entry.old) }
     ensures err { OnErr result (entry.new ≡ entry.old) }
     ensures memory { IfErr result (λ e. e ≡ Refusal.Memory) }
@@ -273,7 +283,7 @@ fn order_entry(
     order: Order,
     at: u64,
 ) -> Result<Done, Refusal>
-    requires { orders.entry_refusal order entry.old ≡ None }
+    requires { orders.work_refusal order entry.old ≡ None }
     ensures entry { OnOk result (entry.new ≡ orders.ordered_entry order at entry.old) }
     ensures reply { IfOk result (λ done. done.reply ≡ orders.order_reply order) }
     ensures message { IfOk result (λ done. done.message

@@ -1,5 +1,6 @@
 use crate::end::End;
 use controller::QueueStatus;
+use ticket_tree::Refusal;
 
 /// How far a worker is with a part.
 #[derive(Clone, Copy, PartialEq, Eq)]
@@ -10,6 +11,8 @@ pub enum Stage {
     Done(End),
     /// It was given back and has come: the worker has given it up.
     Closed(End),
+    /// It was to be given up before it was taken: it never will be.
+    Declined,
 }
 
 impl Stage {
@@ -22,7 +25,7 @@ impl Stage {
     {
         match self {
             Stage::Open => true,
-            Stage::Done(_) | Stage::Closed(_) => false,
+            Stage::Done(_) | Stage::Closed(_) | Stage::Declined => false,
         }
     }
 
@@ -31,18 +34,40 @@ impl Stage {
         ensures { result ≡ worker.is_closed_stage self }
     {
         match self {
-            Stage::Open | Stage::Done(_) => false,
+            Stage::Open | Stage::Done(_) | Stage::Declined => false,
             Stage::Closed(_) => true,
         }
     }
 
-    /// The Status of the queue entry of the part.
-    pub fn status(self) -> QueueStatus
-        ensures { result ≡ worker.status_of_stage self }
+    /// Whether the part was declined.
+    pub fn is_declined(self) -> bool
+        ensures { result ≡ worker.is_declined_stage self }
     {
         match self {
-            Stage::Open => QueueStatus::Running,
-            Stage::Done(end) | Stage::Closed(end) => end.status(),
+            Stage::Open | Stage::Done(_) | Stage::Closed(_) => false,
+            Stage::Declined => true,
+        }
+    }
+
+    /// Whether there is a part: it was taken, and wasn't given up.
+    pub fn keeps_part(self) -> bool
+        ensures { result ≡ worker.keeps_part self }
+    {
+        match self {
+            Stage::Open | Stage::Done(_) => true,
+            Stage::Closed(_) | Stage::Declined => false,
+        }
+    }
+
+    /// What a command of the spawn is told: the Status of the queue entry of the part, or the
+    /// number of the refusal where that was declined.
+    pub fn told(self) -> Result<QueueStatus, u16>
+        ensures { result ≡ worker.told_of_stage self }
+    {
+        match self {
+            Stage::Open => Ok(QueueStatus::Running),
+            Stage::Done(end) | Stage::Closed(end) => Ok(end.status()),
+            Stage::Declined => Err(Refusal::Declined.number()),
         }
     }
 }

@@ -20,7 +20,7 @@ fn has_ended_so(phase: Stage, part: &Part) -> bool
     ensures { result ≡ worker.has_ended_so phase part.now }
 {
     match phase {
-        Stage::Open => true,
+        Stage::Open | Stage::Declined => true,
         Stage::Done(end) | Stage::Closed(end) => match part.rows().as_slice().first() {
             None => unreachable!(),
             Some(root) => root.status.as_str() == end.word(),
@@ -44,8 +44,8 @@ fn is_entry(entry: &Entry) -> bool
     ensures kept { result ≡ true → IsKeptEntry entry.now }
 {
     match &entry.part {
-        None => entry.phase.is_closed(),
-        Some(part) => !entry.phase.is_closed() && is_part_of(entry, part),
+        None => !entry.phase.keeps_part(),
+        Some(part) => entry.phase.keeps_part() && is_part_of(entry, part),
     }
 }
 

@@ -1,6 +1,6 @@
 //! What a worker does with a message.
 
-ghost use Rattle.std.specs.Prelude.{◌≡◌, true, false, if◌then◌else◌, Ok, Err, None};
+ghost use Rattle.std.specs.Prelude.{◌≡◌, ℕ, true, false, if◌then◌else◌, Ok, Err, None};
 ghost use Rattle.std.specs.Prelude.{OnOk, OnErr, IfOk, IsOk, is_ok};
 ghost use Rattle.ticket_rows.specs.Copies.{with_copies};
 ghost use Rattle.ticket_rows.specs.Ticket.{IsValid};
@@ -9,9 +9,12 @@ ghost use Rattle.worker_core.specs.Messages as messages;
 ghost use Rattle.worker_core.specs.Numbers.{are_distinct_numbers};
 ghost use Rattle.worker_core.specs.Worker as worker;
 
-use crate::entries::{close, entry_of, status_of};
+use crate::end::End;
+use crate::entries::{close, entry_of, place_of, told_in};
 use crate::entry::Entry;
-use controller::answering::{answer_to, spawn_in, told_of};
+use crate::ordering::end_entry;
+use crate::stage::Stage;
+use controller::answering::answer_to;
 use controller::{Body, Command, Message, Outcome, QueueStatus, Reply};
 use std::alloc::{AllocError, Global};
 use ticket_tree::{Id, Part, Refusal, SpawnId};
@@ -23,9 +26,11 @@ fn is_for_workers(body: &Body) -> bool
     match body {
         Body::Submit(_) => true,
         Body::Return(_) => false,
+        Body::Abort(_) => true,
         Body::Answer { of, .. } => match of {
             Command::Submit => false,
             Command::Return => true,
+            Command::Abort => false,
         },
     }
 }
@@ -41,19 +46,26 @@ fn part_refusal(entries: &[Entry], part: &Part) -> Option<Refusal>
     }
 }
 
+/// Why an answer that is of an entry is refused: the first reason that holds.
+fn ended_refusal(entry: &Entry) -> Option<Refusal>
+    ensures { result ≡ messages.ended_refusal entry.now }
+{
+    if entry.phase.is_declined() {
+        return Some(Refusal::UnknownEntry);
+    }
+    if entry.phase.is_open() {
+        return Some(Refusal::NotDone);
+    }
+    None
+}
+
 /// Why an answer is refused: the first reason that holds.
 fn answer_refusal(entries: &[Entry], spawn: SpawnId) -> Option<Refusal>
     ensures { result ≡ messages.answer_refusal entries.now spawn }
 {
     match entry_of(entries, spawn) {
         None => Some(Refusal::UnknownEntry),
-        Some(entry) => {
-            if entry.phase.is_open() {
-                Some(Refusal::NotDone)
-            } else {
-                None
-            }
-        }
+        Some(entry) => ended_refusal(entry),
     }
 }
 
@@ -64,6 +76,7 @@ fn body_refusal(entries: &[Entry], body: &Body) -> Option<Refusal>
     match body {
         Body::Submit(part) => part_refusal(entries, part),
         Body::Return(_) => None,
+        Body::Abort(_) => None,
         Body::Answer { spawn_id, .. } => answer_refusal(entries, *spawn_id),
     }
 }
@@ -93,19 +106,42 @@ fn answer_reply(spawn: SpawnId, told: Result<QueueStatus, u16>) -> Reply
     }
 }
 
+/// What a command is taken as that comes to an entry which it doesn't change.
+fn again_reply(spawn: SpawnId, entry: &Entry) -> Reply
+    ensures { result ≡ messages.again_reply spawn entry.now }
+{
+    if entry.phase.is_declined() {
+        Reply::Declined(spawn)
+    } else {
+        Reply::Again(spawn)
+    }
+}
+
+/// What it is taken as that the spawn of an entry is to be given up.
+fn abort_reply(spawn: SpawnId, entry: &Entry) -> Reply
+    ensures { result ≡ messages.abort_reply spawn entry.now }
+{
+    if entry.phase.is_open() {
+        Reply::Ended(spawn)
+    } else {
+        again_reply(spawn, entry)
+    }
+}
+
 /// What a message is taken as.
 fn reply_to(entries: &[Entry], body: &Body) -> Reply
     ensures { result ≡ messages.take_reply body.now entries.now }
 {
     match body {
-        Body::Submit(part) => {
-            if entry_of(entries, part.spawn_id()).is_some() {
-                Reply::Again(part.spawn_id())
-            } else {
-                Reply::Taken(part.spawn_id())
-            }
-        }
+        Body::Submit(part) => match entry_of(entries, part.spawn_id()) {
+            None => Reply::Taken(part.spawn_id()),
+            Some(entry) => again_reply(part.spawn_id(), entry),
+        },
         Body::Return(part) => Reply::Already(part.spawn_id()),
+        Body::Abort(spawn_id) => match entry_of(entries, *spawn_id) {
+            None => Reply::Declined(*spawn_id),
+            Some(entry) => abort_reply(*spawn_id, entry),
+        },
         Body::Answer {
             spawn_id,
             result,
@@ -124,6 +160,46 @@ fn reply_or(refusal: &Option<Refusal>, entries: &[Entry], body: &Body) -> Result
     }
 }
 
+/// What is told of an entry to the command to give its spawn up, as the entry is after that.
+fn abort_told(entry: &Entry) -> Result<QueueStatus, u16>
+    ensures { (at : ℕ) → result
+        ≡ worker.told_of_stage (messages.aborted_entry at entry.now).phase }
+{
+    if entry.phase.is_open() {
+        Ok(QueueStatus::Aborted)
+    } else {
+        entry.phase.told()
+    }
+}
+
+/// What a command is told that isn't refused, as its entry is after it.
+fn told_after(entries: &[Entry], body: &Body) -> Result<QueueStatus, u16>
+    ensures { (at : ℕ) → result ≡ worker.told_in (messages.taken_entries body.now at entries.now)
+        (replies.spawn_in body.now) }
+{
+    match body {
+        Body::Submit(part) => told_in(entries, part.spawn_id()),
+        Body::Return(part) => told_in(entries, part.spawn_id()),
+        Body::Abort(spawn_id) => match entry_of(entries, *spawn_id) {
+            None => Stage::Declined.told(),
+            Some(entry) => abort_told(entry),
+        },
+        Body::Answer { spawn_id, .. } => told_in(entries, *spawn_id),
+    }
+}
+
+/// What a command is told: the number of the refusal, or how its entry is after it.
+fn told_or(refusal: Option<Refusal>, entries: &[Entry], body: &Body) -> Result<QueueStatus, u16>
+    ensures { (at : ℕ) → result ≡ messages.told_or refusal
+        (worker.told_in (messages.taken_entries body.now at entries.now)
+        (replies.spawn_in body.now)) }
+{
+    match refusal {
+        Some(refusal) => Err(refusal.number()),
+        None => told_after(entries, body),
+    }
+}
+
 /// What comes of a message: the reply, and the answer to a command. To an answer there is none, and
 /// that takes no memory.
 fn outcome_of(
@@ -137,13 +213,14 @@ fn outcome_of(
     ensures reply { IfOk result (λ outcome. outcome.reply
         ≡ replies.refused_or refusal (messages.take_reply message.now.body entries.now)) }
     ensures answer { IfOk result (λ outcome. outcome.answer
-        ≡ replies.answer_to name.now message.now at (replies.told_of refusal
-        (worker.status_in entries.now (replies.spawn_in message.now.body)))) }
+        ≡ replies.answer_to name.now message.now at (messages.told_or refusal
+        (worker.told_in (messages.taken_entries message.now.body at entries.now)
+        (replies.spawn_in message.now.body)))) }
     ensures answers { replies.is_answer message.now.body ≡ true → IsOk result }
 {
     let reply = reply_or(&refusal, entries, &message.body);
-    let status = status_of(entries, spawn_in(&message.body));
-    let answer = answer_to(alloc, name, message, at, told_of(refusal, status))?;
+    let told = told_or(refusal, entries, &message.body);
+    let answer = answer_to(alloc, name, message, at, told)?;
     Ok(Outcome { reply, answer })
 }
 
@@ -161,6 +238,42 @@ fn enter(entries: &mut Vec<Entry>, part: Part, at: u64) -> Result<(), AllocError
     Ok(())
 }
 
+/// Ends the work on an entry that is open, as its spawn is to be given up.
+fn abort(alloc: Global, entry: &mut Entry, at: u64) -> Result<(), AllocError>
+    ensures ok { OnOk result (entry.new ≡ messages.aborted_entry at entry.old) }
+    ensures err { OnErr result (entry.new ≡ entry.old) }
+{
+    if !entry.phase.is_open() {
+        return Ok(());
+    }
+    match end_entry(alloc, entry, End::Aborted, at) {
+        Ok(()) => Ok(()),
+        Err(_) => Err(AllocError),
+    }
+}
+
+/// Takes it that a spawn is to be given up: its entry is ended if it is open, and where there is
+/// none the spawn is declined, for good.
+fn give_up(
+    alloc: Global,
+    entries: &mut Vec<Entry>,
+    spawn: SpawnId,
+    at: u64,
+) -> Result<(), AllocError>
+    requires { are_distinct_numbers (worker.numbers entries.old.items) ≡ true }
+    ensures ok { OnOk result
+        (entries.new.items ≡ messages.taken_entries (Body.Abort spawn) at entries.old.items) }
+    ensures err { OnErr result (entries.new.items ≡ entries.old.items) }
+{
+    match place_of(entries.as_slice(), spawn) {
+        None => {
+            entries.push(Entry::declined(spawn, at))?;
+            Ok(())
+        }
+        Some(place) => abort(alloc, &mut entries[place], at),
+    }
+}
+
 /// Closes the entry of a part that was given back, if it has come.
 fn take_answer(entries: &mut Vec<Entry>, spawn: SpawnId, told: Result<QueueStatus, u16>)
     requires { are_distinct_numbers (worker.numbers entries.old.items) ≡ true }
@@ -174,7 +287,7 @@ fn take_answer(entries: &mut Vec<Entry>, spawn: SpawnId, told: Result<QueueStatu
 }
 
 /// Takes what a message says that isn't refused. An answer takes no memory.
-fn take_body(entries: &mut Vec<Entry>, body: Body, at: u64) -> Result<(), AllocError>
+fn take_body(alloc: Global, entries: &mut Vec<Entry>, body: Body, at: u64) -> Result<(), AllocError>
     requires { are_distinct_numbers (worker.numbers entries.old.items) ≡ true }
     ensures ok { OnOk result
         (entries.new.items ≡ messages.taken_entries body at entries.old.items) }
@@ -185,6 +298,7 @@ fn take_body(entries: &mut Vec<Entry>, body: Body, at: u64) -> Result<(), AllocE
     match body {
         Body::Submit(part) => enter(entries, part, at),
         Body::Return(_) => Ok(()),
+        Body::Abort(spawn_id) => give_up(alloc, entries, spawn_id, at),
         Body::Answer {
             spawn_id,
             result,
@@ -199,6 +313,7 @@ fn take_body(entries: &mut Vec<Entry>, body: Body, at: u64) -> Result<(), AllocE
 /// Takes what a message says, unless it is refused. An answer takes no memory.
 fn take_unless(
     refused: bool,
+    alloc: Global,
     entries: &mut Vec<Entry>,
     body: Body,
     at: u64,
@@ -214,7 +329,7 @@ fn take_unless(
         drop(body);
         Ok(())
     } else {
-        take_body(entries, body, at)
+        take_body(alloc, entries, body, at)
     }
 }
 
@@ -243,7 +358,9 @@ pub fn do_take(
 {
     let refusal = refusal_of(name, master, entries.as_slice(), &message);
     match outcome_of(alloc, name, entries.as_slice(), refusal, &message, at) {
-        Ok(outcome) => take_unless(refusal.is_some(), entries, message.body, at).and(Ok(outcome)),
+        Ok(outcome) => {
+            take_unless(refusal.is_some(), alloc, entries, message.body, at).and(Ok(outcome))
+        }
         Err(error) => {
             drop(message);
             Err(error)

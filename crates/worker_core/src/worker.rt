@@ -12,7 +12,7 @@ use ticket_tree::{Duplicate, Id, Refusal, SpawnId};
 
 /// A controller that works on parts of another's ticket, which is its master (JDF 1.5, 4.4). It
 /// keeps each part that it takes, in the order in which they come, until it was given back and has
-/// come; and that it took it for good.
+/// come; and for good that it took it, or declined it.
 #[derive(Drop)]
 pub struct Worker {
     name: Id,
@@ -60,8 +60,9 @@ impl Worker {
 
     /// The worker of these parts, as they are once it was stored and is read again. Refuses
     /// `BadState` (our own) just where the name is the master's, two entries are of one spawn, one
-    /// that is closed has a part or another has none, or a part is of another spawn than its entry,
-    /// isn't sound, or is finished and its node hasn't the Status of its end; and else `Memory`.
+    /// that is closed or declined has a part or another has none, or a part is of another spawn
+    /// than its entry, isn't sound, or is finished and its node hasn't the Status of its end; and
+    /// else `Memory`.
     pub fn of_parts(
         alloc: Global,
         name: Id,
@@ -102,9 +103,10 @@ impl Worker {
         &self.master
     }
 
-    /// Its entries, in the order in which they were taken. No two are of one spawn; one that is
-    /// closed has no part; and the part of each other is of the entry's spawn, is a valid ticket
-    /// with its copies, and sound; and the node of one that is finished has the Status of its end.
+    /// Its entries, in the order in which they were taken or declined. No two are of one spawn; one
+    /// that is closed or declined has no part; and the part of each other is of the entry's spawn,
+    /// is a valid ticket with its copies, and sound; and the node of one that is finished has the
+    /// Status of its end.
     pub fn entries(&self) -> &[Entry]
         ensures entries { result.now ≡ self.now.entries }
         ensures kept { IsKept self.now }
@@ -123,7 +125,7 @@ impl Worker {
 
     /// Does what it is told, at a time in seconds since 1970: it edits the part of an entry, ends
     /// the work on it and gives it back, or gives it back once more. Refuses the first that holds,
-    /// without memory: `UnknownEntry` where it has no entry of the spawn; an edit as `NotOpen` once
+    /// without memory: `UnknownEntry` where it has no entry of the spawn, or declined it; an edit as `NotOpen` once
     /// the entry is finished, `NotForWorkers` where it adds to the tree, `NotInPart` where its
     /// target isn't in the part as a node or a resource, `ReadOnly` where that is a copy to be read
     /// alone, and `ReservedStatus`; the end as `NotOpen`; to give back once more as `NotDone` while
@@ -150,13 +152,16 @@ impl Worker {
 
     /// Takes a message, whoever sent it and whatever it says, at a time in seconds since 1970. The
     /// reply is what it was taken as, or the first refusal that holds: `WrongMessage` where it is
-    /// for another, or is neither a part that goes out nor the answer to one that came back;
-    /// `WrongSender` where it isn't from the master; for a part of which there is no entry yet
-    /// `BadPart` where it isn't sound; for an answer `UnknownEntry`, and `NotDone` while the entry
-    /// is open. A refusal changes nothing, nor does an answer that tells of one; an answer that
-    /// tells that a part has come closes its entry, which gives up the part. A command is answered,
-    /// refused or not; an answer isn't, and takes no memory. Where memory runs out nothing is
-    /// changed.
+    /// for another, or is neither a part that goes out, nor that a spawn is to be given up, nor the
+    /// answer to a part that came back; `WrongSender` where it isn't from the master; for a part of
+    /// which there is no entry yet `BadPart` where it isn't sound; for an answer `UnknownEntry`,
+    /// also where the spawn was declined, and `NotDone` while the entry is open. A refusal changes
+    /// nothing, nor does an answer that tells of one; an answer that tells that a part has come
+    /// closes its entry, which gives up the part. A spawn that is to be given up is declined for
+    /// good where there is no entry of it, and the work on an open one ends, whose part then goes
+    /// back as it is sent once more. A command is answered, refused or not, and one of a spawn that
+    /// was declined with `Declined`; an answer isn't, and takes no memory. Where memory runs out
+    /// nothing is changed.
     pub fn take(&mut self, alloc: Global, message: Message, at: u64) -> Result<Outcome, AllocError>
         ensures ok { IfOk result
             (λ outcome. outcome_step outcome self.new ≡ messages.take_step message at self.old) }

@@ -12,8 +12,9 @@ use Rattle.controller.specs.declared.message.Message.{Message}
 use Rattle.controller.specs.declared.queue_status.QueueStatus.{QueueStatus}
 use Rattle.controller.specs.declared.reply.Reply.TheVariants as reply
 use Rattle.spawn.specs.Records.{is_out}
+use Rattle.spawn.specs.declared.records.phase.Phase.TheVariants as recorded
 use Rattle.master_core.specs.Master as master
-use Rattle.worker_core.proofs.Closing.{closed_number}
+use Rattle.worker_core.proofs.Closing.{closed_number, ended_shut}
 use Rattle.worker_core.specs.Messages as worker_messages
 use Rattle.worker_core.specs.Worker as worker
 use Rattle.worker_core.specs.declared.entry.Entry.{Entry}
@@ -26,7 +27,7 @@ use Rattle.world.proofs.EntryStored.{row_stored, spawns_stay, spawns_stored}
 use Rattle.world.proofs.PartsTaken.{held_claimed}
 use Rattle.world.proofs.Resends.{spawn_found}
 use Rattle.world.proofs.ShopPaths.{same_shop}
-use Rattle.world.proofs.TakenSpawns.{HasRecord, entry_record}
+use Rattle.world.proofs.TakenSpawns.{HasRecord, entry_record, merged_of}
 use Rattle.world.proofs.WorkerEdits.{changed_stored}
 use Rattle.world.specs.Controllers.{worker_of}
 use Rattle.world.specs.Messages.{IsInOrder, entry_for}
@@ -52,7 +53,7 @@ pub submit_is_answered : (w : State) (sender receiver : List ℕ) (sent s : ℕ)
 submit_is_answered w sender receiver sent s told at ok good =
     let c = w.controllers in
     let m = answer sender receiver sent command.Submit s told in
-    let none = master_refuses_nothing c m ok.recorded refl good in
+    let none = master_refuses_nothing c m ok.recorded ok.back refl good in
     record {
       reply = ap (λ o. refused_or o (reply.Noted s)) none;
       next = ap (λ o. shop_shown (record c { master = cond (is_some o) c.master c.master })) none;
@@ -75,17 +76,18 @@ step_by v s told why good =
     }
 
 -- an entry on which the work has ended is closed then
-closed_by : (stage : Stage) (e : Entry) → e.phase ≡ stage → worker.is_open_stage stage ≡ false → worker.is_closed (worker.closed_in stage e) ≡ true
-closed_by worker_stage.Open e is ended = absurd (true≢false ended)
+closed_by : (stage : Stage) (e : Entry) → e.phase ≡ stage → worker.is_ended_stage stage ≡ true → worker.is_closed (worker.closed_in stage e) ≡ true
+closed_by worker_stage.Open e is ended = absurd (true≢false (sym ended))
 closed_by (worker_stage.Done how) e is ended = refl
 closed_by (worker_stage.Closed how) e is ended = ap worker.is_closed_stage is
+closed_by worker_stage.Declined e is ended = absurd (true≢false (sym ended))
 
 merged_so : (b : Bool) → plain.is_merged (cond b plain.Closed plain.Merged) ≡ not b
 merged_so true = refl
 merged_so false = refl
 
 -- an answer of success closes the entry of a spawn that isn't out, and the shop is the same but for its phase
-closes : (w : State) (v : worker.Known) (s : ℕ) (e : Entry) (told : Result QueueStatus ℕ) → IsKept w → worker_of w.controllers.workers v.name ≡ Some v → worker.entry_of v.entries s ≡ Some e → worker.is_open e ≡ false → (h : HasRecord w.controllers v.name s e) → is_out h.spawn ≡ false → is_ok told ≡ true
+closes : (w : State) (v : worker.Known) (s : ℕ) (e : Entry) (told : Result QueueStatus ℕ) → IsKept w → worker_of w.controllers.workers v.name ≡ Some v → worker.entry_of v.entries s ≡ Some e → worker.is_ended e ≡ true → (h : HasRecord w.controllers v.name s e) → is_out h.spawn ≡ false → is_ok told ≡ true
     → Agrees (worker_moved w.controllers v (step_by v s told None true)) (shop.back_acknowledged (shop_shown w.controllers) (spawn_shown w.controllers h.spawn))
 closes w v s e told ok found here ended h back good =
     let c = w.controllers in
@@ -94,8 +96,9 @@ closes w v s e told ok found here ended h back good =
     let next : worker.Known = record v { entries = worker.with_entry s worker.closed_entry v.entries } in
     let new = worker.closed_entry e in
     let stored = changed_stored w v s e worker.closed_entry closed_number ok found here h in
-    let was : phase_shown (is_out r) (entry_for c r) ≡ phase_shown false (Some e) = ap (λ b. phase_shown b (entry_for c r)) back ∙ ap (phase_shown false) h.entered in
-    let is : phase_shown (is_out r) (Some new) ≡ plain.Closed = ap (λ b. phase_shown b (Some new)) back ∙ when_true (worker.is_closed new) plain.Closed plain.Merged (closed_by e.phase e refl ended) in
+    let merged : r.phase ≡ recorded.Merged = merged_of r.phase e back (h.back back) (ended_shut e ended).1 in
+    let was : phase_shown r.phase (entry_for c r) ≡ phase_shown recorded.Merged (Some e) = ap (λ phase. phase_shown phase (entry_for c r)) merged ∙ ap (phase_shown recorded.Merged) h.entered in
+    let is : phase_shown r.phase (Some new) ≡ plain.Closed = ap (λ phase. phase_shown phase (Some new)) merged ∙ when_true (worker.is_closed new) plain.Closed plain.Merged (closed_by e.phase e refl ended) in
     let now = λ (x : List ℕ).
     let o = master.holder c.master x in
     row_stored c v.name s next new r stored (λ row. row) x o (λ held. absurd (true≢false (sym (held_claimed c.master s r x ok.master h.recorded held).3 ∙ back))) (λ other. refl) in

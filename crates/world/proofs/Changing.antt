@@ -9,8 +9,10 @@ use Rattle.ticket_rows.specs.Place.{Place, place_at, places}
 use Rattle.ticket_tree.specs.Part.{Copied}
 use Rattle.spawn.proofs.Lawful.{claim_is_held, held_is_claimed, placed}
 use Rattle.spawn.specs.Claim.{is_claimed}
-use Rattle.spawn.specs.Records.{is_out}
+use Rattle.spawn.specs.Records.{is_out, is_out_phase}
 use Rattle.spawn.specs.Table.{holder_at, holding, holds, is_masters}
+use Rattle.spawn.specs.declared.records.phase.Phase as records
+use Rattle.spawn.specs.declared.records.phase.Phase.TheVariants as recorded
 use Rattle.spawn.specs.declared.records.spawn_rec.SpawnRec.{SpawnRec}
 use Rattle.spawn.specs.declared.tables.holder.Holder.{Holder}
 use Rattle.spawn.specs.declared.tables.holder.Holder.TheVariants.{Master, Spawn}
@@ -18,23 +20,25 @@ use Rattle.merge.specs.Shape.{Fits}
 use Rattle.master_core.proofs.Recorded.{number_is}
 use Rattle.master_core.specs.Master as master
 use Rattle.worker_core.proofs.AtNumber.{found_holds}
+use Rattle.worker_core.proofs.Closing.{open_taken}
 use Rattle.worker_core.proofs.OrderLaws.{may_change_here}
 use Rattle.worker_core.proofs.Refusals.{of_open, opened}
 use Rattle.worker_core.specs.Worker as worker
 use Rattle.worker_core.specs.declared.entry.Entry.{Entry}
 use Rattle.world.proofs.AlwaysKept.{kept_after, kept_after_all}
-use Rattle.world.proofs.Back.{one_record}
+use Rattle.world.proofs.Back.{back_shut, one_record}
 use Rattle.world.proofs.Doors.{found_through}
 use Rattle.world.proofs.Cases.{made_of, when_true}
 use Rattle.world.proofs.InPart.{fits_has, part_has}
 use Rattle.world.proofs.Resends.{spawn_found}
 use Rattle.world.proofs.Stored.{and_found, found_and}
+use Rattle.world.proofs.TakenSpawns.{phase_out}
 use Rattle.world.specs.Changing.{Changer, Holds, MayChange, by_entry, by_master}
 use Rattle.world.specs.Controllers.{entry_at, is_named, worker_of}
 use Rattle.world.specs.Happening.{after_all, settled, step_of}
 use Rattle.world.specs.Laws.{HoldersMayChange, NoTwoMayChangeOne}
-use Rattle.world.specs.Messages.{AreRecorded, HasComeBack, IsRecorded, entry_for}
-use Rattle.world.specs.Shop.{Closed, Done, Merged, Open, SpawnState, spawn_of}
+use Rattle.world.specs.Messages.{AreRecorded, HasComeBack, IsBack, IsRecorded, entry_for}
+use Rattle.world.specs.Shop.{Closed, Declined, Done, Merged, Open, SpawnState, spawn_of}
 use Rattle.world.specs.Showing.{phase_shown, shop_shown, shows, spawn_shown}
 use Rattle.world.specs.State.{IsKept, State}
 use Rattle.world_items.specs.declared.event.Event.{Event}
@@ -65,11 +69,11 @@ not_back : (w : State) (name : List ℕ) (s : ℕ) (e : Entry) (r : SpawnRec) �
 not_back w name s e r ok found open' recorded named isn't =
     let c = w.controllers in
     let back : HasComeBack c r = found_holds (HasComeBack c) (master.is_of s) c.master.records r recorded ok.back in
-    let ended = and_found _ (entry_for c r) (back isn't) in
+    let ended = and_found (IsBack r.phase) (entry_for c r) (back isn't) in
     let id : r.id ≡ s = number_is c.master.records s r recorded in
     let at : entry_for c r ≡ Some e = ap (λ n. entry_at c.workers n r.id) named ∙ ap (entry_at c.workers name) id ∙ found in
     let same : e ≡ ended.0 = same_found e ended.0 (entry_for c r) at ended.1 in
-    true≢false (sym open' ∙ ap (λ (y : Entry). worker.is_open y) same ∙ ended.2.0)
+    true≢false (sym open' ∙ ap (λ (y : Entry). worker.is_open y) same ∙ back_shut r.phase ended.0 isn't ended.2)
 
 open_there : (w : State) (name : List ℕ) (s : ℕ) (e : Entry) → IsKept w → entry_at w.controllers.workers name s ≡ Some e → worker.is_open e ≡ true → IsOpenThere w name s e
 open_there w name s e ok found open' =
@@ -86,7 +90,7 @@ open_there w name s e ok found open' =
     let out = true_by (is_out r) (not_back w name s e r ok found open' recorded named) in
     let place = placed (master.is_of s) records r recorded in
     let good = ok.master.apart.good place.place r place.there out in
-    let held = and_found (Fits c.master.ticket r) e.part (known.2.1 out) in
+    let held = and_found (Fits c.master.ticket r) e.part (known.2.1 out (open_taken e open')) in
     record {
       part = held.0;
       has_part = opened e held.0 open' held.1;
@@ -178,19 +182,21 @@ held_through w name s x ok by =
 -- ---- what is shown
 
 -- a spawn that is shown as open is out, and has an entry that is open
-open_shown : (out : Bool) (o : Option Entry) → phase_shown out o ≡ Open → (out ≡ true) × IsSomeAnd o (λ e. worker.is_open e ≡ true)
-open_shown false None e = cc
-open_shown false (Some entry) e = absurd (never_open (worker.is_closed entry) e)
+open_shown : (phase : records.Phase) (o : Option Entry) → phase_shown phase o ≡ Open → (is_out_phase phase ≡ true) × IsSomeAnd o (λ e. worker.is_open e ≡ true)
+open_shown recorded.Withdrawn o e = cc
+open_shown recorded.Merged None e = cc
+open_shown recorded.Merged (Some entry) e = absurd (never_open (worker.is_closed entry) e)
   where
     never_open : (b : Bool) → cond b Closed Merged ≡ Open → ⊥
     never_open true e = cc
     never_open false e = cc
-open_shown true None e = cc
-open_shown true (Some entry) e = (refl, entry_open (worker.is_open entry) e)
+open_shown recorded.Out None e = cc
+open_shown recorded.Out (Some entry) e = (refl, entry_open (worker.is_declined entry) (worker.is_open entry) e)
   where
-    entry_open : (b : Bool) → cond b Open Done ≡ Open → b ≡ true
-    entry_open true e = refl
-    entry_open false e = cc
+    entry_open : (declined b : Bool) → cond declined Declined (cond b Open Done) ≡ Open → b ≡ true
+    entry_open true b e = cc
+    entry_open false true e = refl
+    entry_open false false e = cc
 
 -- the spawn of an open entry is shown as open, at its worker
 shown_open : (w : State) (name : List ℕ) (s : ℕ) (e : Entry) → IsKept w → entry_at w.controllers.workers name s ≡ Some e → worker.is_open e ≡ true → IsSomeAnd (spawn_of s (shop_shown w.controllers)) (λ a. (a.worker ≡ name) × (a.phase ≡ Open))
@@ -199,7 +205,9 @@ shown_open w name s e ok found is_open' =
     let at = open_there w name s e ok found is_open' in
     let r = at.spawn in
     let entered : entry_for c r ≡ Some e = ap (λ n. entry_at c.workers n r.id) at.named ∙ ap (entry_at c.workers name) at.number ∙ found in
-    let phase : phase_shown (is_out r) (entry_for c r) ≡ Open = ap (λ b. phase_shown b (entry_for c r)) at.out ∙ ap (phase_shown true) entered ∙ when_true (worker.is_open e) Open Done is_open' in
+    let phase : phase_shown r.phase (entry_for c r) ≡ Open =
+    ap (λ ph. phase_shown ph (entry_for c r)) (phase_out r.phase at.out) ∙ ap (phase_shown recorded.Out) entered
+    ∙ ap (λ b. cond b Declined (cond (worker.is_open e) Open Done)) (open_taken e is_open') ∙ when_true (worker.is_open e) Open Done is_open' in
     found_and _ (spawn_of s (shop_shown c)) (spawn_shown c r) (spawn_found c s ∙ ap (option_map (spawn_shown c)) at.recorded) (at.named, phase)
 
 -- a spawn that is shown as open has an open entry, at its worker
@@ -210,9 +218,9 @@ open_entry w name s shown =
     let made = made_of (spawn_shown c) (master.record_of c.master.records s) a.0 (sym (spawn_found c s) ∙ a.1) in
     let r = made.0 in
     let named : r.worker ≡ name = ap (λ (b : SpawnState). b.worker) made.2 ∙ a.2.0 in
-    let phase : phase_shown (is_out r) (entry_for c r) ≡ Open = ap (λ (b : SpawnState). b.phase) made.2 ∙ a.2.1 in
+    let phase : phase_shown r.phase (entry_for c r) ≡ Open = ap (λ (b : SpawnState). b.phase) made.2 ∙ a.2.1 in
     let entered : entry_for c r ≡ entry_at c.workers name s = ap (λ n. entry_at c.workers n r.id) named ∙ ap (entry_at c.workers name) (number_is c.master.records s r made.1) in
-    subst (λ o. IsSomeAnd o (λ e. worker.is_open e ≡ true)) entered (open_shown (is_out r) (entry_for c r) phase).1
+    subst (λ o. IsSomeAnd o (λ e. worker.is_open e ≡ true)) entered (open_shown r.phase (entry_for c r) phase).1
 
 -- ---- the laws
 

@@ -11,12 +11,14 @@ use Rattle.ticket_rows.specs.Ticket.{first_of, unless}
 use Rattle.ticket_tree.specs.Part.{Copied, is_sound}
 use Rattle.controller.specs.Reply.{refused_or, spawn_in, told_of}
 use Rattle.controller.specs.declared.body.Body.{Body}
-use Rattle.controller.specs.declared.body.Body.TheVariants.{Submit, Return, Answer}
+use Rattle.controller.specs.declared.body.Body.TheVariants.{Submit, Return, Abort, Answer}
 use Rattle.controller.specs.declared.command.Command.TheVariants as command
 use Rattle.controller.specs.declared.message.Message.{Message}
 use Rattle.controller.specs.declared.queue_status.QueueStatus.{QueueStatus}
 use Rattle.controller.specs.declared.reply.Reply.TheVariants as reply
-use Rattle.spawn.specs.Records.{is_out}
+use Rattle.spawn.specs.Records.{is_out, is_out_phase}
+use Rattle.spawn.specs.declared.records.phase.Phase.{Phase}
+use Rattle.spawn.specs.declared.records.phase.Phase.TheVariants.{Out, Merged, Withdrawn}
 use Rattle.spawn.specs.declared.records.spawn_rec.SpawnRec.{SpawnRec}
 use Rattle.merge.proofs.Fitting.{fits_part}
 use Rattle.merge.specs.Alike.{is_fit}
@@ -26,13 +28,14 @@ use Rattle.master_core.proofs.Recorded.{number_is}
 use Rattle.master_core.specs.Master as master
 use Rattle.master_core.specs.Messages as master_messages
 use Rattle.worker_core.proofs.AtNumber.{found_holds}
+use Rattle.worker_core.proofs.Closing.{ended_shut}
 use Rattle.worker_core.specs.Messages as worker_messages
 use Rattle.worker_core.specs.Orders.{part_return}
 use Rattle.worker_core.specs.Worker as worker
 use Rattle.worker_core.specs.declared.entry.Entry.{Entry}
 use Rattle.world.proofs.Stored.{and_found}
 use Rattle.world.specs.Controllers.{Controllers, entry_at, is_named, worker_of}
-use Rattle.world.specs.Messages.{AreRecorded, IsInOrder, IsRecorded, IsReturn, entry_for}
+use Rattle.world.specs.Messages.{AreRecorded, HasComeBack, HasEnded, IsBack, IsInOrder, IsRecorded, IsReturn, entry_for}
 use Rattle.std.specs.List.{All}
 
 same_bytes : (x y : List ℕ) → x ≡ y → bytes_eq x y ≡ true
@@ -59,14 +62,14 @@ entry_kept c name s e all found =
     let kept : worker.IsKept v = found_holds worker.IsKept (is_named name) c.workers v at.1 all in
     found_holds worker.IsKeptEntry (worker.is_of s) v.entries e at.2 kept.each
 
--- while its spawn is out it has its part, which fits
-pub held_part : (c : Controllers) (r : SpawnRec) (e : Entry) → All (AreRecorded c) c.workers → master.record_of c.master.records r.id ≡ Some r → entry_for c r ≡ Some e → is_out r ≡ true → (p : Copied) × (e.part ≡ Some p) × Fits c.master.ticket r p
-held_part c r e all found entered out =
+-- while its spawn is out one that wasn't declined has its part, which fits
+pub held_part : (c : Controllers) (r : SpawnRec) (e : Entry) → All (AreRecorded c) c.workers → master.record_of c.master.records r.id ≡ Some r → entry_for c r ≡ Some e → is_out r ≡ true → worker.is_declined e ≡ false → (p : Copied) × (e.part ≡ Some p) × Fits c.master.ticket r p
+held_part c r e all found entered out taken =
     let records = c.master.records in
     let at = entry_recorded c r.worker r.id e all entered in
     let there = and_found _ (master.record_of records e.spawn_id) at.2 in
     let same : there.0 ≡ r = same_found there.0 r (master.record_of records e.spawn_id) there.1 (ap (master.record_of records) at.1 ∙ found) in
-    let held = and_found (Fits c.master.ticket there.0) e.part (there.2.1 (ap is_out same ∙ out)) in
+    let held = and_found (Fits c.master.ticket there.0) e.part (there.2.1 (ap is_out same ∙ out) taken) in
     (held.0, held.1, subst (λ q. Fits c.master.ticket q held.0) same held.2)
 
 -- ---- the master
@@ -75,8 +78,10 @@ held_part c r e all found entered out =
 for_master : (body : Body) → worker_messages.is_for_workers body ≡ false → master_messages.is_for_masters body ≡ true
 for_master (Submit p) e = absurd (true≢false e)
 for_master (Return p) e = refl
+for_master (Abort s) e = absurd (true≢false e)
 for_master (Answer command.Submit s told) e = refl
 for_master (Answer command.Return s told) e = absurd (true≢false e)
+for_master (Answer command.Abort s told) e = refl
 
 -- the master refuses what is in order and for it only for what it says
 pub master_asks : (c : Controllers) (m : Message) → worker_messages.is_for_workers m.body ≡ false → (h : IsInOrder c m) → master_messages.body_refusal m.body c.master h.spawn ≡ None → master_messages.take_refusal m c.master ≡ None
@@ -91,9 +96,20 @@ master_asks c m mine h free =
     ∙ ap (λ b. first_of (None ∷ first_of (unless b WrongSender ∷ master_messages.body_refusal m.body w h.spawn ∷ []) ∷ [])) (same_bytes m.sender h.spawn.worker from)
     ∙ ap (λ o. first_of (None ∷ first_of (None ∷ o ∷ []) ∷ [])) free
 
-fit_or_in : (out : Bool) (r : SpawnRec) (fit : Bool) → is_out r ≡ out → (is_out r ≡ true → fit ≡ true) → unless (not (is_out r) || fit) WrongShape ≡ None
-fit_or_in true r fit out fits = ap (λ b. unless (not b || fit) WrongShape) out ∙ ap (λ b. unless b WrongShape) (fits out)
-fit_or_in false r fit out fits = ap (λ b. unless (not b || fit) WrongShape) out
+fit_or_in : (phase : Phase) (fit : Bool) → (is_out_phase phase ≡ true → fit ≡ true) → (phase ≡ Withdrawn → ⊥) → master_messages.return_refusal phase fit ≡ None
+fit_or_in Out fit fits not_freed = ap (λ b. unless b WrongShape) (fits refl)
+fit_or_in Merged fit fits not_freed = refl
+fit_or_in Withdrawn fit fits not_freed = absurd (not_freed refl)
+
+-- a spawn on whose entry the work has ended isn't withdrawn
+not_withdrawn : (c : Controllers) (r : SpawnRec) (P : Entry → Type 0) → HasComeBack c r → HasEnded c r P → r.phase ≡ Withdrawn → ⊥
+not_withdrawn c r P back says is =
+    let ended = and_found _ (entry_for c r) says in
+    let e : Entry = ended.0 in
+    let there = and_found (IsBack r.phase) (entry_for c r) (back (ap is_out_phase is)) in
+    let same : there.0 ≡ e = same_found there.0 e (entry_for c r) there.1 ended.1 in
+    let declined : IsBack Withdrawn e = subst (λ phase. IsBack phase e) is (subst (IsBack r.phase) same there.2) in
+    true≢false (sym declined ∙ (ended_shut e ended.2.0).1)
 
 -- a part that was given back is the one that the entry has, if it has one
 pub returned_part : (name master sender receiver : List ℕ) (sent : ℕ) (e : Entry) (p q : Copied) → e.part ≡ Some q → IsReturn name master (record { sender = sender; receiver = receiver; at = sent; body = Return p }) e → p ≡ q
@@ -109,17 +125,21 @@ return_fits c p sender receiver sent all h out =
     let r = h.spawn in
     let ended = and_found _ (entry_for c r) h.says in
     let recorded : master.record_of c.master.records r.id ≡ Some r = ap (master.record_of c.master.records) (number_is c.master.records p.spawn_id r h.recorded) ∙ h.recorded in
-    let held = held_part c r ended.0 all recorded ended.1 out in
+    let held = held_part c r ended.0 all recorded ended.1 out (ended_shut ended.0 ended.2.0).1 in
     subst (Fits c.master.ticket r) (sym (returned_part r.worker c.master.name sender receiver sent ended.0 p held.0 held.1 ended.2.1)) held.2
 
 -- so the master refuses nothing that was sent to it
-master_takes : (c : Controllers) (sender receiver : List ℕ) (sent : ℕ) (body : Body) → All (AreRecorded c) c.workers → worker_messages.is_for_workers body ≡ false → (h : IsInOrder c (record { sender = sender; receiver = receiver; at = sent; body = body })) → master_messages.body_refusal body c.master h.spawn ≡ None
-master_takes c sender receiver sent (Submit p) all mine h = refl
-master_takes c sender receiver sent (Return p) all mine h = fit_or_in (is_out h.spawn) h.spawn (is_fit c.master.ticket h.spawn p) refl (λ out. fits_part c.master.ticket h.spawn p (return_fits c p sender receiver sent all h out))
-master_takes c sender receiver sent (Answer d s told) all mine h = refl
+master_takes : (c : Controllers) (sender receiver : List ℕ) (sent : ℕ) (body : Body) → All (AreRecorded c) c.workers → All (HasComeBack c) c.master.records → worker_messages.is_for_workers body ≡ false → (h : IsInOrder c (record { sender = sender; receiver = receiver; at = sent; body = body })) → master_messages.body_refusal body c.master h.spawn ≡ None
+master_takes c sender receiver sent (Submit p) all back mine h = refl
+master_takes c sender receiver sent (Return p) all back mine h =
+    let r = h.spawn in
+    fit_or_in r.phase (is_fit c.master.ticket r p) (λ out. fits_part c.master.ticket r p (return_fits c p sender receiver sent all h out))
+    (not_withdrawn c r _ (found_holds (HasComeBack c) (master.is_of p.spawn_id) c.master.records r h.recorded back) h.says)
+master_takes c sender receiver sent (Abort s) all back mine h = refl
+master_takes c sender receiver sent (Answer d s told) all back mine h = refl
 
-pub master_refuses_nothing : (c : Controllers) (m : Message) → All (AreRecorded c) c.workers → worker_messages.is_for_workers m.body ≡ false → IsInOrder c m → master_messages.take_refusal m c.master ≡ None
-master_refuses_nothing c m all mine h = master_asks c m mine h (master_takes c m.sender m.receiver m.at m.body all mine h)
+pub master_refuses_nothing : (c : Controllers) (m : Message) → All (AreRecorded c) c.workers → All (HasComeBack c) c.master.records → worker_messages.is_for_workers m.body ≡ false → IsInOrder c m → master_messages.take_refusal m c.master ≡ None
+master_refuses_nothing c m all back mine h = master_asks c m mine h (master_takes c m.sender m.receiver m.at m.body all back mine h)
 
 -- ---- a worker
 
@@ -129,7 +149,7 @@ sound_or false b e = ap (λ x. unless x BadPart) e
 
 -- the entry that is answered, on which the work has ended
 pub answered_entry : (c : Controllers) (v : worker.Known) (sender receiver : List ℕ) (sent s : ℕ) (told : Result QueueStatus ℕ) → worker_of c.workers receiver ≡ Some v → IsInOrder c (record { sender = sender; receiver = receiver; at = sent; body = Answer command.Return s told })
-    → (e : Entry) × (worker.entry_of v.entries s ≡ Some e) × (worker.is_open e ≡ false)
+    → (e : Entry) × (worker.entry_of v.entries s ≡ Some e) × (worker.is_ended e ≡ true)
 answered_entry c v sender receiver sent s told found h =
     let r = h.spawn in
     let ended = and_found _ (entry_for c r) h.says.2 in (
@@ -141,13 +161,21 @@ answered_entry c v sender receiver sent s told found h =
       ended.2.0,
     )
 
+ended_none : (e : Entry) → worker.is_ended e ≡ true → worker_messages.ended_refusal e ≡ None
+ended_none e ended =
+    let shut = ended_shut e ended in
+    ap (λ b. first_of (unless (not b) UnknownEntry ∷ unless (not (worker.is_open e)) NotDone ∷ [])) shut.1
+    ∙ ap (λ b. first_of (None ∷ unless (not b) NotDone ∷ [])) shut.0
+
 worker_takes : (c : Controllers) (v : worker.Known) (sender receiver : List ℕ) (sent : ℕ) (body : Body) → worker_of c.workers receiver ≡ Some v → worker_messages.is_for_workers body ≡ true → IsInOrder c (record { sender = sender; receiver = receiver; at = sent; body = body }) → worker_messages.body_refusal body v.entries ≡ None
 worker_takes c v sender receiver sent (Submit p) found theirs h = sound_or (is_some (worker.entry_of v.entries p.spawn_id)) (is_sound p) h.sound
 worker_takes c v sender receiver sent (Return p) found theirs h = refl
+worker_takes c v sender receiver sent (Abort s) found theirs h = refl
 worker_takes c v sender receiver sent (Answer command.Submit s told) found theirs h = absurd (true≢false (sym theirs))
+worker_takes c v sender receiver sent (Answer command.Abort s told) found theirs h = absurd (true≢false (sym theirs))
 worker_takes c v sender receiver sent (Answer command.Return s told) found theirs h =
     let there = answered_entry c v sender receiver sent s told found h in
-    ap (λ o. option_map_or (λ e. unless (not (worker.is_open e)) NotDone) o (Some UnknownEntry)) there.1 ∙ ap (λ b. unless (not b) NotDone) there.2
+    ap (λ o. option_map_or worker_messages.ended_refusal o (Some UnknownEntry)) there.1 ∙ ended_none there.0 there.2
 
 -- a worker refuses nothing that was sent to it
 pub worker_refuses_nothing : (c : Controllers) (v : worker.Known) (m : Message) → worker_of c.workers m.receiver ≡ Some v → v.name ≡ m.receiver → v.master ≡ c.master.name → worker_messages.is_for_workers m.body ≡ true → IsInOrder c m → worker_messages.take_refusal m v ≡ None

@@ -6,7 +6,6 @@ use Rattle.std.specs.Option.{option_and_then, option_map_or}
 use Rattle.std.specs.Str.{bytes_eq}
 use Rattle.ticket_rows.specs.Place.{Row}
 use Rattle.ticket_tree.specs.PartView.{part_row}
-use Rattle.spawn.specs.Records.{is_out}
 use Rattle.spawn.specs.declared.records.spawn_rec.SpawnRec.{SpawnRec}
 use Rattle.spawn.specs.declared.tables.holder.Holder.{Holder}
 use Rattle.spawn.specs.declared.tables.holder.Holder.TheVariants as held_by
@@ -64,17 +63,17 @@ entry_stored c name s next new mine h =
 -- one of another number is shown as it was
 shown_elsewhere : (c : Controllers) (name : List ℕ) (s : ℕ) (next : worker.Known) (new : Entry) (mine : SpawnRec) → HasStored c name s next new mine → (r : SpawnRec) → (r.id == s) ≡ false → spawn_shown (with_next c name next) r ≡ spawn_shown c r
 shown_elsewhere c name s next new mine h r other =
-    ap (λ o. record { number = r.id; node = r.node; worker = r.worker; rw = r.rw; phase = phase_shown (is_out r) o }) (entry_elsewhere c name s next new mine h r other)
+    ap (λ o. record { number = r.id; node = r.node; worker = r.worker; rw = r.rw; phase = phase_shown r.phase o }) (entry_elsewhere c name s next new mine h r other)
 
 -- and that one in the phase of the new entry
-shown_there : (c : Controllers) (name : List ℕ) (s : ℕ) (next : worker.Known) (new : Entry) (mine : SpawnRec) (phase : Phase) → (h : HasStored c name s next new mine) → phase_shown (is_out mine) (Some new) ≡ phase → (r : SpawnRec) → r ≡ mine → spawn_shown (with_next c name next) r ≡ record (spawn_shown c r) { phase = phase }
+shown_there : (c : Controllers) (name : List ℕ) (s : ℕ) (next : worker.Known) (new : Entry) (mine : SpawnRec) (phase : Phase) → (h : HasStored c name s next new mine) → phase_shown mine.phase (Some new) ≡ phase → (r : SpawnRec) → r ≡ mine → spawn_shown (with_next c name next) r ≡ record (spawn_shown c r) { phase = phase }
 shown_there c name s next new mine phase h is r same =
     let d = with_next c name next in
     ap (λ p. record (spawn_shown c r) { phase = p })
-    (ap (λ (q : SpawnRec). phase_shown (is_out q) (entry_for d q)) same ∙ ap (phase_shown (is_out mine)) (entry_stored c name s next new mine h) ∙ is)
+    (ap (λ (q : SpawnRec). phase_shown q.phase (entry_for d q)) same ∙ ap (phase_shown mine.phase) (entry_stored c name s next new mine h) ∙ is)
 
 -- all are shown as they were, but for the phase of that one
-pub spawns_stored : (c : Controllers) (name : List ℕ) (s : ℕ) (next : worker.Known) (new : Entry) (mine : SpawnRec) (phase : Phase) → (h : HasStored c name s next new mine) → phase_shown (is_out mine) (Some new) ≡ phase
+pub spawns_stored : (c : Controllers) (name : List ℕ) (s : ℕ) (next : worker.Known) (new : Entry) (mine : SpawnRec) (phase : Phase) → (h : HasStored c name s next new mine) → phase_shown mine.phase (Some new) ≡ phase
     → map (spawn_shown (with_next c name next)) c.master.records ≡ in_phase phase s (map (spawn_shown c) c.master.records)
 spawns_stored c name s next new mine phase h is =
     made_again (λ (q : SpawnRec). q.id ≡ s → q ≡ mine) (spawn_shown (with_next c name next)) (λ (a : SpawnState). cond (has_number s a) (record a { phase = phase }) a) (spawn_shown c) c.master.records
@@ -84,15 +83,15 @@ spawns_stored c name s next new mine phase h is =
     (only_record c.master.records s mine h.numbered h.recorded)
 
 -- and just as they were where its phase is
-pub spawns_stay : (c : Controllers) (name : List ℕ) (s : ℕ) (next : worker.Known) (new : Entry) (mine : SpawnRec) → (h : HasStored c name s next new mine) → phase_shown (is_out mine) (Some new) ≡ phase_shown (is_out mine) (entry_for c mine)
+pub spawns_stay : (c : Controllers) (name : List ℕ) (s : ℕ) (next : worker.Known) (new : Entry) (mine : SpawnRec) → (h : HasStored c name s next new mine) → phase_shown mine.phase (Some new) ≡ phase_shown mine.phase (entry_for c mine)
     → map (spawn_shown (with_next c name next)) c.master.records ≡ map (spawn_shown c) c.master.records
 spawns_stay c name s next new mine h is =
     made_alike (λ (q : SpawnRec). q.id ≡ s → q ≡ mine) (spawn_shown (with_next c name next)) (spawn_shown c) c.master.records
     (λ r only. split (r.id == s)
     (λ same.
     let r_is = only (eqb-true r.id s same) in
-    shown_there c name s next new mine (phase_shown (is_out mine) (entry_for c mine)) h is r r_is
-    ∙ ap (λ (q : SpawnRec). record (spawn_shown c r) { phase = phase_shown (is_out q) (entry_for c q) }) (sym r_is))
+    shown_there c name s next new mine (phase_shown mine.phase (entry_for c mine)) h is r r_is
+    ∙ ap (λ (q : SpawnRec). record (spawn_shown c r) { phase = phase_shown q.phase (entry_for c q) }) (sym r_is))
     (λ other. shown_elsewhere c name s next new mine h r other))
     (only_record c.master.records s mine h.numbered h.recorded)
 
@@ -156,7 +155,7 @@ shop_stays c workers same =
   where
     shown_alike : (records : List SpawnRec) → map (spawn_shown (record c { workers = workers })) records ≡ map (spawn_shown c) records
     shown_alike records = made_alike (λ r. ⊤) (spawn_shown (record c { workers = workers })) (spawn_shown c) records
-        (λ r is. ap (λ o. record { number = r.id; node = r.node; worker = r.worker; rw = r.rw; phase = phase_shown (is_out r) o }) (same r))
+        (λ r is. ap (λ o. record { number = r.id; node = r.node; worker = r.worker; rw = r.rw; phase = phase_shown r.phase o }) (same r))
         (λ k d within. tt)
 
 -- so it is where a worker is stored as it was

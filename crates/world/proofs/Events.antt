@@ -8,7 +8,7 @@ use Rattle.std.specs.Str.{bytes_eq}
 use Rattle.ticket_items.specs.Ids.{mem}
 use Rattle.ticket_items.specs.declared.refusal.Refusal.TheVariants.{UnknownWorker}
 use Rattle.controller.specs.declared.body.Body.{Body}
-use Rattle.controller.specs.declared.body.Body.TheVariants.{Answer, Return, Submit}
+use Rattle.controller.specs.declared.body.Body.TheVariants.{Abort, Answer, Return, Submit}
 use Rattle.controller.specs.declared.command.Command.TheVariants as command
 use Rattle.controller.specs.declared.message.Message.{Message}
 use Rattle.master_core.specs.declared.order.Order as master_order
@@ -24,9 +24,11 @@ use Rattle.world.proofs.MasterSpawns.{master_spawns}
 use Rattle.world.proofs.PartsPutIn.{part_is_put_in}
 use Rattle.world.proofs.PartsTaken.{part_is_taken}
 use Rattle.world.proofs.Receivers.{IsReceived, master_receives, worker_receives}
-use Rattle.world.proofs.Resends.{master_resends}
+use Rattle.world.proofs.Resends.{master_asks, master_resends}
 use Rattle.world.proofs.Running.{event_agrees, runs_agree}
 use Rattle.world.proofs.SameWorkers.{worker_known}
+use Rattle.world.proofs.SpawnsFreed.{abort_is_answered}
+use Rattle.world.proofs.SpawnsGivenUp.{spawn_is_given_up}
 use Rattle.world.proofs.TakenSpawns.{name_of}
 use Rattle.world.proofs.WorkerEdits.{worker_edits}
 use Rattle.world.proofs.WorkerFinishes.{worker_finishes}
@@ -82,6 +84,7 @@ master_agrees : (o : master_order.Order) (w : State) (at : ℕ) → IsKept w →
 master_agrees (to_master.Edit e) w at ok = master_edits w e at ok
 master_agrees (to_master.Spawn n name copies) w at ok = master_spawns w n name copies at ok
 master_agrees (to_master.Resend s) w at ok = master_resends w s at ok
+master_agrees (to_master.Withdraw s) w at ok = master_asks w s at ok
 
 by_name : (w : State) (name : List ℕ) (v : worker.Known) (o : worker_order.Order) (at : ℕ) → worker_of w.controllers.workers name ≡ Some v → (worker_of w.controllers.workers v.name ≡ Some v → WorkerAgrees w v.name v o at) → WorkerAgrees w name v o at
 by_name w name v o at found agrees =
@@ -111,6 +114,12 @@ message_agrees w sender receiver sent (Submit p) at ok there h =
 message_agrees w sender receiver sent (Return p) at ok there h =
     let m : Message = record { sender = sender; receiver = receiver; at = sent; body = Return p } in
     by_master w m at _ (master_receives w m h refl) (part_is_put_in w sender receiver sent p at ok there)
+message_agrees w sender receiver sent (Abort s) at ok there h =
+    let m : Message = record { sender = sender; receiver = receiver; at = sent; body = Abort s } in
+    let is = worker_receives w m ok h refl in
+    by_worker w m at _ is
+    (subst (λ n. StepsAgree (Ok (worker_moved w.controllers is.by (taken_by_worker (record m { receiver = n }) at is.by))) (shop.message_comes at (shop_shown w.controllers) (shop.Abort s))) is.named
+    (spawn_is_given_up w is.by sender sent s at ok (ap (worker_of w.controllers.workers) is.named ∙ is.found) (subst (λ n. Contains w.messages (record m { receiver = n })) (sym is.named) there)))
 message_agrees w sender receiver sent (Answer command.Submit s told) at ok there h =
     let m : Message = record { sender = sender; receiver = receiver; at = sent; body = Answer command.Submit s told } in
     by_master w m at _ (master_receives w m h refl) (submit_is_answered w sender receiver sent s told at ok h)
@@ -118,6 +127,9 @@ message_agrees w sender receiver sent (Answer command.Return s told) at ok there
     let m : Message = record { sender = sender; receiver = receiver; at = sent; body = Answer command.Return s told } in
     let is = worker_receives w m ok h refl in
     by_worker w m at _ is (return_is_answered w is.by sender receiver sent s told at ok is.found is.named is.knows h)
+message_agrees w sender receiver sent (Answer command.Abort s told) at ok there h =
+    let m : Message = record { sender = sender; receiver = receiver; at = sent; body = Answer command.Abort s told } in
+    by_master w m at _ (master_receives w m h refl) (abort_is_answered w sender receiver sent s told at ok h)
 
 delivery_agrees : (w : State) (k at : ℕ) (found : Option Message) → IsKept w → message_at w.messages k ≡ found
     → StepsAgree (option_map_or (world.receiver_takes at w) found (Err NoMessage)) (option_map_or (shop.message_comes at (shop_shown w.controllers)) (option_map tag_of found) (Err NoMessage))

@@ -21,6 +21,7 @@ pub mod Once
 pub mod Runs
 mod Worked
 mod WorkedShop
+mod WorkedWithdrawal
 pub mod ShopPaths
 pub mod Running
 pub mod Agreeing
@@ -36,6 +37,7 @@ pub mod PartReads
 pub mod PartHolds
 pub mod EntryStored
 pub mod HeldBySpawn
+pub mod OutThere
 pub mod WorkerAgrees
 pub mod WorkerEdits
 pub mod WorkerFinishes
@@ -46,6 +48,8 @@ pub mod WorkerResends
 pub mod PartsTaken
 pub mod Telling
 pub mod PartsPutIn
+pub mod SpawnsGivenUp
+pub mod SpawnsFreed
 pub mod Events
 pub mod Replayed
 pub mod GoingOn

@@ -58,7 +58,7 @@ any_alike P f g (x ∷ xs) same all = ap (λ b. b || list_any f xs) (same x (All
 shown_out : (c : Controllers) (recs : List SpawnRec) → filter (λ (a : SpawnState). is_out a.phase) (map (spawn_shown c) recs) ≡ map (spawn_shown c) (out recs)
 shown_out c recs =
     kept_made (λ (a : SpawnState). is_out a.phase) (spawn_shown c) recs
-    ∙ ap (map (spawn_shown c)) (filter_as (λ (r : SpawnRec). is_out (phase_shown (records.is_out r) (entry_for c r))) records.is_out recs (λ (r : SpawnRec). out_shown (records.is_out r) (entry_for c r)))
+    ∙ ap (map (spawn_shown c)) (filter_as (λ (r : SpawnRec). is_out (phase_shown r.phase (entry_for c r))) records.is_out recs (λ (r : SpawnRec). out_shown r.phase (entry_for c r)))
 
 -- each of them is good
 good_out : (rows : List NodeRow) (recs : List SpawnRec) → StandApart rows recs → All (IsGood rows) (out recs)

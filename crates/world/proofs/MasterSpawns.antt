@@ -39,6 +39,7 @@ use Rattle.spawn.specs.Records.{is_out}
 use Rattle.spawn.specs.Spawning as spawning
 use Rattle.spawn.specs.Spawning.{parent_of}
 use Rattle.spawn.specs.Table.{holder_at, holding, holds}
+use Rattle.spawn.specs.declared.records.phase.Phase.TheVariants as recorded
 use Rattle.spawn.specs.declared.records.spawn_rec.SpawnRec.{SpawnRec}
 use Rattle.spawn.specs.declared.tables.holder.Holder.{Holder}
 use Rattle.spawn.specs.declared.tables.holder.Holder.TheVariants.{Master, Spawn}
@@ -140,7 +141,7 @@ record IsSent (c : Controllers) (n worker : List ℕ) (rw : List (List ℕ)) (at
   above_known : has_node c.master.ticket.rows above ≡ true
   no_entry : entry_at c.workers worker (master.next_number c.master.records) ≡ None
 
-above_by : (rows : List NodeRow) (n u : List ℕ) (p : Place) → place_at (node_places rows) n ≡ Some p → up (node_places rows) n ≡ Some u → IsRootAt (node_places rows) n p ⊎ HasParentAt (node_places rows) n p → has_node rows u ≡ true
+pub above_by : (rows : List NodeRow) (n u : List ℕ) (p : Place) → place_at (node_places rows) n ≡ Some p → up (node_places rows) n ≡ Some u → IsRootAt (node_places rows) n p ⊎ HasParentAt (node_places rows) n p → has_node rows u ≡ true
 above_by rows n u p there above (inl root) =
     let none : up (node_places rows) n ≡ None = ap (option_and_then parent) there ∙ ap (λ path. slice_get path 1) root.path in
     cc
@@ -378,7 +379,7 @@ spawns_after c n worker copies at s =
     let r = new c n worker copies at in
     let spawns = map (spawn_shown c) c.master.records in
     map-append (spawn_shown c) c.master.records (r ∷ [])
-    ∙ ap (λ (o : Option Entry). spawns ++ record { number = r.id; node = n; worker = worker; rw = r.rw; phase = phase_shown true o } ∷ []) s.no_entry
+    ∙ ap (λ (o : Option Entry). spawns ++ record { number = r.id; node = n; worker = worker; rw = r.rw; phase = phase_shown recorded.Out o } ∷ []) s.no_entry
     ∙ ap (λ k. spawns ++ record { number = k; node = n; worker = worker; rw = r.rw; phase = Away } ∷ []) (sym (number_shown c))
 
 spawn_is_shown : (c : Controllers) (n worker : List ℕ) (rw : List (List ℕ)) (at : ℕ) → IsSent c n worker rw at → shop_shown (later c n worker rw at) ≡ spawned n worker rw at (shop_shown c)

@@ -1,5 +1,5 @@
 -- What the master makes of an order or a message: the controllers are later, and what it sends is new.
-use Rattle.std.proofs.Common.{◌≡◌, inl, inr, ℕ, true, List, Option, Some, None, IfSome, refl, sym, ap, ◌∙◌, subst}
+use Rattle.std.proofs.Common.{◌≡◌, inl, inr, ℕ, true, List, Some, None, IfSome, refl, sym, ap, ◌∙◌, subst}
 use Rattle.std.proofs.lemmas.Bool.{true≢false}
 use Rattle.std.specs.List.{All}
 use Rattle.controller.specs.declared.message.Message.{Message}
@@ -9,13 +9,14 @@ use Rattle.spawn.specs.Parts.{part_for}
 use Rattle.spawn.specs.Records.{is_out}
 use Rattle.spawn.specs.declared.records.spawn_rec.SpawnRec.{SpawnRec}
 use Rattle.master_core.proofs.Kept.{done_order}
-use Rattle.master_core.proofs.OrderLaws.{nothing_is_sent, submit_is_of_record}
+use Rattle.master_core.proofs.OrderLaws.{abort_is_of_record, submit_is_of_record}
 use Rattle.master_core.proofs.PartsKept.{message_keeps_spawns, order_keeps_spawns}
 use Rattle.master_core.proofs.Recorded.{number_is}
-use Rattle.master_core.specs.Master.{IsKept, Known, is_of, merged_record, record_of}
+use Rattle.master_core.specs.Master.{IsKept, Known, is_of, merged_record, next_number, record_of, withdrawn_record}
 use Rattle.master_core.specs.Messages.{IsValidBody, after_taking}
-use Rattle.master_core.specs.Orders.{order_message, order_refusal, ordered, spawn_sent, submit_of}
+use Rattle.master_core.specs.Orders.{abort_of, order_message, order_refusal, ordered, spawn_sent, submit_of}
 use Rattle.master_core.specs.declared.order.Order.{Order}
+use Rattle.master_core.specs.declared.order.Order.TheVariants as order
 use Rattle.world.proofs.Later.{AreLater}
 use Rattle.world.proofs.Names.{ordered_names, taken_by_master_names}
 use Rattle.world.proofs.PartsGoOut.{part_is_valid}
@@ -40,6 +41,7 @@ ordered_later o at c kept none =
             next = r;
             found = ap (λ (v : Known). record_of v.records s) done ∙ stays.0;
             worker = refl;
+            since = refl;
             same = λ out. refl;
             part = λ out. ap (λ (v : Known). part_for v.ticket r) done ∙ stays.1 out;
           };
@@ -64,17 +66,38 @@ submit_is_new c messages s r kept all found out =
     })
     out
 
+part_is_sent : (o : Order) (at : ℕ) (c : Controllers) (messages : List Message) (s : ℕ) → IsKept c.master → order_refusal o c.master ≡ None → IsKept (ordered o at c.master) → All (IsInOrder (with_master c (ordered o at c.master))) messages → spawn_sent o c.master ≡ Some s
+    → IfSome (order_message o at c.master) (IsNew (with_master c (ordered o at c.master)) messages)
+part_is_sent o at c messages s kept none next all is =
+    let d = with_master c (ordered o at c.master) in
+    let sends = submit_is_of_record o at c.master s kept none is in
+    subst (λ m. IfSome m (IsNew d messages)) (sym sends.3)
+    (subst (λ n. IsNew d messages (submit_of n d.master.ticket sends.0)) (ordered_names o at c.master).own (submit_is_new d messages s sends.0 next all sends.1 sends.2))
+
+-- what gives the spawn of a record up may be sent
+abort_is_new : (c : Controllers) (messages : List Message) (s : ℕ) (r : SpawnRec) → All (IsInOrder c) messages → record_of c.master.records s ≡ Some r → IsNew c messages (abort_of c.master.name r)
+abort_is_new c messages s r all found =
+    new_message c messages _ all
+    (record {
+      spawn = r;
+      recorded = ap (record_of c.master.records) (number_is c.master.records s r found) ∙ found;
+      from = refl;
+      to = refl;
+      says = refl;
+      for_master = tt;
+      for_worker = tt;
+      sound = tt;
+    })
+    tt
+
 pub ordered_sends : (o : Order) (at : ℕ) (c : Controllers) (messages : List Message) → IsKept c.master → order_refusal o c.master ≡ None → IsKept (ordered o at c.master) → All (IsInOrder (with_master c (ordered o at c.master))) messages
     → IfSome (order_message o at c.master) (IsNew (with_master c (ordered o at c.master)) messages)
-ordered_sends o at c messages kept none next all = by (spawn_sent o c.master) refl
-  where
-    by : (sent : Option ℕ) → spawn_sent o c.master ≡ sent → IfSome (order_message o at c.master) (IsNew (with_master c (ordered o at c.master)) messages)
-    by None is = subst (λ m. IfSome m (IsNew (with_master c (ordered o at c.master)) messages)) (sym (nothing_is_sent o at c.master is)) tt
-    by (Some s) is =
-        let d = with_master c (ordered o at c.master) in
-        let sends = submit_is_of_record o at c.master s kept none is in
-        subst (λ m. IfSome m (IsNew d messages)) (sym sends.3)
-        (subst (λ n. IsNew d messages (submit_of n d.master.ticket sends.0)) (ordered_names o at c.master).own (submit_is_new d messages s sends.0 next all sends.1 sends.2))
+ordered_sends (order.Edit e) at c messages kept none next all = tt
+ordered_sends (order.Spawn node worker copies) at c messages kept none next all = part_is_sent (order.Spawn node worker copies) at c messages (next_number c.master.records) kept none next all refl
+ordered_sends (order.Resend s) at c messages kept none next all = part_is_sent (order.Resend s) at c messages s kept none next all refl
+ordered_sends (order.Withdraw s) at c messages kept none next all =
+    let sends = abort_is_of_record (order.Withdraw s) at c.master s none refl in
+    subst (λ m. IfSome m (IsNew c messages)) (sym sends.3) (abort_is_new c messages s sends.0 all sends.1)
 
 -- ---- messages
 
@@ -84,8 +107,11 @@ taken_later m at c kept valid =
       name = (taken_by_master_names m at c.master).own;
       records = λ s r found.
           elim (message_keeps_spawns m at c.master s r valid kept found) [
-            | inl merges ↦ record { next = merged_record r; found = merges.2; worker = refl; same = λ out. absurd (true≢false (sym out)); part = λ out. absurd (true≢false (sym out)) }
-            | inr stays ↦ record { next = r; found = stays.0; worker = refl; same = λ out. refl; part = stays.1 }
+            | inl merges ↦ record { next = merged_record r; found = merges.2; worker = refl; since = refl; same = λ out. absurd (true≢false (sym out)); part = λ out. absurd (true≢false (sym out)) }
+            | inr others ↦ elim others [
+              | inl frees ↦ record { next = withdrawn_record r; found = frees.2; worker = refl; since = refl; same = λ out. absurd (true≢false (sym out)); part = λ out. absurd (true≢false (sym out)) }
+              | inr stays ↦ record { next = r; found = stays.0; worker = refl; since = refl; same = λ out. refl; part = stays.1 }
+            ]
           ];
       ended = λ n s e there ended. (e, there, inl refl);
     }

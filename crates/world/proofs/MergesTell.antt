@@ -8,16 +8,19 @@ use Rattle.ticket_items.specs.SpawnId.{is_spawn_number}
 use Rattle.ticket_rows.proofs.AtHome.{find-passes}
 use Rattle.ticket_rows.specs.Place.{Row, nodes_in, up}
 use Rattle.controller.specs.declared.reply.Reply.TheVariants as reply
+use Rattle.ticket_items.specs.declared.edit.Edit.TheVariants.{SetStatus}
 use Rattle.world.proofs.Cases.{split, when_false}
-use Rattle.world.proofs.GoingOn.{as_often, one_if, told_once, touch_tells}
+use Rattle.world.proofs.GoingOn.{as_often, edit_is_quiet, one_if, telling_is_quiet, told_once, touch_tells}
 use Rattle.world.proofs.MasterSpawns.{told_there}
 use Rattle.world.proofs.OrdersTell.{Tells}
 use Rattle.world.proofs.ShopTells as shops
 use Rattle.world.proofs.ShopTells.{HaveNumbers, TellsMore, is_above, phase_stays, same_rows, same_spawns, tells_none, tells_nothing, times}
-use Rattle.world.specs.MergeAudits.{GoOn, above_of, audit_tells}
-use Rattle.world.specs.Shop.{Closed, Merged, Open, Rows, Shop, SpawnState, has_number, is_away, is_done, is_merged, spawn_of}
-use Rattle.world.specs.ShopActs.{closed, is_held_by, merged, merged_audit, put_in, taken, told_above}
-use Rattle.world.specs.ShopSteps.{Submit, Return, Tag, ToReturn, ToSubmit, back_acknowledged, message_comes, replies, return_comes, sends, submit_comes}
+use Rattle.worker_core.specs.Worker.{end_word}
+use Rattle.worker_core.specs.declared.end.End.TheVariants.{Aborted}
+use Rattle.world.specs.MergeAudits.{GoOn, above_of, audit_tells, reply_tells}
+use Rattle.world.specs.Shop.{Closed, Declined, Done, Merged, Open, Rows, Shop, SpawnState, Withdrawn, has_number, is_away, is_declined, is_done, is_merged, is_open, is_taken, spawn_of}
+use Rattle.world.specs.ShopActs.{closed, declined, finished, freed, is_held_by, merged, merged_audit, put_in, taken, told_above, withdrawn_audit}
+use Rattle.world.specs.ShopSteps.{Abort, Submit, Return, Tag, ToAbort, ToReturn, ToSubmit, abort_answered, abort_comes, again, back_acknowledged, message_comes, replies, return_comes, sends, submit_comes}
 use Rattle.controller.specs.Step.{Step}
 use Rattle.world.specs.Step.{StepOrWord}
 use Rattle.world_items.specs.declared.word.Word.TheVariants.{Did, NoMessage}
@@ -89,9 +92,30 @@ return_tells : (p : Shop) (a : SpawnState) (at : ℕ) (done : Bool) → is_done 
 return_tells p a at true is number found stands = merge_tells p a at number found (stands is)
 return_tells p a at false is number found stands = tells_nothing (Did (reply.Already a.number)) p (λ s. refl)
 
-submit_tells : (p : Shop) (a : SpawnState) (away : Bool) → Tells p (cond away (sends (reply.Taken a.number) (taken a.number p) (ToSubmit a.number)) (sends (reply.Again a.number) p (ToSubmit a.number)))
+-- what came again is no merge
+again_tells : (taken : Bool) (n s : ℕ) → reply_tells s (cond taken (reply.Again n) (reply.Declined n)) ≡ false
+again_tells true n s = refl
+again_tells false n s = refl
+
+submit_tells : (p : Shop) (a : SpawnState) (away : Bool) → Tells p (cond away (sends (reply.Taken a.number) (taken a.number p) (ToSubmit a.number)) (sends (again a) p (ToSubmit a.number)))
 submit_tells p a true = tells_none (Did (reply.Taken a.number)) p (taken a.number p) (λ s. refl) (same_rows p.seen) (same_rows p.now) (phase_stays p (taken a.number p) Open a.number refl refl)
-submit_tells p a false = tells_nothing (Did (reply.Again a.number)) p (λ s. refl)
+submit_tells p a false = tells_nothing (Did (again a)) p (λ s. again_tells (is_taken a.phase) a.number s)
+
+abort_tells : (p : Shop) (a : SpawnState) (at : ℕ) (away opened : Bool)
+    → Tells p (cond away (sends (reply.Declined a.number) (declined a.number p) (ToAbort a.number)) (cond opened (sends (reply.Ended a.number) (finished Aborted at a p) (ToAbort a.number)) (sends (again a) p (ToAbort a.number))))
+abort_tells p a at true opened = tells_none (Did (reply.Declined a.number)) p (declined a.number p) (λ s. refl) (same_rows p.seen) (same_rows p.now) (phase_stays p (declined a.number p) Declined a.number refl refl)
+abort_tells p a at false true =
+    tells_none (Did (reply.Ended a.number)) p (finished Aborted at a p) (λ s. refl) (same_rows p.seen) (λ s x. edit_is_quiet (SetStatus a.node (end_word Aborted)) at s p.now x (λ i added. cc))
+    (phase_stays p (finished Aborted at a p) Done a.number refl refl)
+abort_tells p a at false false = tells_nothing (Did (again a)) p (λ s. again_tells (is_taken a.phase) a.number s)
+
+freed_tells : (p : Shop) (a : SpawnState) (at : ℕ) (is_declined : Bool) → Tells p (cond is_declined (replies (reply.Freed a.number) (freed at a p)) (replies (reply.Noted a.number) p))
+freed_tells p a at true =
+    tells_none (Did (reply.Freed a.number)) p (freed at a p) (λ s. refl)
+    (λ s x. telling_is_quiet s p.tree a.node (withdrawn_audit a at) p.seen x (λ t. refl))
+    (λ s x. telling_is_quiet s p.tree a.node (withdrawn_audit a at) p.now x (λ t. refl))
+    (phase_stays p (freed at a p) Withdrawn a.number refl refl)
+freed_tells p a at false = tells_nothing (Did (reply.Noted a.number)) p (λ s. refl)
 
 back_tells : (p : Shop) (a : SpawnState) (put : Bool) → Tells p (replies (reply.Acked a.number) (cond put (closed a.number p) p))
 back_tells p a true = tells_none (Did (reply.Acked a.number)) p (closed a.number p) (λ s. refl) (same_rows p.seen) (same_rows p.now) (phase_stays p (closed a.number p) Closed a.number refl refl)
@@ -116,5 +140,7 @@ message_tells (Return s) at p numbers stands =
     found_tells p s (return_comes at p) (spawn_of s p) refl (λ a found.
     let own = own_number p s a found in
     return_tells p a at (is_done a.phase) refl (ap is_spawn_number own ∙ numbers s (ap is_some found)) (ap (λ n. spawn_of n p) own ∙ found) (stands s a found))
+message_tells (Abort s) at p numbers stands = found_tells p s (abort_comes at p) (spawn_of s p) refl (λ a found. abort_tells p a at (is_away a.phase) (is_open a.phase))
 message_tells (ToSubmit s) at p numbers stands = tells_nothing (Did (reply.Noted s)) p (λ t. refl)
 message_tells (ToReturn s) at p numbers stands = found_tells p s (back_acknowledged p) (spawn_of s p) refl (λ a found. back_tells p a (is_merged a.phase))
+message_tells (ToAbort s) at p numbers stands = found_tells p s (abort_answered at p) (spawn_of s p) refl (λ a found. freed_tells p a at (is_declined a.phase))

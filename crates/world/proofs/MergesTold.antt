@@ -21,6 +21,8 @@ use Rattle.controller.specs.declared.reply.Reply.TheVariants as reply
 use Rattle.spawn.proofs.Lawful.{parent_is_masters, placed}
 use Rattle.spawn.proofs.SoundPart.{node_among_ids}
 use Rattle.spawn.specs.Records as records
+use Rattle.spawn.specs.declared.records.phase.Phase as record_phase
+use Rattle.spawn.specs.declared.records.phase.Phase.TheVariants as recorded
 use Rattle.spawn.specs.Table.{holder_at}
 use Rattle.spawn.specs.declared.tables.holder.Holder.TheVariants.{Master}
 use Rattle.master_core.proofs.EditedParts.{Told, edit_told, none_added, told}
@@ -110,10 +112,11 @@ edits_stay w e ok free s u at there =
 
 -- ---- a finished spawn of a shop that is shown
 
-done_out : (out : Bool) (o : Option Entry) → is_done (phase_shown out o) ≡ true → out ≡ true
-done_out true o e = refl
-done_out false None e = absurd (true≢false (sym e))
-done_out false (Some entry) e = absurd (true≢false (sym e ∙ (phase_of_entry false entry).done_so))
+done_out : (phase : record_phase.Phase) (o : Option Entry) → is_done (phase_shown phase o) ≡ true → records.is_out_phase phase ≡ true
+done_out recorded.Out o e = refl
+done_out recorded.Merged None e = absurd (true≢false (sym e))
+done_out recorded.Merged (Some entry) e = absurd (true≢false (sym e ∙ (phase_of_entry recorded.Merged entry).done_so))
+done_out recorded.Withdrawn o e = absurd (true≢false (sym e))
 
 -- it has a parent, which the master holds
 stands_above : (w : State) (s : ℕ) (a : SpawnState) → IsKept w → spawn_of s (shop_shown w.controllers) ≡ Some a → is_done a.phase ≡ true → StandsAbove (shop_shown w.controllers) a
@@ -123,7 +126,7 @@ stands_above w s a ok found done =
     let rows = m.ticket.rows in
     let made = made_of (spawn_shown c) (master.record_of m.records s) a (sym (spawn_found c s) ∙ found) in
     let r = made.0 in
-    let out : records.is_out r ≡ true = done_out (records.is_out r) (entry_for c r) (ap (λ (b : SpawnState). is_done b.phase) made.2 ∙ done) in
+    let out : records.is_out r ≡ true = done_out r.phase (entry_for c r) (ap (λ (b : SpawnState). is_done b.phase) made.2 ∙ done) in
     let place = placed (master.is_of s) m.records r made.1 in
     let good = ok.master.apart.good place.place r place.there out in
     let above = some_of (up (node_places rows) r.node) good.has_parent in

@@ -2,7 +2,7 @@
 use Rattle.std.proofs.Common.{◌≡◌, Bool, true, false, cond, ℕ, Option, Some, None, refl, is_some}
 use Rattle.std.specs.Option.{option_map_or}
 use Rattle.controller.specs.declared.body.Body.{Body}
-use Rattle.controller.specs.declared.body.Body.TheVariants.{Submit, Return, Answer}
+use Rattle.controller.specs.declared.body.Body.TheVariants.{Submit, Return, Abort, Answer}
 use Rattle.controller.specs.declared.message.Message.{Message}
 use Rattle.master_core.specs.Master as master
 use Rattle.master_core.specs.Messages as master_messages
@@ -11,7 +11,6 @@ use Rattle.master_core.specs.declared.order.Order as master_order
 use Rattle.master_core.specs.declared.order.Order.TheVariants as order
 use Rattle.spawn.specs.Records.{is_out}
 use Rattle.spawn.specs.declared.records.spawn_rec.SpawnRec.{SpawnRec}
-use Rattle.ticket_tree.specs.Part.{Copied}
 use Rattle.worker_core.specs.Worker as worker
 use Rattle.worker_core.specs.Messages as worker_messages
 use Rattle.master_core.specs.Messages.{take_step as taken_by_master}
@@ -31,19 +30,25 @@ pub ordered_names : (o : master_order.Order) (at : ℕ) (m : master.Known) → H
 ordered_names (order.Edit e) at m = record { own = refl; workers = refl }
 ordered_names (order.Spawn node to rw) at m = record { own = refl; workers = refl }
 ordered_names (order.Resend s) at m = same m
+ordered_names (order.Withdraw s) at m = same m
 
-merged_names : (out : Bool) (p : Copied) (at : ℕ) (m : master.Known) (r : SpawnRec) → HasNames m (cond out (master_messages.merged p at m r) m)
-merged_names true p at m r = record { own = refl; workers = refl }
-merged_names false p at m r = same m
+made_names : (made : SpawnRec → master.Known) (out : Bool) (m : master.Known) (r : SpawnRec) → ((q : SpawnRec) → HasNames m (made q)) → HasNames m (cond out (made r) m)
+made_names made true m r names = names r
+made_names made false m r names = same m
 
-returned_names : (found : Option SpawnRec) (p : Copied) (at : ℕ) (m : master.Known) → HasNames m (option_map_or (λ r. cond (is_out r) (master_messages.merged p at m r) m) found m)
-returned_names None p at m = same m
-returned_names (Some r) p at m = merged_names (is_out r) p at m r
+ended_names : (made : SpawnRec → master.Known) (found : Option SpawnRec) (m : master.Known) → ((q : SpawnRec) → HasNames m (made q)) → HasNames m (option_map_or (λ r. cond (is_out r) (made r) m) found m)
+ended_names made None m names = same m
+ended_names made (Some r) m names = made_names made (is_out r) m r names
+
+answered_names : (declined : Bool) (s at : ℕ) (m : master.Known) → HasNames m (cond declined (master_messages.made_if_out (master_messages.freed at m) s m) m)
+answered_names true s at m = ended_names (master_messages.freed at m) (master.record_of m.records s) m (λ q. record { own = refl; workers = refl })
+answered_names false s at m = same m
 
 taken_names : (body : Body) (at : ℕ) (m : master.Known) → HasNames m (master_messages.taken body at m)
 taken_names (Submit p) at m = same m
-taken_names (Return p) at m = returned_names (master.record_of m.records p.spawn_id) p at m
-taken_names (Answer c s told) at m = same m
+taken_names (Return p) at m = ended_names (master_messages.merged p at m) (master.record_of m.records p.spawn_id) m (λ q. record { own = refl; workers = refl })
+taken_names (Abort s) at m = same m
+taken_names (Answer c s told) at m = answered_names (master_messages.is_declined c told) s at m
 
 if_refused : (b : Bool) (m next : master.Known) → HasNames m next → HasNames m (cond b m next)
 if_refused true m next names = same m

@@ -9,7 +9,7 @@ use Rattle.ticket_items.specs.declared.refusal.Refusal.{Refusal}
 use Rattle.ticket_items.specs.declared.refusal.Refusal.TheVariants.{UnknownWorker}
 use Rattle.controller.specs.Reply.{refused_or}
 use Rattle.controller.specs.declared.body.Body.{Body}
-use Rattle.controller.specs.declared.body.Body.TheVariants.{Submit, Return, Answer as Answered}
+use Rattle.controller.specs.declared.body.Body.TheVariants.{Submit, Return, Abort, Answer as Answered}
 use Rattle.controller.specs.declared.message.Message.{Message}
 use Rattle.controller.specs.declared.queue_status.QueueStatus.{QueueStatus}
 use Rattle.controller.specs.declared.reply.Reply.{Reply}
@@ -19,7 +19,7 @@ use Rattle.spawn.specs.declared.records.spawn_rec.SpawnRec.{SpawnRec}
 use Rattle.master_core.proofs.Kept.{done_order}
 use Rattle.master_core.proofs.MessageLaws.{in_stays_in, merged_is_in}
 use Rattle.master_core.proofs.PartsKept.{message_keeps_spawns}
-use Rattle.master_core.specs.Master.{Known, is_spawn_out, merged_record, record_of}
+use Rattle.master_core.specs.Master.{Known, is_spawn_out, merged_record, record_of, withdrawn_record}
 use Rattle.master_core.specs.Messages as master_messages
 use Rattle.master_core.specs.Orders as master_orders
 use Rattle.master_core.specs.declared.order.Order as master_order
@@ -108,6 +108,7 @@ no_order_reply : (o : master_order.Order) (m : Known) (s : ℕ) → Did (master_
 no_order_reply (master_orders_are.Edit e) m s is = cc
 no_order_reply (master_orders_are.Spawn node name rw) m s is = cc
 no_order_reply (master_orders_are.Resend t) m s is = cc
+no_order_reply (master_orders_are.Withdraw t) m s is = cc
 
 no_master_order : (refusal : Option Refusal) (o : master_order.Order) (at : ℕ) (m : Known) (s : ℕ)
     → word_of (unless_refused refusal m (record { reply = Ok (master_orders.order_reply o m); next = master_orders.ordered o at m; sent = master_orders.order_message o at m })).reply ≡ Did (reply.Merged s) → ⊥
@@ -124,17 +125,30 @@ no_worker_order : (refusal : Option Refusal) (o : worker_order.Order) (at : ℕ)
 no_worker_order None o at v s is = no_worker_reply o s is
 no_worker_order (Some e) o at v s is = cc
 
-submit_reply : (there : Bool) (t s : ℕ) → cond there (reply.Again t) (reply.Taken t) ≡ reply.Merged s → ⊥
-submit_reply true t s is = cc
-submit_reply false t s is = cc
+again_reply : (declined : Bool) (t s : ℕ) → cond declined (reply.Declined t) (reply.Again t) ≡ reply.Merged s → ⊥
+again_reply true t s is = cc
+again_reply false t s is = cc
+
+submit_reply : (found : Option Entry) (t s : ℕ) → option_map_or (worker_messages.again_reply t) found (reply.Taken t) ≡ reply.Merged s → ⊥
+submit_reply None t s is = cc
+submit_reply (Some e) t s is = again_reply (worker.is_declined e) t s is
+
+ended_reply : (opened : Bool) (e : Entry) (t s : ℕ) → cond opened (reply.Ended t) (worker_messages.again_reply t e) ≡ reply.Merged s → ⊥
+ended_reply true e t s is = cc
+ended_reply false e t s is = again_reply (worker.is_declined e) t s is
+
+abort_reply : (found : Option Entry) (t s : ℕ) → option_map_or (worker_messages.abort_reply t) found (reply.Declined t) ≡ reply.Merged s → ⊥
+abort_reply None t s is = cc
+abort_reply (Some e) t s is = ended_reply (worker.is_open e) e t s is
 
 said_reply : (told : Result QueueStatus ℕ) (t s : ℕ) → worker_messages.answer_reply t told ≡ reply.Merged s → ⊥
 said_reply (Ok status) t s is = cc
 said_reply (Err reason) t s is = cc
 
 no_take_reply : (body : Body) (entries : List Entry) (s : ℕ) → worker_messages.take_reply body entries ≡ reply.Merged s → ⊥
-no_take_reply (Submit p) entries s is = submit_reply _ p.spawn_id s is
+no_take_reply (Submit p) entries s is = submit_reply (worker.entry_of entries p.spawn_id) p.spawn_id s is
 no_take_reply (Return p) entries s is = cc
+no_take_reply (Abort t) entries s is = abort_reply (worker.entry_of entries t) t s is
 no_take_reply (Answered c t told) entries s is = said_reply told t s is
 
 -- a reply that is told in a word
@@ -175,7 +189,10 @@ taken_merges m at w next s (Some r) ok good has told is =
     } in
     elim (message_keeps_spawns m at w.controllers.master s r good.for_master ok.master has) [
       | inl merges ↦ here (merged_record r) merges.2
-      | inr stays ↦ here r stays.0
+      | inr others ↦ elim others [
+        | inl frees ↦ here (withdrawn_record r) frees.2
+        | inr stays ↦ here r stays.0
+      ]
     ]
 
 receiver_merges : (mine : Bool) (m : Message) (at : ℕ) (stop : Stop) (w : State) (s : ℕ) → IsKept w → IsInOrder w.controllers m → TellsMerge s (settled_word stop w (cond mine (master_takes m at w) (worker_takes m at w)))

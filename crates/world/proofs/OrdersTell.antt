@@ -28,7 +28,7 @@ use Rattle.world.proofs.ShopTells.{SpawnsStay, TellsMore, phase_stays, same_rows
 use Rattle.world.specs.MergeAudits.{above_of}
 use Rattle.world.specs.Shop.{Done, Shop, SpawnState, has_number, is_open, next_number, spawn_of}
 use Rattle.world.specs.ShopActs.{edited, finished, next_spawn, sent_out, spawned, spawned_audit, worked}
-use Rattle.world.specs.ShopSteps.{Return, Submit, Tag, back_refusal, edit_refusal, is_held, is_taken_by, is_to_read, master_does, not_held, replies, resend_refusal, sends, spawn_refusal, spawn_worked, work_refusal, worker_does}
+use Rattle.world.specs.ShopSteps.{Abort, Return, Submit, Tag, back_refusal, edit_refusal, is_held, is_taken_by, is_to_read, master_does, not_held, replies, resend_refusal, sends, spawn_refusal, spawn_worked, work_refusal, worker_does}
 use Rattle.controller.specs.Step.{Step, refused, unless_refused}
 use Rattle.world.specs.Step.{word_of}
 use Rattle.world_items.specs.declared.word.Word.TheVariants.{Did, Refused}
@@ -120,6 +120,7 @@ pub master_tells : (o : master_order.Order) (at : ℕ) (p : Shop) → ((e : Edit
 master_tells (to_master.Edit e) at p free = edit_tells e at p (free e)
 master_tells (to_master.Spawn n worker rw) at p free = spawn_tells n worker rw at p
 master_tells (to_master.Resend s) at p free = refused_or_tells (resend_refusal s p) p (sends (reply.Sent s) p (Submit s)) (λ none. tells_nothing (Did (reply.Sent s)) p (λ t. refl))
+master_tells (to_master.Withdraw s) at p free = refused_or_tells (resend_refusal s p) p (sends (reply.Asked s) p (Abort s)) (λ none. tells_nothing (Did (reply.Asked s)) p (λ t. refl))
 
 -- ---- a worker
 

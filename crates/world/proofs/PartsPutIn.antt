@@ -1,14 +1,12 @@
 -- A part that comes back to the master: its step and the shop's agree.
 use Rattle.std.proofs.Common.{◌≡◌, ◌==◌, ◌∙◌, ◌&&◌, ℕ, Bool, true, false, cond, not, List, [], ◌∷◌, map, Option, Some, None, is_some, Ok, Err, refl, sym, ap, subst}
-use Rattle.std.proofs.lemmas.Bool.{eqb-true, not-true, true≢false}
+use Rattle.std.proofs.lemmas.Bool.{eqb-true, true≢false}
 use Rattle.std.proofs.lemmas.List.Elements.{All-contains, All-head, All-tail}
-use Rattle.std.proofs.lemmas.Slice.Eq.{bytes_eq-Decides}
 use Rattle.std.specs.List.{All, Contains}
 use Rattle.std.specs.Option.{option_and_then, option_map, option_map_or}
-use Rattle.std.specs.Str.{bytes_eq}
 use Rattle.ticket_items.specs.declared.audit.Audit.{Audit}
 use Rattle.ticket_items.specs.declared.refusal.Refusal.{Refusal}
-use Rattle.ticket_rows.specs.Place.{Place, node_places, place_at, places, up}
+use Rattle.ticket_rows.specs.Place.{place_at, places}
 use Rattle.ticket_tree.specs.Part.{Copied}
 use Rattle.ticket_tree.specs.PartView.{part_row}
 use Rattle.ticket_tree.specs.PlainEdit.{touch}
@@ -16,12 +14,10 @@ use Rattle.controller.specs.Reply.{refused_or}
 use Rattle.controller.specs.declared.body.Body.TheVariants.{Return}
 use Rattle.controller.specs.declared.message.Message.{Message}
 use Rattle.controller.specs.declared.reply.Reply.TheVariants as reply
-use Rattle.spawn.proofs.Lawful.{parent_is_masters, placed}
-use Rattle.spawn.proofs.Outside.{some_of}
-use Rattle.spawn.specs.Claim.{is_claimed}
-use Rattle.spawn.specs.Records.{IsGood, is_out}
-use Rattle.spawn.specs.Spawning.{parent_of}
+use Rattle.spawn.proofs.Lawful.{placed}
+use Rattle.spawn.specs.Records.{is_out}
 use Rattle.spawn.specs.Table.{holder_of}
+use Rattle.spawn.specs.declared.records.phase.Phase.TheVariants as recorded
 use Rattle.spawn.specs.declared.records.spawn_rec.SpawnRec.{SpawnRec}
 use Rattle.spawn.specs.declared.tables.holder.Holder.{Holder}
 use Rattle.spawn.specs.declared.tables.holder.Holder.TheVariants as held_by
@@ -31,18 +27,20 @@ use Rattle.merge.proofs.PutRows.{put_of_rows}
 use Rattle.merge.specs.PlainPut.{merged_rows}
 use Rattle.merge.specs.Put as putting
 use Rattle.merge.specs.Shape.{Fits}
-use Rattle.master_core.proofs.Recorded.{found_merged, merged_at_place, merged_if, number_is}
+use Rattle.master_core.proofs.Recorded.{found_phase, number_is, phase_at_place, phase_if}
 use Rattle.master_core.specs.Master as master
 use Rattle.master_core.specs.Messages as master_messages
+use Rattle.worker_core.proofs.Closing.{ended_shut, unclosed}
 use Rattle.worker_core.specs.Worker as worker
 use Rattle.worker_core.specs.declared.entry.Entry.{Entry}
 use Rattle.world.proofs.Agreeing.{Agrees, StepsAgree}
 use Rattle.world.proofs.Cases.{split, when_false, when_true}
 use Rattle.world.proofs.Doors.{entry_kept, held_part, master_refuses_nothing, return_fits, returned_part}
-use Rattle.world.proofs.HeldBySpawn.{good_record, held_claims, held_spawn}
+use Rattle.world.proofs.HeldBySpawn.{held_spawn}
 use Rattle.world.proofs.MasterEdits.{touch_as}
 use Rattle.world.proofs.MasterSpawns.{told_as, told_stays, told_there, with_told}
 use Rattle.world.proofs.MasterSteps.{with_master}
+use Rattle.world.proofs.OutThere.{IsOutThere, claimed_place, good_of, holds_claim, holds_it, out_there, parent_free, parent_is}
 use Rattle.world.proofs.PartHolds.{claims}
 use Rattle.world.proofs.Resends.{spawn_found}
 use Rattle.world.proofs.ShopPaths.{same_shop}
@@ -65,22 +63,12 @@ use Rattle.world_items.specs.declared.word.Word.TheVariants.{NoMessage}
 
 -- the part of a spawn that is out comes back as its entry has it, and fits
 record ComesBack (c : Controllers) (r : SpawnRec) (p : Copied) : Type 0 where
-  kept : master.IsKept c.master
-  recorded : master.record_of c.master.records r.id ≡ Some r
-  out : is_out r ≡ true
+  there : IsOutThere c r
   fits : Fits c.master.ticket r p
   entry : Entry
   entered : entry_for c r ≡ Some entry
   part : entry.part ≡ Some p
   not_closed : worker.is_closed entry ≡ false
-  above : List ℕ
-  is_above : up (node_places c.master.ticket.rows) r.node ≡ Some above
-
-good_of : (c : Controllers) (r : SpawnRec) (p : Copied) → ComesBack c r p → IsGood c.master.ticket.rows r
-good_of c r p h = good_record c.master r.id r h.kept h.recorded h.out
-
-parent_is : (c : Controllers) (r : SpawnRec) (p : Copied) → (h : ComesBack c r p) → parent_of c.master.ticket.rows r.node ≡ h.above
-parent_is c r p h = ap (λ o. option_map_or (λ u. u) o []) h.is_above
 
 -- the controllers once it is put in
 abbrev back_in : Controllers → SpawnRec → Copied → ℕ → Controllers
@@ -90,25 +78,18 @@ back_in c r p at = with_master c (master_messages.merged p at c.master r)
 abbrev told_of : Controllers → SpawnRec → ℕ → Audit
 told_of c r at = acts.merged_audit (spawn_shown c r) at
 
--- whether the spawn holds what has an id
-abbrev holds_it : Controllers → SpawnRec → List ℕ → Bool
-holds_it c r x = acts.is_held_by r.id (master.holder c.master) x
-
-holds_claim : (c : Controllers) (r : SpawnRec) (p : Copied) (x : List ℕ) → ComesBack c r p → holds_it c r x ≡ claims c.master.ticket r x
-holds_claim c r p x h = held_claims c.master r.id r x h.kept h.recorded h.out
-
 -- ---- entries and spawns
 
 -- each entry is found as before
 entry_stays : (c : Controllers) (r : SpawnRec) (p : Copied) (at t : ℕ) → entry_of_spawn (back_in c r p at) t ≡ entry_of_spawn c t
 entry_stays c r p at t =
-    ap (option_and_then (entry_for (back_in c r p at))) (found_merged r.id c.master.records t) ∙ by (master.record_of c.master.records t)
+    ap (option_and_then (entry_for (back_in c r p at))) (found_phase recorded.Merged r.id c.master.records t) ∙ by (master.record_of c.master.records t)
   where
     either : (b : Bool) (q : SpawnRec) → entry_for (back_in c r p at) (cond b (master.merged_record q) q) ≡ entry_for c q
     either true q = refl
     either false q = refl
 
-    by : (o : Option SpawnRec) → option_and_then (entry_for (back_in c r p at)) (option_map (merged_if r.id) o) ≡ option_and_then (entry_for c) o
+    by : (o : Option SpawnRec) → option_and_then (entry_for (back_in c r p at)) (option_map (phase_if recorded.Merged r.id) o) ≡ option_and_then (entry_for c) o
     by None = refl
     by (Some q) = either (master.is_of r.id q) q
 
@@ -117,7 +98,7 @@ spawn_put : (c : Controllers) (r : SpawnRec) (p : Copied) (at : ℕ) (b : Bool) 
     → spawn_shown (back_in c r p at) (cond b (master.merged_record q) q) ≡ cond b (record (spawn_shown c q) { phase = plain.Merged }) (spawn_shown c q)
 spawn_put c r p at true q h own =
     ap (λ phase. record (spawn_shown c q) { phase = phase })
-    (ap (λ (y : SpawnRec). phase_shown false (entry_for c y)) (own refl) ∙ ap (phase_shown false) h.entered ∙ when_false (worker.is_closed h.entry) plain.Closed plain.Merged h.not_closed)
+    (ap (λ (y : SpawnRec). phase_shown recorded.Merged (entry_for c y)) (own refl) ∙ ap (phase_shown recorded.Merged) h.entered ∙ when_false (worker.is_closed h.entry) plain.Closed plain.Merged h.not_closed)
 spawn_put c r p at false q h own = refl
 
 -- each other is shown as before
@@ -129,7 +110,7 @@ all_put c r p at (q ∷ records) h only =
     ∙ ap (λ spawns. cond (q.id == r.id) (record (spawn_shown c q) { phase = plain.Merged }) (spawn_shown c q) ∷ spawns) (all_put c r p at records h (All-tail (λ (y : SpawnRec). y.id ≡ r.id → y ≡ r) q records only))
 
 spawns_put : (c : Controllers) (r : SpawnRec) (p : Copied) (at : ℕ) → ComesBack c r p → map (spawn_shown (back_in c r p at)) (master.with_merged r.id c.master.records) ≡ acts.in_phase plain.Merged r.id (map (spawn_shown c) c.master.records)
-spawns_put c r p at h = all_put c r p at c.master.records h (only_record c.master.records r.id r h.kept.numbered h.recorded)
+spawns_put c r p at h = all_put c r p at c.master.records h (only_record c.master.records r.id r h.there.kept.numbered h.there.recorded)
 
 -- ---- rows that are seen
 
@@ -137,14 +118,14 @@ spawns_put c r p at h = all_put c r p at c.master.records h (only_record c.maste
 now_held : (c : Controllers) (r : SpawnRec) (p : Copied) (x : List ℕ) → ComesBack c r p → holds_it c r x ≡ true → now_shown c x ≡ part_row p x
 now_held c r p x h held =
     ap (row_at c x) (held_spawn r.id (master.holder c.master x) held)
-    ∙ ap (λ o. option_map_or (λ q. part_row q x) (option_and_then (λ (e : Entry). e.part) o) (seen_shown c x)) (ap (option_and_then (entry_for c)) h.recorded ∙ h.entered)
+    ∙ ap (λ o. option_map_or (λ q. part_row q x) (option_and_then (λ (e : Entry). e.part) o) (seen_shown c x)) (ap (option_and_then (entry_for c)) h.there.recorded ∙ h.entered)
     ∙ ap (λ o. option_map_or (λ q. part_row q x) o (seen_shown c x)) h.part
 
 rows_put : (c : Controllers) (r : SpawnRec) (p : Copied) (x : List ℕ) → ComesBack c r p → merged_rows c.master.ticket r p x ≡ acts.put_in r.id (shop_shown c) x
 rows_put c r p x h =
     let claimed = claims c.master.ticket r x in
     let seen = seen_shown c x in
-    let is = holds_claim c r p x h in
+    let is = holds_claim c r x h.there in
     split (holds_it c r x)
     (λ held. when_true claimed (part_row p x) seen (sym is ∙ held) ∙ sym (now_held c r p x h held) ∙ sym (when_true (holds_it c r x) (now_shown c x) seen held))
     (λ free. when_false claimed (part_row p x) seen (sym is ∙ free) ∙ sym (when_false (holds_it c r x) (now_shown c x) seen free))
@@ -152,66 +133,49 @@ rows_put c r p x h =
 seen_put : (c : Controllers) (r : SpawnRec) (p : Copied) (at : ℕ) (x : List ℕ) → ComesBack c r p → seen_shown (back_in c r p at) x ≡ acts.told_above (places c.master.ticket.rows) r.node (told_of c r at) (acts.put_in r.id (shop_shown c)) x
 seen_put c r p at x h =
     let t = c.master.ticket in
-    put_of_rows t r p at h.kept.valid (good_of c r p h) h.fits x
-    ∙ ap (λ u. touch u (with_told (told_of c r at)) (merged_rows t r p) x) (parent_is c r p h)
-    ∙ touch_as h.above (with_told (told_of c r at)) (merged_rows t r p) (acts.put_in r.id (shop_shown c)) x (rows_put c r p x h)
-    ∙ sym (told_there (places t.rows) r.node h.above (told_of c r at) (acts.put_in r.id (shop_shown c)) x h.is_above)
+    put_of_rows t r p at h.there.kept.valid (good_of c r h.there) h.fits x
+    ∙ ap (λ u. touch u (with_told (told_of c r at)) (merged_rows t r p) x) (parent_is c r h.there)
+    ∙ touch_as h.there.above (with_told (told_of c r at)) (merged_rows t r p) (acts.put_in r.id (shop_shown c)) x (rows_put c r p x h)
+    ∙ sym (told_there (places t.rows) r.node h.there.above (told_of c r at) (acts.put_in r.id (shop_shown c)) x h.there.is_above)
 
 -- ---- holders
-
-claimed_place : (r : SpawnRec) (o : Option Place) → option_map_or (is_claimed r.node r.rw) o false ≡ true → (q : Place) × (o ≡ Some q) × (is_claimed r.node r.rw q ≡ true)
-claimed_place r None e = absurd (true≢false (sym e))
-claimed_place r (Some q) e = (q, refl, e)
 
 -- the master holds what the spawn held, and all else has the holder that it had
 holder_put : (c : Controllers) (r : SpawnRec) (p : Copied) (at : ℕ) (x : List ℕ) → ComesBack c r p → master.holder (back_in c r p at).master x ≡ acts.given_back r.id (master.holder c.master) x
 holder_put c r p at x h =
     let m = c.master in
     let t = m.ticket in
-    let place = placed (master.is_of r.id) m.records r h.recorded in
-    let is = holds_claim c r p x h in
-    ap (λ recs. holder_of (putting.put t r p at).rows recs x) (merged_at_place m.records place.place r h.kept.numbered place.there)
+    let place = placed (master.is_of r.id) m.records r h.there.recorded in
+    let is = holds_claim c r x h.there in
+    ap (λ recs. holder_of (putting.put t r p at).rows recs x) (phase_at_place recorded.Merged m.records place.place r h.there.kept.numbered place.there)
     ∙ split (holds_it c r x)
     (λ held.
     let q = claimed_place r (place_at (places t.rows) x) (sym is ∙ held) in
-    merged_claim_is_masters t m.records place.place r p at h.kept.valid h.kept.apart place.there h.out h.fits x q.0 q.1 q.2
+    merged_claim_is_masters t m.records place.place r p at h.there.kept.valid h.there.kept.apart place.there h.there.out h.fits x q.0 q.1 q.2
     ∙ sym (when_true (holds_it c r x) (Some held_by.Master) (master.holder m x) held))
     (λ free.
-    merge_keeps_others t m.records place.place r p at h.kept.valid h.kept.apart place.there h.out h.fits x (sym is ∙ free)
+    merge_keeps_others t m.records place.place r p at h.there.kept.valid h.there.kept.apart place.there h.there.out h.fits x (sym is ∙ free)
     ∙ sym (when_false (holds_it c r x) (Some held_by.Master) (master.holder m x) free))
 
 -- ---- rows now
-
--- what a spawn holds isn't the parent of the node
-parent_free : (c : Controllers) (r : SpawnRec) (p : Copied) (x : List ℕ) (t : ℕ) → (h : ComesBack c r p) → master.holder c.master x ≡ Some (held_by.Spawn t) → bytes_eq h.above x ≡ false
-parent_free c r p x t h held =
-    let m = c.master in
-    let place = placed (master.is_of r.id) m.records r h.recorded in
-    let masters : master.holder m h.above ≡ Some held_by.Master = ap (master.holder m) (sym (parent_is c r p h)) ∙ parent_is_masters m.ticket.rows m.records h.kept.valid h.kept.apart place.place r place.there h.out in
-    split (bytes_eq h.above x)
-    (λ same. not_both (master.holder m x) (ap (master.holder m) (sym ((bytes_eq-Decides h.above x).0 same)) ∙ masters) held)
-    (λ other. other)
-  where
-    not_both : {P : Type 0} (o : Option Holder) → o ≡ Some held_by.Master → o ≡ Some (held_by.Spawn t) → P
-    not_both o a b = cc
 
 -- what the spawn doesn't hold is now as it was, but for the audit
 now_elsewhere : (c : Controllers) (r : SpawnRec) (p : Copied) (at : ℕ) (x : List ℕ) (o : Option Holder) → ComesBack c r p → holds_it c r x ≡ false → master.holder c.master x ≡ o
     → row_at (back_in c r p at) x o ≡ acts.told_above (places c.master.ticket.rows) r.node (told_of c r at) (now_shown c) x
 now_elsewhere c r p at x None h free is =
     let put = when_false (holds_it c r x) (now_shown c x) (seen_shown c x) free in
-    seen_put c r p at x h ∙ told_as (places c.master.ticket.rows) r.node h.above (told_of c r at) (acts.put_in r.id (shop_shown c)) (now_shown c) x h.is_above (put ∙ sym (ap (row_at c x) is))
+    seen_put c r p at x h ∙ told_as (places c.master.ticket.rows) r.node h.there.above (told_of c r at) (acts.put_in r.id (shop_shown c)) (now_shown c) x h.there.is_above (put ∙ sym (ap (row_at c x) is))
 now_elsewhere c r p at x (Some held_by.Master) h free is =
     let put = when_false (holds_it c r x) (now_shown c x) (seen_shown c x) free in
-    seen_put c r p at x h ∙ told_as (places c.master.ticket.rows) r.node h.above (told_of c r at) (acts.put_in r.id (shop_shown c)) (now_shown c) x h.is_above (put ∙ sym (ap (row_at c x) is))
+    seen_put c r p at x h ∙ told_as (places c.master.ticket.rows) r.node h.there.above (told_of c r at) (acts.put_in r.id (shop_shown c)) (now_shown c) x h.there.is_above (put ∙ sym (ap (row_at c x) is))
 now_elsewhere c r p at x (Some (held_by.Spawn t)) h free is =
     let tree = places c.master.ticket.rows in
     let told = told_of c r at in
     let put = when_false (holds_it c r x) (now_shown c x) (seen_shown c x) free in
-    let other = parent_free c r p x t h is in
+    let other = parent_free c r x t h.there is in
     ap (λ o. option_map_or (λ q. part_row q x) (option_and_then (λ (e : Entry). e.part) o) (seen_shown (back_in c r p at) x)) (entry_stays c r p at t)
-    ∙ ap (option_map_or (λ q. part_row q x) (part_of_spawn c t)) (seen_put c r p at x h ∙ told_stays tree r.node h.above told (acts.put_in r.id (shop_shown c)) x h.is_above other ∙ put)
-    ∙ sym (told_stays tree r.node h.above told (now_shown c) x h.is_above other ∙ ap (row_at c x) is)
+    ∙ ap (option_map_or (λ q. part_row q x) (part_of_spawn c t)) (seen_put c r p at x h ∙ told_stays tree r.node h.there.above told (acts.put_in r.id (shop_shown c)) x h.there.is_above other ∙ put)
+    ∙ sym (told_stays tree r.node h.there.above told (now_shown c) x h.there.is_above other ∙ ap (row_at c x) is)
 
 now_put : (c : Controllers) (r : SpawnRec) (p : Copied) (at : ℕ) (x : List ℕ) → ComesBack c r p → now_shown (back_in c r p at) x ≡ acts.told_above (places c.master.ticket.rows) r.node (told_of c r at) (now_shown c) x
 now_put c r p at x h =
@@ -221,7 +185,7 @@ now_put c r p at x h =
     ∙ split (holds_it c r x)
     (λ held.
     ap (row_at d x) (when_true (holds_it c r x) (Some held_by.Master) o held) ∙ seen_put c r p at x h
-    ∙ told_as (places c.master.ticket.rows) r.node h.above (told_of c r at) (acts.put_in r.id (shop_shown c)) (now_shown c) x h.is_above (when_true (holds_it c r x) (now_shown c x) (seen_shown c x) held))
+    ∙ told_as (places c.master.ticket.rows) r.node h.there.above (told_of c r at) (acts.put_in r.id (shop_shown c)) (now_shown c) x h.there.is_above (when_true (holds_it c r x) (now_shown c x) (seen_shown c x) held))
     (λ free. ap (row_at d x) (when_false (holds_it c r x) (Some held_by.Master) o free) ∙ now_elsewhere c r p at x o h free refl)
 
 -- ---- the step
@@ -260,7 +224,7 @@ back_by true c message p at r number back answered =
             master = refl;
             workers = refl;
             job = refl;
-            tree = put_of_places c.master.ticket r p at h.kept.valid (good_of c r p h) h.fits;
+            tree = put_of_places c.master.ticket r p at h.there.kept.valid (good_of c r h.there) h.fits;
             seen = λ x. seen_put c r p at x h;
             now = λ x. now_put c r p at x h;
             holder = λ x. holder_put c r p at x h;
@@ -283,26 +247,21 @@ comes_back w sender receiver sent p ok h out =
     let number = number_is c.master.records p.spawn_id r h.recorded in
     let recorded : master.record_of c.master.records r.id ≡ Some r = ap (master.record_of c.master.records) number ∙ h.recorded in
     let ended = and_found _ (entry_for c r) h.says in
-    let held = held_part c r ended.0 ok.recorded recorded ended.1 out in
+    let held = held_part c r ended.0 ok.recorded recorded ended.1 out (ended_shut ended.0 ended.2.0).1 in
     let kept = entry_kept c r.worker r.id ended.0 ok.workers ended.1 in
-    let above = some_of (up (node_places c.master.ticket.rows) r.node) (good_record c.master r.id r ok.master recorded out).has_parent in
     record {
-      kept = ok.master;
-      recorded = recorded;
-      out = out;
+      there = out_there c r ok.master recorded out;
       fits = return_fits c p sender receiver sent ok.recorded h out;
       entry = ended.0;
       entered = ended.1;
       part = held.1 ∙ ap Some (sym (returned_part r.worker c.master.name sender receiver sent ended.0 p held.0 held.1 ended.2.1));
-      not_closed = not-true _ (sym kept.held ∙ ap is_some held.1);
-      above = above.0;
-      is_above = above.1;
+      not_closed = unclosed ended.0 (sym kept.held ∙ ap is_some held.1);
     }
 
 -- its spawn is shown as finished while it is out
-done_shown : (c : Controllers) (r : SpawnRec) (e : Entry) → entry_for c r ≡ Some e → worker.is_open e ≡ false → plain.is_done (spawn_shown c r).phase ≡ is_out r
+done_shown : (c : Controllers) (r : SpawnRec) (e : Entry) → entry_for c r ≡ Some e → worker.is_ended e ≡ true → plain.is_done (spawn_shown c r).phase ≡ is_out r
 done_shown c r e found ended =
-    ap (λ o. plain.is_done (phase_shown (is_out r) o)) found ∙ (phase_of_entry (is_out r) e).done_so ∙ ap (λ b. is_out r && not b) ended ∙ and_all (is_out r)
+    ap (λ o. plain.is_done (phase_shown r.phase o)) found ∙ (phase_of_entry r.phase e).done_so ∙ ap (λ b. is_out r && b) ended ∙ and_all (is_out r)
 
 pub part_is_put_in : (w : State) (sender receiver : List ℕ) (sent : ℕ) (p : Copied) (at : ℕ) → IsKept w → Contains w.messages (record { sender = sender; receiver = receiver; at = sent; body = Return p })
     → StepsAgree (Ok (master_moved w.controllers (taken_by_master (record { sender = sender; receiver = receiver; at = sent; body = Return p }) at w.controllers.master))) (shop.message_comes at (shop_shown w.controllers) (shop.Return p.spawn_id))
@@ -318,7 +277,7 @@ part_is_put_in w sender receiver sent p at ok there =
     let again = shop.sends (reply.Already r.id) s (shop.ToReturn r.id) in
     subst (StepsAgree (Ok (master_moved c (taken_by_master m at c.master))))
     (sym (ap (λ o. option_map_or (λ a. Ok (shop.return_comes at s a)) o (Err NoMessage)) (spawn_found c p.spawn_id ∙ ap (option_map (spawn_shown c)) h.recorded)))
-    (subst (λ why. Agrees (master_moved c (step_by c.master m p at why (master.record_of c.master.records p.spawn_id))) (shop.return_comes at s (spawn_shown c r))) (sym (master_refuses_nothing c m ok.recorded refl h))
+    (subst (λ why. Agrees (master_moved c (step_by c.master m p at why (master.record_of c.master.records p.spawn_id))) (shop.return_comes at s (spawn_shown c r))) (sym (master_refuses_nothing c m ok.recorded ok.back refl h))
     (subst (λ o. Agrees (master_moved c (step_by c.master m p at None o)) (shop.return_comes at s (spawn_shown c r))) (sym h.recorded)
     (subst (λ b. Agrees (master_moved c (step_on c.master m p at r (is_out r))) (cond b merges again)) (sym (done_shown c r ended.0 ended.1 ended.2.0))
     (back_by (is_out r) c m p at r number (comes_back w sender receiver sent p ok h) refl))))

@@ -1,10 +1,11 @@
 -- A part that comes to its worker: the controllers' step and the shop's agree.
-use Rattle.std.proofs.Common.{◌≡◌, ◌==◌, ◌∙◌, ℕ, true, false, cond, List, [], ◌∷◌, ◌++◌, map, Option, Some, None, Ok, Err, is_some, refl, sym, ap, subst}
+use Rattle.std.proofs.Common.{◌≡◌, ◌==◌, ◌∙◌, ℕ, Bool, true, false, cond, not, List, [], ◌∷◌, ◌++◌, map, Option, Some, None, Ok, Err, is_some, refl, sym, ap, subst}
 use Rattle.std.proofs.lemmas.Bool.{eq-eqb, eqb-false, ne_eqb}
 use Rattle.std.proofs.lemmas.List.Elements.{All-contains}
 use Rattle.std.proofs.lemmas.List.Folds.{find-append}
 use Rattle.std.specs.List.{Contains}
 use Rattle.std.specs.Option.{option_and_then, option_map, option_map_or, option_or}
+use Rattle.ticket_items.proofs.Places.{same_found}
 use Rattle.ticket_items.specs.declared.refusal.Refusal.{Refusal}
 use Rattle.ticket_rows.specs.Place.{Place, place_at, places, row_in}
 use Rattle.ticket_tree.specs.Part.{Copied}
@@ -24,7 +25,7 @@ use Rattle.spawn.specs.declared.tables.holder.Holder.TheVariants.{Master, Spawn}
 use Rattle.master_core.proofs.Recorded.{number_is}
 use Rattle.master_core.specs.Master as master
 use Rattle.worker_core.proofs.AtNumber.{found_holds}
-use Rattle.worker_core.specs.Messages.{taken_answer}
+use Rattle.worker_core.specs.Messages.{again_reply, taken_answer}
 use Rattle.worker_core.specs.Worker as worker
 use Rattle.worker_core.specs.declared.entry.Entry.{Entry}
 use Rattle.world.proofs.Agreeing.{Agrees, StepsAgree}
@@ -36,10 +37,10 @@ use Rattle.world.proofs.Resends.{spawn_found}
 use Rattle.world.proofs.SameWorkers.{stored_same}
 use Rattle.world.proofs.ShopPaths.{same_shop}
 use Rattle.world.proofs.Stored.{and_found}
-use Rattle.world.proofs.TakenSpawns.{phase_away, phase_of_entry}
+use Rattle.world.proofs.TakenSpawns.{phase_away, phase_of_entry, phase_out, taken_of_entry}
 use Rattle.world.specs.Controllers.{Controllers, entry_at, is_named, worker_of}
-use Rattle.world.specs.Messages.{HasComeBack, IsInOrder, entry_for}
-use Rattle.world.specs.Shop.{Open, is_away}
+use Rattle.world.specs.Messages.{HasComeBack, IsBack, IsInOrder, entry_for}
+use Rattle.world.specs.Shop.{Open, is_away, is_taken}
 use Rattle.world.specs.ShopActs.{in_phase, taken}
 use Rattle.world.specs.ShopSteps as shop
 use Rattle.world.specs.Showing.{entry_of_spawn, phase_shown, row_at, seen_shown, shop_shown, spawn_shown, tag_of}
@@ -57,7 +58,7 @@ part_sent sender v sent p = record { sender = sender; receiver = v.name; at = se
 abbrev step_by : worker.Known → Message → Copied → ℕ → Option Refusal → Option Entry → Step worker.Known Message
 step_by v m p at why o =
     record {
-      reply = refused_or why (cond (is_some o) (reply.Again p.spawn_id) (reply.Taken p.spawn_id));
+      reply = refused_or why (option_map_or (again_reply p.spawn_id) o (reply.Taken p.spawn_id));
       next = cond (is_some why) v (record v { entries = cond (is_some o) v.entries (v.entries ++ worker.new_entry p at ∷ []) });
       sent = taken_answer m at v;
     }
@@ -87,32 +88,43 @@ held_claimed m s r x ok found held = by (place_at (places m.ticket.rows) x) refl
 
 -- ---- a part of which there is an entry
 
-taken_again : (w : State) (v : worker.Known) (m : Message) (p : Copied) (at : ℕ) (r : SpawnRec) (e : Entry) → IsKept w → worker_of w.controllers.workers v.name ≡ Some v → r.id ≡ p.spawn_id → entry_for w.controllers r ≡ Some e
+flipped : {X : Type 0} (b : Bool) (x y : X) → cond (not b) x y ≡ cond b y x
+flipped true x y = refl
+flipped false x y = refl
+
+-- it is taken as one that came again, or was declined, just as its spawn is shown
+pub again_shown : (c : Controllers) (s : ℕ) (r : SpawnRec) (e : Entry) → r.id ≡ s → HasComeBack c r → entry_for c r ≡ Some e → again_reply s e ≡ shop.again (spawn_shown c r)
+again_shown c s r e number back entered =
+    let known = λ (isn't : is_out r ≡ false). let there = and_found (IsBack r.phase) (entry_for c r) (back isn't) in subst (IsBack r.phase) (same_found there.0 e (entry_for c r) there.1 entered) there.2 in
+    ap (λ n. again_reply n e) (sym number)
+    ∙ sym (flipped (worker.is_declined e) (reply.Again r.id) (reply.Declined r.id))
+    ∙ sym (ap (λ b. cond b (reply.Again r.id) (reply.Declined r.id)) (ap (λ o. is_taken (phase_shown r.phase o)) entered ∙ taken_of_entry r.phase e known))
+
+taken_again : (w : State) (v : worker.Known) (m : Message) (p : Copied) (at : ℕ) (r : SpawnRec) (e : Entry) → IsKept w → worker_of w.controllers.workers v.name ≡ Some v → r.id ≡ p.spawn_id → HasComeBack w.controllers r → entry_for w.controllers r ≡ Some e
     → option_map tag_of (taken_answer m at v) ≡ Some (shop.ToSubmit p.spawn_id)
     → Agrees (worker_moved w.controllers v (step_by v m p at None (Some e))) (shop.submit_comes (shop_shown w.controllers) (spawn_shown w.controllers r))
-taken_again w v m p at r e ok found number entered answered =
+taken_again w v m p at r e ok found number back entered answered =
     let c = w.controllers in
     let s = shop_shown c in
-    subst (λ b. Agrees (worker_moved c v (step_by v m p at None (Some e))) (cond b (shop.sends (reply.Taken r.id) (taken r.id s) (shop.ToSubmit r.id)) (shop.sends (reply.Again r.id) s (shop.ToSubmit r.id))))
-    (sym (ap (λ o. is_away (phase_shown (is_out r) o)) entered ∙ (phase_of_entry (is_out r) e).away))
+    subst (λ b. Agrees (worker_moved c v (step_by v m p at None (Some e))) (cond b (shop.sends (reply.Taken r.id) (taken r.id s) (shop.ToSubmit r.id)) (shop.sends (shop.again (spawn_shown c r)) s (shop.ToSubmit r.id))))
+    (sym (ap (λ o. is_away (phase_shown r.phase o)) entered ∙ (phase_of_entry r.phase e).away))
     (record {
-      reply = ap (λ n. Ok (reply.Again n)) (sym number);
+      reply = ap Ok (again_shown c p.spawn_id r e number back entered);
       next = ap shop_shown (stored_same w v.name v ok found);
       sent = answered ∙ ap (λ n. Some (shop.ToSubmit n)) (sym number);
     })
 
 -- ---- a part of which there is none
 
-entry_behind : (entries : List Entry) (p : Copied) (at : ℕ) → worker.entry_of entries p.spawn_id ≡ None → worker.entry_of (entries ++ worker.new_entry p at ∷ []) p.spawn_id ≡ Some (worker.new_entry p at)
-entry_behind entries p at missing =
-    let new = worker.new_entry p at in
-    find-append (worker.is_of p.spawn_id) entries (new ∷ []) ∙ ap (λ o. option_or o (worker.entry_of (new ∷ []) p.spawn_id)) missing
-    ∙ ap (λ b. cond b (Some new) None) (eq-eqb p.spawn_id p.spawn_id refl)
+-- one that is pushed is found behind all others, which are found as before
+pub entry_behind : (entries : List Entry) (new : Entry) (s : ℕ) → new.spawn_id ≡ s → worker.entry_of entries s ≡ None → worker.entry_of (entries ++ new ∷ []) s ≡ Some new
+entry_behind entries new s own missing =
+    find-append (worker.is_of s) entries (new ∷ []) ∙ ap (λ o. option_or o (worker.entry_of (new ∷ []) s)) missing
+    ∙ ap (λ b. cond b (Some new) None) (eq-eqb new.spawn_id s own)
 
-entry_before : (entries : List Entry) (p : Copied) (at t : ℕ) → (t == p.spawn_id) ≡ false → worker.entry_of (entries ++ worker.new_entry p at ∷ []) t ≡ worker.entry_of entries t
-entry_before entries p at t other =
-    let new = worker.new_entry p at in
-    let away : (p.spawn_id == t) ≡ false = ne_eqb p.spawn_id t (λ same. eqb-false t p.spawn_id other (sym same)) in
+pub entry_before : (entries : List Entry) (new : Entry) (s t : ℕ) → new.spawn_id ≡ s → (t == s) ≡ false → worker.entry_of (entries ++ new ∷ []) t ≡ worker.entry_of entries t
+entry_before entries new s t own other =
+    let away : (new.spawn_id == t) ≡ false = ne_eqb new.spawn_id t (λ same. eqb-false t s other (sym same ∙ own)) in
     find-append (worker.is_of t) entries (new ∷ []) ∙ ap (λ b. option_or (worker.entry_of entries t) (cond b (Some new) None)) away ∙ or_nothing (worker.entry_of entries t)
   where
     or_nothing : {X : Type 0} (o : Option X) → option_or o None ≡ o
@@ -120,7 +132,7 @@ entry_before entries p at t other =
     or_nothing (Some x) = refl
 
 -- its spawn is out, since what was put in has an entry
-out_still : (c : Controllers) (r : SpawnRec) → HasComeBack c r → entry_for c r ≡ None → is_out r ≡ true
+pub out_still : (c : Controllers) (r : SpawnRec) → HasComeBack c r → entry_for c r ≡ None → is_out r ≡ true
 out_still c r back missing =
     split (is_out r)
     (λ out. out)
@@ -160,14 +172,14 @@ newly_taken w v m p at r ok found recorded named made missing none answered =
       old = v;
       found = found;
       own = refl;
-      others = entry_before v.entries p at;
-      stored = entry_behind v.entries p at missing;
+      others = λ t other. entry_before v.entries new p.spawn_id t refl other;
+      stored = entry_behind v.entries new p.spawn_id refl missing;
       recorded = recorded;
       named = named;
       numbered = ok.master.numbered;
     } in
-    subst (λ b. Agrees (worker_moved c v (step_by v m p at None None)) (cond b (shop.sends (reply.Taken r.id) (taken r.id s) (shop.ToSubmit r.id)) (shop.sends (reply.Again r.id) s (shop.ToSubmit r.id))))
-    (sym (phase_away (is_out r) (entry_for c r) none out))
+    subst (λ b. Agrees (worker_moved c v (step_by v m p at None None)) (cond b (shop.sends (reply.Taken r.id) (taken r.id s) (shop.ToSubmit r.id)) (shop.sends (shop.again (spawn_shown c r)) s (shop.ToSubmit r.id))))
+    (sym (phase_away r.phase (entry_for c r) none out))
     (record {
       reply = ap (λ n. Ok (reply.Taken n)) (sym number);
       next =
@@ -180,7 +192,7 @@ newly_taken w v m p at r ok found recorded named made missing none answered =
             seen = λ x. refl;
             now = λ x. row_stored c v.name p.spawn_id next new r stored (λ o. o) x (master.holder c.master x) (part_as_seen c p r x ok.master recorded out (made out) none) (λ not_own. refl);
             holder = λ x. refl;
-            spawns = spawns_stored c v.name p.spawn_id next new r Open stored (ap (λ b. phase_shown b (Some new)) out)
+            spawns = spawns_stored c v.name p.spawn_id next new r Open stored (ap (λ phase. phase_shown phase (Some new)) (phase_out r.phase out))
                 ∙ ap (λ n. in_phase Open n (map (spawn_shown c) c.master.records)) (sym number);
           });
       sent = answered ∙ ap (λ n. Some (shop.ToSubmit n)) (sym number);
@@ -210,5 +222,5 @@ part_is_taken w v sender sent p at ok found there =
     (sym (ap (λ o. option_map_or (λ a. Ok (shop.submit_comes plain a)) o (Err NoMessage)) (spawn_found c p.spawn_id ∙ ap (option_map (spawn_shown c)) h.recorded)))
     (subst (λ why. Agrees (worker_moved c v (step_by v m p at why own)) (shop.submit_comes plain (spawn_shown c r))) (sym (worker_refuses_nothing c v m found refl knows refl h))
     (split_some own
-    (λ e has. subst (λ o. Agrees (worker_moved c v (step_by v m p at None o)) (shop.submit_comes plain (spawn_shown c r))) (sym has) (taken_again w v m p at r e ok found number (entered ∙ has) refl))
+    (λ e has. subst (λ o. Agrees (worker_moved c v (step_by v m p at None o)) (shop.submit_comes plain (spawn_shown c r))) (sym has) (taken_again w v m p at r e ok found number (found_holds (HasComeBack c) (master.is_of p.spawn_id) c.master.records r h.recorded ok.back) (entered ∙ has) refl))
     (λ missing. subst (λ o. Agrees (worker_moved c v (step_by v m p at None o)) (shop.submit_comes plain (spawn_shown c r))) (sym missing) (newly_taken w v m p at r ok found h.recorded (sym h.to) made missing (entered ∙ missing) refl))))

@@ -8,7 +8,7 @@ use Rattle.std.specs.Prelude.{⊤}
 use Rattle.ticket_items.proofs.Places.{same_found}
 use Rattle.controller.specs.Reply.{answer_to, command_given, spawn_in}
 use Rattle.controller.specs.declared.body.Body.{Body}
-use Rattle.controller.specs.declared.body.Body.TheVariants.{Submit, Return, Answer}
+use Rattle.controller.specs.declared.body.Body.TheVariants.{Submit, Return, Abort, Answer}
 use Rattle.controller.specs.declared.message.Message.{Message}
 use Rattle.controller.specs.declared.queue_status.QueueStatus.{QueueStatus}
 use Rattle.ticket_tree.specs.Part.{Copied}
@@ -19,14 +19,15 @@ use Rattle.worker_core.specs.Orders.{part_return, return_of}
 use Rattle.worker_core.specs.declared.entry.Entry.{Entry}
 use Rattle.world.proofs.Stored.{and_found, found_and}
 use Rattle.world.specs.Controllers.{Controllers}
-use Rattle.world.specs.Messages.{AreInOrder, GiveOneCommand, HasEnded, IsInOrder, IsReturn, SaysRight, entry_for}
+use Rattle.world.specs.Messages.{AreInOrder, GiveOneCommand, HasEnded, IsInOrder, IsReturn, SaysRight, TellsEntry, entry_for}
 
 -- ---- one command
 
--- a part that goes out now is that of a spawn that is out, and one that comes back now is that of an entry, which has it
+-- a part that goes out now is that of a spawn that is out, and one that comes back now is that of an entry, which has it; what gives a spawn up is the same at any time
 abbrev pub IsFresh : Controllers → SpawnRec → Body → Type 0
 IsFresh c r (Submit p) = is_out r ≡ true
 IsFresh c r (Return p) = IsSomeAnd (entry_for c r) (λ e. is_some e.part ≡ true)
+IsFresh c r (Abort s) = ⊤
 IsFresh c r (Answer d s told) = ⊤
 
 same_return : (o : Option Message) (n m : Message) → is_some o ≡ true → IfSome o (λ k. n ≡ k) → IfSome o (λ k. m ≡ k) → n ≡ m
@@ -51,10 +52,16 @@ returned_once c n m r name master hn hm fresh =
 says_one : (c : Controllers) (n m : Message) (r : SpawnRec) (x y : Body) → SaysRight c r n x → SaysRight c r m y → is_some (command_given x) ≡ true → command_given x ≡ command_given y → IsFresh c r y → n ≡ m
 says_one c n m r (Submit p) (Submit q) hn hm given same fresh = hn fresh ∙ sym (hm fresh)
 says_one c n m r (Submit p) (Return q) hn hm given same fresh = cc
+says_one c n m r (Submit p) (Abort s) hn hm given same fresh = cc
 says_one c n m r (Submit p) (Answer d s told) hn hm given same fresh = cc
 says_one c n m r (Return p) (Submit q) hn hm given same fresh = cc
 says_one c n m r (Return p) (Return q) hn hm given same fresh = returned_once c n m r r.worker c.master.name hn hm fresh
+says_one c n m r (Return p) (Abort s) hn hm given same fresh = cc
 says_one c n m r (Return p) (Answer d s told) hn hm given same fresh = cc
+says_one c n m r (Abort s) (Submit q) hn hm given same fresh = cc
+says_one c n m r (Abort s) (Return q) hn hm given same fresh = cc
+says_one c n m r (Abort s) (Abort t) hn hm given same fresh = hn ∙ sym hm
+says_one c n m r (Abort s) (Answer d t told) hn hm given same fresh = cc
 says_one c n m r (Answer d s told) y hn hm given same fresh = cc
 
 one_command : (c : Controllers) (n m : Message) (hn : IsInOrder c n) (hm : IsInOrder c m) → IsFresh c hm.spawn m.body → GiveOneCommand n m → n ≡ m
@@ -90,14 +97,15 @@ one_more_in_order c messages m ok new =
 
 -- ---- answers
 
--- a part that was brought back was put in, and isn't refused
-abbrev pub IsTakenBack : SpawnRec → Result QueueStatus ℕ → Body → Type 0
-IsTakenBack r told (Submit p) = ⊤
-IsTakenBack r told (Return p) = (is_ok told ≡ true) × (is_out r ≡ false)
-IsTakenBack r told (Answer c s said) = ⊤
+-- a part that was brought back was put in, and isn't refused; and where a spawn was to be given up its entry tells what is told
+abbrev pub IsTaken : Controllers → SpawnRec → Result QueueStatus ℕ → Body → Type 0
+IsTaken c r told (Submit p) = ⊤
+IsTaken c r told (Return p) = (is_ok told ≡ true) × (is_out r ≡ false)
+IsTaken c r told (Abort s) = IsSomeAnd (entry_for c r) (TellsEntry told)
+IsTaken c r told (Answer d s said) = ⊤
 
 -- the answer to a message that is in order goes back the same way
-pub answer_is_new : (c : Controllers) (messages : List Message) (name sender receiver : List ℕ) (sent at : ℕ) (body : Body) (told : Result QueueStatus ℕ) → All (IsInOrder c) messages → receiver ≡ name → (h : IsInOrder c (record { sender = sender; receiver = receiver; at = sent; body = body })) → IsTakenBack h.spawn told body
+pub answer_is_new : (c : Controllers) (messages : List Message) (name sender receiver : List ℕ) (sent at : ℕ) (body : Body) (told : Result QueueStatus ℕ) → All (IsInOrder c) messages → receiver ≡ name → (h : IsInOrder c (record { sender = sender; receiver = receiver; at = sent; body = body })) → IsTaken c h.spawn told body
     → IfSome (answer_to name (record { sender = sender; receiver = receiver; at = sent; body = body }) at told) (IsNew c messages)
 answer_is_new c messages name sender receiver sent at (Submit p) told all own h taken =
     new_message c messages _ all (record { spawn = h.spawn; recorded = h.recorded; from = sym own ∙ h.to; to = h.from; says = tt; for_master = tt; for_worker = tt; sound = tt }) tt
@@ -106,4 +114,6 @@ answer_is_new c messages name sender receiver sent at (Return p) told all own h 
     new_message c messages _ all
     (record { spawn = h.spawn; recorded = h.recorded; from = sym own ∙ h.to; to = h.from; says = (taken.0, taken.1, found_and _ (entry_for c h.spawn) ended.0 ended.1 (ended.2.0, tt)); for_master = tt; for_worker = tt; sound = tt })
     tt
+answer_is_new c messages name sender receiver sent at (Abort s) told all own h taken =
+    new_message c messages _ all (record { spawn = h.spawn; recorded = h.recorded; from = sym own ∙ h.to; to = h.from; says = taken; for_master = tt; for_worker = tt; sound = tt }) tt
 answer_is_new c messages name sender receiver sent at (Answer d s t) told all own h taken = tt

@@ -44,7 +44,7 @@ by_receiver : (mine : Bool) (m : Message) (at : ℕ) (w : State) → bytes_eq m.
 by_receiver mine m at w is said = subst (λ b. Said w (cond b (master_takes m at w) (worker_takes m at w))) (sym is) said
 
 taken_by : (theirs : Bool) (m : Message) (at : ℕ) (w : State) → worker_messages.is_for_workers m.body ≡ theirs → IsKept w → IsInOrder w.controllers m → Said w (receiver_takes at w m)
-taken_by false m at w mine ok h = by_receiver true m at w (master_receives w m h mine) (master_said m at w (master_refuses_nothing w.controllers m ok.recorded mine h))
+taken_by false m at w mine ok h = by_receiver true m at w (master_receives w m h mine) (master_said m at w (master_refuses_nothing w.controllers m ok.recorded ok.back mine h))
 taken_by true m at w theirs ok h =
     let is = worker_receives w m ok h theirs in
     by_receiver false m at w is.other (worker_said m at w is.by is.found (worker_refuses_nothing w.controllers is.by m is.found is.named is.knows theirs h))

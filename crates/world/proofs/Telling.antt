@@ -7,13 +7,14 @@ use Rattle.ticket_tree.specs.Part.{Copied}
 use Rattle.ticket_tree.specs.PartView.{part_row}
 use Rattle.controller.specs.Reply.{spawn_in}
 use Rattle.controller.specs.declared.body.Body.{Body}
-use Rattle.controller.specs.declared.body.Body.TheVariants.{Submit, Return, Answer}
+use Rattle.controller.specs.declared.body.Body.TheVariants.{Submit, Return, Abort, Answer}
 use Rattle.controller.specs.declared.message.Message.{Message}
 use Rattle.spawn.specs.Parts.{part_for}
 use Rattle.spawn.specs.Records.{is_out}
 use Rattle.spawn.specs.declared.records.spawn_rec.SpawnRec.{SpawnRec}
 use Rattle.master_core.proofs.Recorded.{number_is}
 use Rattle.master_core.specs.Master as master
+use Rattle.worker_core.proofs.Closing.{ended_shut}
 use Rattle.worker_core.specs.Orders.{part_return}
 use Rattle.worker_core.specs.declared.entry.Entry.{Entry}
 use Rattle.world.proofs.Doors.{held_part}
@@ -41,12 +42,13 @@ tells w m r (Return p) ok is found out says =
     let c = w.controllers in
     let ended = and_found _ (entry_for c r) says in
     let e : Entry = ended.0 in
-    let held_as = held_part c r e ok.recorded found ended.1 out in
+    let held_as = held_part c r e ok.recorded found ended.1 out (ended_shut e ended.2.0).1 in
     let q : Copied = held_as.0 in
     let sent = subst (λ o. IfSome (option_map (part_return r.worker c.master.name e.at) o) (λ n. m ≡ n)) held_as.1 ended.2.1 in
     let part : p ≡ q = returned p q (sym is ∙ ap (λ (n : Message). n.body) sent) in
     let has : part_of_spawn c r.id ≡ Some q = ap (option_and_then (λ (f : Entry). f.part)) (ap (option_and_then (entry_for c)) found ∙ ended.1) ∙ held_as.1 in
     λ x held. ap (λ p'. part_row p' x) part ∙ sym (ap (row_at c x) held ∙ ap (λ o. option_map_or (λ p'. part_row p' x) o (seen_shown c x)) has)
+tells w m r (Abort s) ok is found out says = tt
 tells w m r (Answer command s told) ok is found out says = tt
 
 pub messages_told : (w : State) → IsKept w → AreTold w

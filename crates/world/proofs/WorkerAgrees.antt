@@ -1,18 +1,18 @@
 -- A worker's step and the shop's agree: where it is refused, and where it isn't.
-use Rattle.std.proofs.Common.{◌≡◌, ℕ, Option, Some, None, Ok, refl, sym, ap, subst}
+use Rattle.std.proofs.Common.{◌≡◌, ◌∙◌, ℕ, false, Option, Some, None, Ok, refl, sym, ap, subst}
 use Rattle.std.specs.Option.{option_map_or}
 use Rattle.ticket_items.specs.declared.refusal.Refusal.{Refusal}
 use Rattle.ticket_items.specs.declared.refusal.Refusal.TheVariants.{UnknownEntry}
 use Rattle.controller.specs.declared.message.Message.{Message}
-use Rattle.worker_core.proofs.Refusals.{refused_on}
+use Rattle.worker_core.proofs.Refusals.{of_declined, of_taken, refused_on}
 use Rattle.worker_core.specs.Orders as orders
 use Rattle.worker_core.specs.Worker as worker
 use Rattle.worker_core.specs.declared.entry.Entry.{Entry}
 use Rattle.worker_core.specs.declared.order.Order.{Order}
 use Rattle.world.proofs.Agreeing.{Agrees}
-use Rattle.world.proofs.Cases.{split_some}
+use Rattle.world.proofs.Cases.{split, split_some}
 use Rattle.world.proofs.EntryStored.{worker_as_it_was}
-use Rattle.world.proofs.TakenSpawns.{HasRecord, entry_record, none_shown, taken_shown}
+use Rattle.world.proofs.TakenSpawns.{HasRecord, declined_shown, entry_record, none_shown, taken_shown}
 use Rattle.world.specs.Controllers.{Controllers, worker_of}
 use Rattle.world.specs.Shop.{Shop}
 use Rattle.world.specs.ShopSteps.{Tag, spawn_worked, worker_does}
@@ -32,14 +32,14 @@ pub refused_or_agrees : (c : Controllers) (v : worker.Known) (why : Option Refus
 refused_or_agrees c v None moved plain found go = go refl
 refused_or_agrees c v (Some e) moved plain found go = record { reply = refl; next = worker_as_it_was c v found; sent = refl }
 
--- on an order about a spawn of which the worker has an entry
+-- on an order about a spawn of which the worker has an entry, that wasn't declined
 abbrev pub AgreesThere : State → worker.Known → Order → ℕ → Type 0
 AgreesThere w v o at =
-    (e : Entry) (h : HasRecord w.controllers v.name (orders.spawn_of_order o) e) → worker.entry_of v.entries (orders.spawn_of_order o) ≡ Some e
-    → Agrees (worker_moved w.controllers v (unless_refused (orders.entry_refusal o e) v (record { reply = Ok (orders.order_reply o); next = orders.ordered o at v; sent = orders.order_message o at v })))
+    (e : Entry) (h : HasRecord w.controllers v.name (orders.spawn_of_order o) e) → worker.entry_of v.entries (orders.spawn_of_order o) ≡ Some e → worker.is_declined e ≡ false
+    → Agrees (worker_moved w.controllers v (unless_refused (orders.work_refusal o e) v (record { reply = Ok (orders.order_reply o); next = orders.ordered o at v; sent = orders.order_message o at v })))
     (spawn_worked o at (shop_shown w.controllers) (spawn_shown w.controllers h.spawn))
 
--- where it has none both refuse
+-- where it has none, or has declined the spawn, both refuse
 pub worker_agrees : (w : State) (v : worker.Known) (o : Order) (at : ℕ) → IsKept w → worker_of w.controllers.workers v.name ≡ Some v → AgreesThere w v o at → Agrees (worker_moved w.controllers v (ordered_worker o at v)) (worker_does v.name o at (shop_shown w.controllers))
 worker_agrees w v o at ok found there =
     let c = w.controllers in
@@ -49,10 +49,17 @@ worker_agrees w v o at ok found there =
     split_some (worker.entry_of v.entries s)
     (λ e has_entry.
     let h = entry_record w v.name s v e ok found has_entry in
-    agrees_as c v (ordered_worker o at v) (step (orders.entry_refusal o e)) (worker_does v.name o at p) (spawn_worked o at p (spawn_shown c h.spawn))
-    (ap step (refused_on o v.entries e has_entry))
-    (ap (λ a. option_map_or (spawn_worked o at p) a (refused UnknownEntry p)) (taken_shown c v.name s e h))
-    (there e h has_entry))
+    split (worker.is_declined e)
+    (λ declined.
+    agrees_as c v (ordered_worker o at v) (refused UnknownEntry v) (worker_does v.name o at p) (refused UnknownEntry p)
+    (ap step (refused_on o v.entries e has_entry ∙ of_declined o e declined))
+    (ap (λ a. option_map_or (spawn_worked o at p) a (refused UnknownEntry p)) (declined_shown w v.name s e ok h declined))
+    (record { reply = refl; next = worker_as_it_was c v found; sent = refl }))
+    (λ taken.
+    agrees_as c v (ordered_worker o at v) (step (orders.work_refusal o e)) (worker_does v.name o at p) (spawn_worked o at p (spawn_shown c h.spawn))
+    (ap step (refused_on o v.entries e has_entry ∙ of_taken o e taken))
+    (ap (λ a. option_map_or (spawn_worked o at p) a (refused UnknownEntry p)) (taken_shown c v.name s e h taken))
+    (there e h has_entry taken)))
     (λ none.
     agrees_as c v (ordered_worker o at v) (refused UnknownEntry v) (worker_does v.name o at p) (refused UnknownEntry p)
     (ap (λ x. step (option_map_or (orders.entry_refusal o) x (Some UnknownEntry))) none)

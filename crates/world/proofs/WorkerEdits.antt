@@ -20,11 +20,14 @@ use Rattle.ticket_tree.specs.PlainEdit.{plain_changed, plain_lookups, plain_rows
 use Rattle.controller.specs.declared.message.Message.{Message}
 use Rattle.controller.specs.declared.reply.Reply.TheVariants as reply
 use Rattle.spawn.specs.Records.{is_out}
+use Rattle.spawn.specs.declared.records.phase.Phase as records
+use Rattle.spawn.specs.declared.records.phase.Phase.TheVariants as recorded
 use Rattle.spawn.specs.declared.tables.holder.Holder.{Holder}
 use Rattle.spawn.specs.declared.tables.holder.Holder.TheVariants as held_by
 use Rattle.merge.specs.Shape.{Fits}
 use Rattle.master_core.specs.Master as master
 use Rattle.worker_core.proofs.AtNumber.{find-at_number, find-other, found_holds}
+use Rattle.worker_core.proofs.Closing.{open_taken}
 use Rattle.worker_core.proofs.Kept.{kept_part}
 use Rattle.worker_core.proofs.Refusals.{edit_free, of_open}
 use Rattle.worker_core.specs.Orders as orders
@@ -40,7 +43,7 @@ use Rattle.world.proofs.HeldBySpawn.{good_record, held_claims, held_spawn}
 use Rattle.world.proofs.PartHolds.{claims, here_so}
 use Rattle.world.proofs.PartReads.{reads_held}
 use Rattle.world.proofs.ShopPaths.{same_shop}
-use Rattle.world.proofs.TakenSpawns.{HasRecord, phase_of_entry}
+use Rattle.world.proofs.TakenSpawns.{HasRecord, back_is_shut, phase_of_entry, stage_shown}
 use Rattle.world.proofs.WorkerAgrees.{AgreesThere, agrees_as, refused_or_agrees, worker_agrees}
 use Rattle.world.proofs.WorkerSteps.{with_next}
 use Rattle.world.specs.Controllers.{Controllers, is_named, worker_of}
@@ -58,15 +61,15 @@ use Rattle.world.specs.Stepping.{worker_moved}
 
 -- the record of an open entry is out, and its part fits
 pub open_out : (c : Controllers) (name : List ℕ) (s : ℕ) (e : Entry) → (h : HasRecord c name s e) → worker.is_open e ≡ true → is_out h.spawn ≡ true
-open_out c name s e h is_open = split (is_out h.spawn) (λ out. out) (λ isn't. absurd (true≢false (sym is_open ∙ h.back isn't)))
+open_out c name s e h is_open = split (is_out h.spawn) (λ out. out) (λ isn't. absurd (true≢false (sym is_open ∙ back_is_shut c name s e h isn't)))
 
 -- its phase is shown as it is
 pub open_shown : (c : Controllers) (name : List ℕ) (s : ℕ) (e : Entry) → (h : HasRecord c name s e) → shop.is_open (spawn_shown c h.spawn).phase ≡ worker.is_open e
 open_shown c name s e h =
-    ap (λ o. shop.is_open (phase_shown (is_out h.spawn) o)) h.entered ∙ (phase_of_entry (is_out h.spawn) e).open_so
+    ap (λ o. shop.is_open (phase_shown h.spawn.phase o)) h.entered ∙ (phase_of_entry h.spawn.phase e).open_so
     ∙ split (is_out h.spawn)
     (λ out. ap (λ b. b && worker.is_open e) out)
-    (λ isn't. ap (λ b. b && worker.is_open e) isn't ∙ sym (h.back isn't))
+    (λ isn't. ap (λ b. b && worker.is_open e) isn't ∙ sym (back_is_shut c name s e h isn't))
 
 -- the entry is kept, and that of its worker
 pub kept_entry : (w : State) (v : worker.Known) (s : ℕ) (e : Entry) → IsKept w → worker_of w.controllers.workers v.name ≡ Some v → worker.entry_of v.entries s ≡ Some e → worker.IsKeptEntry e
@@ -81,12 +84,13 @@ open_has_part e kept = by e.phase refl
     by : (stage : Stage) → e.phase ≡ stage → is_some (worker.open_part e) ≡ worker.is_open e
     by worker_stage.Open is =
         let is_open : worker.is_open e ≡ true = ap worker.is_open_stage is in
-        ap (λ b. is_some (cond b e.part None)) is_open ∙ kept.held ∙ ap (λ st. not (worker.is_closed_stage st)) is ∙ sym is_open
+        ap (λ b. is_some (cond b e.part None)) is_open ∙ kept.held ∙ ap worker.keeps_part is ∙ sym is_open
     by (worker_stage.Done how) is = let is_open : worker.is_open e ≡ false = ap worker.is_open_stage is in ap (λ b. is_some (cond b e.part None)) is_open ∙ sym is_open
     by (worker_stage.Closed how) is = let is_open : worker.is_open e ≡ false = ap worker.is_open_stage is in ap (λ b. is_some (cond b e.part None)) is_open ∙ sym is_open
+    by worker_stage.Declined is = let is_open : worker.is_open e ≡ false = ap worker.is_open_stage is in ap (λ b. is_some (cond b e.part None)) is_open ∙ sym is_open
 
-pub part_fits : (c : Controllers) (name : List ℕ) (s : ℕ) (e : Entry) (p : Copied) → (h : HasRecord c name s e) → is_out h.spawn ≡ true → e.part ≡ Some p → Fits c.master.ticket h.spawn p
-part_fits c name s e p h out has = subst (λ o. IsSomeAnd o (Fits c.master.ticket h.spawn)) has (h.fits out)
+pub part_fits : (c : Controllers) (name : List ℕ) (s : ℕ) (e : Entry) (p : Copied) → (h : HasRecord c name s e) → is_out h.spawn ≡ true → worker.is_open e ≡ true → e.part ≡ Some p → Fits c.master.ticket h.spawn p
+part_fits c name s e p h out is_open has = subst (λ o. IsSomeAnd o (Fits c.master.ticket h.spawn)) has (h.fits out (open_taken e is_open))
 
 -- what the spawn holds is shown as the part has it
 pub row_there : (c : Controllers) (name : List ℕ) (s : ℕ) (e : Entry) (p : Copied) (x : List ℕ) (o : Option Holder) → HasRecord c name s e → e.part ≡ Some p → o ≡ Some (held_by.Spawn s) → row_at c x o ≡ part_row p x
@@ -125,7 +129,7 @@ same_parts w v s e x p ok found has_entry h is_open has =
     let r = h.spawn in
     let out = open_out c v.name s x h is_open in
     let kept = kept_part x p has (kept_entry w v s x ok found has_entry) in
-    let fits = part_fits c v.name s x p h out has in
+    let fits = part_fits c v.name s x p h out is_open has in
     let good = good_record m s r ok.master h.recorded out in
     let held : is_held_by r.id (master.holder m) (target e) ≡ claims m.ticket r (target e) = ap (λ n. is_held_by n (master.holder m) (target e)) h.number ∙ held_claims m s r (target e) ok.master h.recorded out in
     let tree = places m.ticket.rows in (
@@ -198,12 +202,13 @@ edited_now c name s e at next old new p h stored has is kept plain free held x =
 
 -- ---- the step
 
-same_phase : (out : Bool) (old new : Entry) → new.phase ≡ old.phase → phase_shown out (Some new) ≡ phase_shown out (Some old)
-same_phase true old new is = ap (λ stage. cond (worker.is_open_stage stage) shop.Open shop.Done) is
-same_phase false old new is = ap (λ stage. cond (worker.is_closed_stage stage) shop.Closed shop.Merged) is
+same_phase : (phase : records.Phase) (old new : Entry) → new.phase ≡ old.phase → phase_shown phase (Some new) ≡ phase_shown phase (Some old)
+same_phase recorded.Out old new is = ap stage_shown is
+same_phase recorded.Merged old new is = ap (λ stage. cond (worker.is_closed_stage stage) shop.Closed shop.Merged) is
+same_phase recorded.Withdrawn old new is = refl
 
 edit_agrees : (w : State) (v : worker.Known) (s : ℕ) (e : Edit) (at : ℕ) → IsKept w → worker_of w.controllers.workers v.name ≡ Some v → AgreesThere w v (order.Edit s e) at
-edit_agrees w v s e at ok found x h has_entry =
+edit_agrees w v s e at ok found x h has_entry taken =
     let c = w.controllers in
     let p = shop_shown c in
     let a = spawn_shown c h.spawn in
@@ -236,7 +241,7 @@ edit_agrees w v s e at ok found x h has_entry =
             seen = λ y. refl;
             now = λ y. edited_now c v.name s e at (orders.ordered (order.Edit s e) at v) x (orders.edited_entry e at x) q h stored of.1 (ap (option_map (edited_part e at)) of.1) kept free.plain free.free held y;
             holder = λ y. refl;
-            spawns = spawns_stay c v.name s (orders.ordered (order.Edit s e) at v) (orders.edited_entry e at x) h.spawn stored (same_phase (is_out h.spawn) x (orders.edited_entry e at x) refl ∙ ap (phase_shown (is_out h.spawn)) (sym h.entered));
+            spawns = spawns_stay c v.name s (orders.ordered (order.Edit s e) at v) (orders.edited_entry e at x) h.spawn stored (same_phase h.spawn.phase x (orders.edited_entry e at x) refl ∙ ap (phase_shown h.spawn.phase) (sym h.entered));
           });
       sent = refl;
     }))

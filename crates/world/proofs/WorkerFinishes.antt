@@ -34,6 +34,7 @@ use Rattle.world.proofs.EntryStored.{spawns_stored}
 use Rattle.world.proofs.HeldBySpawn.{good_record, held_claims}
 use Rattle.world.proofs.InPart.{fits_has, part_has}
 use Rattle.world.proofs.ShopPaths.{same_shop}
+use Rattle.world.proofs.TakenSpawns.{phase_out}
 use Rattle.world.proofs.WorkerAgrees.{AgreesThere, agrees_as, refused_or_agrees, worker_agrees}
 use Rattle.world.proofs.WorkerEdits.{changed_stored, edited_now, kept_entry, open_has_part, open_out, open_shown, part_fits}
 use Rattle.world.specs.Controllers.{worker_of}
@@ -53,7 +54,7 @@ first_id [] = refl
 first_id (r ∷ rows) = refl
 
 -- that of a part that fits is the one that was spawned
-root_spawned : (t : Job) (r : SpawnRec) (p : Copied) → IsValid t.rows → IsGood t.rows r → Fits t r p → worker.root_id p ≡ r.node
+pub root_spawned : (t : Job) (r : SpawnRec) (p : Copied) → IsValid t.rows → IsGood t.rows r → Fits t r p → worker.root_id p ≡ r.node
 root_spawned t r p valid good fits =
     let q = part_for t r in
     let at = around t.rows r.node valid (good_node t.rows r good) in
@@ -62,7 +63,7 @@ root_spawned t r p valid good fits =
     ∙ at.named
 
 -- and the spawn holds it
-root_held : (m : master.Known) (s : ℕ) (r : SpawnRec) (e : Entry) (p : Copied) → master.IsKept m → master.record_of m.records s ≡ Some r → is_out r ≡ true → Fits m.ticket r p → worker.IsKeptPart e p → is_held_by s (master.holder m) (worker.root_id p) ≡ true
+pub root_held : (m : master.Known) (s : ℕ) (r : SpawnRec) (e : Entry) (p : Copied) → master.IsKept m → master.record_of m.records s ≡ Some r → is_out r ≡ true → Fits m.ticket r p → worker.IsKeptPart e p → is_held_by s (master.holder m) (worker.root_id p) ≡ true
 root_held m s r e p ok found out fits kept =
     let x = worker.root_id p in
     let here : worker.has p x ≡ true = ap (λ b. b || mem x (resource_ids p.rw)) (among_ids x p.rows (node_among p.rows x (first_known p.rows p.rw p.ro kept.valid))) in
@@ -71,7 +72,7 @@ root_held m s r e p ok found out fits kept =
 -- ---- the step
 
 finish_agrees : (w : State) (v : worker.Known) (s : ℕ) (how : End) (at : ℕ) → IsKept w → worker_of w.controllers.workers v.name ≡ Some v → AgreesThere w v (order.Finish s how) at
-finish_agrees w v s how at ok found x h has_entry =
+finish_agrees w v s how at ok found x h has_entry taken =
     let c = w.controllers in
     let p = shop_shown c in
     let r = h.spawn in
@@ -95,7 +96,7 @@ finish_agrees w v s how at ok found x h has_entry =
     let of = of_open x q opened.1 in
     let part = kept_part x q of.1 kept in
     let out = open_out c v.name s x h of.0 in
-    let fits = part_fits c v.name s x q h out of.1 in
+    let fits = part_fits c v.name s x q h out of.0 of.1 in
     let good = good_record c.master s r ok.master h.recorded out in
     let root = root_spawned c.master.ticket r q ok.master.valid good fits in
     let held = root_held c.master s r x q ok.master h.recorded out fits part in
@@ -113,7 +114,7 @@ finish_agrees w v s how at ok found x h has_entry =
             now = λ y. edited_now c v.name s (orders.ending q how) at next x new q h stored of.1 (ap (option_map (orders.ended_part how at)) of.1) part refl (ending_free q how part.valid) held y
                 ∙ ap (λ n. plain_rows (SetStatus n (worker.end_word how)) at (now_shown c) y) root;
             holder = λ y. refl;
-            spawns = spawns_stored c v.name s next new r shop.Done stored (ap (λ b. phase_shown b (Some new)) out)
+            spawns = spawns_stored c v.name s next new r shop.Done stored (ap (λ phase. phase_shown phase (Some new)) (phase_out r.phase out))
                 ∙ ap (λ n. in_phase shop.Done n (map (spawn_shown c) c.master.records)) (sym h.number);
           });
       sent = ap (λ o. option_map tag_of (option_and_then (λ (e : Entry). orders.return_of v.name v.master (orders.finished_entry how at e)) o)) has_entry

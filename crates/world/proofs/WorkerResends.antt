@@ -1,6 +1,5 @@
 -- A part that its worker sends back once more: the controllers' step and the shop's agree.
 use Rattle.std.proofs.Common.{◌≡◌, ◌∙◌, ℕ, Bool, true, false, cond, not, List, [], ◌∷◌, Option, Some, None, IsSomeAnd, Ok, is_some, refl, sym, ap}
-use Rattle.std.proofs.lemmas.Bool.{not-true}
 use Rattle.std.specs.Option.{option_and_then, option_map}
 use Rattle.ticket_items.specs.declared.refusal.Refusal.{Refusal}
 use Rattle.ticket_items.specs.declared.refusal.Refusal.TheVariants.{Acknowledged, NotDone}
@@ -10,6 +9,7 @@ use Rattle.controller.specs.declared.message.Message.{Message}
 use Rattle.controller.specs.declared.reply.Reply.TheVariants as reply
 use Rattle.spawn.proofs.Outside.{some_of}
 use Rattle.spawn.specs.Records.{is_out}
+use Rattle.worker_core.proofs.Closing.{keeps_done, unclosed}
 use Rattle.worker_core.proofs.Kept.{kept_part}
 use Rattle.worker_core.proofs.Refusals.{done_free}
 use Rattle.worker_core.specs.Orders as orders
@@ -19,7 +19,7 @@ use Rattle.worker_core.specs.declared.order.Order.TheVariants as order
 use Rattle.world.proofs.Agreeing.{Agrees}
 use Rattle.world.proofs.Cases.{split}
 use Rattle.world.proofs.EntryStored.{worker_as_it_was}
-use Rattle.world.proofs.TakenSpawns.{HasRecord}
+use Rattle.world.proofs.TakenSpawns.{HasRecord, merged_of, phase_out}
 use Rattle.world.proofs.WorkerAgrees.{AgreesThere, agrees_as, refused_or_agrees, worker_agrees}
 use Rattle.world.proofs.WorkerEdits.{kept_entry, open_shown}
 use Rattle.world.specs.Controllers.{Controllers, worker_of}
@@ -38,24 +38,25 @@ there_is P None h = absurd h
 there_is P (Some x) h = refl
 
 -- one whose spawn is out isn't
-out_not_closed : (c : Controllers) (name : List ℕ) (s : ℕ) (e : Entry) → (h : HasRecord c name s e) → worker.IsKeptEntry e → is_out h.spawn ≡ true → worker.is_closed e ≡ false
-out_not_closed c name s e h kept out = not-true _ (sym kept.held ∙ there_is _ e.part (h.fits out))
+out_not_closed : (c : Controllers) (name : List ℕ) (s : ℕ) (e : Entry) → (h : HasRecord c name s e) → worker.IsKeptEntry e → is_out h.spawn ≡ true → worker.is_declined e ≡ false → worker.is_closed e ≡ false
+out_not_closed c name s e h kept out taken = unclosed e (sym kept.held ∙ there_is _ e.part (h.fits out taken))
 
-never_closed : (b : Bool) → shop.is_closed (cond b shop.Open shop.Done) ≡ false
-never_closed true = refl
-never_closed false = refl
+never_closed : (declined opened : Bool) → shop.is_closed (cond declined shop.Declined (cond opened shop.Open shop.Done)) ≡ false
+never_closed true opened = refl
+never_closed false true = refl
+never_closed false false = refl
 
 closed_so : (b : Bool) → shop.is_closed (cond b shop.Closed shop.Merged) ≡ b
 closed_so true = refl
 closed_so false = refl
 
--- its spawn is shown as closed just if it is
-closed_shown : (c : Controllers) (name : List ℕ) (s : ℕ) (e : Entry) → (h : HasRecord c name s e) → worker.IsKeptEntry e → shop.is_closed (spawn_shown c h.spawn).phase ≡ worker.is_closed e
-closed_shown c name s e h kept =
-    ap (λ o. shop.is_closed (phase_shown (is_out h.spawn) o)) h.entered
+-- the spawn of one that wasn't declined is shown as closed just if it is
+closed_shown : (c : Controllers) (name : List ℕ) (s : ℕ) (e : Entry) → (h : HasRecord c name s e) → worker.IsKeptEntry e → worker.is_declined e ≡ false → shop.is_closed (spawn_shown c h.spawn).phase ≡ worker.is_closed e
+closed_shown c name s e h kept taken =
+    ap (λ o. shop.is_closed (phase_shown h.spawn.phase o)) h.entered
     ∙ split (is_out h.spawn)
-    (λ out. ap (λ b. shop.is_closed (phase_shown b (Some e))) out ∙ never_closed (worker.is_open e) ∙ sym (out_not_closed c name s e h kept out))
-    (λ isn't. ap (λ b. shop.is_closed (phase_shown b (Some e))) isn't ∙ closed_so (worker.is_closed e))
+    (λ out. ap (λ phase. shop.is_closed (phase_shown phase (Some e))) (phase_out h.spawn.phase out) ∙ never_closed (worker.is_declined e) (worker.is_open e) ∙ sym (out_not_closed c name s e h kept out taken))
+    (λ isn't. ap (λ phase. shop.is_closed (phase_shown phase (Some e))) (merged_of h.spawn.phase e isn't (h.back isn't) taken) ∙ closed_so (worker.is_closed e))
 
 -- ---- the step
 
@@ -64,7 +65,7 @@ abbrev refusal_by : Bool → Bool → Option Refusal
 refusal_by is_open is_closed = first_of (unless (not is_open) NotDone ∷ unless (not is_closed) Acknowledged ∷ [])
 
 resend_agrees : (w : State) (v : worker.Known) (s at : ℕ) → IsKept w → worker_of w.controllers.workers v.name ≡ Some v → AgreesThere w v (order.Resend s) at
-resend_agrees w v s at ok found x h has_entry =
+resend_agrees w v s at ok found x h has_entry taken =
     let c = w.controllers in
     let p = shop_shown c in
     let a = spawn_shown c h.spawn in
@@ -72,7 +73,7 @@ resend_agrees w v s at ok found x h has_entry =
     let moved : Step worker.Known Message = record { reply = Ok (reply.Sent s); next = orders.ordered (order.Resend s) at v; sent = orders.order_message (order.Resend s) at v } in
     let plain = steps.sends (reply.Sent s) p (steps.Return s) in
     let shown : steps.back_refusal a.phase ≡ orders.resend_refusal x =
-    ap (λ b. refusal_by b (shop.is_closed a.phase)) (open_shown c v.name s x h) ∙ ap (refusal_by (worker.is_open x)) (closed_shown c v.name s x h kept) in
+    ap (λ b. refusal_by b (shop.is_closed a.phase)) (open_shown c v.name s x h) ∙ ap (refusal_by (worker.is_open x)) (closed_shown c v.name s x h kept taken) in
     agrees_as c v
     (unless_refused (orders.resend_refusal x) v moved)
     (unless_refused (steps.back_refusal a.phase) v moved)
@@ -82,7 +83,7 @@ resend_agrees w v s at ok found x h has_entry =
     refl
     (refused_or_agrees c v (steps.back_refusal a.phase) moved plain found (λ none.
     let done = done_free x (sym shown ∙ none) in
-    let has = some_of x.part (kept.held ∙ ap not done.1) in
+    let has = some_of x.part (kept.held ∙ keeps_done x done.0 done.1 taken) in
     let q : Copied = has.0 in
     record {
       reply = refl;

@@ -10,7 +10,7 @@ use Rattle.ticket_items.specs.declared.refusal.Refusal.{Refusal}
 use Rattle.ticket_rows.proofs.AtHome.{find-passes}
 use Rattle.ticket_tree.specs.Part.{Copied, edited_part}
 use Rattle.controller.specs.declared.body.Body.{Body}
-use Rattle.controller.specs.declared.body.Body.TheVariants.{Submit, Return, Answer}
+use Rattle.controller.specs.declared.body.Body.TheVariants.{Submit, Return, Abort, Answer}
 use Rattle.controller.specs.declared.command.Command.TheVariants as command
 use Rattle.controller.specs.declared.message.Message.{Message}
 use Rattle.spawn.specs.Parts.{part_for}
@@ -18,16 +18,17 @@ use Rattle.spawn.specs.Records.{is_out}
 use Rattle.spawn.specs.declared.records.spawn_rec.SpawnRec.{SpawnRec}
 use Rattle.merge.proofs.Lawful.{made_part_fits}
 use Rattle.merge.specs.Shape.{Fits}
-use Rattle.worker_core.proofs.AtNumber.{All-each_at_number, found_holds}
-use Rattle.worker_core.proofs.Closing.{closed_number}
+use Rattle.worker_core.proofs.AtNumber.{All-at_number, All-each_at_number, found_holds}
+use Rattle.worker_core.proofs.Closing.{aborted_shut, closed_number, open_taken}
 use Rattle.worker_core.proofs.Kept.{kept_part, number_of}
 use Rattle.worker_core.proofs.MessageLaws.{message_keeps_entries}
 use Rattle.worker_core.proofs.OrderLaws.{order_keeps_entries, return_is_of_entry}
 use Rattle.worker_core.proofs.Refusals.{edit_free, for_free, ordered_on}
-use Rattle.worker_core.specs.Laws.{acknowledges}
-use Rattle.worker_core.specs.Messages.{after_taking, is_for_workers, take_refusal, taken, taken_entries}
+use Rattle.worker_core.specs.Laws.{entry_after}
+use Rattle.worker_core.specs.Messages.{aborted_entry, after_taking, is_for_workers, take_refusal, taken, taken_entries}
 use Rattle.worker_core.specs.Orders.{after_order, edited_entry, ended_part, ending, finished_entry, order_message, order_refusal, ordered, part_return, spawn_of_order}
-use Rattle.worker_core.specs.Worker.{IsKept, IsKeptEntry, IsKeptPart, Known, closed_entry, entry_of, is_of, is_open, new_entry, with_entry}
+use Rattle.worker_core.specs.Worker.{IsKept, IsKeptEntry, IsKeptPart, Known, closed_entry, declined_entry, entry_of, is_declined, is_ended, is_of, is_open, new_entry, with_entry}
+use Rattle.worker_core.specs.declared.end.End.TheVariants.{Aborted}
 use Rattle.worker_core.specs.declared.entry.Entry.{Entry}
 use Rattle.worker_core.specs.declared.order.Order.{Order}
 use Rattle.worker_core.specs.declared.order.Order.TheVariants as order
@@ -50,7 +51,7 @@ pub worker_later : (c : Controllers) (v next : Known) → worker_of c.workers v.
 worker_later c v next found own stays =
     record {
       name = refl;
-      records = λ s r there. record { next = r; found = there; worker = refl; same = λ out. refl; part = λ out. refl };
+      records = λ s r there. record { next = r; found = there; worker = refl; since = refl; same = λ out. refl; part = λ out. refl };
       ended = λ n s e there ended. entry_goes_on (IsSameOrClosed e) v.name n v next c.workers s e found own (inl refl) (λ here. stays s e here ended) there;
     }
 
@@ -65,29 +66,32 @@ ordered_stays o at v kept none s e found ended =
     (next.0, ap (λ (u : Known). entry_of u.entries s) (sym (done_order o at v none)) ∙ next.1, inl (next.2.finished ended))
 
 -- an order makes no entry, and the part that one has fits still
-changed_recorded : (f : Copied → Copied) (c : Controllers) (name : List ℕ) (x y : Entry) → ((r : SpawnRec) (p : Copied) → Fits c.master.ticket r p → Fits c.master.ticket r (f p)) → y.spawn_id ≡ x.spawn_id → y.part ≡ option_map f x.part → IsRecorded c name x → IsRecorded c name y
-changed_recorded f c name x y fits number part h =
+changed_recorded : (f : Copied → Copied) (c : Controllers) (name : List ℕ) (x y : Entry) → ((r : SpawnRec) (p : Copied) → Fits c.master.ticket r p → Fits c.master.ticket r (f p)) → y.spawn_id ≡ x.spawn_id → y.part ≡ option_map f x.part → is_declined x ≡ false → IsRecorded c name x → IsRecorded c name y
+changed_recorded f c name x y fits number part taken h =
     let there = and_found _ (record_of c.master.records x.spawn_id) h in
     let r = there.0 in
     found_and _ (record_of c.master.records y.spawn_id) r (ap (record_of c.master.records) number ∙ there.1) (
       there.2.0,
-      λ out. subst (λ o. IsSomeAnd o (Fits c.master.ticket r)) (sym part) (and_mapped (Fits c.master.ticket r) (Fits c.master.ticket r) f x.part (fits r) (there.2.1 out)),
+      λ out next. subst (λ o. IsSomeAnd o (Fits c.master.ticket r)) (sym part) (and_mapped (Fits c.master.ticket r) (Fits c.master.ticket r) f x.part (fits r) (there.2.1 out taken)),
     )
 
-pub ordered_recorded : (o : Order) (at : ℕ) (c : Controllers) (v : Known) → order_refusal o v.entries ≡ None → All (IsRecorded c v.name) v.entries → All (IsRecorded c v.name) (ordered o at v).entries
-ordered_recorded (order.Edit s e) at c v none all =
+pub ordered_recorded : (o : Order) (at : ℕ) (c : Controllers) (v : Known) → IsKept v → order_refusal o v.entries ≡ None → All (IsRecorded c v.name) v.entries → All (IsRecorded c v.name) (ordered o at v).entries
+ordered_recorded (order.Edit s e) at c v kept none all =
     let on = ordered_on (order.Edit s e) v.entries none in
-    let plain = (edit_free e on.0 on.2).plain in
-    All-each_at_number (IsRecorded c v.name) number_of s (edited_entry e at) v.entries
-    (λ x own h. changed_recorded (edited_part e at) c v.name x (edited_entry e at x) (λ r p. edited_fits e at c.master.ticket r p plain) refl refl h) all
-ordered_recorded (order.Finish s how) at c v none all =
-    All-each_at_number (IsRecorded c v.name) number_of s (finished_entry how at) v.entries
-    (λ x own h. changed_recorded (ended_part how at) c v.name x (finished_entry how at x) (λ r p. edited_fits (ending p how) at c.master.ticket r p refl) refl refl h) all
-ordered_recorded (order.Resend s) at c v none all = all
+    let x : Entry = on.0 in
+    let plain = (edit_free e x on.2).plain in
+    All-at_number (IsRecorded c v.name) number_of s (edited_entry e at) v.entries x kept.once on.1
+    (changed_recorded (edited_part e at) c v.name x (edited_entry e at x) (λ r p. edited_fits e at c.master.ticket r p plain) refl refl on.3 (found_holds (IsRecorded c v.name) (is_of s) v.entries x on.1 all)) all
+ordered_recorded (order.Finish s how) at c v kept none all =
+    let on = ordered_on (order.Finish s how) v.entries none in
+    let x : Entry = on.0 in
+    All-at_number (IsRecorded c v.name) number_of s (finished_entry how at) v.entries x kept.once on.1
+    (changed_recorded (ended_part how at) c v.name x (finished_entry how at x) (λ r p. edited_fits (ending p how) at c.master.ticket r p refl) refl refl on.3 (found_holds (IsRecorded c v.name) (is_of s) v.entries x on.1 all)) all
+ordered_recorded (order.Resend s) at c v kept none all = all
 
 -- an entry whose work has ended may be given back
 return_is_new : (c : Controllers) (messages : List Message) (v next : Known) (s : ℕ) (e : Entry) (p : Copied) → worker_of c.workers v.name ≡ Some v → next.name ≡ v.name → v.master ≡ c.master.name → IsKept next → All (IsRecorded (with_next c v.name next) v.name) next.entries
-    → All (IsInOrder (with_next c v.name next)) messages → entry_of next.entries s ≡ Some e → is_open e ≡ false → e.part ≡ Some p → IsNew (with_next c v.name next) messages (part_return v.name v.master e.at p)
+    → All (IsInOrder (with_next c v.name next)) messages → entry_of next.entries s ≡ Some e → is_ended e ≡ true → e.part ≡ Some p → IsNew (with_next c v.name next) messages (part_return v.name v.master e.at p)
 return_is_new c messages v next s e p found own knows kept recorded all here ended has =
     let d = with_next c v.name next in
     let number : e.spawn_id ≡ s = eqb-true e.spawn_id s (find-passes (is_of s) next.entries e here) in
@@ -133,19 +137,34 @@ closed_recorded : (c : Controllers) (name : List ℕ) (s : ℕ) (r : SpawnRec) (
 closed_recorded c name s r e found back own h =
     let there = and_found _ (record_of c.master.records e.spawn_id) h in
     let same : there.0 ≡ r = same_found there.0 r (record_of c.master.records s) (ap (record_of c.master.records) (sym (eqb-true e.spawn_id s own)) ∙ there.1) found in
-    found_and _ (record_of c.master.records (closed_entry e).spawn_id) there.0 (ap (record_of c.master.records) (closed_number e) ∙ there.1) (there.2.0, λ out. absurd (true≢false (sym out ∙ ap is_out same ∙ back)))
+    found_and _ (record_of c.master.records (closed_entry e).spawn_id) there.0 (ap (record_of c.master.records) (closed_number e) ∙ there.1) (there.2.0, λ out taken. absurd (true≢false (sym out ∙ ap is_out same ∙ back)))
 
 recorded_answered : (ok : Bool) (c : Controllers) (name : List ℕ) (s : ℕ) (r : SpawnRec) (entries : List Entry) → record_of c.master.records s ≡ Some r → is_out r ≡ false → All (IsRecorded c name) entries → All (IsRecorded c name) (cond ok (with_entry s closed_entry entries) entries)
 recorded_answered false c name s r entries found back all = all
 recorded_answered true c name s r entries found back all = All-each_at_number (IsRecorded c name) number_of s closed_entry entries (λ e own h. closed_recorded c name s r e found back own h) all
 
+-- one that is to be given up has its part as it had it
+aborted_by : (b : Bool) (at : ℕ) (c : Controllers) (name : List ℕ) (e : Entry) → is_open e ≡ b → IsRecorded c name e → IsRecorded c name (aborted_entry at e)
+aborted_by true at c name e open' h =
+    subst (λ b. IsRecorded c name (cond b (finished_entry Aborted at e) e)) (sym open')
+    (changed_recorded (ended_part Aborted at) c name e (finished_entry Aborted at e) (λ r p. edited_fits (ending p Aborted) at c.master.ticket r p refl) refl refl (open_taken e open') h)
+aborted_by false at c name e shut h = subst (IsRecorded c name) (sym (aborted_shut at e shut)) h
+
+recorded_aborted : (found : Option Entry) (c : Controllers) (name : List ℕ) (s at : ℕ) (r : SpawnRec) (entries : List Entry) → record_of c.master.records s ≡ Some r → r.worker ≡ name → All (IsRecorded c name) entries
+    → All (IsRecorded c name) (cond (is_some found) (with_entry s (aborted_entry at) entries) (entries ++ declined_entry s at ∷ []))
+recorded_aborted (Some x) c name s at r entries found named all = All-each_at_number (IsRecorded c name) number_of s (aborted_entry at) entries (λ e own h. aborted_by (is_open e) at c name e refl h) all
+recorded_aborted None c name s at r entries found named all =
+    All-push (IsRecorded c name) entries (declined_entry s at) all (found_and _ (record_of c.master.records s) r found (named, λ out taken. absurd (true≢false taken)))
+
 recorded_taken : (c : Controllers) (name sender receiver : List ℕ) (sent at : ℕ) (body : Body) (entries : List Entry) → receiver ≡ name → is_for_workers body ≡ true → IsInOrder c (record { sender = sender; receiver = receiver; at = sent; body = body }) → All (IsRecorded c name) entries → All (IsRecorded c name) (taken_entries body at entries)
 recorded_taken c name sender receiver sent at (Submit p) entries own theirs h all =
     let made = λ (out : is_out h.spawn ≡ true). same_part p (part_for c.master.ticket h.spawn) (ap (λ (m : Message). m.body) (h.says out)) in
     recorded_push (entry_of entries p.spawn_id) c name entries (new_entry p at) all
-    (found_and _ (record_of c.master.records p.spawn_id) h.spawn h.recorded (sym h.to ∙ own, λ out. subst (Fits c.master.ticket h.spawn) (sym (made out)) (made_part_fits c.master.ticket h.spawn)))
+    (found_and _ (record_of c.master.records p.spawn_id) h.spawn h.recorded (sym h.to ∙ own, λ out taken. subst (Fits c.master.ticket h.spawn) (sym (made out)) (made_part_fits c.master.ticket h.spawn)))
 recorded_taken c name sender receiver sent at (Return p) entries own theirs h all = all
+recorded_taken c name sender receiver sent at (Abort s) entries own theirs h all = recorded_aborted (entry_of entries s) c name s at h.spawn entries h.recorded (sym h.to ∙ own) all
 recorded_taken c name sender receiver sent at (Answer command.Submit s told) entries own theirs h all = absurd (true≢false (sym theirs))
+recorded_taken c name sender receiver sent at (Answer command.Abort s told) entries own theirs h all = absurd (true≢false (sym theirs))
 recorded_taken c name sender receiver sent at (Answer command.Return s told) entries own theirs h all = recorded_answered (is_ok told) c name s h.spawn entries h.recorded h.says.1 all
 
 recorded_either : (refusal : Option Refusal) (c : Controllers) (m : Message) (at : ℕ) (v : Known) → take_refusal m v ≡ refusal → m.receiver ≡ v.name → IsInOrder c m → All (IsRecorded c v.name) v.entries → All (IsRecorded c v.name) (cond (is_some refusal) v (taken m.body at v)).entries
@@ -161,7 +180,23 @@ same_or_closed : (b : Bool) (e : Entry) → IsSameOrClosed e (cond b (closed_ent
 same_or_closed true e = inr refl
 same_or_closed false e = inl refl
 
+-- what isn't open is the same or closed after a message
+after_shut : (s : ℕ) (body : Body) (at : ℕ) (e : Entry) → is_open e ≡ false → IsSameOrClosed e (entry_after s body at e)
+after_shut s (Submit p) at e shut = inl refl
+after_shut s (Return p) at e shut = inl refl
+after_shut s (Abort t) at e shut = inl (same_if (t == s) (aborted_entry at e) e (aborted_shut at e shut))
+  where
+    same_if : (b : Bool) (new old : Entry) → new ≡ old → cond b new old ≡ old
+    same_if true new old is = is
+    same_if false new old is = refl
+after_shut s (Answer c t told) at e shut = same_or_closed ((t == s) && is_ok told) e
+
+taken_if : (b : Bool) (old new : Entry) → IsSameOrClosed old new → IsSameOrClosed old (cond b new old)
+taken_if true old new is = is
+taken_if false old new is = inl refl
+
 pub taken_stays : (m : Message) (at : ℕ) (v : Known) (s : ℕ) (e : Entry) → entry_of v.entries s ≡ Some e → is_open e ≡ false → (x : Entry) × (entry_of (after_taking m at v).entries s ≡ Some x) × IsSameOrClosed e x
 taken_stays m at v s e found ended =
-    let told = is_none (take_refusal m v) && acknowledges s m.body in
-    (cond told (closed_entry e) e, message_keeps_entries m at v s e found, same_or_closed told e)
+    let free = is_none (take_refusal m v) in
+    let next = entry_after s m.body at e in
+    (cond free next e, message_keeps_entries m at v s e found, taken_if free e next (after_shut s m.body at e ended))

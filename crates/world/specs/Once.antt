@@ -1,4 +1,4 @@
--- Which spawns' parts were put in, by the answers and by the records.
+-- Which spawns' parts were put in, by the answers, and of which nothing is out, by the records.
 use Rattle.std.specs.Prelude.{◌≡◌, ℕ, false, List, IsSomeAnd, Some, slice_get}
 use Rattle.controller.specs.declared.reply.Reply.TheVariants.{Merged}
 use Rattle.spawn.specs.Records.{is_out}
@@ -17,6 +17,6 @@ AreMergedOnce answers =
     (s i j : ℕ) (a b : Answer) → slice_get answers i ≡ Some a → slice_get answers j ≡ Some b
     → TellsMerge s a → TellsMerge s b → i ≡ j
 
--- the part of a spawn was put in: it has a record, and isn't out
+-- nothing of a spawn is out: its part was put in, or it was withdrawn
 abbrev pub IsIn : State → ℕ → Type 0
 IsIn w s = IsSomeAnd (record_of w.controllers.master.records s) (λ r. is_out r ≡ false)

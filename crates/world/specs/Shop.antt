@@ -5,13 +5,16 @@ use Rattle.ticket_rows.specs.Place.{Place, Row}
 use Rattle.spawn.specs.declared.tables.holder.Holder.{Holder}
 
 -- how far a spawn has come: its part is on the way to the worker, is worked on, is finished, was
--- put in, or was put in and the worker has given it up
+-- put in, or was put in and the worker has given it up; or the worker declined it before any work,
+-- or declined it and the master has taken it back
 pub data Phase : Type 0 where
   Away : Phase
   Open : Phase
   Done : Phase
   Merged : Phase
   Closed : Phase
+  Declined : Phase
+  Withdrawn : Phase
 
 -- a spawn of a node to a worker, with the resources of which copies went that may be changed
 pub record SpawnState : Type 0 where
@@ -68,6 +71,8 @@ is_away Open = false
 is_away Done = false
 is_away Merged = false
 is_away Closed = false
+is_away Declined = false
+is_away Withdrawn = false
 
 abbrev pub is_open : Phase → Bool
 is_open Away = false
@@ -75,6 +80,8 @@ is_open Open = true
 is_open Done = false
 is_open Merged = false
 is_open Closed = false
+is_open Declined = false
+is_open Withdrawn = false
 
 abbrev pub is_done : Phase → Bool
 is_done Away = false
@@ -82,6 +89,8 @@ is_done Open = false
 is_done Done = true
 is_done Merged = false
 is_done Closed = false
+is_done Declined = false
+is_done Withdrawn = false
 
 abbrev pub is_merged : Phase → Bool
 is_merged Away = false
@@ -89,6 +98,8 @@ is_merged Open = false
 is_merged Done = false
 is_merged Merged = true
 is_merged Closed = false
+is_merged Declined = false
+is_merged Withdrawn = false
 
 abbrev pub is_closed : Phase → Bool
 is_closed Away = false
@@ -96,11 +107,34 @@ is_closed Open = false
 is_closed Done = false
 is_closed Merged = false
 is_closed Closed = true
+is_closed Declined = false
+is_closed Withdrawn = false
 
--- whether the part is still to be put in
+abbrev pub is_declined : Phase → Bool
+is_declined Away = false
+is_declined Open = false
+is_declined Done = false
+is_declined Merged = false
+is_declined Closed = false
+is_declined Declined = true
+is_declined Withdrawn = false
+
+-- whether the worker took the part
+abbrev pub is_taken : Phase → Bool
+is_taken Away = false
+is_taken Open = true
+is_taken Done = true
+is_taken Merged = true
+is_taken Closed = true
+is_taken Declined = false
+is_taken Withdrawn = false
+
+-- whether the part is still to be put in, or to be taken back
 abbrev pub is_out : Phase → Bool
 is_out Away = true
 is_out Open = true
 is_out Done = true
 is_out Merged = false
 is_out Closed = false
+is_out Declined = true
+is_out Withdrawn = false

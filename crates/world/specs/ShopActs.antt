@@ -1,5 +1,5 @@
 -- What the master and the workers do to a shop.
-use Rattle.std.specs.Prelude.{ℕ, ◌==◌, Bool, false, List, [], ◌∷◌, ◌++◌, map}
+use Rattle.std.specs.Prelude.{ℕ, ◌==◌, Bool, false, List, [], ◌∷◌, ◌++◌, codes, map}
 use Rattle.std.specs.Prelude.{if◌then◌else◌, Option, Some, None}
 use Rattle.std.specs.Option.{option_map_or}
 use Rattle.std.specs.Str.{bytes_eq}
@@ -17,9 +17,8 @@ use Rattle.spawn.specs.declared.tables.holder.Holder.{Holder}
 use Rattle.spawn.specs.declared.tables.holder.Holder.TheVariants.{Master, Spawn}
 use Rattle.worker_core.specs.Worker.{end_word}
 use Rattle.worker_core.specs.declared.end.End.{End}
-use Rattle.world.specs.Shop.{Away, Closed, Done, Holders, Merged, Open, Phase, Rows, Shop}
-use Rattle.world.specs.Shop.{SpawnState}
-use Rattle.world.specs.Shop.{has_number, next_number}
+use Rattle.world.specs.Shop.{Away, Closed, Declined, Done, Holders, Merged, Open, Phase, Rows}
+use Rattle.world.specs.Shop.{Shop, SpawnState, Withdrawn, has_number, next_number}
 
 -- ---- in the beginning
 
@@ -163,3 +162,23 @@ merged at a p =
 -- the worker gives up the part that was put in
 abbrev pub closed : ℕ → Shop → Shop
 closed s p = record p { spawns = in_phase Closed s p.spawns }
+
+-- ---- a withdrawal
+
+-- the worker declines a spawn that it hasn't taken
+abbrev pub declined : ℕ → Shop → Shop
+declined s p = record p { spawns = in_phase Declined s p.spawns }
+
+-- the audit that tells that the master has taken it back
+abbrev pub withdrawn_audit : SpawnState → ℕ → Audit
+withdrawn_audit a at = audit.Notification at (codes "Withdrawn " ++ spawn_text a.number)
+
+-- the master holds what a spawn held, and the parent's audit tells of it
+abbrev pub freed : ℕ → SpawnState → Shop → Shop
+freed at a p =
+    record p {
+      seen = told_above p.tree a.node (withdrawn_audit a at) p.seen;
+      now = told_above p.tree a.node (withdrawn_audit a at) p.now;
+      holder = given_back a.number p.holder;
+      spawns = in_phase Withdrawn a.number p.spawns;
+    }

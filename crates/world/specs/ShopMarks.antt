@@ -10,7 +10,7 @@ use Rattle.ticket_rows.specs.Place.{Place, nodes_in, resources_in}
 use Rattle.spawn.specs.Claim.{ids_of, linked_ro}
 use Rattle.world.specs.Shop.{Shop, SpawnState, is_out}
 
--- the spawns whose part is still to be put in
+-- the spawns whose part is still to be put in, or to be taken back
 abbrev pub spawns_out : Shop → List SpawnState
 spawns_out p = filter (λ a. is_out a.phase) p.spawns
 

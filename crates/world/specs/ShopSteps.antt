@@ -27,23 +27,26 @@ use Rattle.master_core.specs.Orders.{held_refusal}
 use Rattle.master_core.specs.declared.order.Order as master_order
 use Rattle.master_core.specs.declared.order.Order.TheVariants as to_master
 use Rattle.worker_core.specs.Orders.{spawn_of_order}
+use Rattle.worker_core.specs.declared.end.End.TheVariants.{Aborted}
 use Rattle.worker_core.specs.declared.order.Order as worker_order
 use Rattle.worker_core.specs.declared.order.Order.TheVariants as to_worker
-use Rattle.world.specs.Shop.{Phase, Shop, SpawnState, has_number, is_away, is_closed, is_done}
-use Rattle.world.specs.Shop.{is_merged, is_open, is_out, next_number, spawn_of}
-use Rattle.world.specs.ShopActs.{closed, edited, finished, is_held_by, merged, spawned, taken}
-use Rattle.world.specs.ShopActs.{worked}
+use Rattle.world.specs.Shop.{Phase, Shop, SpawnState, has_number, is_away, is_closed, is_declined}
+use Rattle.world.specs.Shop.{is_done, is_merged, is_open, is_out, is_taken, next_number, spawn_of}
+use Rattle.world.specs.ShopActs.{closed, declined, edited, finished, freed, is_held_by, merged}
+use Rattle.world.specs.ShopActs.{spawned, taken, worked}
 use Rattle.controller.specs.Step.{Step, refused, unless_refused}
 use Rattle.world.specs.Step.{StepOrWord}
 use Rattle.world_items.specs.declared.word.Word.TheVariants.{NoMessage}
 
--- a message that was sent, without what it says: a part goes out, or comes back, or either is
--- answered
+-- a message that was sent, without what it says: a part goes out, or comes back, or a worker is to
+-- give a spawn up, or one of these is answered
 pub data Tag : Type 0 where
   Submit : ℕ → Tag
   Return : ℕ → Tag
+  Abort : ℕ → Tag
   ToSubmit : ℕ → Tag
   ToReturn : ℕ → Tag
+  ToAbort : ℕ → Tag
 
 -- a reply with nothing sent, and one with a message
 abbrev pub replies : Reply → Shop → Step Shop Tag
@@ -77,7 +80,8 @@ spawn_refusal n worker rw p =
     ∷ first_of (map (not_held p) (ids_of (claim p.tree n rw)))
     ∷ unless (is_spawn_number (next_number p)) TooManySpawns ∷ [])
 
--- why a part isn't sent once more, if it isn't: its spawn isn't out
+-- why a part isn't sent once more, nor its worker asked to give it up, if it isn't: its spawn isn't
+-- out
 abbrev pub resend_refusal : ℕ → Shop → Option Refusal
 resend_refusal s p = unless (option_map_or (λ a. is_out a.phase) (spawn_of s p) false) NotOut
 
@@ -90,12 +94,14 @@ master_does (to_master.Spawn n worker rw) at p =
     (sends (reply.Spawned (next_number p)) (spawned n worker rw at p) (Submit (next_number p)))
 master_does (to_master.Resend s) at p =
     unless_refused (resend_refusal s p) p (sends (reply.Sent s) p (Submit s))
+master_does (to_master.Withdraw s) at p =
+    unless_refused (resend_refusal s p) p (sends (reply.Asked s) p (Abort s))
 
 -- ---- a worker
 
 -- whether a spawn has a number, went to the worker of a name, and was taken there
 abbrev pub is_taken_by : List ℕ → ℕ → SpawnState → Bool
-is_taken_by name s a = has_number s a && bytes_eq a.worker name && not (is_away a.phase)
+is_taken_by name s a = has_number s a && bytes_eq a.worker name && is_taken a.phase
 
 -- whether a spawn holds the target of an edit: a node where a node is meant, else a resource
 abbrev pub is_held : Edit → SpawnState → Shop → Bool
@@ -140,12 +146,26 @@ worker_does name o at p =
 
 -- ---- a message
 
--- a part comes to the worker: it is taken, or it was before
+-- what a command is taken as that came before: by a worker that took the part, or declined it
+abbrev pub again : SpawnState → Reply
+again a = if is_taken a.phase then reply.Again a.number else reply.Declined a.number
+
+-- a part comes to the worker: it is taken, or it was before, or it was declined
 abbrev pub submit_comes : Shop → SpawnState → Step Shop Tag
 submit_comes p a =
     if is_away a.phase
     then sends (reply.Taken a.number) (taken a.number p) (ToSubmit a.number)
-    else sends (reply.Again a.number) p (ToSubmit a.number)
+    else sends (again a) p (ToSubmit a.number)
+
+-- the worker is to give a spawn up: one that it hasn't taken it declines, and the work on one that
+-- is open ends
+abbrev pub abort_comes : ℕ → Shop → SpawnState → Step Shop Tag
+abort_comes at p a =
+    if is_away a.phase
+    then sends (reply.Declined a.number) (declined a.number p) (ToAbort a.number)
+    else (if is_open a.phase
+    then sends (reply.Ended a.number) (finished Aborted at a p) (ToAbort a.number)
+    else sends (again a) p (ToAbort a.number))
 
 -- a part comes back to the master: it is put in, or it was before. None comes back that isn't
 -- finished; as if it was put in before
@@ -161,6 +181,14 @@ abbrev pub back_acknowledged : Shop → SpawnState → Step Shop Tag
 back_acknowledged p a =
     replies (reply.Acked a.number) (if is_merged a.phase then closed a.number p else p)
 
+-- the master is told what came of a spawn that was to be given up: it takes back one that was
+-- declined
+abbrev pub abort_answered : ℕ → Shop → SpawnState → Step Shop Tag
+abort_answered at p a =
+    if is_declined a.phase
+    then replies (reply.Freed a.number) (freed at a p)
+    else replies (reply.Noted a.number) p
+
 -- what comes of a spawn, by its number. No message tells of one that there isn't; as if none came
 abbrev pub comes_of : ℕ → Shop → (SpawnState → Step Shop Tag) → StepOrWord Shop Tag
 comes_of s p f = option_map_or (λ a. Ok (f a)) (spawn_of s p) (Err NoMessage)
@@ -169,5 +197,7 @@ comes_of s p f = option_map_or (λ a. Ok (f a)) (spawn_of s p) (Err NoMessage)
 abbrev pub message_comes : ℕ → Shop → Tag → StepOrWord Shop Tag
 message_comes at p (Submit s) = comes_of s p (submit_comes p)
 message_comes at p (Return s) = comes_of s p (return_comes at p)
+message_comes at p (Abort s) = comes_of s p (abort_comes at p)
 message_comes at p (ToSubmit s) = Ok (replies (reply.Noted s) p)
 message_comes at p (ToReturn s) = comes_of s p (back_acknowledged p)
+message_comes at p (ToAbort s) = comes_of s p (abort_answered at p)

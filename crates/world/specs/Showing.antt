@@ -1,5 +1,5 @@
 -- What the controllers of a shop show as one ticket with one table of holders.
-use Rattle.std.specs.Prelude.{ℕ, Bool, true, false, List, map, if◌then◌else◌, Option, Some, None}
+use Rattle.std.specs.Prelude.{ℕ, List, map, if◌then◌else◌, Option, Some, None}
 use Rattle.std.specs.Option.{option_and_then, option_map_or}
 use Rattle.ticket_rows.specs.Place.{Row, places, row_in}
 use Rattle.ticket_tree.specs.Part.{Copied}
@@ -8,7 +8,8 @@ use Rattle.controller.specs.declared.body.Body.{Body}
 use Rattle.controller.specs.declared.body.Body.TheVariants as body
 use Rattle.controller.specs.declared.command.Command.TheVariants as command
 use Rattle.controller.specs.declared.message.Message.{Message}
-use Rattle.spawn.specs.Records.{is_out}
+use Rattle.spawn.specs.declared.records.phase.Phase as records
+use Rattle.spawn.specs.declared.records.phase.Phase.TheVariants as recorded
 use Rattle.spawn.specs.declared.records.spawn_rec.SpawnRec.{SpawnRec}
 use Rattle.spawn.specs.declared.tables.holder.Holder.{Holder}
 use Rattle.spawn.specs.declared.tables.holder.Holder.TheVariants as held_by
@@ -18,19 +19,26 @@ use Rattle.worker_core.specs.declared.entry.Entry.{Entry}
 use Rattle.world.specs.Controllers.{Controllers}
 use Rattle.world.specs.Messages.{entry_for}
 use Rattle.world.specs.Replay.{Shown}
-use Rattle.world.specs.Shop.{Away, Closed, Done, Merged, Open, Phase, Rows, Shop, SpawnState}
-use Rattle.world.specs.ShopSteps.{Return, Submit, Tag, ToReturn, ToSubmit}
+use Rattle.world.specs.Shop.{Away, Closed, Declined, Done, Merged, Open, Phase, Rows, Shop}
+use Rattle.world.specs.Shop.{SpawnState, Withdrawn}
+use Rattle.world.specs.ShopSteps.{Abort, Return, Submit, Tag, ToAbort, ToReturn, ToSubmit}
 use Rattle.world.specs.State.{State}
 
 -- ---- spawns
 
--- how far a spawn has come, by whether its record is out and by its worker's entry of it, which is
--- closed only where the record isn't out
-abbrev pub phase_shown : Bool → Option Entry → Phase
-phase_shown false None = Merged
-phase_shown false (Some e) = if worker.is_closed e then Closed else Merged
-phase_shown true None = Away
-phase_shown true (Some e) = if worker.is_open e then Open else Done
+-- how far a spawn whose part wasn't put in yet has come, by its worker's entry of it
+abbrev pub entry_shown : Entry → Phase
+entry_shown e =
+    if worker.is_declined e then Declined else (if worker.is_open e then Open else Done)
+
+-- how far a spawn has come, by the phase of its record and by its worker's entry of it, which is
+-- closed only where the part was put in
+abbrev pub phase_shown : records.Phase → Option Entry → Phase
+phase_shown recorded.Out None = Away
+phase_shown recorded.Out (Some e) = entry_shown e
+phase_shown recorded.Merged None = Merged
+phase_shown recorded.Merged (Some e) = if worker.is_closed e then Closed else Merged
+phase_shown recorded.Withdrawn entry = Withdrawn
 
 abbrev pub spawn_shown : Controllers → SpawnRec → SpawnState
 spawn_shown c r =
@@ -39,7 +47,7 @@ spawn_shown c r =
       node = r.node;
       worker = r.worker;
       rw = r.rw;
-      phase = phase_shown (is_out r) (entry_for c r);
+      phase = phase_shown r.phase (entry_for c r);
     }
 
 -- ---- rows
@@ -86,8 +94,10 @@ shop_shown c =
 abbrev pub tag_in : Body → Tag
 tag_in (body.Submit p) = Submit p.spawn_id
 tag_in (body.Return p) = Return p.spawn_id
+tag_in (body.Abort s) = Abort s
 tag_in (body.Answer command.Submit s told) = ToSubmit s
 tag_in (body.Answer command.Return s told) = ToReturn s
+tag_in (body.Answer command.Abort s told) = ToAbort s
 
 abbrev pub tag_of : Message → Tag
 tag_of m = tag_in m.body

@@ -4,7 +4,7 @@ use Rattle.std.specs.List.{Contains}
 use Rattle.ticket_tree.specs.PartView.{part_row}
 use Rattle.controller.specs.Reply.{spawn_in}
 use Rattle.controller.specs.declared.body.Body.{Body}
-use Rattle.controller.specs.declared.body.Body.TheVariants.{Submit, Return, Answer}
+use Rattle.controller.specs.declared.body.Body.TheVariants.{Submit, Return, Abort, Answer}
 use Rattle.controller.specs.declared.message.Message.{Message}
 use Rattle.spawn.specs.Parts.{part_for}
 use Rattle.spawn.specs.Records.{is_out}
@@ -26,6 +26,7 @@ abbrev pub TellsOf : Shop → SpawnRec → Body → Type 0
 TellsOf p r (Submit part) =
     (part ≡ part_for (ticket_seen p) r) × HasHeld p r.id (part_row part) p.seen
 TellsOf p r (Return part) = HasHeld p r.id (part_row part) p.now
+TellsOf p r (Abort s) = ⊤
 TellsOf p r (Answer command s told) = ⊤
 
 -- so does each message whose spawn is out, of what the controllers show

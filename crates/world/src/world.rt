@@ -97,12 +97,13 @@ impl World {
 
     /// Every message that was sent, in the order in which they went out. The first has the number
     /// 1. The workers are those that the master names, each knows it as its master, and each
-    /// controller is in order. So are the messages: of one spawn one part goes out and one comes
-    /// back, however often, and each is the one that the master makes of its record while it is
-    /// out, or the worker of its entry while that is finished and not closed. Where a part was put
-    /// in, the work on its entry has ended, and where an entry is closed, its part was put in.
-    /// While a spawn is out, the part that goes out with it has what it holds as it is seen, and
-    /// the one that comes back as it is now.
+    /// controller is in order. So are the messages: of one spawn one part goes out, one comes back
+    /// and one command gives it up, however often, and each is the one that the master makes of its
+    /// record, a part while that is out, or the worker of its entry while that is finished and not
+    /// closed. Where a part was put in, the work on its entry has ended, where a spawn was
+    /// withdrawn, its entry is declined, and where an entry is closed, its part was put in. While a
+    /// spawn is out, the part that goes out with it has what it holds as it is seen, and the one
+    /// that comes back as it is now.
     pub fn messages(&self) -> &[Message]
         ensures messages { result.now ≡ self.now.messages }
         ensures kept { state.IsKept self.now }
@@ -296,7 +297,8 @@ impl World {
     }
 
     /// Events in turn, and what comes of each. The answers, and what is shown then, are those of
-    /// one ticket with one table of holders, to which the events happen in turn. Where memory runs
+    /// one ticket with one table of holders, to which the events happen in turn: the master's
+    /// edits, its spawns and withdrawals, the workers' work, and the merges. Where memory runs
     /// out the world stands, and shows, as after the events before the one at which it did.
     /// Whatever comes of them, each may change then just what it holds, as after `step`; and the
     /// part of each spawn is put in at most once, of which the audits of the node above tell, where

@@ -54,6 +54,18 @@ acked : answer_text (says (Did (reply.Acked 1))) ≡ codes "Acked S1"
 unfolding digits
 acked = refl
 
+asked : answer_text (sends (Did (reply.Asked 1)) 2) ≡ codes "Asked S1 #2"
+asked = refl
+
+declined : answer_text (sends (Did (reply.Declined 1)) 3) ≡ codes "Declined S1 #3"
+declined = refl
+
+ended : answer_text (sends (Did (reply.Ended 1)) 4) ≡ codes "Ended S1 #4"
+ended = refl
+
+freed : answer_text (says (Did (reply.Freed 1))) ≡ codes "Freed S1"
+freed = refl
+
 edited : answer_text (says (Did reply.Edited)) ≡ codes "Edited"
 edited = refl
 

@@ -15,7 +15,7 @@ use Rattle.json_items.specs.Judged.{first_fault, judged}
 use Rattle.json_items.specs.Listed.{list_form}
 use Rattle.json_source.specs.Read.{◌>>=◌, provided, has_only, text_under}
 use Rattle.master_core.specs.declared.order.Order.{Order}
-use Rattle.master_core.specs.declared.order.Order.TheVariants.{Edit, Spawn, Resend}
+use Rattle.master_core.specs.declared.order.Order.TheVariants.{Edit, Spawn, Resend, Withdraw}
 use Rattle.controller_form.specs.Orders.SpawnNamed.{spawn_under}
 
 -- ---- by members and their kinds alone
@@ -46,22 +46,23 @@ spawn_form d = do
   worker ← text_under (codes "Worker") d
   Some (Spawn node worker copies)
 
-abbrev pub resend_members : List (List ℕ)
-resend_members = codes "Order" ∷ codes "SpawnID" ∷ []
+abbrev pub known_members : List (List ℕ)
+known_members = codes "Order" ∷ codes "SpawnID" ∷ []
 
--- to send the part of a spawn once more
-unfoldable pub resend_form : Data → Option Order
-resend_form d = do
-  _ ← provided (has_only resend_members d)
+-- an order about a spawn that was made
+unfoldable pub known_form : (ℕ → Order) → Data → Option Order
+known_form order d = do
+  _ ← provided (has_only known_members d)
   s ← spawn_under d
-  Some (Resend s)
+  Some (order s)
 
 -- an order of the kind that a word names
 unfoldable pub kind_form : List ℕ → Data → Option Order
 kind_form kind d =
     if bytes_eq kind (codes "Edit") then edit_form d
     else (if bytes_eq kind (codes "Spawn") then spawn_form d
-    else (if bytes_eq kind (codes "Resend") then resend_form d else None))
+    else (if bytes_eq kind (codes "Resend") then known_form Resend d
+    else (if bytes_eq kind (codes "Withdraw") then known_form Withdraw d else None)))
 
 -- an order, of the kind that its `Order` names
 unfoldable pub master_order_form : Data → Option Order
@@ -75,11 +76,13 @@ order_has_names (Edit e) = edit_has_names e
 order_has_names (Spawn node worker copies) = is_name node && is_name worker
     && list_all is_name copies
 order_has_names (Resend s) = is_spawn_number s
+order_has_names (Withdraw s) = is_spawn_number s
 
 abbrev pub order_has_texts : Order → Bool
 order_has_texts (Edit e) = edit_has_texts e
 order_has_texts (Spawn node worker copies) = true
 order_has_texts (Resend s) = true
+order_has_texts (Withdraw s) = true
 
 -- ---- what data is read as
 

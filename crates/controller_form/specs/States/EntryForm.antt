@@ -17,7 +17,7 @@ use Rattle.worker_core.specs.Worker.{end_word}
 use Rattle.worker_core.specs.declared.end.End.{End}
 use Rattle.worker_core.specs.declared.entry.Entry.{Entry}
 use Rattle.worker_core.specs.declared.stage.Stage.{Stage}
-use Rattle.worker_core.specs.declared.stage.Stage.TheVariants.{Open, Done, Closed}
+use Rattle.worker_core.specs.declared.stage.Stage.TheVariants.{Open, Done, Closed, Declined}
 use Rattle.controller_form.specs.Orders.EndNamed.{end_named}
 use Rattle.controller_form.specs.Orders.SpawnNamed.{spawn_named}
 use Rattle.controller_form.specs.declared.states.format.Format.{Format}
@@ -25,8 +25,8 @@ use Rattle.controller_form.specs.declared.states.format.Format.TheVariants.{Firs
 
 -- ---- read, by members and their kinds alone
 
--- the spawn by its id's text, how far the worker is with the part, the part unless it was given up,
--- and when it was taken or ended
+-- the spawn by its id's text, how far the worker is with the part, the part that there is, and when
+-- it was taken, declined or ended
 pub record RawEntry : Type 0 where
   pub spawn : List ℕ
   pub phase : Stage
@@ -77,14 +77,27 @@ closed_draft d = do
   spawn ← text_under (codes "ID") d
   Some (record { spawn = spawn; phase = Closed end; part = None; at = at })
 
--- whether data tells that the part was given up
-abbrev pub is_closed : Data → Bool
-is_closed d = option_map_or (bytes_eq (codes "Closed")) (text_under (codes "Phase") d) false
+abbrev pub declined_members : List (List ℕ)
+declined_members = codes "At" ∷ codes "ID" ∷ codes "Phase" ∷ []
 
--- an entry; the first format tells of no part that was given up
+-- an entry of a spawn that was declined
+unfoldable pub declined_draft : Data → Option RawEntry
+declined_draft d = do
+  _ ← provided (has_only declined_members d)
+  at ← number_under (codes "At") d
+  spawn ← text_under (codes "ID") d
+  Some (record { spawn = spawn; phase = Declined; part = None; at = at })
+
+-- whether data tells of a phase
+abbrev pub has_phase : List ℕ → Data → Bool
+has_phase word d = option_map_or (bytes_eq word) (text_under (codes "Phase") d) false
+
+-- an entry; the first format tells of no part that was given up, and of none that was declined
 unfoldable pub entry_draft : Format → Data → Option RawEntry
 entry_draft First d = held_draft First d
-entry_draft Second d = if is_closed d then closed_draft d else held_draft Second d
+entry_draft Second d =
+    if has_phase (codes "Closed") d then closed_draft d
+    else (if has_phase (codes "Declined") d then declined_draft d else held_draft Second d)
 
 -- the entry of a draft
 abbrev pub entry_in : RawEntry → Entry
@@ -116,6 +129,7 @@ abbrev pub stage_word : Stage → List ℕ
 stage_word Open = codes "Open"
 stage_word (Done how) = end_word how
 stage_word (Closed how) = codes "Closed"
+stage_word Declined = codes "Declined"
 
 -- members, and the id of a spawn; the first format doesn't tell it
 abbrev pub with_id : Format → ℕ → Members → Members
@@ -138,7 +152,7 @@ entry_data format e =
     (put (codes "Phase") (string (stage_word e.phase))
     (put (codes "At") (number (unsigned e.at)) no_members)))))
 
--- whether a format can tell an entry; the first tells of no part that was given up
+-- whether a format can tell an entry; the first tells of none without its part
 abbrev pub is_told_in : Format → Entry → Bool
 is_told_in First e = is_some e.part
 is_told_in Second e = true

@@ -1,6 +1,7 @@
 -- The form of a master's state. In a draft the ids, names and texts may be any bytes, its rows no
 -- tree's, and its resources may show spawns.
-use Rattle.std.specs.Prelude.{ℕ, ◌&&◌, Bool, List, [], ◌∷◌, codes, map, Option, Some, Result, Err}
+use Rattle.std.specs.Prelude.{ℕ, ◌&&◌, Bool, List, [], ◌∷◌, codes, map, if◌then◌else◌}
+use Rattle.std.specs.Prelude.{Option, Some, None, Result, Err}
 use Rattle.std.specs.List.{list_all}
 use Rattle.std.specs.Option.{option_and_then, option_map_or}
 use Rattle.serde_json.specs.Data.{Data, no_members, member, string, array, object}
@@ -18,8 +19,8 @@ use Rattle.json_source.specs.Read.{◌>>=◌, provided, has_only, text_under}
 use Rattle.json_writer.specs.Written.{ticket_data}
 use Rattle.master_core.specs.Master.{Known, known}
 use Rattle.master_core.specs.Stored.{is_master}
-use Rattle.controller_form.specs.States.RecordForm.{record_data, record_form, record_has_names}
-use Rattle.controller_form.specs.States.RecordForm.{record_has_texts}
+use Rattle.controller_form.specs.States.RecordForm.{are_told_in, record_data, record_form}
+use Rattle.controller_form.specs.States.RecordForm.{record_has_names, record_has_texts}
 use Rattle.controller_form.specs.States.StateFormat.{controller_under, format_of, read_in}
 use Rattle.controller_form.specs.States.StateFormat.{state_data, written}
 use Rattle.controller_form.specs.declared.states.format.Format.{Format}
@@ -37,14 +38,21 @@ pub record RawMaster : Type 0 where
 abbrev pub master_members : List (List ℕ)
 master_members = codes "Name" ∷ codes "Spawns" ∷ codes "Ticket" ∷ codes "Workers" ∷ []
 
-unfoldable pub master_draft : Data → Option RawMaster
-master_draft d = do
+unfoldable pub any_master_draft : Data → Option RawMaster
+any_master_draft d = do
   _ ← provided (has_only master_members d)
   name ← text_under (codes "Name") d
   records ← option_and_then (list_form record_form) (get (codes "Spawns") d)
   ticket ← option_and_then ticket_draft (get (codes "Ticket") d)
   workers ← option_and_then (list_form as_str) (get (codes "Workers") d)
   Some (record { name = name; workers = workers; ticket = ticket; records = records })
+
+-- a draft in a format, which has to tell the phases of its records
+abbrev pub in_format : Format → RawMaster → Option RawMaster
+in_format format m = if are_told_in format (map (λ r. r.spawn) m.records) then Some m else None
+
+abbrev pub master_draft : Format → Data → Option RawMaster
+master_draft format d = option_and_then (in_format format) (any_master_draft d)
 
 -- the master of a draft
 abbrev pub master_in : RawMaster → Known
@@ -83,10 +91,10 @@ abbrev pub judged_master : Option RawMaster → Result Known Refusal
 judged_master draft =
     option_map_or (λ m. sound (master_fault m) (master_in m)) draft (Err NotProfile)
 
--- the master whose state the data is, or its first refusal; both formats have its members
+-- the master whose state the data is, or its first refusal
 abbrev pub master_state_read : Data → Result Known Refusal
 master_state_read d = read_in (format_of d) (λ format.
-    judged_master (option_and_then master_draft (controller_under (codes "Master") d)))
+    judged_master (option_and_then (master_draft format) (controller_under (codes "Master") d)))
 
 -- ---- written
 

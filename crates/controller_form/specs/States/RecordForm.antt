@@ -1,7 +1,7 @@
 -- The form of a spawn's record as it is stored. In a draft the ids and names may be any bytes, and
 -- the spawn's id any text.
-use Rattle.std.specs.Prelude.{ℕ, ◌&&◌, Bool, List, [], ◌∷◌, codes, if◌then◌else◌, Option}
-use Rattle.std.specs.Prelude.{Some, None}
+use Rattle.std.specs.Prelude.{ℕ, ◌&&◌, Bool, true, false, List, [], ◌∷◌, codes, if◌then◌else◌}
+use Rattle.std.specs.Prelude.{Option, Some, None}
 use Rattle.std.specs.List.{list_all}
 use Rattle.std.specs.Option.{option_and_then}
 use Rattle.std.specs.Str.{bytes_eq}
@@ -10,7 +10,7 @@ use Rattle.serde_json.specs.Find.{as_str, get}
 use Rattle.ticket_items.specs.Names.{is_name}
 use Rattle.ticket_items.specs.SpawnId.{is_spawn_number, spawn_text}
 use Rattle.spawn.specs.declared.records.phase.Phase.{Phase}
-use Rattle.spawn.specs.declared.records.phase.Phase.TheVariants.{Out, Merged}
+use Rattle.spawn.specs.declared.records.phase.Phase.TheVariants.{Out, Merged, Withdrawn}
 use Rattle.spawn.specs.declared.records.spawn_rec.SpawnRec.{SpawnRec}
 use Rattle.json_shapes.specs.Draft.{are_bare, resources_of}
 use Rattle.json_items.specs.Listed.{data_items, list_form, texts_data}
@@ -19,6 +19,8 @@ use Rattle.json_items.specs.Resources.{resource_has_names, resource_has_texts}
 use Rattle.json_items.specs.Shown.{nothing_shown}
 use Rattle.json_source.specs.Read.{◌>>=◌, provided, has_only, number_under, text_under}
 use Rattle.controller_form.specs.Orders.SpawnNamed.{spawn_named}
+use Rattle.controller_form.specs.declared.states.format.Format.{Format}
+use Rattle.controller_form.specs.declared.states.format.Format.TheVariants.{First, Second}
 use Rattle.controller_form.specs.declared.states.record_draft.StoredRecord.{StoredRecord}
 
 -- ---- read, by members and their kinds alone
@@ -26,7 +28,8 @@ use Rattle.controller_form.specs.declared.states.record_draft.StoredRecord.{Stor
 abbrev pub phase_named : List ℕ → Option Phase
 phase_named word =
     if bytes_eq word (codes "Out") then Some Out
-    else (if bytes_eq word (codes "Merged") then Some Merged else None)
+    else (if bytes_eq word (codes "Merged") then Some Merged
+    else (if bytes_eq word (codes "Withdrawn") then Some Withdrawn else None))
 
 abbrev pub phase_under : Data → Option Phase
 phase_under d = text_under (codes "Phase") d >>= phase_named
@@ -59,6 +62,17 @@ record_form d = do
     bare = are_bare ro;
   })
 
+-- whether a format can tell a phase, and each phase of several spawns; the first tells of no spawn
+-- that was withdrawn
+abbrev pub is_phase_told_in : Format → Phase → Bool
+is_phase_told_in First Out = true
+is_phase_told_in First Merged = true
+is_phase_told_in First Withdrawn = false
+is_phase_told_in Second phase = true
+
+abbrev pub are_told_in : Format → List SpawnRec → Bool
+are_told_in format spawns = list_all (λ r. is_phase_told_in format r.phase) spawns
+
 -- ---- ids, names and texts
 
 -- whether its id is a spawn's, and all others but those of its copies to read are valid
@@ -84,6 +98,7 @@ record_has_texts r = spawn_has_texts r.spawn
 abbrev pub phase_word : Phase → List ℕ
 phase_word Out = codes "Out"
 phase_word Merged = codes "Merged"
+phase_word Withdrawn = codes "Withdrawn"
 
 -- the copies to read show nothing of spawns
 abbrev pub record_data : SpawnRec → Data

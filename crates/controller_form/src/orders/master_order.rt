@@ -31,6 +31,8 @@ pub enum MasterOrderDraft<'a> {
     },
     /// To send the part of the spawn that this text names once more.
     Resend(Borrowed<'a, AnyText>),
+    /// To ask the worker of the spawn that this text names to give it up.
+    Withdraw(Borrowed<'a, AnyText>),
 }
 
 /// An order to edit the ticket.
@@ -55,13 +57,23 @@ fn spawn<'a>(alloc: Global, value: &'a Value) -> Result<MasterOrderDraft<'a>, Re
 }
 
 /// An order to send the part of a spawn once more.
-#[tactic(auto, unfolding(crate::specs::Orders::MasterForm::resend_form))]
+#[tactic(auto, unfolding(crate::specs::Orders::MasterForm::known_form))]
 fn resend<'a>(alloc: Global, value: &'a Value) -> Result<MasterOrderDraft<'a>, Refusal>
-    ensures { Gives drafted_master_order result (forms.resend_form (view value.now)) }
+    ensures { Gives drafted_master_order result (forms.known_form Order.Resend (view value.now)) }
 {
     only(value, &["Order", "SpawnID"])?;
     let spawn = under(alloc, value, "SpawnID")?;
     Ok(MasterOrderDraft::Resend(spawn))
+}
+
+/// An order to ask the worker of a spawn to give it up.
+#[tactic(auto, unfolding(crate::specs::Orders::MasterForm::known_form))]
+fn withdraw<'a>(alloc: Global, value: &'a Value) -> Result<MasterOrderDraft<'a>, Refusal>
+    ensures { Gives drafted_master_order result (forms.known_form Order.Withdraw (view value.now)) }
+{
+    only(value, &["Order", "SpawnID"])?;
+    let spawn = under(alloc, value, "SpawnID")?;
+    Ok(MasterOrderDraft::Withdraw(spawn))
 }
 
 /// The draft of an order of a kind.
@@ -79,6 +91,8 @@ fn draft_of_kind<'a>(
         spawn(alloc, value)
     } else if kind == "Resend" {
         resend(alloc, value)
+    } else if kind == "Withdraw" {
+        withdraw(alloc, value)
     } else {
         Err(Refusal::NotProfile)
     }
@@ -118,6 +132,7 @@ impl<'a> Checked for MasterOrderDraft<'a> {
                 && worker.has_names()
                 && rw.has_names(),
             MasterOrderDraft::Resend(spawn) => names_spawn(spawn.as_str()),
+            MasterOrderDraft::Withdraw(spawn) => names_spawn(spawn.as_str()),
         }
     }
 
@@ -127,6 +142,7 @@ impl<'a> Checked for MasterOrderDraft<'a> {
             MasterOrderDraft::Edit(edit) => edit.has_texts(),
             MasterOrderDraft::Spawn { .. } => true,
             MasterOrderDraft::Resend(_) => true,
+            MasterOrderDraft::Withdraw(_) => true,
         }
     }
 
@@ -137,6 +153,9 @@ impl<'a> Checked for MasterOrderDraft<'a> {
             MasterOrderDraft::Spawn { node, worker, rw } => build_spawn(alloc, node, worker, rw),
             MasterOrderDraft::Resend(spawn) => {
                 Ok(Order::Resend(SpawnId::parse(spawn.as_str())?))
+            }
+            MasterOrderDraft::Withdraw(spawn) => {
+                Ok(Order::Withdraw(SpawnId::parse(spawn.as_str())?))
             }
         }
     }
@@ -159,8 +178,8 @@ fn build_spawn(
 }
 
 /// The master's order that a value is: to edit its ticket, to send a node to a worker with copies
-/// of these resources that may be changed, or to send the part of a spawn once more. Refuses the
-/// first of `NotProfile`, `BadId` (also where the SpawnID names no spawn) and `BadText` that stands
+/// of these resources that may be changed, to send the part of a spawn once more, or to ask the
+/// worker of a spawn to give it up. Refuses the first of `NotProfile`, `BadId` (also where the SpawnID names no spawn) and `BadText` that stands
 /// in it, and `Memory`.
 pub fn master_order_of(alloc: Global, value: &Value) -> Result<Order, Refusal>
     ensures { Answers result (forms.master_order_read (view value.now)) }

@@ -13,7 +13,7 @@ use crate::orders::end_named::end_named;
 use crate::orders::spawn_named::names_spawn;
 use crate::states::format::Format;
 use crate::states::stage_word::stage_named;
-use json_items::{AnyText, Borrowed, Checked, number_under, only, text_under, under};
+use json_items::{AnyText, Borrowed, Checked, number_under, only, text_under, two, under};
 use json_profile::PartDraft;
 use json_source::Source;
 use serde_json::Value;
@@ -27,9 +27,9 @@ use worker_core::{End, Entry, Stage};
 pub struct EntryDraft<'a> {
     pub spawn: Borrowed<'a, AnyText>,
     pub phase: Stage,
-    /// None once it was given up.
+    /// None once it was given up, and where it was declined.
     pub part: Option<PartDraft<'a>>,
-    /// When it was taken, or ended, in seconds since 1970.
+    /// When it was taken, declined or ended, in seconds since 1970.
     pub at: u64,
 }
 
@@ -87,12 +87,12 @@ fn spawn_told<'a>(
     }
 }
 
-/// Whether a value tells that the part was given up.
-fn is_closed(value: &Value) -> bool
-    ensures { result ≡ form.is_closed (view value.now) }
+/// Whether a value tells of a phase.
+fn has_phase(value: &Value, word: &str) -> bool
+    ensures { result ≡ form.has_phase word.now (view value.now) }
 {
     match text_under(value, "Phase") {
-        Some(word) => word == "Closed",
+        Some(told) => word == told,
         None => false,
     }
 }
@@ -138,6 +138,21 @@ impl<'a> EntryDraft<'a> {
         })
     }
 
+    /// The draft of an entry of a spawn that was declined.
+    #[tactic(auto, unfolding(crate::specs::States::EntryForm::declined_draft))]
+    fn declined(alloc: Global, value: &'a Value) -> Result<EntryDraft<'a>, Refusal>
+        ensures { Gives drafted_entry result (form.declined_draft (view value.now)) }
+    {
+        only(value, &["At", "ID", "Phase"])?;
+        let (at, spawn) = two(alloc, value, "At", "ID")?;
+        Ok(EntryDraft {
+            spawn,
+            phase: Stage::Declined,
+            part: None,
+            at,
+        })
+    }
+
     /// The draft that a value is in a format. Refuses `NotProfile`, and `Memory`.
     #[tactic(auto, unfolding(crate::specs::States::EntryForm::entry_draft))]
     pub fn of(alloc: Global, value: &'a Value, format: Format) -> Result<EntryDraft<'a>, Refusal>
@@ -146,8 +161,10 @@ impl<'a> EntryDraft<'a> {
         match format {
             Format::First => EntryDraft::held(alloc, value, format),
             Format::Second => {
-                if is_closed(value) {
+                if has_phase(value, "Closed") {
                     EntryDraft::closed(alloc, value)
+                } else if has_phase(value, "Declined") {
+                    EntryDraft::declined(alloc, value)
                 } else {
                     EntryDraft::held(alloc, value, format)
                 }

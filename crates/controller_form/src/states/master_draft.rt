@@ -4,15 +4,18 @@ ghost use Rattle.std.specs.Prelude.{◌≡◌, true, map, IfErr, IfOk};
 ghost use Rattle.std.specs.List.{list_all};
 ghost use Rattle.controller_form.specs.States.Drafted.{drafted_record};
 ghost use Rattle.controller_form.specs.States.MasterForm as form;
+ghost use Rattle.controller_form.specs.States.RecordForm.{is_phase_told_in};
 ghost use Rattle.controller_form.specs.States.RecordForm.{record_has_names, record_has_texts};
+ghost use Rattle.json_source.specs.Read.{Gives};
 
+use crate::states::format::Format;
 use crate::states::record_draft::{RecordDraft, StoredRecord};
 use json_items::{Borrowed, Checked, Draft, Drafts, build_two, only, two, under};
 use json_profile::TicketDraft;
 use json_source::Source;
 use master_core::Master;
 use serde_json::Value;
-use spawn::SpawnRec;
+use spawn::{Phase, SpawnRec};
 use std::alloc::Global;
 use ticket_tree::{Id, Refusal};
 
@@ -30,6 +33,29 @@ fn are_bare(records: &[RecordDraft<'_>]) -> bool
     ensures { result ≡ list_all (λ d. (drafted_record d).bare) records.now }
 {
     records.iter().all(|record| record.is_bare())
+}
+
+/// Whether a format can tell a phase.
+fn is_phase_told_in(format: Format, phase: Phase) -> bool
+    ensures { result ≡ is_phase_told_in format phase }
+{
+    match format {
+        Format::First => match phase {
+            Phase::Out | Phase::Merged => true,
+            Phase::Withdrawn => false,
+        },
+        Format::Second => true,
+    }
+}
+
+/// Whether a format can tell the phases of records.
+fn are_told(records: &[RecordDraft<'_>], format: Format) -> bool
+    ensures { result
+        ≡ list_all (λ d. is_phase_told_in format (drafted_record d).spawn.phase) records.now }
+{
+    records
+        .iter()
+        .all(|record| is_phase_told_in(format, record.phase))
 }
 
 /// The records of drafts whose names and texts are valid. Refuses `Memory` alone.
@@ -59,10 +85,22 @@ impl<'a> MasterDraft<'a> {
     ghost use Rattle.controller_form.specs.States.Drafted.{drafted_master};
     ghost use Rattle.controller_form.specs.States.MasterForm as form;
 
-    /// The draft that a value is. Refuses `NotProfile`, and `Memory`.
-    #[tactic(auto, unfolding(crate::specs::States::MasterForm::master_draft))]
-    pub fn of(alloc: Global, value: &'a Value) -> Result<MasterDraft<'a>, Refusal>
-        ensures { Gives drafted_master result (form.master_draft (view value.now)) }
+    /// The draft that a value is in a format. Refuses `NotProfile`, and `Memory`.
+    pub fn of(alloc: Global, value: &'a Value, format: Format) -> Result<MasterDraft<'a>, Refusal>
+        ensures { Gives drafted_master result (form.master_draft format (view value.now)) }
+    {
+        let draft = MasterDraft::of_any(alloc, value)?;
+        if are_told(draft.records.as_slice(), format) {
+            Ok(draft)
+        } else {
+            Err(Refusal::NotProfile)
+        }
+    }
+
+    /// The draft that a value is in any format.
+    #[tactic(auto, unfolding(crate::specs::States::MasterForm::any_master_draft))]
+    fn of_any(alloc: Global, value: &'a Value) -> Result<MasterDraft<'a>, Refusal>
+        ensures { Gives drafted_master result (form.any_master_draft (view value.now)) }
     {
         only(value, &["Name", "Spawns", "Ticket", "Workers"])?;
         let (name, records) = two(alloc, value, "Name", "Spawns")?;

@@ -1,12 +1,13 @@
 //! A master's state from JSON, and as JSON.
 
-ghost use Rattle.std.specs.Prelude.{◌≡◌, ◌≤◌, Ok, false, IfOk, OnOk};
+ghost use Rattle.std.specs.Prelude.{◌≡◌, ◌≤◌, Ok, true, false, IfOk, OnOk};
 ghost use Rattle.serde_json.specs.Data.{depth};
 ghost use Rattle.serde_json.specs.Read.{max_depth};
 ghost use Rattle.serde_json.specs.View.{view};
 ghost use Rattle.serde_json.specs.Written.{has_float};
 ghost use Rattle.json_items.specs.Judged.{Answers};
 ghost use Rattle.controller_form.specs.States.MasterForm as form;
+ghost use Rattle.controller_form.specs.States.RecordForm.{are_told_in};
 ghost use Rattle.controller_form.specs.States.Writable.{IsWritableMaster};
 
 use crate::states::format::{Format, controller_under, format_of, state_value};
@@ -28,9 +29,9 @@ use ticket_tree::Refusal;
 pub fn master_state_of(alloc: Global, value: &Value) -> Result<Master, Refusal>
     ensures { Answers result (form.master_state_read (view value.now)) }
 {
-    format_of(value)?;
+    let format = format_of(value)?;
     let controller = controller_under(value, "Master")?;
-    let draft = MasterDraft::of(alloc, controller)?;
+    let draft = MasterDraft::of(alloc, controller, format)?;
     draft.build(alloc)
 }
 
@@ -51,12 +52,12 @@ fn master_value(alloc: Global, master: &Master) -> Result<Value, AllocError>
 }
 
 /// A master's state as a value, which `master_state_of` reads as that master; as it does what the
-/// first format tells of it.
+/// first format tells of it, where that can tell it.
 pub fn master_state_value(alloc: Global, master: &Master) -> Result<Value, AllocError>
     ensures value { IfOk result (λ v. view v ≡ form.master_state_data master.now) }
     ensures again { IfOk result (λ v. form.master_state_read (view v) ≡ Ok master.now) }
-    ensures first { OnOk result
-        (form.master_state_read (form.master_state_in Format.First master.now) ≡ Ok master.now) }
+    ensures first { OnOk result (are_told_in Format.First master.now.records ≡ true →
+        form.master_state_read (form.master_state_in Format.First master.now) ≡ Ok master.now) }
     ensures plain { IfOk result (λ v. has_float (view v) ≡ false) }
     ensures nests { IfOk result (λ v. depth (view v) ≤ max_depth) }
 {

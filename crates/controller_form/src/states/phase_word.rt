@@ -1,4 +1,4 @@
-//! Whether a spawn's part is out, by its word.
+//! How far a spawn is, by its word.
 
 ghost use Rattle.std.specs.Prelude.{◌≡◌};
 ghost use Rattle.controller_form.specs.States.RecordForm as form;
@@ -13,6 +13,8 @@ pub fn phase_named(word: &str) -> Option<Phase>
         Some(Phase::Out)
     } else if word == "Merged" {
         Some(Phase::Merged)
+    } else if word == "Withdrawn" {
+        Some(Phase::Withdrawn)
     } else {
         None
     }
@@ -25,5 +27,6 @@ pub fn phase_word(phase: Phase) -> &'static str
     match phase {
         Phase::Out => "Out",
         Phase::Merged => "Merged",
+        Phase::Withdrawn => "Withdrawn",
     }
 }

@@ -27,5 +27,6 @@ pub fn stage_word(stage: Stage) -> &'static str
         Stage::Open => "Open",
         Stage::Done(end) => end.word(),
         Stage::Closed(_) => "Closed",
+        Stage::Declined => "Declined",
     }
 }

@@ -1,10 +1,10 @@
-//! A worker's work on a part, from its start to the answer that the part came back, on a keeper of
-//! which one call fails: the call says so, nothing is taken until the state is loaded again, and
+//! A worker's work on a part, from its start to the answer that the part came back, and a spawn that
+//! is given up before it came, on a keeper of which one call fails: the call says so, nothing is taken until the state is loaded again, and
 //! the step that is repeated then comes to the same end.
 
 use super::lent::Lent;
 use super::loads;
-use super::texts::{CLOSED_ENTRY, NO_ENTRY, RETURN_TAKEN, SUBMIT};
+use super::texts::{ABORT, CLOSED_AND_DECLINED, NO_ENTRY, RETURN_TAKEN, SUBMIT};
 use jdf_commands::{order_kept, take_kept};
 use keepers::{FailingKeep, Keep};
 use std::alloc::Global;
@@ -24,7 +24,7 @@ struct Step {
 }
 
 /// The steps. Each is one call of the keeper, and the first comes behind the load.
-static STEPS: [Step; 4] = [
+static STEPS: [Step; 5] = [
     Step {
         is_order: false,
         text: SUBMIT,
@@ -52,6 +52,13 @@ static STEPS: [Step; 4] = [
         at: 140,
         line: "Acked S1\n",
         again: "Acked S1\n",
+    },
+    Step {
+        is_order: false,
+        text: ABORT,
+        at: 150,
+        line: "Declined S2\n",
+        again: "Declined S2\n",
     },
 ];
 
@@ -125,7 +132,7 @@ fn not_opened(alloc: Global, keep: &mut FailingKeep) -> Option<Refused> {
 
 #[test]
 fn comes_to_the_same_end(rt: HostRuntime) -> Result<(), Fail> {
-    for k in 0..=5u8 {
+    for k in 0..=6u8 {
         for leaves_new in [false, true] {
             let bytes = Vec::from_slice(rt.alloc(), NO_ENTRY.as_bytes())?;
             let mut keep = FailingKeep::new(bytes, u64::from(k), leaves_new);
@@ -136,7 +143,7 @@ fn comes_to_the_same_end(rt: HostRuntime) -> Result<(), Fail> {
             let done = does_all(rt.alloc(), &mut keep, usize::from(k), leaves_new);
             assert!(rt; done, "{k} {leaves_new}");
             assert!(rt;
-                loads(&mut keep, CLOSED_ENTRY.as_bytes()),
+                loads(&mut keep, CLOSED_AND_DECLINED.as_bytes()),
                 "{k} {leaves_new}"
             );
         }

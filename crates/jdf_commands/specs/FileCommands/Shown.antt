@@ -11,7 +11,7 @@ use Rattle.master_core.specs.Master as master
 use Rattle.worker_core.specs.Worker as worker
 use Rattle.worker_core.specs.declared.entry.Entry.{Entry}
 use Rattle.worker_core.specs.declared.stage.Stage.{Stage}
-use Rattle.worker_core.specs.declared.stage.Stage.TheVariants.{Open, Done, Closed}
+use Rattle.worker_core.specs.declared.stage.Stage.TheVariants.{Open, Done, Closed, Declined}
 
 -- the text of a master's ticket with the marks of what is out, and the end of its line
 abbrev pub master_text : master.Known → List ℕ
@@ -23,6 +23,7 @@ abbrev pub stage_words : Stage → List ℕ
 stage_words Open = codes "Open"
 stage_words (Done how) = worker.end_word how
 stage_words (Closed how) = codes "Closed " ++ worker.end_word how
+stage_words Declined = codes "Declined"
 
 -- the id of a spawn and words, with a space between
 abbrev pub entry_head : ℕ → List ℕ → List ℕ
@@ -41,6 +42,6 @@ entry_line e = entry_head e.spawn_id (stage_words e.phase) ++ part_tail e.part +
 abbrev pub entry_lines : List Entry → List ℕ
 entry_lines entries = flat_map entry_line entries
 
--- what a worker shows: its entries, in the order in which their parts were taken
+-- what a worker shows: its entries, in the order in which their parts were taken or declined
 abbrev pub worker_text : worker.Known → List ℕ
 worker_text w = entry_lines w.entries

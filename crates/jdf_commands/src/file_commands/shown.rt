@@ -40,6 +40,7 @@ fn stage_words(stage: Stage) -> &'static str
         Stage::Done(end) => end.word(),
         Stage::Closed(End::Completed) => "Closed Completed",
         Stage::Closed(End::Aborted) => "Closed Aborted",
+        Stage::Declined => "Declined",
     }
 }
 
@@ -93,10 +94,10 @@ fn push_entries(alloc: Global, text: &mut Vec<u8>, entries: &[Entry]) -> Result<
     Ok(())
 }
 
-/// What a worker shows: a line for each of its entries in the order in which their parts were
-/// taken, with the spawn's id; `Open`, `Completed` or `Aborted` and the part's text, or `Closed`
-/// and one of the latter two where the part was given up; and a space between. Refuses `Memory`
-/// alone.
+/// What a worker shows: a line for each of its entries in the order in which their parts were taken
+/// or declined, with the spawn's id; `Open`, `Completed` or `Aborted` and the part's text, or
+/// `Closed` and one of the latter two where the part was given up, or `Declined`; and a space
+/// between. Refuses `Memory` alone.
 pub fn worker_text(alloc: Global, worker: &Worker) -> Result<Vec<u8>, AllocError>
     ensures { IfOk result (λ text. text.items ≡ shown.worker_text worker.now) }
 {

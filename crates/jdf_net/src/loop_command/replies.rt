@@ -7,10 +7,10 @@ ghost use Rattle.master_core.specs.Messages as master_messages;
 ghost use Rattle.worker_core.specs.Messages as worker_messages;
 ghost use Rattle.worker_core.specs.Worker as workers;
 
-use controller::{Body, QueueStatus, Reply};
+use controller::{Body, Command, QueueStatus, Reply};
 use master_core::Master;
 use spawn::SpawnRec;
-use ticket_tree::SpawnId;
+use ticket_tree::{Refusal, SpawnId};
 use worker_core::{Entry, Worker};
 
 /// The master's record of a spawn.
@@ -30,6 +30,19 @@ fn is_out(master: &Master, spawn: SpawnId) -> bool
     }
 }
 
+/// Whether the answer to a command tells that its taker declines a spawn that it hasn't begun.
+fn is_declined(asked: Command, told: Result<QueueStatus, u16>) -> bool
+    ensures { result ≡ master_messages.is_declined asked told }
+{
+    match asked {
+        Command::Submit | Command::Return => false,
+        Command::Abort => match told {
+            Ok(_) => false,
+            Err(reason) => reason == Refusal::Declined.number(),
+        },
+    }
+}
+
 /// What a master takes a message as, unless it refuses it.
 pub fn master_reply(master: &Master, body: &Body) -> Reply
     ensures { result ≡ master_messages.take_reply body.now master.now }
@@ -43,7 +56,18 @@ pub fn master_reply(master: &Master, body: &Body) -> Reply
                 Reply::Already(part.spawn_id())
             }
         }
-        Body::Answer { spawn_id, .. } => Reply::Noted(*spawn_id),
+        Body::Abort(spawn_id) => Reply::Noted(*spawn_id),
+        Body::Answer {
+            of,
+            spawn_id,
+            result,
+        } => {
+            if is_declined(*of, *result) && is_out(master, *spawn_id) {
+                Reply::Freed(*spawn_id)
+            } else {
+                Reply::Noted(*spawn_id)
+            }
+        }
     }
 }
 
@@ -67,19 +91,42 @@ fn answer_reply(spawn: SpawnId, told: Result<QueueStatus, u16>) -> Reply
     }
 }
 
+/// What a worker takes a command as that comes to an entry which it doesn't change.
+fn again_reply(spawn: SpawnId, entry: &Entry) -> Reply
+    ensures { result ≡ worker_messages.again_reply spawn entry.now }
+{
+    if entry.phase.is_declined() {
+        Reply::Declined(spawn)
+    } else {
+        Reply::Again(spawn)
+    }
+}
+
+/// What it takes it as that the spawn of an entry is to be given up.
+fn abort_reply(spawn: SpawnId, entry: &Entry) -> Reply
+    ensures { result ≡ worker_messages.abort_reply spawn entry.now }
+{
+    if entry.phase.is_open() {
+        Reply::Ended(spawn)
+    } else {
+        again_reply(spawn, entry)
+    }
+}
+
 /// What a worker takes a message as, unless it refuses it.
 pub fn worker_reply(worker: &Worker, body: &Body) -> Reply
     ensures { result ≡ worker_messages.take_reply body.now worker.now.entries }
 {
     match body {
-        Body::Submit(part) => {
-            if entry_of(worker, part.spawn_id()).is_some() {
-                Reply::Again(part.spawn_id())
-            } else {
-                Reply::Taken(part.spawn_id())
-            }
-        }
+        Body::Submit(part) => match entry_of(worker, part.spawn_id()) {
+            None => Reply::Taken(part.spawn_id()),
+            Some(entry) => again_reply(part.spawn_id(), entry),
+        },
         Body::Return(part) => Reply::Already(part.spawn_id()),
+        Body::Abort(spawn_id) => match entry_of(worker, *spawn_id) {
+            None => Reply::Declined(*spawn_id),
+            Some(entry) => abort_reply(*spawn_id, entry),
+        },
         Body::Answer {
             spawn_id,
             result,

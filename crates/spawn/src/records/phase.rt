@@ -5,4 +5,6 @@ pub enum Phase {
     Out,
     /// Its part came back and is put in.
     Merged,
+    /// Its owner took it back before any work was done on its part.
+    Withdrawn,
 }

@@ -2,7 +2,7 @@ use crate::records::phase::Phase;
 use ticket_tree::{Duplicate, Id, Ids, Resources, SpawnId};
 
 /// What the owner of a ticket remembers of a spawn (JDF 1.5, 4.4). The record of a spawn that was
-/// merged keeps its fields.
+/// merged or withdrawn keeps its fields.
 #[derive(Clone, Drop)]
 pub struct SpawnRec {
     pub id: SpawnId,
@@ -30,6 +30,7 @@ impl SpawnRec {
         match self.phase {
             Phase::Out => true,
             Phase::Merged => false,
+            Phase::Withdrawn => false,
         }
     }
 }

@@ -54,8 +54,8 @@ fn all_stand(nodes: &IdSet<'_>, resources: &IdSet<'_>, records: &[SpawnRec]) -> 
     records.iter().all(|spawn| stands(nodes, resources, spawn))
 }
 
-/// Whether each record, also one that was merged, stands in a ticket: its node is one below
-/// another, and its copies are of resources. Refuses for want of memory alone.
+/// Whether each record, also one that was merged or withdrawn, stands in a ticket: its node is one
+/// below another, and its copies are of resources. Refuses for want of memory alone.
 pub fn stand_in(alloc: Global, ticket: &Ticket, records: &[SpawnRec]) -> Result<bool, AllocError>
     ensures { IfOk result (λ b. b ≡ list_all (stands_in ticket.now.rows) records.now) }
 {

@@ -1,5 +1,5 @@
-use Rattle.std.proofs.Common.{Result, Ok, Err, OnOk, ◌≡◌, ◌∙◌, suc, ◌<◌, true, length, sym, ap, subst}
-use Rattle.master_core.proofs.HoldersKept.{put_keeps_table}
+use Rattle.std.proofs.Common.{◌≡◌, ◌∙◌, suc, ◌<◌, true, length, sym, ap, subst}
+use Rattle.master_core.proofs.HoldersKept.{on_both, put_keeps_table}
 use Rattle.master_core.proofs.Merging.{put_there}
 use Rattle.master_core.proofs.RecordPlaces.{out_read, out_there}
 use Rattle.master_core.specs.Master.{is_spawn_out, known}
@@ -37,11 +37,6 @@ put_in-requires-clause-fits c =
     let own = out_read records s k c.index_mut.result.now c.requires.numbered number out c.index_mut.ensures.value in
     c.requires.fits c.index_mut.result.now own.found own.out
 
--- what follows from two facts of what went well
-ok_by : {X E : Type 0} {P Q R : Type 0} (result : Result X E) → OnOk result P → OnOk result Q → (P → Q → R) → OnOk result R
-ok_by (Ok x) p q f = f p q
-ok_by (Err e) p q f = tt
-
 pub returns-then-is_spawn_out-clause-ok : goal.returns-then-is_spawn_out-clause-ok
 returns-then-is_spawn_out-clause-ok c name workers =
     let records = c.args.records.now.items in
@@ -51,7 +46,7 @@ returns-then-is_spawn_out-clause-ok c name workers =
     let out : is_spawn_out records s ≡ true =
     ap (λ rs. is_spawn_out rs s) (sym c.as_slice.ensures.value) ∙ ap (is_spawn_out c.as_slice.result.now) (sym c.spawn_id.ensures) ∙ sym c.is_spawn_out.ensures ∙ c.if-is_spawn_out.true in
     let own = out_read records s k c.index_mut.result.now c.requires.numbered number out c.index_mut.ensures.value in
-    ok_by c.put_in.result c.put_in.ensures.merged c.put_in.ensures.phase (put_there (known name workers c.args.ticket.now records) c.args.part c.args.at k c.index_mut.result.now c.put_in.new.ticket c.put_in.new.spawn c.requires.numbered own)
+    on_both c.put_in.result c.put_in.ensures.merged c.put_in.ensures.phase (put_there (known name workers c.args.ticket.now records) c.args.part c.args.at k c.index_mut.result.now c.put_in.new.ticket c.put_in.new.spawn c.requires.numbered own)
 
 pub returns-then-is_spawn_out-clause-table : goal.returns-then-is_spawn_out-clause-table
 returns-then-is_spawn_out-clause-table c =

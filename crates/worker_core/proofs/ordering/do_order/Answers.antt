@@ -6,6 +6,7 @@ use Rattle.controller.specs.declared.done.Done.{Done}
 use Rattle.worker_core.proofs.AtNumber.{found_there, write_at_number}
 use Rattle.worker_core.proofs.Kept.{number_of}
 use Rattle.worker_core.proofs.Places.{place_seen, refused_at}
+use Rattle.worker_core.proofs.Refusals.{work_free}
 use Rattle.worker_core.specs.Numbers.{are_distinct_numbers}
 use Rattle.worker_core.specs.Orders.{edited_entry, entry_message, finished_entry, order_message, order_refusal, ordered_entries, ordered_entry, return_of, spawn_of_order}
 use Rattle.worker_core.specs.Worker.{Known, entry_of, is_of, known, numbers}
@@ -39,7 +40,8 @@ order_entry-requires c =
     let o = c.args.order in
     let entries = c.args.entries.now.items in
     let here = place_seen o entries c.as_slice.result.now (spawn_of_order o) c.in-Ok.place c.as_slice.ensures.value refl c.in-Ok.ensures.place in
-    sym (refused_at o entries (spawn_of_order o) c.in-Ok.place c.index_mut.result.now refl here c.index_mut.ensures.value) ∙ ap (order_refusal o) (sym c.as_slice.ensures.value) ∙ c.in-Ok.ensures.refusal
+    (work_free o c.index_mut.result.now
+    (sym (refused_at o entries (spawn_of_order o) c.in-Ok.place c.index_mut.result.now refl here c.index_mut.ensures.value) ∙ ap (order_refusal o) (sym c.as_slice.ensures.value) ∙ c.in-Ok.ensures.refusal)).1
 
 pub returns-in-Ok-clause-entries : goal.returns-in-Ok-clause-entries
 returns-in-Ok-clause-entries c =

@@ -1,9 +1,8 @@
 use Rattle.std.proofs.Common.{◌≡◌, ◌∙◌, Result, Ok, Err, IfOk, sym, ap, subst}
 use Rattle.std.specs.Result.{result_and}
-use Rattle.controller.specs.Reply.{answer_to, spawn_in, told_of}
-use Rattle.worker_core.proofs.MessageLaws.{status_stays}
-use Rattle.worker_core.specs.Messages.{after_taking, take_refusal}
-use Rattle.worker_core.specs.Worker.{known, status_in}
+use Rattle.controller.specs.Reply.{answer_to, spawn_in}
+use Rattle.worker_core.specs.Messages.{take_refusal, taken_entries, told_or}
+use Rattle.worker_core.specs.Worker.{known, told_in}
 use Rattle.worker_core.proofs.taking.do_take.Goals as goal
 
 -- what holds of a value holds of the result that is that value or an error
@@ -18,7 +17,8 @@ returns-in-Ok-clause-answer c =
     let entries = c.args.entries.now.items in
     let w = known name c.args.master.now entries in
     let refusal : c.refusal_of-refusal.result ≡ take_refusal m w = c.refusal_of-refusal.ensures ∙ ap (λ es. take_refusal m (known name c.args.master.now es)) c.as_slice.ensures.value in
-    let status : status_in c.as_slice-2.result.now (spawn_in m.body) ≡ status_in (after_taking m c.args.at w).entries (spawn_in m.body) =
-    ap (λ es. status_in es (spawn_in m.body)) c.as_slice-2.ensures.value ∙ sym (status_stays m c.args.at w) in
+    let told = told_in (taken_entries m.body c.args.at entries) (spawn_in m.body) in
     if_and _ c.take_unless.result c.in-Ok.outcome c.and.result c.and.ensures
-    (c.in-Ok.ensures.answer ∙ ap (answer_to name m c.args.at) (ap (λ r. told_of r (status_in c.as_slice-2.result.now (spawn_in m.body))) refusal ∙ ap (told_of (take_refusal m w)) status))
+    (c.in-Ok.ensures.answer
+    ∙ ap (λ es. answer_to name m c.args.at (told_or c.refusal_of-refusal.result (told_in (taken_entries m.body c.args.at es) (spawn_in m.body)))) c.as_slice-2.ensures.value
+    ∙ ap (λ r. answer_to name m c.args.at (told_or r told)) refusal)

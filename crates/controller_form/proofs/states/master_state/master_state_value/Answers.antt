@@ -5,7 +5,7 @@ use Rattle.std.specs.Prelude.{codes}
 use Rattle.controller_form.specs.States.MasterForm.{master_state_read}
 use Rattle.controller_form.specs.States.StateFormat.{state_data, written}
 use Rattle.controller_form.specs.declared.states.format.Format.TheVariants.{First, Second}
-use Rattle.controller_form.proofs.MasterAgain.{master_again}
+use Rattle.controller_form.proofs.MasterAgain.{all_told, master_again}
 use Rattle.controller_form.proofs.Reading.{if_ok, on_any}
 use Rattle.controller_form.proofs.Shape.{master_nests, master_plain}
 use Rattle.controller_form.proofs.states.master_state.master_state_value.Goals as goal
@@ -13,10 +13,10 @@ use Rattle.controller_form.proofs.states.master_state.master_state_value.Goals a
 pub returns-clause-again : goal.returns-clause-again
 returns-clause-again c =
     let known = c.in_ok-controller.ensures.known in
-    if_ok _ _ c.state_value.result c.state_value.ensures (λ v is. ap master_state_read (is ∙ ap (state_data written (codes "Master")) c.in_ok-controller.ensures.value) ∙ master_again Second _ known)
+    if_ok _ _ c.state_value.result c.state_value.ensures (λ v is. ap master_state_read (is ∙ ap (state_data written (codes "Master")) c.in_ok-controller.ensures.value) ∙ master_again Second _ known (all_told _))
 
 pub returns-clause-first : goal.returns-clause-first
-returns-clause-first c = on_any c.state_value.result (master_again First _ c.in_ok-controller.ensures.known)
+returns-clause-first c = on_any c.state_value.result (λ told. master_again First _ c.in_ok-controller.ensures.known told)
 
 pub returns-clause-plain : goal.returns-clause-plain
 returns-clause-plain c =

@@ -1,10 +1,10 @@
-use Rattle.std.proofs.Common.{◌≡◌, ◌∙◌, cond, is_some, sym, ap}
-use Rattle.controller.specs.Reply.{answer_to, refused_or, told_of}
+use Rattle.std.proofs.Common.{◌≡◌, ◌∙◌, false, cond, IfOk, is_some, sym, ap, subst}
+use Rattle.controller.specs.Reply.{answer_to, is_freed, refused_or, told_of}
 use Rattle.controller.specs.Step.{outcome_step}
 use Rattle.master_core.proofs.HoldersKept.{table_done}
 use Rattle.master_core.proofs.Kept.{kept_told}
 use Rattle.master_core.proofs.Merging.{fit_of}
-use Rattle.master_core.proofs.Passing.{no_refusal, of_both}
+use Rattle.master_core.proofs.Passing.{no_refusal, of_both, ok_of_both, replied_free}
 use Rattle.master_core.specs.Master.{known}
 use Rattle.master_core.specs.Messages.{after_taking, end_of, take_refusal, take_reply, take_step, taken, taken_answer, taken_reply}
 use Rattle.master_core.proofs.master.Master.take.Goals as goal
@@ -38,3 +38,14 @@ returns-in-Ok-clause-ok c =
     (λ made.
     let led = made ∙ ap (λ b. cond b w (taken m.body c.args.at w)) told ∙ ap (after_taking m c.args.at) c.self.view_is in
     λ i. record { reply = said i; sent = sent i; next = led i })
+
+pub returns-in-Ok-clause-answers : goal.returns-in-Ok-clause-answers
+returns-in-Ok-clause-answers c is free =
+    let name = c.self.inside.name in
+    let workers = c.self.inside.workers in
+    let w = known name workers c.self.inside.ticket c.self.inside.records.items in
+    let m = c.args.message in
+    let told : c.is_some-refused.result ≡ is_some (take_refusal m w) = c.is_some-refused.ensures ∙ ap is_some (c.refusal_of-refusal.ensures ∙ sym (ap (take_refusal m) c.self.view_is)) in
+    ok_of_both c.take_unless.result c.in-Ok.outcome c.and.result c.and.ensures
+    (c.take_unless.ensures.answers name workers is
+    (replied_free (take_refusal m w) c.is_some-refused.result (take_reply m.body w) told (subst (λ v. IfOk (taken_reply m v) (λ r. is_freed r ≡ false)) (sym c.self.view_is) free)))

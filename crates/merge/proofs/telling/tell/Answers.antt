@@ -3,7 +3,7 @@ use Rattle.spawn.proofs.GoodCopies.{good_node}
 use Rattle.spawn.proofs.Split.{around}
 use Rattle.ticket_rows.specs.Ticket.{has_node}
 use Rattle.merge.proofs.ParentRows.{parent_known, memory_alone}
-use Rattle.merge.proofs.merging.tell.Goals as goal
+use Rattle.merge.proofs.telling.tell.Goals as goal
 
 pub returns-clause-memory : goal.returns-clause-memory
 returns-clause-memory c =
