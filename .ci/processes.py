@@ -551,6 +551,20 @@ def an_order_goes_out_and_its_answer_is_taken():
         wants(run(*given, given=finish)[:2], (1, "Refused 31 NotOpen\n"))
 
 
+def what_a_worker_has_not_begun_is_had_back():
+    open_shop()
+    late = order("mis", spawn("finish", "bindery", ["brochures"]))[1]
+    withdraw = json.dumps({"Order": "Withdraw", "SpawnID": "S1"})
+    with Served("bindery") as bindery:
+        given = ("order", "mis", "--at", AT, "--send", bindery.url())
+        wants(run(*given, given=withdraw), (0, "Asked S1\nFreed S1\n", ""))
+        wants(run("show", "bindery"), (0, "S1 Declined\n", ""))
+        wants(run("take", "mis", "--at", AT, given=send(bindery, late)), (0, "Noted S1\n", ""))
+        wants(run("show", "bindery"), (0, "S1 Declined\n", ""))
+        wants(run(*given, given=withdraw)[:2], (1, "Refused 16 NotOut\n"))
+    wants(order("mis", spawn("finish", "press", ["brochures"]))[0], "Spawned S2")
+
+
 def orders_beside_a_server_lose_nothing():
     begin()
     with Served("mis") as mis:
@@ -584,6 +598,7 @@ TESTS = [
     a_silent_server_is_given_up,
     a_killed_server_merges_once,
     an_order_goes_out_and_its_answer_is_taken,
+    what_a_worker_has_not_begun_is_had_back,
     orders_beside_a_server_lose_nothing,
 ]
 

@@ -58,7 +58,8 @@ def cases():
             held[others[0]] = text
         kind, text = input_of(word, text, before)
         is_unread = word != "show" and answer[-1:] in (["status 2"], ["status 4"])
-        if kind and not is_unread:
+        is_picture = "--picture" in others
+        if kind and not is_unread and not is_picture:
             yield f"stdin:{number}", kind, text, answer
 
 

@@ -59,8 +59,8 @@ IsOutputOfCall (Order file at) input text refused =
     DoesStep is_honest held (IsOrdered at) (kept_in file.now) input text refused
 IsOutputOfCall (Take file at) input text refused =
     DoesStep is_honest held (IsHanded at) (kept_in file.now) input text refused
-IsOutputOfCall (Show file) input text refused =
-    IsUntouched input × Shows is_honest held (kept_in file.now) text refused
+IsOutputOfCall (Show file picture) input text refused =
+    IsUntouched input × Shows picture is_honest held (kept_in file.now) text refused
 IsOutputOfCall Loop input text refused = ⊥
 IsOutputOfCall (SendOrder file at url) input text refused = ⊥
 IsOutputOfCall (Serve file listen limit requests) input text refused = ⊥
@@ -80,7 +80,7 @@ IsFaultOfCall (Order file at) input fault =
     DoesNone IsNoOrder (IsOrdered at) file.now input fault
 IsFaultOfCall (Take file at) input fault =
     DoesNone (λ bytes _. IsRefusalOf bytes) (IsHanded at) file.now input fault
-IsFaultOfCall (Show file) input fault =
+IsFaultOfCall (Show file picture) input fault =
     IsNotLocked input fault
     ⊎ (IsUntouched input × ShowsNone is_honest held Fails (kept_in file.now) fault)
 IsFaultOfCall Loop input fault = IsOfNetwork input fault

@@ -1,6 +1,7 @@
 pub mod Step
 pub mod AnyStep
 pub mod Shown
+pub mod Pictured
 pub mod Opening
 pub mod Beginning
 pub mod Commands

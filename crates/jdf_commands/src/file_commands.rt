@@ -5,6 +5,7 @@ mod beginning;
 mod opening;
 mod ordered;
 mod ordering;
+mod pictured;
 mod run;
 mod shown;
 mod step;

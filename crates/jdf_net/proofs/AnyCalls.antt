@@ -18,6 +18,6 @@ over_files (New file) i o t s loops orders serves sends ends = ends
 over_files (Order file at) i o t s loops orders serves sends ends = ends
 over_files (SendOrder file at url) i o t s loops orders serves sends ends = absurd (orders file at url refl)
 over_files (Take file at) i o t s loops orders serves sends ends = ends
-over_files (Show file) i o t s loops orders serves sends ends = ends
+over_files (Show file picture) i o t s loops orders serves sends ends = ends
 over_files (Serve file listen limit requests) i o t s loops orders serves sends ends = absurd (serves file listen limit requests refl)
 over_files (Send url file) i o t s loops orders serves sends ends = absurd (sends url file refl)

@@ -12,9 +12,11 @@ use Rattle.clap.specs.Takes.{is_given, value_passes}
 use Rattle.clap.specs.Walk.{Row, Rule, Text, answers_to, nothing_held, row_text, rows_after, stop_after}
 use Rattle.clap.specs.Values.{IsUnsignedIn}
 use Rattle.clap.specs.declared.builder.value_parser.ValueParser.TheVariants as parser
+use Rattle.clap.specs.declared.parser.matches.ValueSource.{ValueSource}
+use Rattle.clap.specs.declared.parser.matches.ValueSource.TheVariants.{CommandLine}
 use Rattle.clap.proofs.ValueTestLemmas.{accepts-Accepts}
 use Rattle.jdf_words.specs.Calls.{HasAt, HasFile, HasServing, HasText, IsCall}
-use Rattle.jdf_words.specs.Commands.{at_rule, bare, command, file_rule, jdf, order_rules, send_rules, serve_rules}
+use Rattle.jdf_words.specs.Commands.{at_rule, bare, command, file_rule, jdf, order_rules, send_rules, serve_rules, show_rules}
 use Rattle.jdf_words.proofs.Walks.{AsksNoHelp, IsIn, IsMade, IsPlainRule, found_in, level_passed, made}
 
 -- an element that is found has what each has
@@ -29,11 +31,12 @@ found_holds P p (y ∷ ys) x e h = go (p y) e (λ rest. found_holds P p ys x res
 -- the row of an argument that was given
 pub record Given (c : List Rule) (id : Text) (rows : List Row) : Type 0 where
   pub rule : Rule
+  pub from : ValueSource
   pub text : Text
   pub among : IsIn rule c
   pub passes : value_passes rule text ≡ true
   pub named : bytes_eq rule.id id ≡ true
-  pub found : find (λ r. bytes_eq r.id id) rows ≡ Some (made rule text)
+  pub found : find (λ r. bytes_eq r.id id) rows ≡ Some (made rule from text)
 
 given_row : (c : List Rule) (id : Text) (rows : List Row) → All (IsMade c) rows → is_given id rows ≡ true → Given c id rows
 given_row c id rows all given = go (find (λ r. bytes_eq r.id id) rows) refl given
@@ -45,11 +48,12 @@ given_row c id rows all given = go (find (λ r. bytes_eq r.id id) rows) refl giv
         let here = (found_in (λ r. bytes_eq r.id id) rows r e).1 in
         record {
           rule = made_row.0;
-          text = made_row.1;
-          among = made_row.2;
-          passes = made_row.3;
-          named = subst (λ (x : Row). bytes_eq x.id id ≡ true) made_row.4 here;
-          found = e ∙ ap Some made_row.4;
+          from = made_row.1;
+          text = made_row.2;
+          among = made_row.3;
+          passes = made_row.4;
+          named = subst (λ (x : Row). bytes_eq x.id id ≡ true) made_row.5 here;
+          found = e ∙ ap Some made_row.5;
         }
 
 -- a command of the program, as it is built
@@ -65,6 +69,9 @@ timed name = leaf name (file_rule ∷ at_rule ∷ [])
 abbrev ordering : Shape
 ordering = leaf (codes "order") order_rules
 
+abbrev showing : Shape
+showing = leaf (codes "show") show_rules
+
 abbrev serving : Shape
 serving = leaf (codes "serve") serve_rules
 
@@ -72,34 +79,39 @@ abbrev sending : Shape
 sending = leaf (codes "send") send_rules
 
 help_plain : (name : Text) (a : Rule) → IsIn a (leaf name []).rules → IsPlainRule a
-help_plain name a (inl is) = rw is (inr refl, refl)
+help_plain name a (inl is) = rw is (inr (inr refl), inl refl)
 help_plain name a (inr none) = absurd none
 
 filed_plain : (name : Text) (a : Rule) → IsIn a (filed name).rules → IsPlainRule a
-filed_plain name a (inl is) = rw is (inl (refl, refl, refl), refl)
+filed_plain name a (inl is) = rw is (inl (refl, refl, refl), inl refl)
 filed_plain name a (inr is) = help_plain name a is
 
 timed_plain : (name : Text) (a : Rule) → IsIn a (timed name).rules → IsPlainRule a
-timed_plain name a (inl is) = rw is (inl (refl, refl, refl), refl)
-timed_plain name a (inr (inl is)) = rw is (inl (refl, refl, refl), refl)
+timed_plain name a (inl is) = rw is (inl (refl, refl, refl), inl refl)
+timed_plain name a (inr (inl is)) = rw is (inl (refl, refl, refl), inl refl)
 timed_plain name a (inr (inr is)) = help_plain name a is
 
 ordering_plain : (a : Rule) → IsIn a ordering.rules → IsPlainRule a
-ordering_plain a (inl is) = rw is (inl (refl, refl, refl), refl)
-ordering_plain a (inr (inl is)) = rw is (inl (refl, refl, refl), refl)
-ordering_plain a (inr (inr (inl is))) = rw is (inl (refl, refl, refl), refl)
+ordering_plain a (inl is) = rw is (inl (refl, refl, refl), inl refl)
+ordering_plain a (inr (inl is)) = rw is (inl (refl, refl, refl), inl refl)
+ordering_plain a (inr (inr (inl is))) = rw is (inl (refl, refl, refl), inl refl)
 ordering_plain a (inr (inr (inr is))) = help_plain (codes "order") a is
 
+showing_plain : (a : Rule) → IsIn a showing.rules → IsPlainRule a
+showing_plain a (inl is) = rw is (inl (refl, refl, refl), inl refl)
+showing_plain a (inr (inl is)) = rw is (inr (inl (refl, refl, refl, refl)), inr (codes "false", refl, refl))
+showing_plain a (inr (inr is)) = help_plain (codes "show") a is
+
 serving_plain : (a : Rule) → IsIn a serving.rules → IsPlainRule a
-serving_plain a (inl is) = rw is (inl (refl, refl, refl), refl)
-serving_plain a (inr (inl is)) = rw is (inl (refl, refl, refl), refl)
-serving_plain a (inr (inr (inl is))) = rw is (inl (refl, refl, refl), refl)
-serving_plain a (inr (inr (inr (inl is)))) = rw is (inl (refl, refl, refl), refl)
+serving_plain a (inl is) = rw is (inl (refl, refl, refl), inl refl)
+serving_plain a (inr (inl is)) = rw is (inl (refl, refl, refl), inl refl)
+serving_plain a (inr (inr (inl is))) = rw is (inl (refl, refl, refl), inl refl)
+serving_plain a (inr (inr (inr (inl is)))) = rw is (inl (refl, refl, refl), inl refl)
 serving_plain a (inr (inr (inr (inr is)))) = help_plain (codes "serve") a is
 
 sending_plain : (a : Rule) → IsIn a sending.rules → IsPlainRule a
-sending_plain a (inl is) = rw is (inl (refl, refl, refl), refl)
-sending_plain a (inr (inl is)) = rw is (inl (refl, refl, refl), refl)
+sending_plain a (inl is) = rw is (inl (refl, refl, refl), inl refl)
+sending_plain a (inr (inl is)) = rw is (inl (refl, refl, refl), inl refl)
 sending_plain a (inr (inr is)) = help_plain (codes "send") a is
 
 none_missing : (missing : Bool) → check_kinds false false missing ≡ [] → missing ≡ false
@@ -117,7 +129,7 @@ text_given c id rows all given =
 
 -- what holds of each value that the rule of a name lets pass, holds of the value that is there
 value_holds : (c : List Rule) (id : Text) (P : Text → Type 0) (rows : List Row) → All (IsMade c) rows
-    → ((a : Rule) (text : Text) → IsIn a c → bytes_eq a.id id ≡ true → value_passes a text ≡ true → IfSome (row_text (made a text)) P)
+    → ((a : Rule) (text : Text) → IsIn a c → bytes_eq a.id id ≡ true → value_passes a text ≡ true → IfSome (row_text (made a CommandLine text)) P)
     → IfSome (option_and_then row_text (find (λ r. bytes_eq r.id id) rows)) P
 value_holds c id P rows all each = go (find (λ r. bytes_eq r.id id) rows) refl
   where
@@ -126,12 +138,12 @@ value_holds c id P rows all each = go (find (λ r. bytes_eq r.id id) rows) refl
     go (Some r) e =
         let made_row = found_holds (IsMade c) (λ r. bytes_eq r.id id) rows r e all in
         let here = (found_in (λ r. bytes_eq r.id id) rows r e).1 in
-        let named = subst (λ (x : Row). bytes_eq x.id id ≡ true) made_row.4 here in
-        subst (λ x. IfSome (row_text x) P) (sym made_row.4) (each made_row.0 made_row.1 made_row.2 named made_row.3)
+        let named = subst (λ (x : Row). bytes_eq x.id id ≡ true) made_row.5 here in
+        subst (λ x. IfSome (row_text x) P) (sym made_row.5) (each made_row.0 made_row.2 made_row.3 named made_row.4)
 
 -- only the rule of N is called so, and what passes it is a time
 at_passes : (name : Text) (a : Rule) (text : Text) → IsIn a (timed name).rules → bytes_eq a.id (codes "at") ≡ true → value_passes a text ≡ true
-    → IsSomeAnd (row_text (made a text)) (IsUnsignedIn 0 9999999999)
+    → IsSomeAnd (row_text (made a CommandLine text)) (IsUnsignedIn 0 9999999999)
 at_passes name a text (inl is) named passes = let bad : false ≡ true = rw is at named in cc
 at_passes name a text (inr (inl is)) named passes = rw is (accepts-Accepts false (parser.Unsigned 0 9999999999) text (rw is at passes))
 at_passes name a text (inr (inr (inl is))) named passes = let bad : false ≡ true = rw is at named in cc
@@ -144,7 +156,7 @@ at_given name rows all given =
 
 -- the same of an order
 order_at_passes : (a : Rule) (text : Text) → IsIn a ordering.rules → bytes_eq a.id (codes "at") ≡ true → value_passes a text ≡ true
-    → IsSomeAnd (row_text (made a text)) (IsUnsignedIn 0 9999999999)
+    → IsSomeAnd (row_text (made a CommandLine text)) (IsUnsignedIn 0 9999999999)
 order_at_passes a text (inl is) named passes = let bad : false ≡ true = rw is at named in cc
 order_at_passes a text (inr (inl is)) named passes = rw is (accepts-Accepts false (parser.Unsigned 0 9999999999) text (rw is at passes))
 order_at_passes a text (inr (inr (inl is))) named passes = let bad : false ≡ true = rw is at named in cc
@@ -158,7 +170,7 @@ order_at_given rows all given =
 
 -- only the rules of the limit and of the number of requests are called so
 limit_passes : (a : Rule) (text : Text) → IsIn a serving.rules → bytes_eq a.id (codes "limit") ≡ true → value_passes a text ≡ true
-    → IfSome (row_text (made a text)) (IsUnsignedIn 1 3600)
+    → IfSome (row_text (made a CommandLine text)) (IsUnsignedIn 1 3600)
 limit_passes a text (inl is) named passes = let bad : false ≡ true = rw is at named in cc
 limit_passes a text (inr (inl is)) named passes = let bad : false ≡ true = rw is at named in cc
 limit_passes a text (inr (inr (inl is))) named passes = rw is (accepts-Accepts false (parser.Unsigned 1 3600) text (rw is at passes))
@@ -167,7 +179,7 @@ limit_passes a text (inr (inr (inr (inr (inl is))))) named passes = let bad : fa
 limit_passes a text (inr (inr (inr (inr (inr none))))) named passes = absurd none
 
 requests_passes : (a : Rule) (text : Text) → IsIn a serving.rules → bytes_eq a.id (codes "requests") ≡ true → value_passes a text ≡ true
-    → IfSome (row_text (made a text)) (IsUnsignedIn 1 18446744073709551615)
+    → IfSome (row_text (made a CommandLine text)) (IsUnsignedIn 1 18446744073709551615)
 requests_passes a text (inl is) named passes = let bad : false ≡ true = rw is at named in cc
 requests_passes a text (inr (inl is)) named passes = let bad : false ≡ true = rw is at named in cc
 requests_passes a text (inr (inr (inl is))) named passes = let bad : false ≡ true = rw is at named in cc
@@ -201,6 +213,11 @@ filed_has name words e =
     let passed = level_passed (filed name) (filed_plain name) refl [] words false [] e in
     text_given (filed name).rules (codes "FILE") _ passed.rows (there _ (or_parts _ false (none_missing _ passed.checks)).0)
 
+showing_has : (words : List Text) → level_fault showing [] nothing_held words false [] ≡ [] → HasFile (rows_after showing.rules [] words)
+showing_has words e =
+    let passed = level_passed showing showing_plain refl [] words false [] e in
+    text_given showing.rules (codes "FILE") _ passed.rows (there _ (or_parts _ false (none_missing _ passed.checks)).0)
+
 timed_has : (name : Text) (words : List Text) → level_fault (timed name) [] nothing_held words false [] ≡ []
     → HasFile (rows_after (timed name).rules [] words) × HasAt (rows_after (timed name).rules [] words)
 timed_has name words e =
@@ -225,7 +242,7 @@ ordering_has words e =
 
 top_plain : (a : Rule) → IsIn a (built jdf).top.rules → IsPlainRule a
 unfolding jdf
-top_plain a (inl is) = rw is (inr refl, refl)
+top_plain a (inl is) = rw is (inr (inr refl), inl refl)
 top_plain a (inr none) = absurd none
 
 not_help : (name : Text) → (bytes_eq (codes "help") name || false) ≡ true → AsksNoHelp (built jdf).top name → ⊥
@@ -255,7 +272,7 @@ command_has s name words (inr (inr (inr (inr (inr (inl is)))))) answers no_help 
     let has = timed_has (codes "take") words (rw is at e) in
     rw is (record { command = refl; file = λ _. has.0; at = λ _. has.1; serving = λ bad. cc; url = λ bad. cc })
 command_has s name words (inr (inr (inr (inr (inr (inr (inl is))))))) answers no_help e =
-    let has = filed_has (codes "show") words (rw is at e) in
+    let has = showing_has words (rw is at e) in
     rw is (record { command = refl; file = λ _. has; at = λ bad. cc; serving = λ bad. cc; url = λ bad. cc })
 command_has s name words (inr (inr (inr (inr (inr (inr (inr (inl is)))))))) answers no_help e =
     let has = serving_has words (rw is at e) in

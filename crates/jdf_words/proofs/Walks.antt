@@ -13,10 +13,11 @@ use Rattle.clap.specs.Simple.{Shape}
 use Rattle.clap.specs.Takes.{value_passes}
 use Rattle.clap.specs.Values.{is_request, refused_kind}
 use Rattle.clap.specs.Facts.{parser_of_value}
-use Rattle.clap.specs.Walk.{Held, Names, Outcome, Row, Rule, Step, Text, Waiting, Walk, action_of, after_flag, after_step, arg_by_id, arg_by_index, arg_by_long, arg_by_short, at_row, attached_value, bundle, bundle_met, bundle_step, default_rows, done, flag_met, has_row, idle, is_pending, long_met, long_or_other, more_values, most_values, next, nothing_held, option, option_met, option_word, plain, plain_word, positional, positional_held, reacted, reading_by, refused, rows_after, settled, settled_rows, short_met, short_or_plain, stop_after, subcommand, subcommand_met, subcommand_or_other, takes_several, takes_values, to_positional, trailing, used, used_as, used_by_id, value, values_or_missing, waits, walk, walk_from, walked, walked_from, with_default, with_values, word_met}
+use Rattle.clap.specs.Walk.{Held, Names, Outcome, Row, Rule, Step, Text, Waiting, Walk, action_of, after_flag, after_step, arg_by_id, arg_by_index, arg_by_long, arg_by_short, at_row, attached_value, bundle, bundle_met, bundle_step, default_rows, done, flag_met, has_row, idle, is_pending, long_met, long_or_other, more_values, most_values, next, nothing_held, option, option_met, option_word, plain, plain_word, positional, positional_held, reacted, reading_by, refused, rows_after, settled, settled_rows, short_met, short_or_plain, stop_after, subcommand, subcommand_met, subcommand_or_other, takes_several, takes_values, to_positional, trailing, used, used_as, used_by_id, value, values_or_missing, waits, walk, walk_from, walked, walked_from, with_default, with_values, without, word_met}
 use Rattle.clap.specs.declared.builder.action.ArgAction.{ArgAction}
-use Rattle.clap.specs.declared.builder.action.ArgAction.TheVariants.{Help, Set}
-use Rattle.clap.specs.declared.parser.matches.ValueSource.TheVariants.{CommandLine}
+use Rattle.clap.specs.declared.builder.action.ArgAction.TheVariants.{Help, Set, SetTrue}
+use Rattle.clap.specs.declared.parser.matches.ValueSource.{ValueSource}
+use Rattle.clap.specs.declared.parser.matches.ValueSource.TheVariants.{CommandLine, DefaultValue}
 use Rattle.clap.specs.declared.error.kind.ErrorKind.TheVariants as kind
 
 -- both steps passed
@@ -43,17 +44,21 @@ found_in p (y ∷ ys) x e = go (p y) refl e (found_in p ys x)
 
 -- ---- rows
 
--- the row of an argument that was used with this value
-abbrev pub made : Rule → Text → Row
-made a v = record { id = a.id; values = v ∷ []; count = None; source = Some CommandLine; reading = reading_by a }
+-- the row of an argument with this value, from this source
+abbrev pub made : Rule → ValueSource → Text → Row
+made a from v = record { id = a.id; values = v ∷ []; count = None; source = Some from; reading = reading_by a }
 
--- the argument takes one value, or asks for help
+-- the argument is a flag
+abbrev pub IsFlag : Rule → Type 0
+IsFlag a = (action_of a ≡ SetTrue) × ((unwrap_or_range a.range).start_inclusive ≡ 0) × (most_values a ≡ 0) × (a.missing ≡ codes "true" ∷ [])
+
+-- the argument takes one value, is a flag, or asks for help
 abbrev pub TakesOne : Rule → Type 0
-TakesOne a = ((action_of a ≡ Set) × ((unwrap_or_range a.range).start_inclusive ≡ 1) × (most_values a ≡ 1)) ⊎ (is_request (action_of a) ≡ true)
+TakesOne a = ((action_of a ≡ Set) × ((unwrap_or_range a.range).start_inclusive ≡ 1) × (most_values a ≡ 1)) ⊎ (IsFlag a ⊎ (is_request (action_of a) ≡ true))
 
 -- the row is one of these arguments'
 abbrev pub IsMade : List Rule → Row → Type 0
-IsMade c r = (a : Rule) × (v : Text) × IsIn a c × (value_passes a v ≡ true) × (r ≡ made a v)
+IsMade c r = (a : Rule) × (from : ValueSource) × (v : Text) × IsIn a c × (value_passes a v ≡ true) × (r ≡ made a from v)
 
 added : (id : Text) (change : Row → List Row) (missing rows : List Row) → has_row id rows ≡ false → at_row id change missing rows ≡ rows ++ missing
 added id change missing [] none = refl
@@ -61,11 +66,18 @@ added id change missing (r ∷ rs) none =
     let parts = or_parts (bytes_eq r.id id) _ none in
     rw parts.0 (ap (λ xs. r ∷ xs) (added id change missing rs parts.1))
 
-used_first : (a : Rule) (v : Text) (rows : List Row) → action_of a ≡ Set → has_row a.id rows ≡ false → used a (v ∷ []) rows ≡ rows ++ made a v ∷ []
-used_first a v rows set none =
-    ap (λ x. used_as x a.id (reading_by a) (v ∷ []) rows) set
-    ∙ ap (with_values a.id (reading_by a) CommandLine (v ∷ [])) (added a.id (λ _. []) [] rows none ∙ append-nil rows)
-    ∙ added a.id (more_values CommandLine (v ∷ [])) (made a v ∷ []) rows none
+-- the action puts the value of an argument in place of another
+abbrev Sets : ArgAction → Type 0
+Sets x = (x ≡ Set) ⊎ (x ≡ SetTrue)
+
+put_first : (a : Rule) (v : Text) (rows : List Row) → has_row a.id rows ≡ false → with_values a.id (reading_by a) CommandLine (v ∷ []) (without a.id rows) ≡ rows ++ made a CommandLine v ∷ []
+put_first a v rows none =
+    ap (with_values a.id (reading_by a) CommandLine (v ∷ [])) (added a.id (λ _. []) [] rows none ∙ append-nil rows)
+    ∙ added a.id (more_values CommandLine (v ∷ [])) (made a CommandLine v ∷ []) rows none
+
+used_first : (x : ArgAction) (a : Rule) (v : Text) (rows : List Row) → Sets x → has_row a.id rows ≡ false → used_as x a.id (reading_by a) (v ∷ []) rows ≡ rows ++ made a CommandLine v ∷ []
+used_first x a v rows (inl is) none = ap (λ y. used_as y a.id (reading_by a) (v ∷ []) rows) is ∙ put_first a v rows none
+used_first x a v rows (inr is) none = ap (λ y. used_as y a.id (reading_by a) (v ∷ []) rows) is ∙ put_first a v rows none
 
 one_wanted : (n : ℕ) → range_kinds 1 1 n ≡ [] → 1 ≡ n
 one_wanted n e = go (n == 0) (1 == n) refl e
@@ -79,6 +91,17 @@ one_value : (values : List Text) → 1 ≡ length values → (v : Text) × (valu
 one_value [] e = absurd (omega (arith, e))
 one_value (v ∷ []) e = (v, refl)
 one_value (v ∷ w ∷ vs) e = absurd (omega (arith, e))
+
+none_wanted : (n : ℕ) → range_kinds 0 0 n ≡ [] → 0 ≡ n
+none_wanted n e = go (0 == n) refl e
+  where
+    go : (none : Bool) → (0 == n) ≡ none → cond none [] (kind.WrongNumberOfValues ∷ []) ≡ [] → 0 ≡ n
+    go true t same = eqb-true _ _ t
+    go false t same = cc
+
+no_value : (values : List Text) → range_kinds 0 0 (length values) ≡ [] → values ≡ []
+no_value [] e = refl
+no_value (v ∷ vs) e = absurd (omega (arith, none_wanted _ e))
 
 not_again : (b : Bool) → cond (b && true) (kind.ArgumentConflict ∷ []) [] ≡ [] → b ≡ false
 not_again true e = cc
@@ -95,25 +118,46 @@ request_fails : (x : ArgAction) (a : Rule) (values : List Text) (rows : List Row
 request_fails Help a values rows is e = cc
 request_fails _ a values rows is e = cc
 
+-- where a value is set, it is the first, and passes
+set_parts : (x : ArgAction) (a : Rule) (v : Text) (rows : List Row) → Sets x → action_fault x false a (v ∷ []) rows ≡ [] → (has_row a.id rows ≡ false) × (value_passes a v ≡ true)
+set_parts x a v rows sets e = go sets
+  where
+    parts : or_else (repeat_fault false a.id rows) (values_fault a (v ∷ [])) ≡ [] → (has_row a.id rows ≡ false) × (value_passes a v ≡ true)
+    parts fault =
+        let steps = both_pass (repeat_fault false a.id rows) _ fault in
+        (not_again _ steps.0, value_passed a v steps.1)
+
+    go : Sets x → (has_row a.id rows ≡ false) × (value_passes a v ≡ true)
+    go (inl is) = parts (subst (λ y. action_fault y false a (v ∷ []) rows ≡ []) is e)
+    go (inr is) = parts (subst (λ y. action_fault y false a (v ∷ []) rows ≡ []) is e)
+
 module _ (c : List Rule) (one : (a : Rule) → IsIn a c → TakesOne a) where
   abbrev Rows : List Row → Type 0
   Rows rows = All (IsMade c) rows
 
   use_made : (a : Rule) (values : List Text) (rows : List Row) → IsIn a c → use_fault false a values rows ≡ [] → Rows rows → Rows (used a values rows)
-  use_made a values rows is e before =
-      let parts = both_pass (range_kinds (unwrap_or_range a.range).start_inclusive (most_values a) (length values)) _ e in
-      elim (one a is) [
-        | inl takes ↦
-            let range : range_kinds 1 1 (length values) ≡ [] = rw (takes.1, takes.2) at parts.0 in
-            set takes.0 (one_value values (one_wanted _ range)) parts.1
-        | inr asks ↦ absurd (request_fails (action_of a) a _ rows asks parts.1)
-      ]
+  use_made a values rows is e before = go (one a is)
     where
-      set : action_of a ≡ Set → ((v : Text) × (values ≡ v ∷ [])) → action_fault (action_of a) false a (values_or_missing a values) rows ≡ [] → All (IsMade c) (used a values rows)
-      set is_set one fault =
-          let as_set : action_fault Set false a (one.0 ∷ []) rows ≡ [] = rw (is_set, one.1) at fault in
-          let steps = both_pass (repeat_fault false a.id rows) _ as_set in
-          rw (one.1, used_first a one.0 rows is_set (not_again _ steps.0)) (All-push (IsMade c) rows (made a one.0) before (a, one.0, is, value_passed a one.0 steps.1, refl))
+      parts : (range_kinds (unwrap_or_range a.range).start_inclusive (most_values a) (length values) ≡ [])
+          × (action_fault (action_of a) false a (values_or_missing a values) rows ≡ [])
+      parts = both_pass (range_kinds (unwrap_or_range a.range).start_inclusive (most_values a) (length values)) _ e
+
+      set : Sets (action_of a) → ((v : Text) × (values_or_missing a values ≡ v ∷ [])) → All (IsMade c) (used a values rows)
+      set sets one =
+          let first = set_parts (action_of a) a one.0 rows sets (subst (λ vs. action_fault (action_of a) false a vs rows ≡ []) one.1 parts.1) in
+          subst (λ vs. All (IsMade c) (used_as (action_of a) a.id (reading_by a) vs rows)) (sym one.1)
+          (subst (All (IsMade c)) (sym (used_first (action_of a) a one.0 rows sets first.0))
+          (All-push (IsMade c) rows (made a CommandLine one.0) before (a, CommandLine, one.0, is, first.1, refl)))
+
+      go : TakesOne a → All (IsMade c) (used a values rows)
+      go (inl takes) =
+          let range : range_kinds 1 1 (length values) ≡ [] = rw (takes.1, takes.2) at parts.0 in
+          let one = one_value values (one_wanted _ range) in
+          set (inl takes.0) (one.0, ap (values_or_missing a) one.1)
+      go (inr (inl flag)) =
+          let range : range_kinds 0 0 (length values) ≡ [] = rw (flag.1, flag.2) at parts.0 in
+          set (inr flag.0) (codes "true", ap (values_or_missing a) (no_value values range) ∙ flag.3)
+      go (inr (inr asks)) = absurd (request_fails (action_of a) a _ rows asks parts.1)
 
   -- ---- a flag
 
@@ -319,17 +363,30 @@ module _ (s : Shape) (one : (a : Rule) → IsIn a s.rules → TakesOne a) (once 
 
 -- ---- after the walk
 
-no_defaults : (c : List Rule) (rows : List Row) → ((a : Rule) → IsIn a c → a.defaults ≡ []) → fold with_default rows c ≡ rows
-no_defaults [] rows none = refl
-no_defaults (a ∷ c) rows none = ap (λ r. fold with_default r c) (go (has_row a.id rows)) ∙ no_defaults c rows (λ b is. none b (inr is))
-  where
-    go : (b : Bool) → cond b rows (default_rows a.id (reading_by a) a.defaults rows) ≡ rows
-    go true = refl
-    go false = ap (λ ds. default_rows a.id (reading_by a) ds rows) (none a (inl refl))
+-- the argument has no default, or one that passes
+abbrev pub HasDefault : Rule → Type 0
+HasDefault a = (a.defaults ≡ []) ⊎ ((v : Text) × (a.defaults ≡ v ∷ []) × (value_passes a v ≡ true))
 
--- the argument takes one value or asks for help, and has no default
+default_made : (c : List Rule) (a : Rule) (rows : List Row) → IsIn a c → HasDefault a → All (IsMade c) rows → All (IsMade c) (with_default rows a)
+default_made c a rows is has before = go (has_row a.id rows) refl has
+  where
+    go : (b : Bool) → has_row a.id rows ≡ b → HasDefault a → All (IsMade c) (cond b rows (default_rows a.id (reading_by a) a.defaults rows))
+    go true there has = before
+    go false none (inl bare) = subst (λ ds. All (IsMade c) (default_rows a.id (reading_by a) ds rows)) (sym bare) before
+    go false none (inr some) =
+        subst (λ ds. All (IsMade c) (default_rows a.id (reading_by a) ds rows)) (sym some.1)
+        (subst (All (IsMade c)) (sym (added a.id (more_values DefaultValue (some.0 ∷ [])) (made a DefaultValue some.0 ∷ []) rows none))
+        (All-push (IsMade c) rows (made a DefaultValue some.0) before (a, DefaultValue, some.0, is, some.2, refl)))
+
+defaults_made : (c rest : List Rule) (rows : List Row) → ((a : Rule) → IsIn a rest → IsIn a c × HasDefault a) → All (IsMade c) rows → All (IsMade c) (fold with_default rows rest)
+defaults_made c [] rows each before = before
+defaults_made c (a ∷ rest) rows each before =
+    let own = each a (inl refl) in
+    defaults_made c rest (with_default rows a) (λ b is. each b (inr is)) (default_made c a rows own.0 own.1 before)
+
+-- the argument takes one value, is a flag, or asks for help
 abbrev pub IsPlainRule : Rule → Type 0
-IsPlainRule a = TakesOne a × (a.defaults ≡ [])
+IsPlainRule a = TakesOne a × HasDefault a
 
 -- what holds where a level of the parse has no fault
 pub record Passed (s : Shape) (names : Names) (words : List Text) (has : Bool) (under : Kinds) : Type 0 where
@@ -351,7 +408,7 @@ level_passed s each once names words has below e =
     let faultless : settle_fault s.rules false end ≡ [] = subst (λ again. settle_fault s.rules again end ≡ []) once settles.0 in
     let rows = settle_made s.rules one end faultless stands.0 in
     record {
-      rows = subst (All (IsMade s.rules)) (sym (no_defaults s.rules (settled s.rules end).rows (λ a is. (each a is).1))) rows;
+      rows = defaults_made s.rules s.rules (settled s.rules end).rows (λ a is. (is, (each a is).1)) rows;
       stop = stands.1;
       below = under.0;
       checks = given.1;

@@ -2,7 +2,7 @@
 use Rattle.std.proofs.Common.{◌≡◌, [], ◌∷◌, List, None, Some, codes, false, refl, true}
 use Rattle.clap.specs.Words.{Text, subcommand_of, takes}
 use Rattle.clap.proofs.OnLiterals.{clap_on_literals}
-use Rattle.jdf_words.specs.Calls.{at_in, file_in, name_in, number_in, text_in}
+use Rattle.jdf_words.specs.Calls.{at_in, file_in, is_set_in, name_in, number_in, text_in}
 use Rattle.jdf_words.specs.Commands.{jdf}
 
 -- ---- words that are taken, and what they call for
@@ -71,8 +71,16 @@ abbrev show : List Text
 show = codes "show" ∷ codes "job.json" ∷ []
 
 show_is : (takes jdf show ≡ true) × (name_in (subcommand_of jdf show) ≡ Some (codes "show")) × (file_in (subcommand_of jdf show) ≡ Some (codes "job.json"))
+    × (is_set_in (codes "picture") (subcommand_of jdf show) ≡ false)
 unfolding jdf clap_on_literals
-show_is = (refl, refl, refl)
+show_is = (refl, refl, refl, refl)
+
+abbrev drawn : List Text
+drawn = codes "show" ∷ codes "--picture" ∷ codes "job.json" ∷ []
+
+drawn_is : (takes jdf drawn ≡ true) × (file_in (subcommand_of jdf drawn) ≡ Some (codes "job.json")) × (is_set_in (codes "picture") (subcommand_of jdf drawn) ≡ true)
+unfolding jdf clap_on_literals
+drawn_is = (refl, refl, refl)
 
 abbrev serve : List Text
 serve = codes "serve" ∷ codes "job.json" ∷ codes "--listen" ∷ codes "h:1" ∷ []
@@ -124,6 +132,10 @@ too_late = refl
 no_number : takes jdf (codes "take" ∷ codes "job.json" ∷ codes "--at" ∷ codes "noon" ∷ []) ≡ false
 unfolding jdf clap_on_literals
 no_number = refl
+
+twice_drawn : takes jdf (codes "show" ∷ codes "job.json" ∷ codes "--picture" ∷ codes "--picture" ∷ []) ≡ false
+unfolding jdf clap_on_literals
+twice_drawn = refl
 
 no_file : takes jdf (codes "show" ∷ []) ≡ false
 unfolding jdf clap_on_literals

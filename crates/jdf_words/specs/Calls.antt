@@ -1,8 +1,9 @@
 -- What calls and faults say.
 use Rattle.std.specs.Prelude.{◌≡◌, ◌≢◌, ◌≤◌, ⊤, ℕ, List, Option, Some, codes, option_and_then}
-use Rattle.std.specs.Prelude.{[], ◌∷◌, ◌++◌, ◌||◌, Bool, IfSome, IsSomeAnd, None, is_some}
+use Rattle.std.specs.Prelude.{[], ◌∷◌, ◌++◌, ◌||◌, Bool, IfSome, IsSomeAnd, None, false, is_some}
 use Rattle.std.specs.Prelude.{option_map, true, unwrap_or}
 use Rattle.std.specs.List.{list_any}
+use Rattle.std.specs.Option.{option_map_or}
 use Rattle.std.specs.Str.{bytes_eq}
 use Rattle.std.specs.Str.Parse.{digits_value, without_leading_plus}
 use Rattle.clap.specs.Kinds.{IsAmong, Kinds}
@@ -26,6 +27,13 @@ text_in id = option_and_then (λ found. first_of id found.1)
 
 abbrev pub file_in : Option (Text × List Row) → Option Text
 file_in = text_in (codes "FILE")
+
+-- whether the flag of a name is set, and whether its is
+abbrev pub is_set : Text → List Row → Bool
+is_set id rows = option_map_or (λ text. bytes_eq text (codes "true")) (first_of id rows) false
+
+abbrev pub is_set_in : Text → Option (Text × List Row) → Bool
+is_set_in id found = option_map_or (λ f. is_set id f.1) found false
 
 -- the number that digits write
 abbrev pub number_of : Text → ℕ
@@ -114,8 +122,9 @@ Means (Order file at) found =
 Means (SendOrder file at url) found =
     IsTimed (codes "order") file.now at found × (text_in (codes "send") found ≡ Some url.now)
 Means (Take file at) found = IsTimed (codes "take") file.now at found
-Means (Show file) found =
+Means (Show file picture) found =
     (name_in found ≡ Some (codes "show")) × (file_in found ≡ Some file.now)
+    × (picture ≡ is_set_in (codes "picture") found)
 Means (Serve file listen limit requests) found =
     IsServe file.now listen.now limit requests found
 Means (Send url file) found = IsSend url.now (option_map (λ path. path.now) file) found

@@ -2,6 +2,7 @@
 use Rattle.std.specs.Prelude.{ℕ, List, [], ◌∷◌, Some, codes, true, false}
 use Rattle.clap.specs.Words.{App, Rule, Shape, Text, new_rule}
 use Rattle.clap.specs.Simple.{new_shape}
+use Rattle.clap.specs.declared.builder.action.ArgAction.TheVariants.{SetTrue}
 use Rattle.clap.specs.declared.builder.value_parser.ValueParser.TheVariants as parser
 
 -- FILE, any text, which has to be there
@@ -28,6 +29,15 @@ send_rule = option_rule (codes "send")
 -- what `order` takes
 abbrev pub order_rules : List Rule
 order_rules = file_rule ∷ at_rule ∷ send_rule ∷ []
+
+-- `--picture`
+abbrev pub picture_rule : Rule
+picture_rule =
+    record (new_rule (codes "picture")) { long = Some (codes "picture"); action = Some SetTrue }
+
+-- what `show` takes
+abbrev pub show_rules : List Rule
+show_rules = file_rule ∷ picture_rule ∷ []
 
 -- `--listen ADDR`, any text, which has to be there
 abbrev pub listen_rule : Rule
@@ -82,7 +92,7 @@ jdf = record {
       ∷ command (codes "new") (file_rule ∷ [])
       ∷ command (codes "order") order_rules
       ∷ command (codes "take") (file_rule ∷ at_rule ∷ [])
-      ∷ command (codes "show") (file_rule ∷ [])
+      ∷ command (codes "show") show_rules
       ∷ command (codes "serve") serve_rules
       ∷ command (codes "send") send_rules
       ∷ [];

@@ -41,6 +41,8 @@ pub enum Call<'a> {
     Show {
         /// The path of the file.
         file: &'a str,
+        /// Whether a picture is wanted.
+        picture: bool,
     },
     /// The controller that is kept in a file, which answers over the network.
     Serve {

@@ -4,11 +4,11 @@ ghost use Rattle.std.specs.Prelude.{◌≡◌, [], ◌∷◌, IfOk, codes, false
 ghost use Rattle.clap.specs.Words.{app_of, rule_of};
 ghost use Rattle.jdf_words.specs.Commands.{alone, at_rule, bare, command, file_rule, jdf};
 ghost use Rattle.jdf_words.specs.Commands.{limit_rule, listen_rule, message_rule, requests_rule};
-ghost use Rattle.jdf_words.specs.Commands.{order_rules, send_rule, send_rules, serve_rules};
-ghost use Rattle.jdf_words.specs.Commands.{url_rule};
+ghost use Rattle.jdf_words.specs.Commands.{order_rules, picture_rule, send_rule, send_rules};
+ghost use Rattle.jdf_words.specs.Commands.{serve_rules, show_rules, url_rule};
 
 use crate::help::{self, Help};
-use clap::{Arg, Command};
+use clap::{Arg, ArgAction, Command};
 use std::alloc::{AllocError, Global};
 
 /// FILE, which has to be there.
@@ -42,6 +42,17 @@ fn send_argument<'a>(alloc: Global) -> Arg<'a>
     Arg::new(alloc, "send").long("send").value_name("URL").help(
         "The address of the controller that the message is sent to, which answers it",
     )
+}
+
+/// `--picture`.
+fn picture_argument<'a>(alloc: Global) -> Arg<'a>
+    ensures rule { rule_of result ≡ picture_rule }
+    ensures local { result.global ≡ false }
+{
+    Arg::new(alloc, "picture")
+        .long("picture")
+        .action(ArgAction::SetTrue)
+        .help("Prints a picture, as SVG")
 }
 
 /// `--listen ADDR`, which has to be there.
@@ -131,6 +142,13 @@ fn order_command<'a>(alloc: Global) -> Result<Command<'a>, AllocError>
     timed_command(alloc, "order", help::ORDER)?.arg(send_argument(alloc))
 }
 
+/// The command that shows a FILE.
+fn show_command<'a>(alloc: Global) -> Result<Command<'a>, AllocError>
+    ensures { IfOk result (λ made. app_of made ≡ alone (command (codes "show") show_rules)) }
+{
+    file_command(alloc, "show", help::SHOW)?.arg(picture_argument(alloc))
+}
+
 /// The command that serves a FILE.
 fn serve_command<'a>(alloc: Global) -> Result<Command<'a>, AllocError>
     ensures { IfOk result (λ made. app_of made ≡ alone (command (codes "serve") serve_rules)) }
@@ -173,7 +191,7 @@ pub(crate) fn jdf<'a>(alloc: Global) -> Result<Command<'a>, AllocError>
         .subcommand(file_command(alloc, "new", help::NEW)?)?
         .subcommand(order_command(alloc)?)?
         .subcommand(timed_command(alloc, "take", help::TAKE)?)?
-        .subcommand(file_command(alloc, "show", help::SHOW)?)?
+        .subcommand(show_command(alloc)?)?
         .subcommand(serve_command(alloc)?)?
         .subcommand(send_command(alloc)?)
 }

@@ -83,8 +83,10 @@ pub(crate) const SHOW: Help = Help {
     about: "Shows a controller: reads nothing, prints its ticket or a line for each of its parts",
     long_about: "Shows the controller that is kept in FILE.\n\n\
         Reads nothing from standard input. Prints a master's ticket, or a line for each part\n\
-        that a worker has.",
-    example: "Example:\n  jdf_cli show mis.json",
+        that a worker has.\n\n\
+        With --picture, prints a picture of it as SVG, which a browser shows: the nodes and\n\
+        resources, and in colour what is with whom.",
+    example: "Examples:\n  jdf_cli show mis.json\n  jdf_cli show mis.json --picture > mis.svg",
 };
 
 pub(crate) const SERVE: Help = Help {

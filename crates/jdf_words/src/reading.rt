@@ -5,6 +5,7 @@ ghost use Rattle.std.specs.Prelude.{MatchResult, Some, codes, map, option_map, s
 ghost use Rattle.std.specs.Prelude.{unwrap_or};
 ghost use Rattle.clap.specs.Words.{fault_of, found_of, rows_of, subcommand_of, subcommand_rows_of};
 ghost use Rattle.clap.specs.Words.{first_of, one_of, takes};
+ghost use Rattle.jdf_words.specs.Calls as calls;
 ghost use Rattle.jdf_words.specs.Calls.{HasAt, HasFile, HasServing, HasText, IsCall, Means};
 ghost use Rattle.jdf_words.specs.Calls.{IsWithin, ReadsNumber, Tells, number_of};
 ghost use Rattle.jdf_words.specs.Commands.{jdf};
@@ -23,6 +24,16 @@ fn text_in<'a>(found: &ArgMatches<'a>, id: &str) -> Option<&'a str>
         ≡ first_of id.now (rows_of (found_of found.now)) }
 {
     found.get_str(id)
+}
+
+/// Whether the flag of a name is set among the arguments that were found.
+fn is_set(found: &ArgMatches<'_>, id: &str) -> bool
+    ensures { result ≡ calls.is_set id.now (rows_of (found_of found.now)) }
+{
+    match text_in(found, id) {
+        None => false,
+        Some(text) => text == "true",
+    }
 }
 
 /// FILE among the arguments that were found.
@@ -129,6 +140,7 @@ fn call_of<'a>(name: &str, found: &ArgMatches<'a>) -> Call<'a>
         },
         "show" => Call::Show {
             file: file_in(found),
+            picture: is_set(found, "picture"),
         },
         "serve" => serve_of(found),
         "send" => send_of(found),
@@ -147,7 +159,7 @@ fn call_in<'a>(matches: &ArgMatches<'a>) -> Call<'a>
 
 /// The call that the words of the command line stand for, which come without the program's name.
 /// No word at all is `edit`; any others are read by `clap`, as `edit`, `world`, `loop`,
-/// `new FILE`, `order FILE --at N [--send URL]`, `take FILE --at N`, `show FILE`,
+/// `new FILE`, `order FILE --at N [--send URL]`, `take FILE --at N`, `show FILE [--picture]`,
 /// `serve FILE --listen ADDR [--limit SECONDS] [--requests COUNT]` or `send URL [FILE]`. FILE, ADDR
 /// and URL are any text, N a whole number of seconds since 1970 of at most 9,999,999,999, SECONDS
 /// one from 1 to 3,600, 5 where it isn't there, and COUNT one of at least 1. Other words, and those

@@ -77,8 +77,8 @@ OrderIsKept = (o : Order) (at : ℕ) (w : Known) → IsKept w → IsKept (after_
 
 -- ---- what a message changes
 
--- the entry of a spawn after a message at a time that isn't refused: one whose part, which was given
--- back, has come is closed, and one that is to be given up is ended if it is open
+-- the entry of a spawn after a message at a time that isn't refused: one whose part, which was
+-- given back, has come is closed, and one that is to be given up is ended if it is open
 abbrev pub entry_after : ℕ → Body → ℕ → Entry → Entry
 entry_after s (Answer c t told) at e = if (t == s) && is_ok told then closed_entry e else e
 entry_after s (Abort t) at e = if t == s then aborted_entry at e else e

@@ -35,8 +35,8 @@ is_of_workers command.Submit = false
 is_of_workers command.Return = true
 is_of_workers command.Abort = false
 
--- whether a message is one for a worker: a part that goes out, that a spawn is to be given up, or the
--- answer to a part that came back
+-- whether a message is one for a worker: a part that goes out, that a spawn is to be given up, or
+-- the answer to a part that came back
 abbrev pub is_for_workers : Body → Bool
 is_for_workers (Submit p) = true
 is_for_workers (Return p) = false
@@ -47,8 +47,8 @@ is_for_workers (Answer c s told) = is_of_workers c
 abbrev pub part_refusal : List Entry → Copied → Option Refusal
 part_refusal entries p = unless (is_some (entry_of entries p.spawn_id) || is_sound p) BadPart
 
--- why an answer that is of an entry is refused, if it is: the work on that has to have ended, and of
--- one that was declined it is as if there were none
+-- why an answer that is of an entry is refused, if it is: the work on that has to have ended, and
+-- of one that was declined it is as if there were none
 abbrev pub ended_refusal : Entry → Option Refusal
 ended_refusal e =
     first_of (unless (not (is_declined e)) UnknownEntry ∷ unless (not (is_open e)) NotDone ∷ [])

@@ -12,7 +12,8 @@ use Rattle.worker_core.specs.declared.entry.Entry.{Entry}
 abbrev pub is_part_of : Entry → Copied → Bool
 is_part_of e p = (p.spawn_id == e.spawn_id) && is_sound p && has_ended_so e.phase p
 
--- whether an entry can be a worker's: where it keeps a part it has one that can be its, and else none
+-- whether an entry can be a worker's: where it keeps a part it has one that can be its, and else
+-- none
 abbrev pub is_entry : Entry → Bool
 is_entry e =
     option_map_or (λ p. keeps_part e.phase && is_part_of e p) e.part (not (keeps_part e.phase))

@@ -1,5 +1,5 @@
--- A worker: the parts that it took and hasn't given up, the spawns that it declined, and what of the
--- parts it may change.
+-- A worker: the parts that it took and hasn't given up, the spawns that it declined, and what of
+-- the parts it may change.
 use Rattle.std.specs.Prelude.{◌≡◌, ℕ, ◌==◌, ◌||◌, Bool, true, false, List, [], codes, map}
 use Rattle.std.specs.Prelude.{if◌then◌else◌, slice_get, Option, Some, None, is_some, IfSome}
 use Rattle.std.specs.Prelude.{Result, Ok, Err}

@@ -125,12 +125,12 @@ impl Worker {
 
     /// Does what it is told, at a time in seconds since 1970: it edits the part of an entry, ends
     /// the work on it and gives it back, or gives it back once more. Refuses the first that holds,
-    /// without memory: `UnknownEntry` where it has no entry of the spawn, or declined it; an edit as `NotOpen` once
-    /// the entry is finished, `NotForWorkers` where it adds to the tree, `NotInPart` where its
-    /// target isn't in the part as a node or a resource, `ReadOnly` where that is a copy to be read
-    /// alone, and `ReservedStatus`; the end as `NotOpen`; to give back once more as `NotDone` while
-    /// the entry is open, and `Acknowledged` once it is closed. Then refuses `Memory`. A refusal
-    /// changes nothing.
+    /// without memory: `UnknownEntry` where it has no entry of the spawn, or declined it; an edit
+    /// as `NotOpen` once the entry is finished, `NotForWorkers` where it adds to the tree,
+    /// `NotInPart` where its target isn't in the part as a node or a resource, `ReadOnly` where
+    /// that is a copy to be read alone, and `ReservedStatus`; the end as `NotOpen`; to give back
+    /// once more as `NotDone` while the entry is open, and `Acknowledged` once it is closed. Then
+    /// refuses `Memory`. A refusal changes nothing.
     pub fn order(&mut self, alloc: Global, order: Order, at: u64) -> Result<Done, Refusal>
         ensures ok { IfOk result
             (λ done. done_step done self.new ≡ orders.order_step order at self.old) }

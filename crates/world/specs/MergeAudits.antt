@@ -49,8 +49,8 @@ GoOn s times old new =
 abbrev pub above_of : ℕ → Shop → Option (List ℕ)
 above_of s p = option_and_then (λ a. up (nodes_in p.tree) a.node) (spawn_of s p)
 
--- past the audits of the ticket in the beginning, those above a spawned node tell once that its part
--- was put in if one of the answers does, and else never: as they are seen and as they are now
+-- past the audits of the ticket in the beginning, those above a spawned node tell once that its
+-- part was put in if one of the answers does, and else never: as they are seen and as they are now
 abbrev pub AreToldAbove : Job → List Answer → Shop → Type 0
 AreToldAbove ticket answers p =
     (s : ℕ) (u : List ℕ) → above_of s p ≡ Some u

@@ -43,8 +43,8 @@ opening name workers ticket =
 
 -- the master's ticket and records are in order, its workers are those that it names, each knows it
 -- as its master, and each one's entries are in order and are of spawns that have records; the
--- messages are in order; and what was put in the master's ticket is finished at its worker, and what
--- was withdrawn is declined there
+-- messages are in order; and what was put in the master's ticket is finished at its worker, and
+-- what was withdrawn is declined there
 pub record IsKept (w : State) : Type 0 where
   pub master : master.IsKept w.controllers.master
   pub named : map (λ v. v.name) w.controllers.workers ≡ w.controllers.master.workers

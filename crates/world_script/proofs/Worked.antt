@@ -55,15 +55,19 @@ unfolding digits
 acked = refl
 
 asked : answer_text (sends (Did (reply.Asked 1)) 2) ≡ codes "Asked S1 #2"
+unfolding digits
 asked = refl
 
 declined : answer_text (sends (Did (reply.Declined 1)) 3) ≡ codes "Declined S1 #3"
+unfolding digits
 declined = refl
 
 ended : answer_text (sends (Did (reply.Ended 1)) 4) ≡ codes "Ended S1 #4"
+unfolding digits
 ended = refl
 
 freed : answer_text (says (Did (reply.Freed 1))) ≡ codes "Freed S1"
+unfolding digits
 freed = refl
 
 edited : answer_text (says (Did reply.Edited)) ≡ codes "Edited"
@@ -155,7 +159,7 @@ order_to_each : read_as (text press (resend ++ codes "\"To\":\"mis\"},"
     ∷ event (WorkerOrder (codes "fold") (worker.Resend 1)) 1 Run ∷ [])))
 unfolding serde_json_on_literals script_draft shop_draft ticket_draft own_row node_has_names pools_have_names
     row_has_texts event_form what_form kind_form order_form master_form.master_order_form
-    master_form.kind_form master_form.resend_form worker_form.worker_order_form
+    master_form.kind_form master_form.known_form worker_form.worker_order_form
     worker_form.kind_form worker_form.resend_form
 order_to_each = refl
 

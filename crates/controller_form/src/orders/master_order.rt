@@ -179,8 +179,8 @@ fn build_spawn(
 
 /// The master's order that a value is: to edit its ticket, to send a node to a worker with copies
 /// of these resources that may be changed, to send the part of a spawn once more, or to ask the
-/// worker of a spawn to give it up. Refuses the first of `NotProfile`, `BadId` (also where the SpawnID names no spawn) and `BadText` that stands
-/// in it, and `Memory`.
+/// worker of a spawn to give it up. Refuses the first of `NotProfile`, `BadId` (also where the
+/// SpawnID names no spawn) and `BadText` that stands in it, and `Memory`.
 pub fn master_order_of(alloc: Global, value: &Value) -> Result<Order, Refusal>
     ensures { Answers result (forms.master_order_read (view value.now)) }
 {

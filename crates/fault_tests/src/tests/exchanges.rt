@@ -107,7 +107,8 @@ fn is_served(alloc: Global, keep: &mut MemoryKeep, request: &[u8], read: CutAt) 
     comes_to(exchange, Ok(200), RESPONSE.len()) && loads(keep, OPEN_ENTRY.as_bytes())
 }
 
-/// Whether the part is taken where this write fails, and the request, that comes again, is answered.
+/// Whether the part is taken where this write fails, and the request, that comes again, is
+/// answered.
 fn is_unwritten(alloc: Global, keep: &mut MemoryKeep, request: &[u8], write: CutAt) -> bool {
     let written = write.1.saturating_sub(1);
     let exchange = serve_over(alloc, keep, request, WHOLE, write);

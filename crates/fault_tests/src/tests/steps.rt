@@ -1,6 +1,7 @@
-//! A worker's work on a part, from its start to the answer that the part came back, and a spawn that
-//! is given up before it came, on a keeper of which one call fails: the call says so, nothing is taken until the state is loaded again, and
-//! the step that is repeated then comes to the same end.
+//! A worker's work on a part, from its start to the answer that the part came back, and a spawn
+//! that is given up before it came, on a keeper of which one call fails: the call says so, nothing
+//! is taken until the state is loaded again, and the step that is repeated then comes to the same
+//! end.
 
 use super::lent::Lent;
 use super::loads;

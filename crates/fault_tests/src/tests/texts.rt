@@ -7,8 +7,8 @@ pub const NO_ENTRY: &str = r#"{"Format":2,"Worker":{"Entries":[],"Master":"mis",
 pub const OPEN_ENTRY: &str =
     r#"{"Format":2,"Worker":{"Entries":[{"At":110,"ID":"S1","Part":{"AncestorPool":[{"JobPartID":"p0","NodeID":"n0"}],"Attr":{},"AuditPool":[],"ID":"n1","JDF":[],"JobID":"J1","JobPartID":"p1","ResourceLinkPool":[{"Usage":"Input","rRef":"r1"},{"Usage":"Output","rRef":"r2"}],"ResourcePool":[{"Attr":{},"Class":"Quantity","ID":"r2","Locked":false,"Name":"Component","SpawnIDs":["S1"],"SpawnStatus":"SpawnedRW","Status":"Unavailable"},{"Attr":{},"Class":"Consumable","ID":"r1","Locked":true,"Name":"Media","SpawnIDs":["S1"],"SpawnStatus":"SpawnedRO","Status":"Available"}],"SpawnID":"S1","Status":"Waiting","Type":"ConventionalPrinting"},"Phase":"Open"}],"Master":"mis","Name":"press"}}"#;
 
-/// The worker whose work on the part of S1 ended at 130, and which gave it up; and which declined S2
-/// at 150.
+/// The worker whose work on the part of S1 ended at 130, and which gave it up; and which declined
+/// S2 at 150.
 pub const CLOSED_AND_DECLINED: &str =
     r#"{"Format":2,"Worker":{"Entries":[{"At":130,"End":"Completed","ID":"S1","Phase":"Closed"},{"At":150,"ID":"S2","Phase":"Declined"}],"Master":"mis","Name":"press"}}"#;
 

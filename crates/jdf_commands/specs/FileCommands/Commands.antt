@@ -1,5 +1,5 @@
 -- What a command on a controller that a keeper holds writes for its input, and why it gives up.
-use Rattle.std.specs.Prelude.{◌≡◌, ◌⊎◌, ℕ, Bool, false, true, List, []}
+use Rattle.std.specs.Prelude.{◌≡◌, ◌⊎◌, ℕ, Bool, false, true, List, [], if◌then◌else◌}
 use Rattle.ticket_items.specs.declared.refusal.Refusal.{Refusal}
 use Rattle.ticket_items.specs.declared.refusal.Refusal.TheVariants.{Memory}
 use Rattle.streams.specs.declared.refused.Refused.TheVariants.{Core, SaveFailed}
@@ -12,6 +12,7 @@ use Rattle.stored_state.specs.Opened.{AnyController, of_master, of_worker}
 use Rattle.jdf_commands.specs.FileCommands.AnyStep.{text_of}
 use Rattle.jdf_commands.specs.FileCommands.Beginning.{IsBegunAs, IsNotBegun}
 use Rattle.jdf_commands.specs.FileCommands.Opening.{IsLoaded, IsNotLoaded}
+use Rattle.jdf_commands.specs.FileCommands.Pictured.{picture_text}
 use Rattle.jdf_commands.specs.FileCommands.Shown.{master_text, worker_text}
 use Rattle.jdf_commands.specs.FileCommands.Step.{GivesNoOutput, GivesOut, TextStep}
 
@@ -82,12 +83,16 @@ abbrev pub shown_text : AnyController → List ℕ
 shown_text (of_master m) = master_text m
 shown_text (of_worker w) = worker_text w
 
--- `show`: what the controller that was held shows
-pub record Shows {K : Type 0} (is_honest : K → Bool) (held : K → List ℕ) (keep : K)
-    (text : List ℕ) (refused : Bool) : Type 0 where
+-- what a controller shows, or its picture
+abbrev pub shown_as : Bool → AnyController → List ℕ
+shown_as picture c = if picture then picture_text c else shown_text c
+
+-- `show`: what the controller that was held shows, or its picture
+pub record Shows {K : Type 0} (picture : Bool) (is_honest : K → Bool) (held : K → List ℕ)
+    (keep : K) (text : List ℕ) (refused : Bool) : Type 0 where
   pub opened : Held AnyController K
   pub loaded : IsLoaded is_honest held keep opened
-  pub shown : text ≡ shown_text opened.controller
+  pub shown : text ≡ shown_as picture opened.controller
   pub accepted : refused ≡ false
 
 -- why `show` gives up: no controller is loaded, or memory ran out

@@ -56,9 +56,9 @@ pub fn call_output<R: Locks, I: Read>(
             let _lock = locked(rt, file)?;
             take_output(alloc, FileKeep::new(rt, alloc, file), reader, at)
         }
-        Call::Show { file } => {
+        Call::Show { file, picture } => {
             let _lock = locked(rt, file)?;
-            show_output(alloc, FileKeep::new(rt, alloc, file))
+            show_output(alloc, FileKeep::new(rt, alloc, file), picture)
         }
         Call::Loop | Call::SendOrder { .. } | Call::Serve { .. } | Call::Send { .. } => {
             Err(Fault::Device(Refused::NoConnection))

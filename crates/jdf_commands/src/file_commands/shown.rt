@@ -3,12 +3,14 @@
 ghost use Rattle.std.specs.Prelude.{◌≡◌, ◌++◌, string_bytes, IfOk, IfErr, OnOk};
 ghost use Rattle.serde_json.specs.Written.{compact_text};
 ghost use Rattle.jdf_commands.specs.FileCommands.AnyStep.{held_in};
-ghost use Rattle.jdf_commands.specs.FileCommands.Commands.{Shows, ShowsNone, shown_text};
+ghost use Rattle.jdf_commands.specs.FileCommands.Commands.{Shows, ShowsNone, shown_as};
+ghost use Rattle.jdf_commands.specs.FileCommands.Commands.{shown_text};
 ghost use Rattle.jdf_commands.specs.FileCommands.Shown as shown;
 ghost use Rattle.json_writer.specs.PartWritten.{part_data};
 ghost use Rattle.ticket_items.specs.declared.refusal.Refusal.TheVariants.{Memory};
 
 use crate::file_commands::opening::opened;
+use crate::file_commands::pictured::controller_picture;
 use crate::file_commands::step::unrefused;
 use crate::shown_master::push_shown;
 use json_profile::{part_value, text_of};
@@ -32,7 +34,7 @@ fn master_text(alloc: Global, master: &Master) -> Result<Vec<u8>, Refusal>
 }
 
 /// How far the work on a part is, in words.
-fn stage_words(stage: Stage) -> &'static str
+pub(super) fn stage_words(stage: Stage) -> &'static str
     ensures { result.now ≡ shown.stage_words stage }
 {
     match stage {
@@ -117,12 +119,25 @@ fn controller_text<K: Keep>(alloc: Global, opened: &Opened<K>) -> Result<Vec<u8>
     }
 }
 
-/// What `show` writes.
-pub fn show_output<K: Keep>(alloc: Global, keep: K) -> Result<Output, Fault>
-    ensures ok { IfOk result (λ output. Shows K.is_honest K.held keep output.text.items
+/// What a controller shows, or its picture. Refuses `Memory` alone.
+fn text_shown<K: Keep>(alloc: Global, opened: &Opened<K>, picture: bool) -> Result<Vec<u8>, Refusal>
+    ensures ok { IfOk result
+        (λ text. text.items ≡ shown_as picture (held_in opened.now).controller) }
+    ensures memory { IfErr result (λ e. e ≡ Memory) }
+{
+    if picture {
+        Ok(controller_picture(alloc, opened)?)
+    } else {
+        controller_text(alloc, opened)
+    }
+}
+
+/// What `show` writes: what the controller shows, or its picture.
+pub fn show_output<K: Keep>(alloc: Global, keep: K, picture: bool) -> Result<Output, Fault>
+    ensures ok { IfOk result (λ output. Shows picture K.is_honest K.held keep output.text.items
         output.refused) }
     ensures refused { IfErr result (ShowsNone K.is_honest K.held K.load_fails keep) }
 {
     let opened = opened(alloc, keep)?;
-    Ok(unrefused(controller_text(alloc, &opened)?))
+    Ok(unrefused(text_shown(alloc, &opened, picture)?))
 }

@@ -16,6 +16,6 @@ returns-in-Some-clause-ok c =
     let k = c.in-Some.place in
     on_ok_weaker c.abort.result
     (λ made.
-        ap (slice_set entries k) made
-        ∙ given_up c.args.spawn c.args.at entries c.as_slice.result.now k c.index_mut.result.now c.as_slice.ensures.value c.requires (sym c.in-Some.ensures) c.index_mut.ensures.value)
+    ap (slice_set entries k) made
+    ∙ given_up c.args.spawn c.args.at entries c.as_slice.result.now k c.index_mut.result.now c.as_slice.ensures.value c.requires (sym c.in-Some.ensures) c.index_mut.ensures.value)
     c.abort.ensures.ok

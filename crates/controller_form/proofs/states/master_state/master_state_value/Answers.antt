@@ -13,7 +13,7 @@ use Rattle.controller_form.proofs.states.master_state.master_state_value.Goals a
 pub returns-clause-again : goal.returns-clause-again
 returns-clause-again c =
     let known = c.in_ok-controller.ensures.known in
-    if_ok _ _ c.state_value.result c.state_value.ensures (λ v is. ap master_state_read (is ∙ ap (state_data written (codes "Master")) c.in_ok-controller.ensures.value) ∙ master_again Second _ known (all_told _))
+    if_ok _ _ c.state_value.result c.state_value.ensures (λ v is. ap master_state_read (is ∙ ap (state_data written (codes "Master")) c.in_ok-controller.ensures.value) ∙ master_again Second c.args.master.now known (all_told c.args.master.now.records))
 
 pub returns-clause-first : goal.returns-clause-first
 returns-clause-first c = on_any c.state_value.result (λ told. master_again First _ c.in_ok-controller.ensures.known told)

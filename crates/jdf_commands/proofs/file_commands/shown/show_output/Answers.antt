@@ -7,6 +7,6 @@ returns-clause-ok g c =
     record {
       opened = held_in c.in_ok-opened.opened;
       loaded = c.in_ok-opened.ensures.ok;
-      shown = c.unrefused.ensures.text ∙ c.in_ok-controller_text.ensures.ok;
+      shown = c.unrefused.ensures.text ∙ c.in_ok-text_shown.ensures.ok;
       accepted = c.unrefused.ensures.accepted;
     }

@@ -1,0 +1,5 @@
+pub mod Svg
+pub mod Bars
+pub mod Marked
+pub mod Picture
+pub mod PartPicture
