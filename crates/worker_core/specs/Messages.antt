@@ -53,6 +53,7 @@ abbrev pub ended_refusal : Entry → Option Refusal
 ended_refusal e =
     first_of (unless (not (is_declined e)) UnknownEntry ∷ unless (not (is_open e)) NotDone ∷ [])
 
+-- why an answer about a spawn is refused, if it is: it has to be of an entry
 abbrev pub answer_refusal : List Entry → ℕ → Option Refusal
 answer_refusal entries s = option_map_or ended_refusal (entry_of entries s) (Some UnknownEntry)
 

@@ -67,74 +67,38 @@ spawn_of s p = find (has_number s) p.spawns
 
 abbrev pub is_away : Phase → Bool
 is_away Away = true
-is_away Open = false
-is_away Done = false
-is_away Merged = false
-is_away Closed = false
-is_away Declined = false
-is_away Withdrawn = false
+is_away _ = false
 
 abbrev pub is_open : Phase → Bool
-is_open Away = false
 is_open Open = true
-is_open Done = false
-is_open Merged = false
-is_open Closed = false
-is_open Declined = false
-is_open Withdrawn = false
+is_open _ = false
 
 abbrev pub is_done : Phase → Bool
-is_done Away = false
-is_done Open = false
 is_done Done = true
-is_done Merged = false
-is_done Closed = false
-is_done Declined = false
-is_done Withdrawn = false
+is_done _ = false
 
 abbrev pub is_merged : Phase → Bool
-is_merged Away = false
-is_merged Open = false
-is_merged Done = false
 is_merged Merged = true
-is_merged Closed = false
-is_merged Declined = false
-is_merged Withdrawn = false
+is_merged _ = false
 
 abbrev pub is_closed : Phase → Bool
-is_closed Away = false
-is_closed Open = false
-is_closed Done = false
-is_closed Merged = false
 is_closed Closed = true
-is_closed Declined = false
-is_closed Withdrawn = false
+is_closed _ = false
 
 abbrev pub is_declined : Phase → Bool
-is_declined Away = false
-is_declined Open = false
-is_declined Done = false
-is_declined Merged = false
-is_declined Closed = false
 is_declined Declined = true
-is_declined Withdrawn = false
+is_declined _ = false
 
 -- whether the worker took the part
 abbrev pub is_taken : Phase → Bool
 is_taken Away = false
-is_taken Open = true
-is_taken Done = true
-is_taken Merged = true
-is_taken Closed = true
 is_taken Declined = false
 is_taken Withdrawn = false
+is_taken _ = true
 
 -- whether the part is still to be put in, or to be taken back
 abbrev pub is_out : Phase → Bool
-is_out Away = true
-is_out Open = true
-is_out Done = true
 is_out Merged = false
 is_out Closed = false
-is_out Declined = true
 is_out Withdrawn = false
+is_out _ = true

@@ -3,7 +3,7 @@
 use Rattle.std.specs.Prelude.{ℕ, ◌&&◌, Bool, true, List, [], ◌∷◌, codes, if◌then◌else◌, Option}
 use Rattle.std.specs.Prelude.{Some, None, Result}
 use Rattle.std.specs.List.{list_all}
-use Rattle.std.specs.Option.{option_and_then}
+use Rattle.std.specs.Option.{option_and_then, option_map}
 use Rattle.std.specs.Str.{bytes_eq}
 use Rattle.serde_json.specs.Data.{Data}
 use Rattle.serde_json.specs.Find.{as_str, get}
@@ -49,20 +49,17 @@ spawn_form d = do
 abbrev pub known_members : List (List ℕ)
 known_members = codes "Order" ∷ codes "SpawnID" ∷ []
 
--- an order about a spawn that was made
-unfoldable pub known_form : (ℕ → Order) → Data → Option Order
-known_form order d = do
-  _ ← provided (has_only known_members d)
-  s ← spawn_under d
-  Some (order s)
+-- the spawn of an order about one that was made
+unfoldable pub known_form : Data → Option ℕ
+known_form d = provided (has_only known_members d) >>= λ _. spawn_under d
 
 -- an order of the kind that a word names
 unfoldable pub kind_form : List ℕ → Data → Option Order
 kind_form kind d =
     if bytes_eq kind (codes "Edit") then edit_form d
     else (if bytes_eq kind (codes "Spawn") then spawn_form d
-    else (if bytes_eq kind (codes "Resend") then known_form Resend d
-    else (if bytes_eq kind (codes "Withdraw") then known_form Withdraw d else None)))
+    else (if bytes_eq kind (codes "Resend") then option_map Resend (known_form d)
+    else (if bytes_eq kind (codes "Withdraw") then option_map Withdraw (known_form d) else None)))
 
 -- an order, of the kind that its `Order` names
 unfoldable pub master_order_form : Data → Option Order

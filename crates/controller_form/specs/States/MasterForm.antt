@@ -38,6 +38,7 @@ pub record RawMaster : Type 0 where
 abbrev pub master_members : List (List ℕ)
 master_members = codes "Name" ∷ codes "Spawns" ∷ codes "Ticket" ∷ codes "Workers" ∷ []
 
+-- the draft that data is in any format
 unfoldable pub any_master_draft : Data → Option RawMaster
 any_master_draft d = do
   _ ← provided (has_only master_members d)

@@ -6,6 +6,7 @@ ghost use Rattle.json_items.specs.Judged.{Answers};
 ghost use Rattle.json_source.specs.Read.{Gives};
 ghost use Rattle.controller_form.specs.Orders.DraftedMasterOrder.{drafted_master_order};
 ghost use Rattle.controller_form.specs.Orders.MasterForm as forms;
+ghost use Rattle.controller_form.specs.Orders.SpawnNamed.{spawn_named};
 
 use crate::orders::spawn_named::names_spawn;
 use json_items::{
@@ -56,24 +57,13 @@ fn spawn<'a>(alloc: Global, value: &'a Value) -> Result<MasterOrderDraft<'a>, Re
     Ok(MasterOrderDraft::Spawn { node, worker, rw })
 }
 
-/// An order to send the part of a spawn once more.
+/// The text that names the spawn of an order about one that was made.
 #[tactic(auto, unfolding(crate::specs::Orders::MasterForm::known_form))]
-fn resend<'a>(alloc: Global, value: &'a Value) -> Result<MasterOrderDraft<'a>, Refusal>
-    ensures { Gives drafted_master_order result (forms.known_form Order.Resend (view value.now)) }
+fn known<'a>(alloc: Global, value: &'a Value) -> Result<Borrowed<'a, AnyText>, Refusal>
+    ensures { Gives spawn_named result (forms.known_form (view value.now)) }
 {
     only(value, &["Order", "SpawnID"])?;
-    let spawn = under(alloc, value, "SpawnID")?;
-    Ok(MasterOrderDraft::Resend(spawn))
-}
-
-/// An order to ask the worker of a spawn to give it up.
-#[tactic(auto, unfolding(crate::specs::Orders::MasterForm::known_form))]
-fn withdraw<'a>(alloc: Global, value: &'a Value) -> Result<MasterOrderDraft<'a>, Refusal>
-    ensures { Gives drafted_master_order result (forms.known_form Order.Withdraw (view value.now)) }
-{
-    only(value, &["Order", "SpawnID"])?;
-    let spawn = under(alloc, value, "SpawnID")?;
-    Ok(MasterOrderDraft::Withdraw(spawn))
+    under(alloc, value, "SpawnID")
 }
 
 /// The draft of an order of a kind.
@@ -90,9 +80,9 @@ fn draft_of_kind<'a>(
     } else if kind == "Spawn" {
         spawn(alloc, value)
     } else if kind == "Resend" {
-        resend(alloc, value)
+        Ok(MasterOrderDraft::Resend(known(alloc, value)?))
     } else if kind == "Withdraw" {
-        withdraw(alloc, value)
+        Ok(MasterOrderDraft::Withdraw(known(alloc, value)?))
     } else {
         Err(Refusal::NotProfile)
     }
@@ -113,6 +103,7 @@ impl<'a> Checked for MasterOrderDraft<'a> {
     ghost use Rattle.std.specs.Prelude.{None};
     ghost use Rattle.controller_form.specs.Orders.DraftedMasterOrder.{drafted_master_order};
     ghost use Rattle.controller_form.specs.Orders.MasterForm as forms;
+    ghost use Rattle.controller_form.specs.Orders.SpawnNamed.{spawn_named};
 
     type Whole = Order;
 
