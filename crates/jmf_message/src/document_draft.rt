@@ -33,20 +33,11 @@ impl<'a> DocumentDraft<'a> {
         ensures { Gives (option_map drafted_part) result
             (forms.part_beside family.now (get (codes "JDF") (view document.now))) }
     {
-        let part = document.get("JDF");
-        match part {
-            Some(part) => {
-                if !family.has_part() {
-                    return Err(Refusal::NotProfile);
-                }
-                Ok(Some(PartDraft::of(alloc, part)?))
-            }
-            None => {
-                if family.has_part() {
-                    return Err(Refusal::NotProfile);
-                }
-                Ok(None)
-            }
+        match (document.get("JDF"), family.has_part()) {
+            (Some(part), true) => Ok(Some(PartDraft::of(alloc, part)?)),
+            (None, false) => Ok(None),
+            (Some(_), false) => Err(Refusal::NotProfile),
+            (None, true) => Err(Refusal::NotProfile),
         }
     }
 

@@ -103,7 +103,6 @@ impl<'a> Checked for MasterOrderDraft<'a> {
     ghost use Rattle.std.specs.Prelude.{None};
     ghost use Rattle.controller_form.specs.Orders.DraftedMasterOrder.{drafted_master_order};
     ghost use Rattle.controller_form.specs.Orders.MasterForm as forms;
-    ghost use Rattle.controller_form.specs.Orders.SpawnNamed.{spawn_named};
 
     type Whole = Order;
 
