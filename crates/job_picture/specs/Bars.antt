@@ -3,11 +3,10 @@ use Rattle.std.specs.Prelude.{ℕ, ◌+◌, ◌*◌, ◌%◌, ◌++◌, List, co
 use Rattle.std.specs.Fmt.{decimal}
 use Rattle.std.specs.List.{flat_map}
 use Rattle.ticket_items.specs.SpawnId.{spawn_text}
+use Rattle.ticket_items.specs.SpawnStatus.{status_word}
 use Rattle.ticket_items.specs.declared.node_row.NodeRow.{NodeRow}
 use Rattle.ticket_items.specs.declared.resource.Resource.{Resource}
 use Rattle.ticket_items.specs.declared.spawn_status.SpawnStatus.{SpawnStatus}
-use Rattle.ticket_items.specs.declared.spawn_status.SpawnStatus.TheVariants.{NotSpawned}
-use Rattle.ticket_items.specs.declared.spawn_status.SpawnStatus.TheVariants.{SpawnedRO, SpawnedRW}
 use Rattle.job_picture.specs.Svg.{bar, bold}
 
 -- the shade of what a spawn holds, one of eight colours; what no spawn holds has none
@@ -35,12 +34,6 @@ unfoldable pub resource_bar : ℕ → ℕ → Resource → List ℕ → List ℕ
 resource_bar colour depth x third =
     bar (codes "r") colour (16 * depth + 40)
     (bold x.id ++ codes " " ++ x.class ++ codes " " ++ x.name) x.status third
-
--- what a resource shows of its copies (JDF 1.5, 3.8)
-abbrev pub status_word : SpawnStatus → List ℕ
-status_word NotSpawned = codes "NotSpawned"
-status_word SpawnedRO = codes "SpawnedRO"
-status_word SpawnedRW = codes "SpawnedRW"
 
 -- a spawn with which a copy went
 abbrev pub copy_text : ℕ → List ℕ

@@ -75,17 +75,6 @@ pub fn resource_bar(
     bar(alloc, "r", colour, x, first.as_str(), status, third)
 }
 
-/// What a resource shows of its copies (JDF 1.5, 3.8), in a word.
-fn status_word(status: SpawnStatus) -> &'static str
-    ensures { result.now ≡ bars.status_word status }
-{
-    match status {
-        SpawnStatus::NotSpawned => "NotSpawned",
-        SpawnStatus::SpawnedRO => "SpawnedRO",
-        SpawnStatus::SpawnedRW => "SpawnedRW",
-    }
-}
-
 /// Copies that are out, and with which spawns.
 pub fn copies_text(
     alloc: Global,
@@ -94,7 +83,7 @@ pub fn copies_text(
 ) -> Result<String, AllocError>
     ensures { IfOk result (λ made. string_bytes made ≡ bars.copies_text status spawns.now) }
 {
-    let mut text = String::from_str(alloc, status_word(status))?;
+    let mut text = String::from_str(alloc, status.word())?;
     for spawn in spawns {
         text.push_str(" ")?;
         text.push_str(chip(alloc, *spawn)?.as_str())?;

@@ -6,6 +6,7 @@ use Rattle.std.specs.Option.{option_map_or}
 use Rattle.std.specs.Str.{bytes_eq}
 use Rattle.serde_json.specs.Data.{Data, string}
 use Rattle.serde_json.specs.Find.{get, as_str, as_bool}
+use Rattle.ticket_items.specs.SpawnStatus.{status_word}
 use Rattle.ticket_items.specs.declared.spawn_status.SpawnStatus.{SpawnStatus}
 use Rattle.ticket_items.specs.declared.spawn_status.SpawnStatus.TheVariants.{NotSpawned, SpawnedRO}
 use Rattle.ticket_items.specs.declared.spawn_status.SpawnStatus.TheVariants.{SpawnedRW}
@@ -22,16 +23,11 @@ spawn_status_named word =
     (if bytes_eq word (codes "SpawnedRO") then Some SpawnedRO else
     (if bytes_eq word (codes "SpawnedRW") then Some SpawnedRW else None))
 
-abbrev pub spawn_status_word : SpawnStatus → List ℕ
-spawn_status_word NotSpawned = codes "NotSpawned"
-spawn_status_word SpawnedRO = codes "SpawnedRO"
-spawn_status_word SpawnedRW = codes "SpawnedRW"
-
 abbrev pub spawn_status_form : Data → Option SpawnStatus
 spawn_status_form d = as_str d >>= spawn_status_named
 
 abbrev pub spawn_status_data : SpawnStatus → Data
-spawn_status_data s = string (spawn_status_word s)
+spawn_status_data s = string (status_word s)
 
 -- ---- read
 

@@ -33,11 +33,7 @@ impl Written for SpawnStatus {
     ghost written = { shown.spawn_status_data };
 
     fn value(&self, alloc: Global) -> Result<Value, AllocError> {
-        match self {
-            SpawnStatus::NotSpawned => text_value(alloc, "NotSpawned"),
-            SpawnStatus::SpawnedRO => text_value(alloc, "SpawnedRO"),
-            SpawnStatus::SpawnedRW => text_value(alloc, "SpawnedRW"),
-        }
+        text_value(alloc, self.word())
     }
 
     ghost again = { spawn_status_again };
