@@ -7,3 +7,4 @@ pub mod PartsFault
 pub mod Copies
 pub mod Drafts
 pub mod Refusing
+pub mod EntryMembers

@@ -1,5 +1,6 @@
 pub mod Fronts
 pub mod IdTexts
+pub mod MessageMembers
 pub mod PartRead
 pub mod RoundTrip
 pub mod Saying

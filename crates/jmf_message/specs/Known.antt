@@ -1,7 +1,6 @@
 -- What is known of the body of a message that is written.
-use Rattle.std.specs.Prelude.{◌≡◌, ◌≤◌, true, false, Ok}
+use Rattle.std.specs.Prelude.{◌≡◌, ◌≤◌, true, Ok}
 use Rattle.serde_json.specs.Data.{depth}
-use Rattle.serde_json.specs.Written.{has_float}
 use Rattle.json_shapes.specs.PartForm.{part_read}
 use Rattle.json_writer.specs.PartWritten.{part_data}
 use Rattle.ticket_items.specs.SpawnId.{is_spawn_number}
@@ -9,11 +8,10 @@ use Rattle.ticket_tree.specs.Part.{Copied}
 use Rattle.controller.specs.declared.body.Body.{Body}
 use Rattle.controller.specs.declared.body.Body.TheVariants.{Submit, Return, Abort, Answer}
 
--- a part that is read again, and whose data has no float and nests little
+-- a part that is read again, and whose data nests little
 pub record IsWritten (part : Copied) : Type 0 where
   pub number : is_spawn_number part.spawn_id ≡ true
   pub again : part_read (part_data part) ≡ Ok part
-  pub plain : has_float (part_data part) ≡ false
   pub nests : depth (part_data part) ≤ 68
 
 -- its part is one of these, or its spawn's number is one

@@ -1,6 +1,7 @@
 pub mod CommandForm
 pub mod ResponseForm
 pub mod JmfForm
+pub mod InOrder
 pub mod DocumentForm
 pub mod Drafted
 pub mod Written

@@ -1,10 +1,10 @@
 ghost use Rattle.std.specs.Prelude.{true};
-ghost use Rattle.jmf_message.specs.Again.{abort_again};
 ghost use Rattle.jmf_message.specs.CommandForm as forms;
 
-use json_items::{AnyText, Form, Read, Written, only, put, under};
+use json::Writer;
+use json_items::{AnyText, Form, Read, only, under};
 use json_source::Source;
-use serde_json::{Map, Value};
+use json_text::{Printed, print_member};
 use std::alloc::{AllocError, Global};
 use ticket_tree::Refusal;
 
@@ -49,14 +49,12 @@ impl<'a> Read<'a> for AbortParams {
     }
 }
 
-impl Written for AbortParams {
+impl Printed for AbortParams {
     ghost written = { forms.abort_data };
 
-    fn value(&self, alloc: Global) -> Result<Value, AllocError> {
-        let mut members = Map::new(alloc);
-        put(alloc, &mut members, "QueueEntryID", &self.entry)?;
-        Ok(Value::Object(members))
+    fn print(&self, out: &mut Writer) -> Result<(), AllocError> {
+        out.begin_object()?;
+        print_member(out, "QueueEntryID", &self.entry)?;
+        out.end_object()
     }
-
-    ghost again = { abort_again };
 }

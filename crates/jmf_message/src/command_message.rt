@@ -1,11 +1,11 @@
 ghost use Rattle.std.specs.Prelude.{true};
-ghost use Rattle.jmf_message.specs.Again.{command_again};
 ghost use Rattle.jmf_message.specs.CommandForm as forms;
 
 use crate::params::Params;
-use json_items::{AnyText, Form, Read, Written, only, put, two};
+use json::Writer;
+use json_items::{AnyText, Form, Read, only, two};
 use json_source::Source;
-use serde_json::{Map, Value};
+use json_text::{Printed, print_member};
 use std::alloc::{AllocError, Global};
 use ticket_tree::Refusal;
 
@@ -63,16 +63,15 @@ impl<'a> Read<'a> for CommandMessage {
     }
 }
 
-impl Written for CommandMessage {
+impl Printed for CommandMessage {
     ghost written = { forms.command_data };
 
-    fn value(&self, alloc: Global) -> Result<Value, AllocError> {
-        let mut members = Map::new(alloc);
-        put(alloc, &mut members, "ID", &self.id)?;
-        put(alloc, &mut members, "Type", &self.kind)?;
-        self.params.put_into(alloc, &mut members)?;
-        Ok(Value::Object(members))
+    fn print(&self, out: &mut Writer) -> Result<(), AllocError> {
+        out.begin_object()?;
+        self.params.print_abort(out)?;
+        print_member(out, "ID", &self.id)?;
+        self.params.print_others(out)?;
+        print_member(out, "Type", &self.kind)?;
+        out.end_object()
     }
-
-    ghost again = { command_again };
 }

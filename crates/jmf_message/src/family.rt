@@ -1,8 +1,9 @@
 use crate::command_message::CommandMessage;
 use crate::response_message::ResponseMessage;
-use json_items::{Read, put};
+use json::Writer;
+use json_items::Read;
 use json_source::Source;
-use serde_json::{Map, Value};
+use json_text::print_member;
 use std::alloc::{AllocError, Global};
 use ticket_tree::Refusal;
 
@@ -15,9 +16,10 @@ pub enum Family {
 
 impl Family {
     ghost use Rattle.std.specs.Prelude.{◌≡◌, OnOk};
-    ghost use Rattle.serde_json.specs.View.{members_view};
     ghost use Rattle.json_source.specs.Read.{Gives};
+    ghost use Rattle.json_text.specs.Printed.{AreMembersPrinted};
     ghost use Rattle.jmf_message.specs.DocumentForm.{has_part};
+    ghost use Rattle.jmf_message.specs.InOrder as ordered;
     ghost use Rattle.jmf_message.specs.JmfForm as forms;
 
     /// The message among the members of a JMF object, of exactly one of the two families.
@@ -44,18 +46,25 @@ impl Family {
         }
     }
 
-    /// Puts it among the members of a JMF object.
-    pub fn put_into(
-        &self,
-        alloc: Global,
-        members: &mut Map<String, Value>,
-    ) -> Result<(), AllocError>
-        ensures { OnOk result (members_view members.new.entries
-            ≡ forms.put_family self.now (members_view members.old.entries)) }
+    /// Prints it if it is a command, which stands in front of a JMF object's ReceiverID.
+    pub fn print_command(&self, out: &mut Writer) -> Result<(), AllocError>
+        ensures { OnOk result
+            (AreMembersPrinted (ordered.command_before_receiver self.now) out.old out.new) }
     {
         match self {
-            Family::Command(message) => put(alloc, members, "Command", message),
-            Family::Response(message) => put(alloc, members, "Response", message),
+            Family::Command(message) => print_member(out, "Command", message),
+            Family::Response(_) => Ok(()),
+        }
+    }
+
+    /// Prints it if it is a response, which stands behind a JMF object's ReceiverID.
+    pub fn print_response(&self, out: &mut Writer) -> Result<(), AllocError>
+        ensures { OnOk result
+            (AreMembersPrinted (ordered.response_after_receiver self.now) out.old out.new) }
+    {
+        match self {
+            Family::Response(message) => print_member(out, "Response", message),
+            Family::Command(_) => Ok(()),
         }
     }
 }

@@ -1,11 +1,11 @@
 ghost use Rattle.std.specs.Prelude.{true};
-ghost use Rattle.jmf_message.specs.Again.{jmf_again};
 ghost use Rattle.jmf_message.specs.JmfForm as forms;
 
 use crate::family::Family;
-use json_items::{AnyText, Form, Read, Written, only, put, two};
+use json::Writer;
+use json_items::{AnyText, Form, Read, only, two};
 use json_source::Source;
-use serde_json::{Map, Value};
+use json_text::{Printed, print_member};
 use std::alloc::{AllocError, Global};
 use ticket_tree::Refusal;
 
@@ -59,18 +59,17 @@ impl<'a> Read<'a> for Jmf {
     }
 }
 
-impl Written for Jmf {
+impl Printed for Jmf {
     ghost written = { forms.jmf_data };
 
-    fn value(&self, alloc: Global) -> Result<Value, AllocError> {
-        let mut members = Map::new(alloc);
-        put(alloc, &mut members, "ReceiverID", &self.receiver)?;
-        put(alloc, &mut members, "SenderID", &self.sender)?;
-        put(alloc, &mut members, "TimeStamp", &self.at)?;
-        put(alloc, &mut members, "Version", &self.version)?;
-        self.family.put_into(alloc, &mut members)?;
-        Ok(Value::Object(members))
+    fn print(&self, out: &mut Writer) -> Result<(), AllocError> {
+        out.begin_object()?;
+        self.family.print_command(out)?;
+        print_member(out, "ReceiverID", &self.receiver)?;
+        self.family.print_response(out)?;
+        print_member(out, "SenderID", &self.sender)?;
+        print_member(out, "TimeStamp", &self.at)?;
+        print_member(out, "Version", &self.version)?;
+        out.end_object()
     }
-
-    ghost again = { jmf_again };
 }

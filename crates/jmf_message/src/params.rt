@@ -2,9 +2,10 @@ use crate::abort_params::AbortParams;
 use crate::return_params::ReturnParams;
 use crate::submission_params::SubmissionParams;
 use controller::Command;
-use json_items::{Read, put};
+use json::Writer;
+use json_items::Read;
 use json_source::Source;
-use serde_json::{Map, Value};
+use json_text::print_member;
 use std::alloc::{AllocError, Global};
 use ticket_tree::Refusal;
 
@@ -18,9 +19,10 @@ pub enum Params {
 
 impl Params {
     ghost use Rattle.std.specs.Prelude.{◌≡◌, OnOk};
-    ghost use Rattle.serde_json.specs.View.{members_view};
     ghost use Rattle.json_source.specs.Read.{Gives};
+    ghost use Rattle.json_text.specs.Printed.{AreMembersPrinted};
     ghost use Rattle.jmf_message.specs.CommandForm as forms;
+    ghost use Rattle.jmf_message.specs.InOrder as ordered;
     ghost use Rattle.jmf_message.specs.Said as said;
 
     /// The params among a command's members, of exactly one of the three kinds.
@@ -43,19 +45,27 @@ impl Params {
         }
     }
 
-    /// Puts them among a command's members.
-    pub fn put_into(
-        &self,
-        alloc: Global,
-        members: &mut Map<String, Value>,
-    ) -> Result<(), AllocError>
-        ensures { OnOk result (members_view members.new.entries
-            ≡ forms.put_params self.now (members_view members.old.entries)) }
+    /// Prints those of an abort, which stand in front of a command's ID.
+    pub fn print_abort(&self, out: &mut Writer) -> Result<(), AllocError>
+        ensures { OnOk result
+            (AreMembersPrinted (ordered.params_before_id self.now) out.old out.new) }
     {
         match self {
-            Params::Submission(params) => put(alloc, members, "QueueSubmissionParams", params),
-            Params::Return(params) => put(alloc, members, "ReturnQueueEntryParams", params),
-            Params::Abort(params) => put(alloc, members, "AbortQueueEntryParams", params),
+            Params::Abort(params) => print_member(out, "AbortQueueEntryParams", params),
+            Params::Submission(_) => Ok(()),
+            Params::Return(_) => Ok(()),
+        }
+    }
+
+    /// Prints those of a submission or a return, which stand behind a command's ID.
+    pub fn print_others(&self, out: &mut Writer) -> Result<(), AllocError>
+        ensures { OnOk result
+            (AreMembersPrinted (ordered.params_after_id self.now) out.old out.new) }
+    {
+        match self {
+            Params::Submission(params) => print_member(out, "QueueSubmissionParams", params),
+            Params::Return(params) => print_member(out, "ReturnQueueEntryParams", params),
+            Params::Abort(_) => Ok(()),
         }
     }
 

@@ -1,10 +1,10 @@
 ghost use Rattle.std.specs.Prelude.{true};
-ghost use Rattle.jmf_message.specs.Again.{entry_again};
 ghost use Rattle.jmf_message.specs.ResponseForm as forms;
 
-use json_items::{AnyText, Form, Read, Written, only, put, two};
+use json::Writer;
+use json_items::{AnyText, Form, Read, only, two};
 use json_source::Source;
-use serde_json::{Map, Value};
+use json_text::{Printed, print_member};
 use std::alloc::{AllocError, Global};
 use ticket_tree::Refusal;
 
@@ -49,15 +49,13 @@ impl<'a> Read<'a> for QueueEntry {
     }
 }
 
-impl Written for QueueEntry {
+impl Printed for QueueEntry {
     ghost written = { forms.entry_data };
 
-    fn value(&self, alloc: Global) -> Result<Value, AllocError> {
-        let mut members = Map::new(alloc);
-        put(alloc, &mut members, "QueueEntryID", &self.id)?;
-        put(alloc, &mut members, "Status", &self.status)?;
-        Ok(Value::Object(members))
+    fn print(&self, out: &mut Writer) -> Result<(), AllocError> {
+        out.begin_object()?;
+        print_member(out, "QueueEntryID", &self.id)?;
+        print_member(out, "Status", &self.status)?;
+        out.end_object()
     }
-
-    ghost again = { entry_again };
 }

@@ -1,17 +1,18 @@
 //! Responses of JMF.
 
 ghost use Rattle.std.specs.Prelude.{◌≡◌, true, codes, OnOk};
+ghost use Rattle.serde_json.specs.Data.{no_members};
 ghost use Rattle.serde_json.specs.Find.{get};
-ghost use Rattle.serde_json.specs.View.{members_view};
 ghost use Rattle.json_source.specs.Read.{Gives};
-ghost use Rattle.jmf_message.specs.Again.{response_again};
+ghost use Rattle.json_text.specs.Printed.{AreMembersPrinted};
 ghost use Rattle.jmf_message.specs.ResponseForm as forms;
 ghost use Rattle.jmf_message.specs.Said.{same_entry, same_response};
 
 use crate::queue_entry::QueueEntry;
-use json_items::{AnyText, Form, Read, Written, only, put, two, under};
+use json::Writer;
+use json_items::{AnyText, Form, Read, only, two, under};
 use json_source::Source;
-use serde_json::{Map, Value};
+use json_text::{Printed, print_member};
 use std::alloc::{AllocError, Global};
 use ticket_tree::Refusal;
 
@@ -43,17 +44,13 @@ fn entry_among<S: Source>(alloc: Global, response: &S) -> Result<Option<QueueEnt
     }
 }
 
-/// Puts a queue entry, if there is one, among a response's members.
-fn put_entry(
-    alloc: Global,
-    members: &mut Map<String, Value>,
-    entry: &Option<QueueEntry>,
-) -> Result<(), AllocError>
-    ensures { OnOk result (members_view members.new.entries
-        ≡ forms.put_entry entry.now (members_view members.old.entries)) }
+/// Prints a queue entry, if there is one.
+fn print_entry(out: &mut Writer, entry: &Option<QueueEntry>) -> Result<(), AllocError>
+    ensures { OnOk result
+        (AreMembersPrinted (forms.put_entry entry.now no_members) out.old out.new) }
 {
     match entry {
-        Some(entry) => put(alloc, members, "QueueEntry", entry),
+        Some(entry) => print_member(out, "QueueEntry", entry),
         None => Ok(()),
     }
 }
@@ -115,19 +112,17 @@ impl<'a> Read<'a> for ResponseMessage {
     }
 }
 
-impl Written for ResponseMessage {
+impl Printed for ResponseMessage {
     ghost written = { forms.response_data };
 
-    fn value(&self, alloc: Global) -> Result<Value, AllocError> {
-        let mut members = Map::new(alloc);
-        put(alloc, &mut members, "ID", &self.id)?;
-        put(alloc, &mut members, "Reason", &self.reason)?;
-        put(alloc, &mut members, "ReturnCode", &self.code)?;
-        put(alloc, &mut members, "Type", &self.kind)?;
-        put(alloc, &mut members, "refID", &self.reference)?;
-        put_entry(alloc, &mut members, &self.entry)?;
-        Ok(Value::Object(members))
+    fn print(&self, out: &mut Writer) -> Result<(), AllocError> {
+        out.begin_object()?;
+        print_member(out, "ID", &self.id)?;
+        print_entry(out, &self.entry)?;
+        print_member(out, "Reason", &self.reason)?;
+        print_member(out, "ReturnCode", &self.code)?;
+        print_member(out, "Type", &self.kind)?;
+        print_member(out, "refID", &self.reference)?;
+        out.end_object()
     }
-
-    ghost again = { response_again };
 }

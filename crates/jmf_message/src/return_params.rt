@@ -1,10 +1,10 @@
 ghost use Rattle.std.specs.Prelude.{true};
-ghost use Rattle.jmf_message.specs.Again.{return_again};
 ghost use Rattle.jmf_message.specs.CommandForm as forms;
 
-use json_items::{AnyText, Form, Read, Written, only, put, two};
+use json::Writer;
+use json_items::{AnyText, Form, Read, only, two};
 use json_source::Source;
-use serde_json::{Map, Value};
+use json_text::{Printed, print_member};
 use std::alloc::{AllocError, Global};
 use ticket_tree::Refusal;
 
@@ -50,15 +50,13 @@ impl<'a> Read<'a> for ReturnParams {
     }
 }
 
-impl Written for ReturnParams {
+impl Printed for ReturnParams {
     ghost written = { forms.return_data };
 
-    fn value(&self, alloc: Global) -> Result<Value, AllocError> {
-        let mut members = Map::new(alloc);
-        put(alloc, &mut members, "QueueEntryID", &self.entry)?;
-        put(alloc, &mut members, "URL", &self.url)?;
-        Ok(Value::Object(members))
+    fn print(&self, out: &mut Writer) -> Result<(), AllocError> {
+        out.begin_object()?;
+        print_member(out, "QueueEntryID", &self.entry)?;
+        print_member(out, "URL", &self.url)?;
+        out.end_object()
     }
-
-    ghost again = { return_again };
 }

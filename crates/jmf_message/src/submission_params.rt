@@ -1,10 +1,10 @@
 ghost use Rattle.std.specs.Prelude.{true};
-ghost use Rattle.jmf_message.specs.Again.{submission_again};
 ghost use Rattle.jmf_message.specs.CommandForm as forms;
 
-use json_items::{AnyText, Form, Read, Written, only, put, two};
+use json::Writer;
+use json_items::{AnyText, Form, Read, only, two};
 use json_source::Source;
-use serde_json::{Map, Value};
+use json_text::{Printed, print_member};
 use std::alloc::{AllocError, Global};
 use ticket_tree::Refusal;
 
@@ -61,17 +61,15 @@ impl<'a> Read<'a> for SubmissionParams {
     }
 }
 
-impl Written for SubmissionParams {
+impl Printed for SubmissionParams {
     ghost written = { forms.submission_data };
 
-    fn value(&self, alloc: Global) -> Result<Value, AllocError> {
-        let mut members = Map::new(alloc);
-        put(alloc, &mut members, "QueueEntryID", &self.entry)?;
-        put(alloc, &mut members, "ReturnJMF", &self.return_jmf)?;
-        put(alloc, &mut members, "ReturnURL", &self.return_url)?;
-        put(alloc, &mut members, "URL", &self.url)?;
-        Ok(Value::Object(members))
+    fn print(&self, out: &mut Writer) -> Result<(), AllocError> {
+        out.begin_object()?;
+        print_member(out, "QueueEntryID", &self.entry)?;
+        print_member(out, "ReturnJMF", &self.return_jmf)?;
+        print_member(out, "ReturnURL", &self.return_url)?;
+        print_member(out, "URL", &self.url)?;
+        out.end_object()
     }
-
-    ghost again = { submission_again };
 }

@@ -4,6 +4,7 @@ pub mod PartAgain
 pub mod PartOutlines
 pub mod PoolAgain
 pub mod PoolShape
+pub mod Printing
 pub mod ResourceAgain
 pub mod RoundTrip
 pub mod Shape

@@ -1,11 +1,11 @@
 //! Tickets, parts, resources and edits as JSON.
 
-ghost use Rattle.std.specs.Prelude.{◌≡◌, ◌≤◌, ◌++◌, Ok, false, true, map, IfOk, OnOk};
+ghost use Rattle.std.specs.Prelude.{◌≡◌, ◌≤◌, Ok, false, true, map, IfOk, OnOk};
 ghost use Rattle.std.specs.List.{list_all};
 ghost use Rattle.serde_json.specs.Data.{depth};
 ghost use Rattle.serde_json.specs.Read.{max_depth};
 ghost use Rattle.serde_json.specs.View.{view};
-ghost use Rattle.serde_json.specs.Written.{compact_text, has_float};
+ghost use Rattle.serde_json.specs.Written.{has_float};
 ghost use Rattle.ticket_items.specs.Names.{is_name};
 ghost use Rattle.ticket_items.specs.SpawnId.{is_spawn_number, spawn_text};
 ghost use Rattle.json_shapes.specs.Form.{edit_read, row_has_names, row_has_texts, ticket_read};
@@ -19,7 +19,7 @@ ghost use Rattle.json_writer.specs.Written.{edit_data, job_data, shown_data, tic
 
 use json_items::{Shown, marked_value, put_text, written_value};
 use json_writer::forest::{forest, take_children};
-use json_writer::{marked_map, no_marks, push_job_text, rows_value};
+use json_writer::{marked_map, no_marks, rows_value};
 use serde_json::{Map, Value};
 use std::alloc::{AllocError, Global};
 use ticket_tree::{Edit, Id, Marks, Name, NodeRow, Part, Resource, Rows, Ticket};
@@ -85,36 +85,6 @@ pub fn shown_value(alloc: Global, ticket: &Ticket, marks: &Marks) -> Result<Valu
     let rows = rows_of(alloc, ticket.rows())?;
     let value = job_value(alloc, ticket.job(), rows.as_slice(), marks)?;
     Ok(value)
-}
-
-/// Appends the text of a ticket that shows these marks: the one that `text_of` gives of its
-/// `shown_value`. Only one node stands as a value at a time, without those below it. After an error
-/// it is open what was appended.
-pub fn push_shown_text(
-    alloc: Global,
-    text: &mut Vec<u8>,
-    ticket: &Ticket,
-    marks: &Marks,
-) -> Result<(), AllocError>
-    ensures { OnOk result (text.new.items
-        ≡ text.old.items ++ compact_text (shown_data marks.now ticket.now)) }
-{
-    let rows = rows_of(alloc, ticket.rows())?;
-    push_job_text(alloc, text, ticket.job(), rows.as_slice(), marks)
-}
-
-/// Appends the text of a ticket: the one that `text_of` gives of its `ticket_value`. Only one node
-/// stands as a value at a time, without those below it. After an error it is open what was
-/// appended.
-pub fn push_ticket_text(
-    alloc: Global,
-    text: &mut Vec<u8>,
-    ticket: &Ticket,
-) -> Result<(), AllocError>
-    ensures { OnOk result (text.new.items
-        ≡ text.old.items ++ compact_text (ticket_data ticket.now)) }
-{
-    push_shown_text(alloc, text, ticket, &no_marks(alloc))
 }
 
 /// The id of a part's spawn.

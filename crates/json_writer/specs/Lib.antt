@@ -2,4 +2,3 @@ pub mod Written
 pub mod Trees
 pub mod Marked
 pub mod PartWritten
-pub mod TicketText

@@ -12,7 +12,7 @@ use std::alloc::{AllocError, Global};
 use ticket_tree::Refusal;
 
 /// The number of the format that is written.
-const WRITTEN: u64 = 2;
+pub const WRITTEN: u64 = 2;
 
 /// How a state is stored. Each format is read, and only the second is written.
 #[derive(Clone, Copy)]

@@ -1,0 +1,16 @@
+use Rattle.json_text.proofs.MemberLaws.{open_more}
+use Rattle.json_text.proofs.PrintedObjects.{opened, one_member}
+use Rattle.jmf_message.proofs.MessageMembers.{closed_as, formed_response, response_ordered, same_response}
+use Rattle.jmf_message.proofs.response_message.ResponseMessagePrinted.print.Goals as goal
+
+pub returns-clause-printed : goal.returns-clause-printed
+returns-clause-printed c =
+    let r = c.args.self.now in
+    let o0 = opened c.begin_object.result c.args.out.now c.begin_object.new.self c.begin_object.ensures c.in_ok-begin_object.ensures.ok in
+    let o1 = one_member _ _ c.print_member.new.out o0 c.in_ok-print_member.ensures.printed c.in_ok-print_member.ensures.again in
+    let o2 = open_more c.print_entry.new.out o1 c.in_ok-print_entry.ensures in
+    let o3 = one_member _ _ c.print_member-2.new.out o2 c.in_ok-print_member-2.ensures.printed c.in_ok-print_member-2.ensures.again in
+    let o4 = one_member _ _ c.print_member-3.new.out o3 c.in_ok-print_member-3.ensures.printed c.in_ok-print_member-3.ensures.again in
+    let o5 = one_member _ _ c.print_member-4.new.out o4 c.in_ok-print_member-4.ensures.printed c.in_ok-print_member-4.ensures.again in
+    let o6 = one_member _ _ c.print_member-5.new.out o5 c.in_ok-print_member-5.ensures.printed c.in_ok-print_member-5.ensures.again in
+    closed_as (formed_response r.id r.entry r.reason r.code r.kind r.reference) c.end_object.result c.end_object.new.self o6 c.end_object.ensures (response_ordered r.id r.entry r.reason r.code r.kind r.reference) (same_response r.id r.entry r.reason r.code r.kind r.reference)

@@ -1,0 +1,7 @@
+//! Printing what stands in a node.
+
+pub mod ancestors;
+pub mod attributes;
+pub mod audits;
+pub mod links;
+pub mod resources;

@@ -1,0 +1,22 @@
+//! JSON as text, with no value of it: each type is printed token by token.
+#![tactic(auto)]
+
+mod items;
+mod lists;
+mod members;
+mod nodes;
+mod parts;
+mod pools;
+mod printed;
+mod text;
+mod tickets;
+mod words;
+
+pub use items::resources::print_marked;
+pub use lists::print_list;
+pub use members::{print_items, print_member, print_text};
+pub use parts::print_part;
+pub use pools::print_showing;
+pub use printed::Printed;
+pub use text::finished;
+pub use tickets::print_ticket;

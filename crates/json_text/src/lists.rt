@@ -1,0 +1,44 @@
+//! Printing lists.
+
+ghost use Rattle.std.specs.Prelude.{◌≡◌, true, OnOk};
+ghost use Rattle.std.specs.List.{list_all};
+ghost use Rattle.serde_json.specs.Data.{array};
+ghost use Rattle.json_items.specs.Listed.{data_items};
+ghost use Rattle.json_text.specs.Printed.{AreItemsPrinted, IsPrinted};
+
+use crate::printed::Printed;
+use json::Writer;
+use std::alloc::AllocError;
+use ticket_items::Items;
+
+/// Prints items one after another.
+fn print_each<T: Printed>(out: &mut Writer, items: &[T]) -> Result<(), AllocError>
+    ensures printed { OnOk result (AreItemsPrinted T.written items.now out.old out.new) }
+    ensures names { OnOk result (list_all T.has_names items.now ≡ true) }
+    ensures texts { OnOk result (list_all T.has_texts items.now ≡ true) }
+{
+    for item in items {
+        item.print(out)?;
+    }
+    Ok(())
+}
+
+/// Prints a list. The names and texts of its items are valid.
+pub fn print_list<T: Printed>(out: &mut Writer, items: &[T]) -> Result<(), AllocError>
+    ensures printed { OnOk result
+        (IsPrinted (array (data_items T.written items.now)) out.old out.new) }
+    ensures names { OnOk result (list_all T.has_names items.now ≡ true) }
+    ensures texts { OnOk result (list_all T.has_texts items.now ≡ true) }
+{
+    out.begin_array()?;
+    print_each(out, items)?;
+    out.end_array()
+}
+
+impl<T: Printed> Printed for Items<T> {
+    ghost written = { λ items. array (data_items T.written items) };
+
+    fn print(&self, out: &mut Writer) -> Result<(), AllocError> {
+        print_list(out, self.as_slice())
+    }
+}
