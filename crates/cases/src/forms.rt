@@ -13,7 +13,7 @@ use streams::Refused;
 use ticket_tree::{Duplicate, Edit, Part, Refusal, Ticket};
 
 /// The text on a line.
-fn line(mut text: Vec<u8>) -> Result<Vec<u8>, AllocError> {
+pub fn line(mut text: Vec<u8>) -> Result<Vec<u8>, AllocError> {
     text.extend_from_slice(b"\n")?;
     Ok(text)
 }

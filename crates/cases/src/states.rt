@@ -1,6 +1,6 @@
 //! States of controllers.
 
-use crate::forms::line_of;
+use crate::forms::line;
 use keepers::MemoryKeep;
 use std::alloc::Global;
 use stored_state::{Opened, Stored, open_any};
@@ -8,7 +8,7 @@ use streams::Refused;
 
 /// What a controller's state is written as.
 fn state_line<C: Stored>(alloc: Global, controller: &C) -> Result<Vec<u8>, Refused> {
-    Ok(line_of(alloc, &controller.state_value(alloc)?)?)
+    Ok(line(controller.state_text(alloc)?)?)
 }
 
 /// `state`: what the state that is read is written as.

@@ -8,8 +8,7 @@ use controller::{Done, Message, Outcome};
 use spawn::{Holder, Holders, SpawnRec, marked};
 use std::alloc::{AllocError, Global};
 use std::marker::Model;
-use ticket_items::copies;
-use ticket_tree::{Duplicate, Id, Ids, Marks, Refusal, Ticket};
+use ticket_tree::{Id, Ids, Marks, Refusal, Ticket};
 
 /// A controller that owns a job's ticket (JDF 1.5, 4.4). It spawns nodes of it to its workers, and
 /// keeps a record of each spawn.
@@ -238,24 +237,4 @@ impl Master {
             }
         }
     }
-}
-
-impl Clone for Master {
-    ghost use Rattle.std.specs.Prelude.{◌≡◌};
-
-    ghost is_clone = { λ master copied. copied ≡ master };
-
-    fn clone(&self) -> Result<Master, AllocError> {
-        Ok(Master {
-            name: self.name.clone()?,
-            workers: self.workers.clone()?,
-            ticket: self.ticket.clone()?,
-            records: copies(*self.records.allocator(), self.records.as_slice())?,
-            holders: self.holders.clone()?,
-        })
-    }
-}
-
-impl Duplicate for Master {
-    ghost equal = { λ _ _ same. same };
 }

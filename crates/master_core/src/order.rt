@@ -1,7 +1,7 @@
-use ticket_tree::{Edit, Id, Ids, SpawnId};
+use ticket_tree::{Duplicate, Edit, Id, Ids, SpawnId};
 
 /// What a master is told to do.
-#[derive(Drop)]
+#[derive(Clone, Drop)]
 pub enum Order {
     /// To change its ticket.
     Edit(Edit),
@@ -12,4 +12,10 @@ pub enum Order {
     Resend(SpawnId),
     /// To ask the worker of a spawn to give it up.
     Withdraw(SpawnId),
+}
+
+impl Duplicate for Order {
+    ghost use Rattle.std.proofs.Common.{rules};
+
+    ghost equal = { Prim.search rules };
 }

@@ -3,3 +3,8 @@ pub mod Kept
 pub mod Kind
 pub mod Opened
 pub mod Step
+pub mod Message
+pub mod Resting
+pub mod Rested
+pub mod Station
+pub mod Told

@@ -14,7 +14,7 @@ ghost use Rattle.streams.specs.declared.refused.Refused.TheVariants.{SaveFailed,
 
 use crate::order_bytes::OrderBytes;
 use crate::stored::Stored;
-use crate::storing::{load, save, save_step, state_text};
+use crate::storing::{load, save, save_step};
 use crate::taken_bytes::TakenBytes;
 use controller::{Done, Message, Outcome};
 use jmf_message::decode;
@@ -73,7 +73,7 @@ impl<C: Stored, K: Keep> Kept<C, K> {
             × K.save_fails keep (compact_text (C.state_data controller)) after
             × CountRose (K.count keep) (K.count after) }
     {
-        let text = state_text(alloc, &controller)?;
+        let text = controller.state_text(alloc)?;
         save(&mut keep, text.as_slice())?;
         drop(text);
         Ok(Kept::fresh(controller, keep))

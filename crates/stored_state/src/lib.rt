@@ -3,19 +3,25 @@
 
 mod kept;
 mod kind;
+mod made;
 mod opened;
 mod order_bytes;
+mod resting;
+mod station;
 mod stored;
 mod stored_master;
 mod stored_worker;
 mod storing;
 mod taken_bytes;
+mod told;
 
 pub use controller::Controller;
 pub use kept::Kept;
 pub use kind::{Kind, kind_of};
+pub use made::Made;
 pub use opened::{Opened, open_any};
 pub use order_bytes::OrderBytes;
+pub use station::Station;
 pub use stored::Stored;
 pub use streams::Refused;
 pub use taken_bytes::TakenBytes;

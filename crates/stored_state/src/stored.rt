@@ -1,9 +1,11 @@
-ghost use Rattle.std.specs.Prelude.{◌≡◌, ◌≤◌, Result, Ok, false, IfOk};
-ghost use Rattle.serde_json.specs.Data.{Data, depth};
-ghost use Rattle.serde_json.specs.Read.{max_depth};
+ghost use Rattle.std.specs.Prelude.{◌≡◌, ℕ, Result, Ok, true, IfOk};
+ghost use Rattle.serde_json.specs.Data.{Data};
 ghost use Rattle.serde_json.specs.View.{view};
-ghost use Rattle.serde_json.specs.Written.{has_float};
+ghost use Rattle.serde_json.specs.Written.{compact_text};
 ghost use Rattle.json_items.specs.Judged.{Answers};
+ghost use Rattle.json_profile.specs.ReadAs.{IsReadAs};
+ghost use Rattle.controller.specs.declared.message.Message.{Message};
+ghost use Rattle.stored_state.specs.Resting.{rests, rests_on};
 ghost use Rattle.ticket_items.specs.declared.refusal.Refusal.{Refusal as RefusalSeen};
 
 use controller::Controller;
@@ -19,14 +21,20 @@ pub trait Stored: Controller {
     /// What JSON data is read as: a controller, or the first refusal.
     ghost state_read: { Data → Result Self RefusalSeen };
 
-    /// Its state as a value, which `state_of` reads as this controller.
-    fn state_value(&self, alloc: Global) -> Result<Value, AllocError>
-        ensures value { IfOk result (λ v. view v ≡ state_data self.now) }
-        ensures again { IfOk result (λ v. state_read (view v) ≡ Ok self.now) }
-        ensures plain { IfOk result (λ v. has_float (view v) ≡ false) }
-        ensures nests { IfOk result (λ v. depth (view v) ≤ max_depth) };
+    /// The text of its state, which is read as this controller.
+    fn state_text(&self, alloc: Global) -> Result<Vec<u8>, AllocError>
+        ensures text { IfOk result (λ b. b.items ≡ compact_text (state_data self.now)) }
+        ensures again { IfOk result (λ b. IsReadAs state_read b.items (Ok self.now)) };
 
     /// The controller whose state a value is. Refuses the first refusal of it, and `Memory`.
     fn state_of(alloc: Global, value: &Value) -> Result<Self, Refusal>
         ensures { Answers result (state_read (view value.now)) };
+
+    ghost order_rests: { (order : Self.Order) (at : ℕ) (c : Self)
+        → rests (Self.Controller.order_step order at c).reply ≡ true
+        → (Self.Controller.order_step order at c).next ≡ c };
+
+    ghost take_rests: { (m : Message) (at : ℕ) (c : Self)
+        → rests_on m.body (Self.Controller.take_step m at c).reply ≡ true
+        → (Self.Controller.take_step m at c).next ≡ c };
 }

@@ -5,37 +5,33 @@ ghost use Rattle.std.specs.Option.{option_map};
 ghost use Rattle.serde_json.specs.View.{view};
 ghost use Rattle.serde_json.specs.Written.{compact_text};
 ghost use Rattle.ticket_items.specs.declared.refusal.Refusal.TheVariants.{Memory};
+ghost use Rattle.jmf_message.specs.Decoded.{IsDecodedAs};
 ghost use Rattle.controller.specs.Words.{may_be_sent};
 ghost use Rattle.keepers.specs.Keeper.{CountRose};
 ghost use Rattle.stored_state.specs.Held.{HoldsSame, IsNoValue, IsNotLoaded, IsNotSaved};
-ghost use Rattle.stored_state.specs.Held.{IsReadAs, IsTextOf};
+ghost use Rattle.stored_state.specs.Held.{IsReadAs, IsRefusalOf, IsTextOf};
 ghost use Rattle.stored_state.specs.Kept.{message_text as text_sent};
 ghost use Rattle.streams.specs.declared.refused.Refused.TheVariants.{LoadFailed};
 
 use crate::stored::Stored;
 use controller::Message;
 use jmf_message::encode;
-use json_profile::{text_of, value_of};
+use json_profile::value_of;
 use keepers::{Keep, KeepFault};
 use serde_json::Value;
 use std::alloc::{AllocError, Global};
 use streams::Refused;
 use ticket_tree::Refusal;
 
-/// The text of a controller's state. Refuses `Memory` alone.
-pub(crate) fn state_text<C: Stored>(alloc: Global, controller: &C) -> Result<Vec<u8>, AllocError>
-    ensures text { IfOk result (λ b. b.items ≡ compact_text (C.state_data controller.now)) }
-    ensures again { IfOk result (λ b. IsReadAs C.state_read b.items (Ok controller.now)) }
-{
-    let value = controller.state_value(alloc)?;
-    text_of(alloc, &value)
-}
-
-/// The text of a message that goes out, if one does.
-fn message_text(alloc: Global, message: &Option<Message>) -> Result<Option<Vec<u8>>, AllocError>
+/// The text of a message that goes out, if one does, which is read as it again.
+pub(crate) fn message_text(
+    alloc: Global,
+    message: &Option<Message>,
+) -> Result<Option<Vec<u8>>, AllocError>
     requires { IfSome message.now (λ m. may_be_sent m.body ≡ true) }
-    ensures { IfOk result (λ text. option_map (λ b. b.items) text
+    ensures text { IfOk result (λ text. option_map (λ b. b.items) text
         ≡ option_map text_sent message.now) }
+    ensures again { OnOk result (IfSome message.now (λ m. IsDecodedAs (text_sent m) (Ok m))) }
 {
     match message {
         Some(message) => Ok(Some(encode(alloc, message)?)),
@@ -63,7 +59,7 @@ pub(crate) fn save_step<C: Stored, K: Keep>(
         (compact_text (C.state_data controller.now)) keep.old keep.new) }
 {
     let given = message_text(alloc, message)?;
-    let text = state_text(alloc, controller)?;
+    let text = controller.state_text(alloc)?;
     save(keep, text.as_slice())?;
     Ok(given)
 }
@@ -113,6 +109,19 @@ pub(crate) fn load_value<K: Keep>(alloc: Global, keep: &mut K) -> Result<Value, 
 {
     let bytes = load_bytes(keep)?;
     Ok(value_of(alloc, bytes.as_slice())?)
+}
+
+/// The controller whose state bytes are the text of, twice. Refuses what they are refused for, and
+/// `Memory`.
+pub(crate) fn controllers_of<C: Stored>(alloc: Global, bytes: &[u8]) -> Result<(C, C), Refusal>
+    ensures first { IfOk result (λ c. IsReadAs C.state_read bytes.now (Ok c.0)) }
+    ensures second { IfOk result (λ c. IsReadAs C.state_read bytes.now (Ok c.1)) }
+    ensures refused { IfErr result (IsRefusalOf C.state_read bytes.now) }
+{
+    let value = value_of(alloc, bytes)?;
+    let first = C::state_of(alloc, &value)?;
+    let second = C::state_of(alloc, &value)?;
+    Ok((first, second))
 }
 
 /// The controller whose state a keeper holds.

@@ -1,25 +1,9 @@
--- What is told of an order is the step that the controller made of it.
-use Rattle.std.proofs.Common.{◌≡◌, ◌∙◌, Result, Ok, Err, IfOk, IfErr, OnOk, OnErr, ap, sym, refl}
-use Rattle.ticket_items.specs.declared.refusal.Refusal.{Refusal}
-use Rattle.ticket_items.specs.declared.refusal.Refusal.TheVariants.{Memory}
-use Rattle.controller.specs.declared.done.Done.{Done}
-use Rattle.controller.specs.declared.message.Message.{Message}
-use Rattle.controller.proofs.Answered.{refused_step}
-use Rattle.controller.specs.Step.{Step, done_step, outcome_step, refused}
-use Rattle.world.specs.Settling.{settled_state}
-use Rattle.world.specs.Stepping.{told}
+-- What holds of a result holds as more is known.
+use Rattle.std.proofs.Common.{◌≡◌, List, Option, Result, Ok, Err, IfOk, OnOk, OnErr, refl}
+use Rattle.world.specs.Settling.{settled_messages, settled_state, with_sent}
 use Rattle.world_items.specs.declared.stop.Stop.{Stop}
 use Rattle.world_items.specs.declared.stop.Stop.TheVariants.{Run, BeforeSave, BeforeSend}
 
-pub answered : {S : Type 0} (done : Result Done Refusal) (old new : S) (step : Step S Message)
-    → IfOk done (λ d. done_step d new ≡ step) → OnErr done (new ≡ old) → IfErr step.reply (λ r. done ≡ Err r)
-    → IfOk step.reply (λ _. IfErr done (λ e. e ≡ Memory)) → IfErr step.reply (λ r. step ≡ refused r old)
-    → ¬ (done ≡ Err Memory) → outcome_step (told done) new ≡ step
-answered (Ok d) old new step made same is memory idle free = made
-answered (Err e) old new step made same is memory idle free =
-    (λ i. outcome_step (told (Err e)) (same i)) ∙ sym (refused_step e old step is memory idle (λ m. free (ap Err m)))
-
--- what holds of a result holds as more is known
 pub if_ok : {C E : Type 0} (P Q : C → Type 0) (r : Result C E) → IfOk r P → ((m : C) → P m → Q m) → IfOk r Q
 if_ok P Q (Ok m) p go = go m p
 if_ok P Q (Err e) p go = tt
@@ -37,3 +21,9 @@ pub stored_so : {S : Type 0} (stop : Stop) (old next : S) → ¬ (stop ≡ Befor
 stored_so Run old next kept = refl
 stored_so BeforeSave old next kept = absurd (kept refl)
 stored_so BeforeSend old next kept = refl
+
+-- and with no stop its message is sent
+pub sent_so : {M : Type 0} (stop : Stop) (messages : List M) (sent : Option M) → ¬ (stop ≡ BeforeSave) → ¬ (stop ≡ BeforeSend) → with_sent messages sent ≡ settled_messages stop messages sent
+sent_so Run messages sent kept runs = refl
+sent_so BeforeSave messages sent kept runs = absurd (kept refl)
+sent_so BeforeSend messages sent kept runs = absurd (runs refl)

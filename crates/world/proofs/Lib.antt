@@ -13,6 +13,7 @@ pub mod Back
 pub mod Kept
 pub mod AlwaysKept
 pub mod SentTaken
+pub mod SentTexts
 pub mod InPart
 pub mod Changing
 pub mod WorkerPlaces
@@ -29,6 +30,7 @@ pub mod TicketSeen
 pub mod MarksShown
 pub mod SameWorkers
 pub mod Receivers
+pub mod TextsStored
 pub mod Unmade
 pub mod AnswersCome
 pub mod Cases

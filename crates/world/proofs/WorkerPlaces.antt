@@ -60,6 +60,10 @@ settled_there BeforeSave m workers old new name k x stored moved ok here is sent
 settled_there BeforeSend m workers old new name k x stored moved ok here is sent =
     ap (λ ms. state m (set workers k stored) ms) sent ∙ ap (λ s. state m (set workers k s) old) is ∙ ap (λ ws. state m ws old) (put m workers old name k x moved.next ok here)
 
+-- where it is stored as it was, all stands as it did
+pub same_there : (workers : List worker.Known) (k : ℕ) (x stored : worker.Known) → x ≡ get_or workers k x → stored ≡ x → set workers k stored ≡ workers
+same_there workers k x stored at same = ap (set workers k) (same ∙ at) ∙ set-get_or workers k x
+
 -- and what always holds holds then. Where memory runs out nothing changes
 pub kept_there : {A E : Type 0} (r : Result A E) (stop : Stop) (m : master.Known) (workers : List worker.Known) (old new : List Message) (name : List ℕ) (k : ℕ) (x stored : worker.Known) (moved : Step worker.Known Message) → IsKept (state m workers old) → StandsAt workers name k x
     → OnOk r (stored ≡ settled_state stop x moved.next) → OnOk r (new ≡ settled_messages stop old moved.sent) → OnErr r (stored ≡ x) → OnErr r (new ≡ old)
@@ -67,7 +71,7 @@ pub kept_there : {A E : Type 0} (r : Result A E) (stop : Stop) (m : master.Known
 kept_there (Ok a) stop m workers old new name k x stored moved ok here is sent same unsent keeps =
     subst IsKept (sym (settled_there stop m workers old new name k x stored moved ok here is sent)) (settled_kept stop (state m workers old) _ ok keeps)
 kept_there (Err e) stop m workers old new name k x stored moved ok here is sent same unsent keeps =
-    let there : set workers k stored ≡ workers = ap (set workers k) (same ∙ here.at) ∙ set-get_or workers k x in
+    let there = same_there workers k x stored here.at same in
     subst (λ ws. IsKept (state m ws new)) (sym there) (subst (λ ms. IsKept (state m workers ms)) (sym unsent) ok)
 
 -- the worker that stands there is the one of its name

@@ -1,6 +1,5 @@
 -- What happens at an event: which step is made, and what is left of it.
-use Rattle.std.specs.Prelude.{ℕ, Bool, false, List, if◌then◌else◌, is_ok, Ok}
-use Rattle.std.specs.Prelude.{Err}
+use Rattle.std.specs.Prelude.{ℕ, Bool, true, false, List, if◌then◌else◌, Ok, Err}
 use Rattle.std.specs.Option.{option_map_or}
 use Rattle.std.specs.Str.{bytes_eq}
 use Rattle.ticket_items.specs.declared.refusal.Refusal.TheVariants.{UnknownWorker}
@@ -20,7 +19,6 @@ use Rattle.world.specs.Stepping.{worker_moved}
 use Rattle.world_items.specs.declared.answer.Answer.{Answer}
 use Rattle.world_items.specs.declared.event.Event.{Event}
 use Rattle.world_items.specs.declared.stop.Stop.{Stop}
-use Rattle.world_items.specs.declared.stop.Stop.TheVariants.{Run, BeforeSave, BeforeSend}
 use Rattle.world_items.specs.declared.what.What.{What}
 use Rattle.world_items.specs.declared.what.What.TheVariants.{MasterOrder, WorkerOrder}
 use Rattle.world_items.specs.declared.what.What.TheVariants.{Deliver, Restart}
@@ -72,15 +70,14 @@ step_of (WorkerOrder name o) at w = worker_step name o at w
 step_of (Deliver k) at w = delivery_step k at w
 step_of (Restart name) at w = Err (restart_word name w)
 
--- whether a step is made that isn't lost: there is one, and its controller doesn't stop before its
--- state is stored
-abbrev pub is_made : Stop → StepOrWord Controllers Message → Bool
-is_made Run step = is_ok step
-is_made BeforeSave step = false
-is_made BeforeSend step = is_ok step
+-- whether a controller is reached: one has the name, or a message the number
+abbrev pub is_reached : StepOrWord Controllers Message → Bool
+is_reached (Ok step) = true
+is_reached (Err Restarted) = true
+is_reached (Err word) = false
 
-abbrev pub makes_step : Event → State → Bool
-makes_step e w = is_made e.stop (step_of e.what e.at w)
+abbrev pub reaches : Event → State → Bool
+reaches e w = is_reached (step_of e.what e.at w)
 
 -- ---- as they run
 

@@ -1,18 +1,9 @@
--- The step of one controller among the others, and what is told of an order.
-use Rattle.std.specs.Prelude.{None, Result, Ok, Err}
-use Rattle.ticket_items.specs.declared.refusal.Refusal.{Refusal}
+-- The step of one controller among the others.
 use Rattle.controller.specs.Step.{Step, leading}
-use Rattle.controller.specs.declared.done.Done.{Done}
 use Rattle.controller.specs.declared.message.Message.{Message}
-use Rattle.controller.specs.declared.outcome.Outcome.{Outcome}
 use Rattle.master_core.specs.Master as master
 use Rattle.worker_core.specs.Worker as worker
 use Rattle.world.specs.State.{Controllers, with_worker}
-
--- what is told of an order that was answered so
-abbrev pub told : Result Done Refusal → Outcome
-told (Ok done) = record { reply = Ok done.reply; answer = done.message }
-told (Err e) = record { reply = Err e; answer = None }
 
 -- the master's step, with its workers as they are
 abbrev pub master_moved : Controllers → Step master.Known Message → Step Controllers Message

@@ -4,7 +4,7 @@
 
 mod apart;
 pub mod laws;
-mod settling;
+mod sent;
 mod stepping;
 mod workers;
 mod world;

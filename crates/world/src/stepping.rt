@@ -1,97 +1,103 @@
 //! What one controller makes of an order or a message: its step, whose state is stored and whose
-//! message is sent as far as the stop lets it. A step that is lost isn't made, and before one that
-//! isn't there is room for its message, so that nothing has to be taken back.
+//! message is sent as far as the stop lets it. A step that is lost isn't made.
 
-ghost use Rattle.std.specs.Prelude.{◌≡◌, Err, IfOk, IsOk, OnErr, OnOk};
+ghost use Rattle.std.specs.Prelude.{◌≡◌, IfOk, OnErr, OnOk};
 ghost use Rattle.world.specs.Settling as settling;
 ghost use Rattle.world.specs.Step as steps;
-ghost use Rattle.world.specs.Stepping as stepping;
-ghost use Rattle.world_items.specs.declared.stop.Stop.TheVariants.{BeforeSave};
 
-use crate::settling::settle;
-use controller::{Controller, Done, Message, Outcome};
+use crate::sent::Sent;
+use controller::{Message, Reply};
 use std::alloc::{AllocError, Global};
-use ticket_tree::Refusal;
+use stored_state::{Station, Stored};
+use ticket_tree::{Duplicate, Refusal};
 use world_items::{Answer, Stop, Word};
 
-/// What is told of an order that was answered so. Where memory ran out no step was made.
-fn told_of(done: Result<Done, Refusal>) -> Result<Outcome, AllocError>
-    ensures told { IfOk result (λ outcome. outcome ≡ stepping.told done) }
-    ensures memory { OnOk result (¬ (done ≡ Err Refusal.Memory)) }
-    ensures err { OnErr result (done ≡ Err Refusal.Memory) }
+/// What is replied, in a word.
+fn word_of(reply: Result<Reply, Refusal>) -> Word
+    ensures { result ≡ steps.word_of reply }
 {
-    match done {
-        Ok(done) => Ok(Outcome {
-            reply: Ok(done.reply),
-            answer: done.message,
-        }),
-        Err(refusal) => {
-            if refusal == Refusal::Memory {
-                return Err(AllocError);
-            }
-            Ok(Outcome {
-                reply: Err(refusal),
-                answer: None,
-            })
-        }
+    match reply {
+        Ok(reply) => Word::Did(reply),
+        Err(refusal) => Word::Refused(refusal),
     }
 }
 
 /// A controller is told to do something. Where memory runs out nothing is changed.
-pub fn is_told<C: Controller>(
+pub fn is_told<C: Stored>(
     alloc: Global,
-    stored: &mut C,
-    messages: &mut Vec<Message>,
+    stored: &mut Station<C>,
+    messages: &mut Sent,
     order: C::Order,
     at: u64,
     stop: Stop,
 ) -> Result<Answer, AllocError>
-    ensures answer { IfOk result (λ a. a ≡ settling.settled_answer stop messages.old.items
+where
+    C::Order: Duplicate,
+    ensures answer { IfOk result (λ a. a ≡ settling.settled_answer stop messages.old
         (steps.word_of (C.order_step order at stored.old).reply)
         (C.order_step order at stored.old).sent) }
     ensures stored { OnOk result (stored.new ≡ settling.settled_state stop stored.old
         (C.order_step order at stored.old).next) }
-    ensures messages { OnOk result (messages.new.items
-        ≡ settling.settled_messages stop messages.old.items
-        (C.order_step order at stored.old).sent) }
+    ensures messages { OnOk result (messages.new
+        ≡ settling.settled_messages stop messages.old (C.order_step order at stored.old).sent) }
     ensures err_stored { OnErr result (stored.new ≡ stored.old) }
-    ensures err_messages { OnErr result (messages.new.items ≡ messages.old.items) }
-    ensures lost { stop ≡ BeforeSave → IsOk result }
+    ensures err_messages { OnErr result (messages.new ≡ messages.old) }
 {
     if stop == Stop::BeforeSave {
         drop(order);
+        stored.restart(alloc)?;
         return Ok(Answer::without_step(Word::Stopped));
     }
-    messages.reserve(1)?;
-    let outcome = told_of(stored.order(alloc, order, at))?;
-    Ok(settle(messages, outcome, stop))
+    let again = order.copy(alloc)?;
+    let made = stored.order(alloc, order, at)?;
+    let (next, reply, sent) = made.into_parts();
+    let word = word_of(reply);
+    if stop == Stop::BeforeSend {
+        drop(again);
+        drop(sent);
+        stored.stop_after(alloc, next)?;
+        return Ok(Answer { word, number: None });
+    }
+    let number = messages.send(sent)?;
+    stored.store_ordered(alloc, next, again, at);
+    Ok(Answer { word, number })
 }
 
 /// A message comes to a controller. Where memory runs out nothing is changed.
-pub fn takes<C: Controller>(
+pub fn takes<C: Stored>(
     alloc: Global,
-    stored: &mut C,
-    messages: &mut Vec<Message>,
+    stored: &mut Station<C>,
+    messages: &mut Sent,
     message: Message,
     at: u64,
     stop: Stop,
 ) -> Result<Answer, AllocError>
-    ensures answer { IfOk result (λ a. a ≡ settling.settled_answer stop messages.old.items
+    ensures answer { IfOk result (λ a. a ≡ settling.settled_answer stop messages.old
         (steps.word_of (C.take_step message at stored.old).reply)
         (C.take_step message at stored.old).sent) }
     ensures stored { OnOk result (stored.new ≡ settling.settled_state stop stored.old
         (C.take_step message at stored.old).next) }
-    ensures messages { OnOk result (messages.new.items
-        ≡ settling.settled_messages stop messages.old.items
-        (C.take_step message at stored.old).sent) }
+    ensures messages { OnOk result (messages.new
+        ≡ settling.settled_messages stop messages.old (C.take_step message at stored.old).sent) }
     ensures err_stored { OnErr result (stored.new ≡ stored.old) }
-    ensures err_messages { OnErr result (messages.new.items ≡ messages.old.items) }
+    ensures err_messages { OnErr result (messages.new ≡ messages.old) }
 {
     if stop == Stop::BeforeSave {
         drop(message);
+        stored.restart(alloc)?;
         return Ok(Answer::without_step(Word::Stopped));
     }
-    messages.reserve(1)?;
-    let outcome = stored.take(alloc, message, at)?;
-    Ok(settle(messages, outcome, stop))
+    let again = message.copy(alloc)?;
+    let made = stored.take(alloc, message, at)?;
+    let (next, reply, sent) = made.into_parts();
+    let word = word_of(reply);
+    if stop == Stop::BeforeSend {
+        drop(again);
+        drop(sent);
+        stored.stop_after(alloc, next)?;
+        return Ok(Answer { word, number: None });
+    }
+    let number = messages.send(sent)?;
+    stored.store_taken(alloc, next, again, at);
+    Ok(Answer { word, number })
 }

@@ -2,15 +2,21 @@
 
 ghost use Rattle.std.specs.Prelude.{◌≡◌, false, map, IfOk, IfErr};
 ghost use Rattle.std.specs.List.{position};
+ghost use Rattle.std.specs.Option.{option_copied};
 ghost use Rattle.ticket_items.specs.Ids.{mem};
 ghost use Rattle.world.specs.State as state;
 
 use std::alloc::Global;
+use stored_state::Station;
 use ticket_tree::{Duplicate, Id, Refusal};
 use worker_core::Worker;
 
 /// The workers of these names as they are in the beginning. Refuses `Memory` alone.
-pub fn new_workers(alloc: Global, master: &Id, names: &[Id]) -> Result<Vec<Worker>, Refusal>
+pub fn new_workers(
+    alloc: Global,
+    master: &Id,
+    names: &[Id],
+) -> Result<Vec<Station<Worker>>, Refusal>
     requires apart { mem master.now names.now ≡ false }
     ensures ok { IfOk result
         (λ workers. workers.items ≡ map (state.new_worker master.now) names.now) }
@@ -19,14 +25,25 @@ pub fn new_workers(alloc: Global, master: &Id, names: &[Id]) -> Result<Vec<Worke
     let mut workers = Vec::with_capacity(alloc, names.len())?;
     for name in names {
         let worker = Worker::new(alloc, name.copy(alloc)?, master.copy(alloc)?)?;
-        workers.push(worker)?;
+        workers.push(Station::new(alloc, worker)?)?;
     }
     Ok(workers)
 }
 
+/// The worker of a name.
+pub fn station_of<'a>(workers: &'a [Station<Worker>], name: &Id) -> Option<&'a Station<Worker>>
+    ensures { option_copied result ≡ state.worker_of workers.now name.now }
+{
+    workers
+        .iter()
+        .find(|station| station.controller().name() == name)
+}
+
 /// Where the worker of a name stands.
-pub fn place_of(workers: &[Worker], name: &Id) -> Option<usize>
+pub fn place_of(workers: &[Station<Worker>], name: &Id) -> Option<usize>
     ensures { result ≡ position (state.is_named name.now) workers.now }
 {
-    workers.iter().position(|worker| worker.name() == name)
+    workers
+        .iter()
+        .position(|station| station.controller().name() == name)
 }

@@ -1,21 +1,24 @@
 use crate::apart::are_names_apart;
+use crate::sent::Sent;
 use crate::stepping;
-use crate::workers::{new_workers, place_of};
+use crate::workers::{new_workers, place_of, station_of};
 use controller::Message;
 use master_core::Master;
 use std::alloc::{AllocError, Global};
 use std::marker::Model;
-use ticket_tree::{Duplicate, Id, Ids, Refusal, Ticket};
+use stored_state::Station;
+use ticket_tree::{Id, Ids, Refusal, Ticket};
 use worker_core::Worker;
 use world_items::{Answer, Event, Stop, What, Word};
 
-/// A master, its workers, and every message that they sent. What is kept of a controller is its
-/// stored state, from which it is started again; between events each controller is as it is stored.
+/// A master, its workers, and every message that they sent. What is kept of a message is its text,
+/// which is read where it is delivered; and of a controller the text of its state, from which it is
+/// started again. Between events each controller is as it is stored.
 #[derive(Drop)]
 pub struct World {
-    master: Master,
-    workers: Vec<Worker>,
-    messages: Vec<Message>,
+    master: Station<Master>,
+    workers: Vec<Station<Worker>>,
+    messages: Sent,
 }
 
 impl Model for World {
@@ -23,28 +26,32 @@ impl Model for World {
 
     ghost Value = { State };
 
-    ghost view = { λ a. state a.master a.workers.items a.messages.items };
+    ghost view = { λ a. state a.master a.workers.items a.messages };
 
-    ghost invariant = { λ a. IsKept (state a.master a.workers.items a.messages.items) };
+    ghost invariant = { λ a. IsKept (state a.master a.workers.items a.messages) };
 }
 
 impl World {
     ghost use Rattle.std.specs.Prelude.{◌≡◌, ◌↔◌, ◌⊎◌, ◌∷◌, true, false, OnOk, OnErr, IfOk, IfErr};
-    ghost use Rattle.std.specs.Prelude.{◌<◌, ℕ, List, length, take, IsErrOf, IsOk};
+    ghost use Rattle.std.specs.Prelude.{◌<◌, ℕ, Err, List, length, map, take, IfSome, IsErrOf, IsOk};
     ghost use Rattle.std.specs.List.{Contains};
     ghost use Rattle.std.specs.Option.{option_copied};
     ghost use Rattle.ticket_items.specs.Ids.{are_distinct};
     ghost use Rattle.ticket_rows.specs.Ticket.{Job};
     ghost use Rattle.spawn.specs.Marking.{marks};
+    ghost use Rattle.stored_state.specs.Kept.{message_text};
+    ghost use Rattle.stored_state.specs.Message.{messages_in};
     ghost use Rattle.world.specs.Changing.{Changer, Holds, MayChange};
     ghost use Rattle.world.specs.Happening as happening;
     ghost use Rattle.world.specs.MergeAudits.{AreToldAbove};
     ghost use Rattle.world.specs.Once.{AreMergedOnce};
     ghost use Rattle.world.specs.Replay as replay;
     ghost use Rattle.world.specs.SeenTicket.{ticket_seen};
+    ghost use Rattle.world.specs.Settling as settling;
     ghost use Rattle.world.specs.ShopMarks.{shop_marks};
     ghost use Rattle.world.specs.Showing.{shows};
     ghost use Rattle.world.specs.State as state;
+    ghost use Rattle.world.specs.StoredTexts as texts;
     ghost use Rattle.world.specs.Telling.{AreTold};
 
     /// A master of this name with this ticket, of which nothing is out, and workers of these names.
@@ -63,12 +70,14 @@ impl World {
         if !are_names_apart(alloc, &name, workers.as_slice()) {
             return Err(Refusal::SameName);
         }
-        let master = Master::new(alloc, name, workers, ticket)?;
-        match new_workers(alloc, master.name(), master.workers()) {
+        let core = Master::new(alloc, name, workers, ticket)?;
+        let master = Station::new(alloc, core)?;
+        let begun = master.controller();
+        match new_workers(alloc, begun.name(), begun.workers()) {
             Ok(workers) => Ok(World {
                 master,
                 workers,
-                messages: Vec::new(alloc),
+                messages: Sent::new(alloc),
             }),
             Err(refusal) => {
                 drop(master);
@@ -85,41 +94,46 @@ impl World {
         ensures marks { marks result.now.ticket.rows result.now.records
             ≡ shop_marks (shows self.now).shop }
     {
-        &self.master
+        self.master.controller()
     }
 
     /// The worker of a name.
     pub fn worker(&self, name: &Id) -> Option<&Worker>
         ensures { option_copied result ≡ state.worker_of self.now.controllers.workers name.now }
     {
-        self.workers.iter().find(|worker| worker.name() == name)
+        let station = station_of(self.workers.as_slice(), name)?;
+        Some(station.controller())
     }
 
-    /// Every message that was sent, in the order in which they went out. The first has the number
-    /// 1. The workers are those that the master names, each knows it as its master, and each
-    /// controller is in order. So are the messages: of one spawn one part goes out, one comes back
-    /// and one command gives it up, however often, and each is the one that the master makes of its
-    /// record, a part while that is out, or the worker of its entry while that is finished and not
-    /// closed. Where a part was put in, the work on its entry has ended, where a spawn was
-    /// withdrawn, its entry is declined, and where an entry is closed, its part was put in. While a
-    /// spawn is out, the part that goes out with it has what it holds as it is seen, and the one
-    /// that comes back as it is now.
-    pub fn messages(&self) -> &[Message]
-        ensures messages { result.now ≡ self.now.messages }
+    /// The text of the state of the controller of a name, from which it is started again.
+    pub fn stored(&self, name: &Id) -> Option<&[u8]>
+        ensures text { option_copied result ≡ texts.text_of self.now.controllers name.now }
+        ensures again { IfSome result (λ text.
+            texts.IsReadAgain self.now.controllers name.now text.now) }
+    {
+        if name == self.master.controller().name() {
+            return Some(self.master.text());
+        }
+        let station = station_of(self.workers.as_slice(), name)?;
+        Some(station.text())
+    }
+
+    /// The text of every message that was sent, in the order in which they went out, each of which
+    /// is read as the message that it is of. The first has the number 1. The workers are those that
+    /// the master names, each knows it as its master, and each controller is in order. So are the
+    /// messages: of one spawn one part goes out, one comes back and one command gives it up,
+    /// however often, and each is the one that the master makes of its record, a part while that is
+    /// out, or the worker of its entry while that is finished and not closed. Where a part was put
+    /// in, the work on its entry has ended, where a spawn was withdrawn, its entry is declined, and
+    /// where an entry is closed, its part was put in. While a spawn is out, the part that goes out
+    /// with it has what it holds as it is seen, and the one that comes back as it is now.
+    pub fn messages(&self) -> &[Vec<u8>]
+        ensures messages { messages_in (map (λ t. t.items) result.now) ≡ self.now.messages }
+        ensures texts { map (λ t. t.items) result.now ≡ map message_text self.now.messages }
         ensures kept { state.IsKept self.now }
         ensures told { AreTold self.now }
     {
-        self.messages.as_slice()
-    }
-
-    /// The message of a number. The first has the number 1.
-    fn message_at(&self, number: u64) -> Option<&Message>
-        ensures { option_copied result ≡ state.message_at self.now.messages number }
-    {
-        match number.checked_sub(1) {
-            None => None,
-            Some(place) => self.messages.get(place as usize),
-        }
+        self.messages.texts()
     }
 
     /// The master is told to do something.
@@ -135,8 +149,6 @@ impl World {
         ensures state { OnOk result (self.new
             ≡ happening.settled stop self.old (happening.master_step order at self.old)) }
         ensures err { OnErr result (self.new ≡ self.old) }
-        ensures unmade { happening.is_made stop (happening.master_step order at self.old) ≡ false
-            → IsOk result }
     {
         stepping::is_told(alloc, &mut self.master, &mut self.messages, order, at, stop)
     }
@@ -156,7 +168,7 @@ impl World {
         ensures state { OnOk result (self.new
             ≡ happening.settled stop self.old (happening.worker_step name.now order at self.old)) }
         ensures err { OnErr result (self.new ≡ self.old) }
-        ensures unmade { happening.is_made stop (happening.worker_step name.now order at self.old)
+        ensures unmade { happening.is_reached (happening.worker_step name.now order at self.old)
             ≡ false → IsOk result }
     {
         match place_of(self.workers.as_slice(), name) {
@@ -237,40 +249,49 @@ impl World {
         ensures state { OnOk result (self.new
             ≡ happening.settled stop self.old (happening.delivery_step number at self.old)) }
         ensures err { OnErr result (self.new ≡ self.old) }
-        ensures unmade { happening.is_made stop (happening.delivery_step number at self.old)
+        ensures unmade { happening.is_reached (happening.delivery_step number at self.old)
             ≡ false → IsOk result }
     {
-        let Some(message) = self.message_at(number) else {
+        let Some(message) = self.messages.read(alloc, number)? else {
             return Ok(Answer::without_step(Word::NoMessage));
         };
-        if stop == Stop::BeforeSave {
-            return Ok(Answer::without_step(Word::Stopped));
-        }
-        let copy = message.copy(alloc)?;
-        if copy.receiver == *self.master.name() {
-            self.deliver_to_master(alloc, copy, at, stop)
+        if message.receiver == *self.master.controller().name() {
+            self.deliver_to_master(alloc, message, at, stop)
         } else {
-            self.deliver_to_worker(alloc, copy, at, stop)
+            self.deliver_to_worker(alloc, message, at, stop)
         }
     }
 
-    /// What is said to the restart of the controller of a name, which is as it is stored.
-    fn restart(&self, name: &Id) -> Word
-        ensures { result ≡ happening.restart_word name.now self.now }
+    /// The controller of a name stops, and is started again from the text of its state.
+    fn restart(&mut self, alloc: Global, name: &Id) -> Result<Answer, AllocError>
+        ensures answer { IfOk result (λ a. a
+            ≡ settling.answer_without_step (happening.restart_word name.now self.old)) }
+        ensures state { OnOk result (self.new ≡ self.old) }
+        ensures err { OnErr result (self.new ≡ self.old) }
+        ensures unmade { happening.is_reached (Err (happening.restart_word name.now self.old))
+            ≡ false → IsOk result }
     {
-        if name == self.master.name() || self.worker(name).is_some() {
-            Word::Restarted
-        } else {
-            Word::Refused(Refusal::UnknownWorker)
+        if name == self.master.controller().name() {
+            self.master.restart(alloc)?;
+            return Ok(Answer::without_step(Word::Restarted));
+        }
+        match place_of(self.workers.as_slice(), name) {
+            None => Ok(Answer::without_step(Word::Refused(Refusal::UnknownWorker))),
+            Some(place) => {
+                let stored = &mut self.workers[place];
+                stored.restart(alloc)?;
+                Ok(Answer::without_step(Word::Restarted))
+            }
         }
     }
 
     /// One event. What is told to a controller, or comes to it, is a step: its state is stored and
-    /// its message is sent, as far as the stop lets it. Where there is no such controller it is
+    /// its message is sent, as far as the stop lets it. A controller that stops is started again
+    /// from the text of its state. Where there is no such controller it is
     /// `Refused` as `UnknownWorker`, and where there is no such message it is `NoMessage`, at any
     /// stop. The answer, and what is shown then, are those of one ticket with one table of holders,
-    /// to which the event happens. Where memory runs out nothing is changed; an event at which no
-    /// step is made, or one that is lost, needs none. Whatever comes of it, the master may change
+    /// to which the event happens. Where memory runs out nothing is changed; an event that comes to
+    /// no controller needs none. Whatever comes of it, the master may change
     /// then just what it holds in the shop that is shown, and a worker just what an open spawn to
     /// it holds; so no two may change one node or resource.
     pub fn step(&mut self, alloc: Global, event: Event) -> Result<Answer, AllocError>
@@ -279,7 +300,7 @@ impl World {
         ensures answer { IfOk result (λ a. a ≡ happening.answer_to event self.old) }
         ensures state { OnOk result (self.new ≡ happening.after event self.old) }
         ensures err { OnErr result (self.new ≡ self.old) }
-        ensures unmade { happening.makes_step event self.old ≡ false → IsOk result }
+        ensures unmade { happening.reaches event self.old ≡ false → IsOk result }
         ensures alone { (c d : Changer) (x : List ℕ)
             → MayChange self.new c x → MayChange self.new d x → c ≡ d }
         ensures held { (c : Changer) (x : List ℕ)
@@ -292,7 +313,7 @@ impl World {
             What::MasterOrder(order) => self.order_master(alloc, order, at, stop),
             What::WorkerOrder(name, order) => self.order_worker(alloc, &name, order, at, stop),
             What::Deliver(number) => self.deliver(alloc, number, at, stop),
-            What::Restart(name) => Ok(Answer::without_step(self.restart(&name))),
+            What::Restart(name) => self.restart(alloc, &name),
         }
     }
 

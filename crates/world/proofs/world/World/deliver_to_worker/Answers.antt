@@ -12,7 +12,7 @@ use Rattle.world.proofs.world.World.deliver_to_worker.Goals as goal
 
 pub invariant_of-self : goal.invariant_of-self
 invariant_of-self c =
-    let w : State = state c.self.inside.master c.self.inside.workers.items c.self.inside.messages.items in
+    let w : State = state c.self.inside.master c.self.inside.workers.items c.self.inside.messages in
     let workers = w.controllers.workers in
     let name = c.args.message.receiver in
     let x = c.index_mut-stored.result.now in
@@ -20,24 +20,24 @@ invariant_of-self c =
     let own = found_own workers name c.in-Some.place x here in
     let there = subst (λ (v : State). Contains v.messages c.args.message) (sym c.self.view_is) c.requires.sent in
     let keeps = worker_takes_keeps c.args.message c.args.at w x c.self.invariant own there (sym (name_of workers name c.in-Some.place x here)) in
-    kept_there c.takes.result c.args.stop w.controllers.master workers w.messages c.takes.new.messages.items name c.in-Some.place x c.takes.new.stored (taken_by_worker c.args.message c.args.at x) c.self.invariant here c.takes.ensures.stored c.takes.ensures.messages c.takes.ensures.err_stored c.takes.ensures.err_messages keeps
+    kept_there c.takes.result c.args.stop w.controllers.master workers w.messages c.takes.new.messages name c.in-Some.place x c.takes.new.stored (taken_by_worker c.args.message c.args.at x) c.self.invariant here c.takes.ensures.stored c.takes.ensures.messages c.takes.ensures.err_stored c.takes.ensures.err_messages keeps
 
 pub returns-in-None-clause-answer : goal.returns-in-None-clause-answer
 returns-in-None-clause-answer c =
-    let w : State = state c.self.inside.master c.self.inside.workers.items c.self.inside.messages.items in
+    let w : State = state c.self.inside.master c.self.inside.workers.items c.self.inside.messages in
     let none = none_there w.controllers.workers c.as_slice.result.now c.args.message.receiver c.as_slice.ensures.value (sym c.in-None.ensures) in
     c.without_step.ensures ∙ none_answers c.args.stop w (taken_by_worker c.args.message c.args.at) (NoMessage) (worker_of w.controllers.workers c.args.message.receiver) none
     ∙ ap (λ (v : State). settled_word c.args.stop v (worker_takes c.args.message c.args.at v)) c.self.view_is
 
 pub returns-in-None-clause-state : goal.returns-in-None-clause-state
 returns-in-None-clause-state c =
-    let w : State = state c.self.inside.master c.self.inside.workers.items c.self.inside.messages.items in
+    let w : State = state c.self.inside.master c.self.inside.workers.items c.self.inside.messages in
     let none = none_there w.controllers.workers c.as_slice.result.now c.args.message.receiver c.as_slice.ensures.value (sym c.in-None.ensures) in
     subst (λ (v : State). v ≡ settled c.args.stop v (worker_takes c.args.message c.args.at v)) c.self.view_is (none_settles c.args.stop w (taken_by_worker c.args.message c.args.at) (NoMessage) (worker_of w.controllers.workers c.args.message.receiver) none)
 
 pub returns-in-Some-clause-answer : goal.returns-in-Some-clause-answer
 returns-in-Some-clause-answer c =
-    let w : State = state c.self.inside.master c.self.inside.workers.items c.self.inside.messages.items in
+    let w : State = state c.self.inside.master c.self.inside.workers.items c.self.inside.messages in
     let workers = w.controllers.workers in
     let name = c.args.message.receiver in
     let x = c.index_mut-stored.result.now in
@@ -47,13 +47,13 @@ returns-in-Some-clause-answer c =
 
 pub returns-in-Some-clause-state : goal.returns-in-Some-clause-state
 returns-in-Some-clause-state c =
-    let w : State = state c.self.inside.master c.self.inside.workers.items c.self.inside.messages.items in
+    let w : State = state c.self.inside.master c.self.inside.workers.items c.self.inside.messages in
     let workers = w.controllers.workers in
     let name = c.args.message.receiver in
     let x = c.index_mut-stored.result.now in
     let moved = taken_by_worker c.args.message c.args.at x in
     let here : StandsAt workers name c.in-Some.place x = stands_at workers c.as_slice.result.now name c.in-Some.place x c.as_slice.ensures.value (sym c.in-Some.ensures) c.index_mut-stored.ensures.value in
     on_ok _ _ _ c.takes.result c.takes.ensures.stored c.takes.ensures.messages (λ is sent.
-    settled_there c.args.stop w.controllers.master workers w.messages c.takes.new.messages.items name c.in-Some.place x c.takes.new.stored moved c.self.invariant here is sent
+    settled_there c.args.stop w.controllers.master workers w.messages c.takes.new.messages name c.in-Some.place x c.takes.new.stored moved c.self.invariant here is sent
     ∙ found_settles c.args.stop w (taken_by_worker c.args.message c.args.at) (NoMessage) (worker_of workers name) x moved (found workers name c.in-Some.place x here) refl
     ∙ ap (λ (v : State). settled c.args.stop v (worker_takes c.args.message c.args.at v)) c.self.view_is)

@@ -6,5 +6,5 @@ use Rattle.world.proofs.world.World.messages.Goals as goal
 
 pub returns-clause-told : goal.returns-clause-told
 returns-clause-told c =
-    let w : State = state c.self.inside.master c.self.inside.workers.items c.self.inside.messages.items in
+    let w : State = state c.self.inside.master c.self.inside.workers.items c.self.inside.messages in
     subst AreTold c.self.view_is (messages_told w c.self.invariant)

@@ -1,4 +1,6 @@
-use Rattle.std.proofs.Common.{◌≡◌, [], map, ap, ◌∙◌, rules}
+use Rattle.std.proofs.Common.{◌≡◌, List, [], map, ap, ◌∙◌, subst, sym, rules}
+use Rattle.controller.specs.declared.message.Message.{Message}
+use Rattle.master_core.specs.Master as master
 use Rattle.master_core.specs.Master.{Known, known}
 use Rattle.world.proofs.Opening.{opening_is_shown, opening_kept}
 use Rattle.world.specs.Showing.{shows}
@@ -7,7 +9,10 @@ use Rattle.world.proofs.world.World.new.Goals as goal
 
 pub invariant_of-result : goal.invariant_of-result
 invariant_of-result c =
-    opening_kept c.in_ok-master.master c.in-Ok.workers.items c.new-in-Ok.result.items c.in_ok-master.ensures.kept (c.in-Ok.ensures.ok ∙ ap (λ n. map (new_worker n) c.workers-2.result.now) c.name-2.ensures ∙ ap (map (new_worker c.in_ok-master.master.name)) c.workers-2.ensures) (search rules) (ap (λ (m : Known). m.records) c.in_ok-master.ensures.ok)
+    let sent : List Message = c.new-in-Ok.result in
+    let none : sent ≡ [] = c.new-in-Ok.ensures in
+    let named = c.in-Ok.ensures.ok ∙ ap (λ n. map (new_worker n) c.workers-2.result.now) (c.name-2.ensures ∙ ap (λ (m : Known). m.name) c.controller-begun.ensures) ∙ ap (map (new_worker c.in_ok-master.master.name)) (c.workers-2.ensures ∙ ap (λ (m : Known). m.workers) c.controller-begun.ensures) in
+    opening_kept c.in_ok-master.master c.in-Ok.workers.items sent (subst master.IsKept (sym c.in_ok-master.ensures) c.in_ok-core.ensures.kept) named none (ap (λ (m : Known). m.records) (c.in_ok-master.ensures ∙ c.in_ok-core.ensures.ok))
 
 pub returns-in-Ok-clause-shown : goal.returns-in-Ok-clause-shown
 returns-in-Ok-clause-shown c =
@@ -15,9 +20,12 @@ returns-in-Ok-clause-shown c =
     let workers = c.args.workers in
     let ticket = c.args.ticket in
     let begun = known name workers ticket [] in
-    let named = c.in-Ok.ensures.ok ∙ ap (λ n. map (new_worker n) c.workers-2.result.now) c.name-2.ensures ∙ ap (map (new_worker c.in_ok-master.master.name)) c.workers-2.ensures in
-    let made : state c.in_ok-master.master c.in-Ok.workers.items c.new-in-Ok.result.items ≡ opening name workers ticket =
-    ap (λ m. state m c.in-Ok.workers.items c.new-in-Ok.result.items) c.in_ok-master.ensures.ok
-    ∙ ap (λ ws. state begun ws c.new-in-Ok.result.items) (named ∙ ap (λ (m : Known). map (new_worker m.name) m.workers) c.in_ok-master.ensures.ok)
-    ∙ ap (state begun (map (new_worker name) workers)) (search rules) in
+    let sent : List Message = c.new-in-Ok.result in
+    let none : sent ≡ [] = c.new-in-Ok.ensures in
+    let is = c.in_ok-master.ensures ∙ c.in_ok-core.ensures.ok in
+    let named = c.in-Ok.ensures.ok ∙ ap (λ n. map (new_worker n) c.workers-2.result.now) (c.name-2.ensures ∙ ap (λ (m : Known). m.name) c.controller-begun.ensures) ∙ ap (map (new_worker c.in_ok-master.master.name)) (c.workers-2.ensures ∙ ap (λ (m : Known). m.workers) c.controller-begun.ensures) in
+    let made : state c.in_ok-master.master c.in-Ok.workers.items sent ≡ opening name workers ticket =
+    ap (λ m. state m c.in-Ok.workers.items sent) is
+    ∙ ap (λ ws. state begun ws sent) (named ∙ ap (λ (m : Known). map (new_worker m.name) m.workers) is)
+    ∙ ap (state begun (map (new_worker name) workers)) none in
     ap shows made ∙ opening_is_shown name workers ticket

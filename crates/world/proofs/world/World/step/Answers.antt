@@ -1,8 +1,5 @@
-use Rattle.std.proofs.Common.{Ok, refl, ap, ◌∙◌}
-use Rattle.std.specs.declared.alloc.AllocError.{AllocError}
 use Rattle.world.proofs.Changing.{alone, by_holders, kept_then}
 use Rattle.world.proofs.Replayed.{said_so, shown_so}
-use Rattle.world.specs.Settling.{answer_without_step}
 use Rattle.world_items.specs.declared.what.What.TheVariants.{MasterOrder, WorkerOrder, Deliver, Restart}
 use Rattle.world.proofs.world.World.step.Goals as goal
 
@@ -27,10 +24,10 @@ pub returns-in-Deliver-clause-shown : goal.returns-in-Deliver-clause-shown
 returns-in-Deliver-clause-shown c = shown_so c.deliver.result c.args.event (Deliver c.in-Deliver.number) c.args.self.now c.deliver.new.self c.messages-sent.ensures.kept c.in-Deliver.is c.deliver.ensures.state
 
 pub returns-in-Restart-clause-said : goal.returns-in-Restart-clause-said
-returns-in-Restart-clause-said c = said_so {E = AllocError} (Ok c.without_step.result) c.args.event (Restart c.in-Restart.name) c.args.self.now c.messages-sent.ensures.kept c.in-Restart.is (c.without_step.ensures ∙ ap answer_without_step c.restart.ensures)
+returns-in-Restart-clause-said c = said_so c.restart.result c.args.event (Restart c.in-Restart.name) c.args.self.now c.messages-sent.ensures.kept c.in-Restart.is c.restart.ensures.answer
 
 pub returns-in-Restart-clause-shown : goal.returns-in-Restart-clause-shown
-returns-in-Restart-clause-shown c = shown_so {E = AllocError} (Ok c.without_step.result) c.args.event (Restart c.in-Restart.name) c.args.self.now c.args.self.now c.messages-sent.ensures.kept c.in-Restart.is refl
+returns-in-Restart-clause-shown c = shown_so c.restart.result c.args.event (Restart c.in-Restart.name) c.args.self.now c.restart.new.self c.messages-sent.ensures.kept c.in-Restart.is c.restart.ensures.state
 
 -- ---- who may change what then
 
@@ -53,7 +50,7 @@ pub returns-in-Deliver-clause-held : goal.returns-in-Deliver-clause-held
 returns-in-Deliver-clause-held c = by_holders c.deliver.new.self (kept_then c.deliver.result (Deliver c.in-Deliver.number) c.args.event.at c.args.event.stop c.args.self.now c.deliver.new.self c.messages-sent.ensures.kept c.deliver.ensures.state c.deliver.ensures.err)
 
 pub returns-in-Restart-clause-alone : goal.returns-in-Restart-clause-alone
-returns-in-Restart-clause-alone c = alone c.args.self.now c.messages-sent.ensures.kept
+returns-in-Restart-clause-alone c = alone c.restart.new.self (kept_then c.restart.result (Restart c.in-Restart.name) c.args.event.at c.args.event.stop c.args.self.now c.restart.new.self c.messages-sent.ensures.kept c.restart.ensures.state c.restart.ensures.err)
 
 pub returns-in-Restart-clause-held : goal.returns-in-Restart-clause-held
-returns-in-Restart-clause-held c = by_holders c.args.self.now c.messages-sent.ensures.kept
+returns-in-Restart-clause-held c = by_holders c.restart.new.self (kept_then c.restart.result (Restart c.in-Restart.name) c.args.event.at c.args.event.stop c.args.self.now c.restart.new.self c.messages-sent.ensures.kept c.restart.ensures.state c.restart.ensures.err)

@@ -1,0 +1,31 @@
+-- Steps that leave their controller as it was, as what they reply tells.
+use Rattle.std.specs.Prelude.{◌&&◌, Bool, true, false, not, Result, Ok, Err}
+use Rattle.ticket_items.specs.declared.refusal.Refusal.{Refusal}
+use Rattle.controller.specs.declared.body.Body.{Body}
+use Rattle.controller.specs.declared.body.Body.TheVariants as bodies
+use Rattle.controller.specs.declared.reply.Reply.{Reply}
+use Rattle.controller.specs.declared.reply.Reply.TheVariants as replies
+
+-- whether a reply tells of nothing that changes
+abbrev pub is_still : Reply → Bool
+is_still (replies.Sent s) = true
+is_still (replies.Already s) = true
+is_still (replies.Noted s) = true
+is_still (replies.Again s) = true
+is_still (replies.Asked s) = true
+is_still _ = false
+
+-- whether a step on an order leaves the controller as it was: a refusal does
+abbrev pub rests : Result Reply Refusal → Bool
+rests (Ok reply) = is_still reply
+rests (Err e) = true
+
+-- whether a message is that a spawn is to be given up
+abbrev pub is_abort : Body → Bool
+is_abort (bodies.Abort s) = true
+is_abort _ = false
+
+-- whether a step on a message leaves the controller as it was. That a spawn is to be given up is
+-- looked at no further
+abbrev pub rests_on : Body → Result Reply Refusal → Bool
+rests_on body reply = not (is_abort body) && rests reply
