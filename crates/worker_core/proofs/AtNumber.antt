@@ -55,11 +55,10 @@ found_there key n xs k s found is =
     let at = found_at_position (λ y. key y == n) xs k found in
     at.1 ∙ ap Some (same_found at.0 s (slice_get xs k) at.2 (slice_get-get_or xs k s (below_length (λ y. key y == n) xs k found) ∙ ap Some (sym is)))
 
--- a write of f at the place that was found in the list as it was seen
-pub write_at_number : {X : Type 0} (key : X → ℕ) (n : ℕ) (f : X → X) (xs seen : List X) (k : ℕ) (s : X) → seen ≡ xs → are_distinct_numbers (map key xs) ≡ true → position (λ y. key y == n) seen ≡ Some k → s ≡ get_or xs k s → set xs k (f s) ≡ at_number key n f xs
-write_at_number key n f xs seen k s same apart found is =
-    let here : position (λ y. key y == n) xs ≡ Some k = ap (position (λ y. key y == n)) (sym same) ∙ found in
-    set-at_number key n f xs k s apart here (slice_get-get_or xs k s (below_length (λ y. key y == n) xs k here) ∙ ap Some (sym is))
+-- a write of f at the place that was found
+pub write_at_number : {X : Type 0} (key : X → ℕ) (n : ℕ) (f : X → X) (xs : List X) (k : ℕ) (s : X) → are_distinct_numbers (map key xs) ≡ true → position (λ y. key y == n) xs ≡ Some k → s ≡ get_or xs k s → set xs k (f s) ≡ at_number key n f xs
+write_at_number key n f xs k s apart found is =
+    set-at_number key n f xs k s apart found (slice_get-get_or xs k s (below_length (λ y. key y == n) xs k found) ∙ ap Some (sym is))
 
 -- ---- after a change that keeps numbers
 

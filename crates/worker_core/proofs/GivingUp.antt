@@ -18,18 +18,15 @@ use Rattle.worker_core.specs.declared.stage.Stage.TheVariants.{Declined}
 -- ---- what becomes of the entries
 
 -- the entries with the one that was found as it is to be given up
-pub given_up : (s at : ℕ) (entries seen : List Entry) (k : ℕ) (x : Entry) → seen ≡ entries → are_distinct_numbers (numbers entries) ≡ true → position (is_of s) seen ≡ Some k → x ≡ get_or entries k x
-    → slice_set entries k (aborted_entry at x) ≡ taken_entries (Abort s) at entries
-given_up s at entries seen k x same once here is =
-    let found : entry_of entries s ≡ Some x = found_there number_of s entries k x (ap (position (is_of s)) (sym same) ∙ here) is in
-    write_at_number number_of s (aborted_entry at) entries seen k x same once here is
-    ∙ sym (ap (λ o. cond (is_some o) (with_entry s (aborted_entry at) entries) (entries ++ declined_entry s at ∷ [])) found)
+pub given_up : (s at : ℕ) (entries : List Entry) (k : ℕ) (x : Entry) → are_distinct_numbers (numbers entries) ≡ true → position (is_of s) entries ≡ Some k → x ≡ get_or entries k x → slice_set entries k (aborted_entry at x) ≡ taken_entries (Abort s) at entries
+given_up s at entries k x once here is =
+    write_at_number number_of s (aborted_entry at) entries k x once here is
+    ∙ sym (ap (λ o. cond (is_some o) (with_entry s (aborted_entry at) entries) (entries ++ declined_entry s at ∷ [])) (found_there number_of s entries k x here is))
 
 -- and where none was found, with one that is declined
-pub declined_behind : (s at : ℕ) (entries seen : List Entry) → seen ≡ entries → position (is_of s) seen ≡ None → entries ++ declined_entry s at ∷ [] ≡ taken_entries (Abort s) at entries
-declined_behind s at entries seen same none =
-    let missing : entry_of entries s ≡ None = none_at_position (is_of s) entries (ap (position (is_of s)) (sym same) ∙ none) in
-    sym (ap (λ o. cond (is_some o) (with_entry s (aborted_entry at) entries) (entries ++ declined_entry s at ∷ [])) missing)
+pub declined_behind : (s at : ℕ) (entries : List Entry) → position (is_of s) entries ≡ None → entries ++ declined_entry s at ∷ [] ≡ taken_entries (Abort s) at entries
+declined_behind s at entries none =
+    sym (ap (λ o. cond (is_some o) (with_entry s (aborted_entry at) entries) (entries ++ declined_entry s at ∷ [])) (none_at_position (is_of s) entries none))
 
 -- ---- what is told
 

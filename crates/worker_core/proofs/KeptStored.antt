@@ -1,15 +1,13 @@
 -- A worker of which all holds that always does passes the test of what is stored.
-use Rattle.std.proofs.Common.{◌≡◌, ◌&&◌, ◌||◌, ℕ, Bool, true, false, cond, not, List, [], ◌∷◌, ◌++◌, Option, Some, None, IfSome, is_some, take, drop, get_or, ◌+◌, ◌<◌, length, refl, sym, ap, eq-eqb, ◌∙◌, ◌==◌, is_eq, nat_cmp}
+use Rattle.std.proofs.Common.{◌≡◌, ◌&&◌, ◌||◌, ℕ, Bool, true, false, not, List, [], ◌∷◌, ◌++◌, Option, Some, None, IfSome, is_some, take, drop, get_or, ◌+◌, ◌<◌, length, refl, sym, ap, eq-eqb, ◌∙◌, ◌==◌}
 use Rattle.std.specs.Option.{option_map_or}
 use Rattle.std.proofs.lemmas.Bool.{and_from, and_parts, and_right, eqb-true, not_from_false, true≢false}
 use Rattle.std.proofs.lemmas.List.{drop_more, map-append, map_push, take-append-drop, take_more}
 use Rattle.std.proofs.lemmas.List.Elements.{All-head, All-tail}
 use Rattle.std.proofs.lemmas.List.Folds.{list_any-append}
-use Rattle.std.specs.BTreeSet.{BTreeSet, Updates, contains_by}
-use Rattle.std.specs.Cmp.{unsigned_ties}
 use Rattle.std.specs.List.{All, list_all}
 use Rattle.std.specs.Str.{bytes_eq}
-use Rattle.ticket_items.proofs.Apart.{or_none, or_true}
+use Rattle.ticket_items.proofs.Apart.{or_true}
 use Rattle.ticket_tree.specs.Part.{Copied, is_sound}
 use Rattle.worker_core.proofs.Kept.{number_of}
 use Rattle.worker_core.specs.Numbers.{are_distinct_numbers, has_number}
@@ -54,9 +52,6 @@ same_number n = eq-eqb n n refl
 pub numbers_more : (entries : List Entry) (e : Entry) → numbers (entries ++ e ∷ []) ≡ numbers entries ++ e.spawn_id ∷ []
 numbers_more entries e = map_push number_of entries e
 
-pub has_more : (n m : ℕ) (ns : List ℕ) → has_number n (ns ++ m ∷ []) ≡ (has_number n ns || (m == n))
-has_more n m ns = list_any-append (λ k. k == n) ns (m ∷ []) ∙ ap (λ b. has_number n ns || b) (or_none (m == n))
-
 twice_at : (b : Bool) (ns : List ℕ) (n m : ℕ) (ms : List ℕ) → (m == n) ≡ b → (has_number n ns ≡ true → are_distinct_numbers (ns ++ n ∷ ms) ≡ false) → (b || has_number n ns) ≡ true → are_distinct_numbers (m ∷ ns ++ n ∷ ms) ≡ false
 twice_at true ns n m ms e later h =
     let there : has_number m (ns ++ n ∷ ms) ≡ true =
@@ -74,16 +69,6 @@ pub entries_twice : (entries : List Entry) (i : ℕ) (e : Entry) → i < length 
 entries_twice entries i e within is there =
     let whole : entries ≡ take i entries ++ e ∷ drop (i + 1) entries = sym (take-append-drop i entries) ∙ ap (λ es. take i entries ++ es) (drop_more entries i e within ∙ ap (λ x. x ∷ drop (i + 1) entries) (sym is)) in
     ap (λ es. are_distinct_numbers (numbers es)) whole ∙ ap are_distinct_numbers (map-append number_of (take i entries) (e ∷ drop (i + 1) entries)) ∙ distinct_twice (numbers (take i entries)) e.spawn_id (numbers (drop (i + 1) entries)) there
-
--- ---- a set of numbers
-
-or_first : (a b c : Bool) → a ≡ b → cond a true c ≡ (c || b)
-or_first true b c e = sym (ap (λ x. c || x) (sym e) ∙ or_true c)
-or_first false b c e = sym (ap (λ x. c || x) (sym e) ∙ or_none c)
-
--- a set that got a number, asked for another
-pub inserted : (s n : BTreeSet ℕ) (k : ℕ) → Updates nat_cmp s n k true → (q : ℕ) → contains_by (nat_cmp q) n ≡ (contains_by (nat_cmp q) s || (k == q))
-inserted s n k h q = h.0 q ∙ or_first (is_eq (nat_cmp k q)) (k == q) (contains_by (nat_cmp q) s) (sym (unsigned_ties k q))
 
 -- ---- the whole
 

@@ -11,3 +11,4 @@ pub mod NeverMemory
 pub mod Sends
 mod Worked
 pub mod KeptStored
+pub mod SpawnIndex

@@ -20,7 +20,3 @@ missing o entries s same none =
 -- an order on the entry at a place
 pub refused_at : (o : Order) (entries : List Entry) (s k : ℕ) (e : Entry) → s ≡ spawn_of_order o → position (is_of s) entries ≡ Some k → e ≡ get_or entries k e → order_refusal o entries ≡ entry_refusal o e
 refused_at o entries s k e same found is = refused_on o entries e (ap (entry_of entries) (sym same) ∙ found_there number_of s entries k e found is)
-
--- the place of the entry of a spawn, in the entries as they were seen
-pub place_seen : (o : Order) (entries seen : List Entry) (s k : ℕ) → seen ≡ entries → spawn_of_order o ≡ s → position (is_of (spawn_of_order o)) seen ≡ Some k → position (is_of s) entries ≡ Some k
-place_seen o entries seen s k same of found = ap (position (is_of s)) (sym same) ∙ ap (λ n. position (is_of n) seen) (sym of) ∙ found

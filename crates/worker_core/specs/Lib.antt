@@ -1,5 +1,6 @@
 pub mod Numbers
 pub mod Worker
+pub mod SpawnIndex
 pub mod Orders
 pub mod Messages
 pub mod Laws

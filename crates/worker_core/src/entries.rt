@@ -1,38 +1,35 @@
-//! What is found among the entries of a worker.
-
-ghost use Rattle.std.specs.Prelude.{◌≡◌, true};
-ghost use Rattle.std.specs.List.{position};
-ghost use Rattle.std.specs.Option.{option_and_then, option_copied};
+ghost use Rattle.std.specs.Prelude.{◌≡◌, true, false, IfOk, MatchOption};
 ghost use Rattle.worker_core.specs.Numbers.{are_distinct_numbers};
 ghost use Rattle.worker_core.specs.Worker as worker;
 
 use crate::entry::Entry;
 use controller::QueueStatus;
+use indexmap::IndexSet;
+use std::alloc::{AllocError, Global};
+use std::marker::Model;
 use ticket_rows::pools;
 use ticket_tree::{Id, Part, SpawnId};
 
-/// Where the entry of a spawn stands.
-pub fn place_of(entries: &[Entry], spawn: SpawnId) -> Option<usize>
-    ensures { result ≡ position (worker.is_of spawn) entries.now }
-{
-    entries.iter().position(|entry| entry.spawn_id == spawn)
+/// The entries of a worker in the order in which they were made, no two of one spawn. The one of a
+/// spawn is found without a walk.
+#[derive(Drop)]
+pub struct Entries {
+    /// An entry may be changed where it stands, and is of the same spawn then.
+    pub(crate) list: Vec<Entry>,
+    /// The spawns of the entries, in the same order.
+    spawns: IndexSet<SpawnId>,
 }
 
-/// The entry of a spawn.
-pub fn entry_of<'a>(entries: &'a [Entry], spawn: SpawnId) -> Option<&'a Entry>
-    ensures { option_copied result ≡ worker.entry_of entries.now spawn }
-{
-    entries.iter().find(|entry| entry.spawn_id == spawn)
-}
+impl Model for Entries {
+    ghost use Rattle.std.specs.Prelude.{List};
+    ghost use Rattle.worker_core.specs.SpawnIndex.{IsSpawnIndex};
+    ghost use Rattle.worker_core.specs.declared.entry.Entry.{Entry};
 
-/// What a command of a spawn is told, which is running while there is no entry.
-pub fn told_in(entries: &[Entry], spawn: SpawnId) -> Result<QueueStatus, u16>
-    ensures { result ≡ worker.told_in entries.now spawn }
-{
-    match entry_of(entries, spawn) {
-        None => Ok(QueueStatus::Running),
-        Some(entry) => entry.phase.told(),
-    }
+    ghost Value = { List Entry };
+
+    ghost view = { λ a. a.list.items };
+
+    ghost invariant = { λ a. IsSpawnIndex a.spawns.keys a.list.items };
 }
 
 /// Whether an id is that of a node of a part, of a resource of its pools, or of a copy that may be
@@ -43,33 +40,124 @@ fn has(part: &Part, id: &Id) -> bool
     pools::has_id(part.rows().as_slice(), id) || pools::holds(part.rw(), id)
 }
 
-/// The part of the entry of a spawn, while that may be changed.
-fn open_part_of<'a>(entries: &'a [Entry], spawn: SpawnId) -> Option<&'a Part>
-    ensures { option_copied result
-        ≡ option_and_then worker.open_part (worker.entry_of entries.now spawn) }
+/// The spawns of entries, in their order. `None` where two entries are of one spawn.
+fn spawns_of(alloc: Global, list: &[Entry]) -> Result<Option<IndexSet<SpawnId>>, AllocError>
+    ensures { IfOk result (λ found. MatchOption found
+        (are_distinct_numbers (worker.numbers list.now) ≡ false)
+        (λ spawns. (spawns.keys ≡ worker.numbers list.now)
+        × (are_distinct_numbers (worker.numbers list.now) ≡ true))) }
 {
-    match entry_of(entries, spawn) {
-        None => None,
-        Some(entry) => entry.open_part(),
+    let mut spawns = IndexSet::with_capacity(alloc, list.len())?;
+    for entry in list {
+        if !spawns.insert(entry.spawn_id)? {
+            return Ok(None);
+        }
     }
+    Ok(Some(spawns))
 }
 
-/// Whether a node or a resource may be changed through the entry of a spawn.
-pub fn may_change(entries: &[Entry], spawn: SpawnId, id: &Id) -> bool
-    ensures { result ≡ worker.may_change entries.now spawn id.now }
-{
-    match open_part_of(entries, spawn) {
-        None => false,
-        Some(part) => has(part, id),
-    }
-}
+impl Entries {
+    ghost use Rattle.std.specs.Prelude.{◌++◌, ◌∷◌, [], None, OnErr, OnOk};
+    ghost use Rattle.std.specs.List.{position};
+    ghost use Rattle.std.specs.Option.{option_and_then, option_copied};
 
-/// Gives up the part of the entry of a spawn, if the work on that has ended.
-pub fn close(entries: &mut Vec<Entry>, spawn: SpawnId)
-    requires { are_distinct_numbers (worker.numbers entries.old.items) ≡ true }
-    ensures { entries.new.items ≡ worker.with_entry spawn worker.closed_entry entries.old.items }
-{
-    if let Some(place) = place_of(entries.as_slice(), spawn) {
-        entries[place].close();
+    /// No entries.
+    pub fn new(alloc: Global) -> Entries
+        ensures { result ≡ [] }
+    {
+        Entries {
+            list: Vec::new(alloc),
+            spawns: IndexSet::new(alloc),
+        }
+    }
+
+    /// These entries. `None` where two of them are of one spawn.
+    pub fn of(alloc: Global, list: Vec<Entry>) -> Result<Option<Entries>, AllocError>
+        ensures { IfOk result (λ found. MatchOption found
+            (are_distinct_numbers (worker.numbers list.items) ≡ false)
+            (λ entries. (entries ≡ list.items)
+            × (are_distinct_numbers (worker.numbers list.items) ≡ true))) }
+    {
+        match spawns_of(alloc, list.as_slice())? {
+            None => Ok(None),
+            Some(spawns) => Ok(Some(Entries { list, spawns })),
+        }
+    }
+
+    /// The entries as a slice.
+    pub fn as_slice(&self) -> &[Entry]
+        ensures { result.now ≡ self.now }
+    {
+        self.list.as_slice()
+    }
+
+    /// Where the entry of a spawn stands.
+    pub fn place_of(&self, spawn: SpawnId) -> Option<usize>
+        ensures { result ≡ position (worker.is_of spawn) self.now }
+    {
+        self.spawns.get_index_of(&spawn)
+    }
+
+    /// The entry of a spawn.
+    pub fn entry_of(&self, spawn: SpawnId) -> Option<&Entry>
+        ensures { option_copied result ≡ worker.entry_of self.now spawn }
+    {
+        match self.place_of(spawn) {
+            None => None,
+            Some(place) => Some(&self.list[place]),
+        }
+    }
+
+    /// What a command of a spawn is told, which is running while there is no entry.
+    pub fn told_in(&self, spawn: SpawnId) -> Result<QueueStatus, u16>
+        ensures { result ≡ worker.told_in self.now spawn }
+    {
+        match self.entry_of(spawn) {
+            None => Ok(QueueStatus::Running),
+            Some(entry) => entry.phase.told(),
+        }
+    }
+
+    /// The part of the entry of a spawn, while that may be changed.
+    fn open_part_of(&self, spawn: SpawnId) -> Option<&Part>
+        ensures { option_copied result
+            ≡ option_and_then worker.open_part (worker.entry_of self.now spawn) }
+    {
+        match self.entry_of(spawn) {
+            None => None,
+            Some(entry) => entry.open_part(),
+        }
+    }
+
+    /// Whether a node or a resource may be changed through the entry of a spawn.
+    pub fn may_change(&self, spawn: SpawnId, id: &Id) -> bool
+        ensures { result ≡ worker.may_change self.now spawn id.now }
+    {
+        match self.open_part_of(spawn) {
+            None => false,
+            Some(part) => has(part, id),
+        }
+    }
+
+    /// Adds an entry of a spawn that has none, behind all others. Without memory nothing changes.
+    pub fn push(&mut self, entry: Entry) -> Result<(), AllocError>
+        requires { worker.entry_of self.old entry.spawn_id ≡ None }
+        ensures ok { OnOk result (self.new ≡ self.old ++ entry ∷ []) }
+        ensures err { OnErr result (self.new ≡ self.old) }
+    {
+        let spawn = entry.spawn_id;
+        self.spawns.reserve(1)?;
+        self.list.push(entry)?;
+        self.spawns.insert(spawn).unwrap();
+        Ok(())
+    }
+
+    /// Gives up the part of the entry of a spawn, if the work on that has ended.
+    pub fn close(&mut self, spawn: SpawnId)
+        ensures { self.new ≡ worker.with_entry spawn worker.closed_entry self.old }
+    {
+        if let Some(place) = self.place_of(spawn) {
+            self.list[place].close();
+        }
     }
 }

@@ -1,8 +1,8 @@
 use crate::end::End;
-use ticket_tree::{Edit, SpawnId};
+use ticket_tree::{Duplicate, Edit, SpawnId};
 
 /// What a worker is told to do with the part of a spawn.
-#[derive(Drop)]
+#[derive(Clone, Drop)]
 pub enum Order {
     /// To change it.
     Edit(SpawnId, Edit),
@@ -26,4 +26,10 @@ impl Order {
             Order::Resend(spawn) => *spawn,
         }
     }
+}
+
+impl Duplicate for Order {
+    ghost use Rattle.std.proofs.Common.{rules};
+
+    ghost equal = { Prim.search rules };
 }

@@ -6,13 +6,12 @@ ghost use Rattle.std.specs.List.{position};
 ghost use Rattle.std.specs.Option.{option_map};
 ghost use Rattle.ticket_rows.specs.Edit.{is_structural};
 ghost use Rattle.ticket_tree.specs.Part.{edited_part, refusal_of_part};
-ghost use Rattle.worker_core.specs.Numbers.{are_distinct_numbers};
 ghost use Rattle.worker_core.specs.Orders as orders;
 ghost use Rattle.worker_core.specs.Worker as worker;
 
 use crate::edits;
 use crate::end::End;
-use crate::entries::place_of;
+use crate::entries::Entries;
 use crate::entry::Entry;
 use crate::order::Order;
 use crate::stage::Stage;
@@ -62,7 +61,7 @@ fn entry_refusal(order: &Order, entry: &Entry) -> Option<Refusal>
 
 /// Where the entry stands that an order is about, or why the order is refused: the first reason
 /// that holds. Needs no memory.
-fn open_to(order: &Order, entries: &[Entry]) -> Result<usize, Refusal>
+fn open_to(order: &Order, entries: &Entries) -> Result<usize, Refusal>
     ensures place { MatchResult result
         (λ place. position (worker.is_of (orders.spawn_of_order order.now)) entries.now
         ≡ Some place) (λ _. Unit {0}) }
@@ -70,9 +69,9 @@ fn open_to(order: &Order, entries: &[Entry]) -> Result<usize, Refusal>
         (λ _. orders.order_refusal order.now entries.now ≡ None)
         (λ e. orders.order_refusal order.now entries.now ≡ Some e) }
 {
-    match place_of(entries, order.spawn()) {
+    match entries.place_of(order.spawn()) {
         None => Err(Refusal::UnknownEntry),
-        Some(place) => match entry_refusal(order, &entries[place]) {
+        Some(place) => match entry_refusal(order, &entries.list[place]) {
             None => Ok(place),
             Some(refusal) => Err(refusal),
         },
@@ -307,25 +306,24 @@ pub fn do_order(
     alloc: Global,
     name: &Id,
     master: &Id,
-    entries: &mut Vec<Entry>,
+    entries: &mut Entries,
     order: Order,
     at: u64,
 ) -> Result<Done, Refusal>
-    requires { are_distinct_numbers (worker.numbers entries.old.items) ≡ true }
     ensures entries { OnOk result
-        (entries.new.items ≡ orders.ordered_entries order at entries.old.items) }
+        (entries.new ≡ orders.ordered_entries order at entries.old) }
     ensures reply { IfOk result (λ done. done.reply ≡ orders.order_reply order) }
     ensures message { IfOk result (λ done. done.message ≡ orders.order_message order at
-        (worker.known name.now master.now entries.old.items)) }
-    ensures err { OnErr result (entries.new.items ≡ entries.old.items) }
-    ensures free { OnOk result (orders.order_refusal order entries.old.items ≡ None) }
-    ensures refused { IfSome (orders.order_refusal order entries.old.items)
+        (worker.known name.now master.now entries.old)) }
+    ensures err { OnErr result (entries.new ≡ entries.old) }
+    ensures free { OnOk result (orders.order_refusal order entries.old ≡ None) }
+    ensures refused { IfSome (orders.order_refusal order entries.old)
         (λ e. result ≡ Err e) }
-    ensures memory { IfNone (orders.order_refusal order entries.old.items)
+    ensures memory { IfNone (orders.order_refusal order entries.old)
         (IfErr result (λ e. e ≡ Refusal.Memory)) }
 {
-    match open_to(&order, entries.as_slice()) {
-        Ok(place) => order_entry(alloc, name, master, &mut entries[place], order, at),
+    match open_to(&order, entries) {
+        Ok(place) => order_entry(alloc, name, master, &mut entries.list[place], order, at),
         Err(refusal) => {
             drop(order);
             Err(refusal)

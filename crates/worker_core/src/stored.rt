@@ -1,18 +1,16 @@
 //! Whether the parts of a worker that were stored are those of one.
 
-ghost use Rattle.std.specs.Prelude.{◌≡◌, true, IfOk};
+ghost use Rattle.std.specs.Prelude.{◌≡◌, ◌&&◌, not, true, false};
 ghost use Rattle.std.specs.List.{All, list_all};
+ghost use Rattle.std.specs.Str.{bytes_eq};
 ghost use Rattle.ticket_rows.specs.Copies.{with_copies};
 ghost use Rattle.ticket_rows.specs.Ticket.{IsValid};
-ghost use Rattle.worker_core.specs.Numbers.{are_distinct_numbers};
 ghost use Rattle.worker_core.specs.Stored as stored;
 ghost use Rattle.worker_core.specs.Worker as worker;
-ghost use Rattle.worker_core.specs.Worker.{IsKept, IsKeptEntry};
+ghost use Rattle.worker_core.specs.Worker.{IsKeptEntry};
 
 use crate::entry::Entry;
 use crate::stage::Stage;
-use std::alloc::{AllocError, Global};
-use std::collections::BTreeSet;
 use ticket_tree::{Id, Part};
 
 /// Whether the node of a part has the Status of its end, if the work on it has ended.
@@ -62,33 +60,12 @@ fn are_entries(entries: &[Entry]) -> bool
     true
 }
 
-/// Whether no two entries are of one spawn.
-fn are_apart(alloc: Global, entries: &[Entry]) -> Result<bool, AllocError>
-    ensures { IfOk result (λ apart. apart ≡ are_distinct_numbers (worker.numbers entries.now)) }
+/// Whether these can be the parts of a worker, if no two entries are of one spawn.
+pub fn are_parts(name: &Id, master: &Id, entries: &[Entry]) -> bool
+    ensures test { result
+        ≡ (not (bytes_eq name.now master.now) && list_all stored.is_entry entries.now) }
+    ensures apart { result ≡ true → bytes_eq name.now master.now ≡ false }
+    ensures kept { result ≡ true → All IsKeptEntry entries.now }
 {
-    let mut seen = BTreeSet::new(alloc);
-    for entry in entries {
-        if !seen.insert(entry.spawn_id.number())? {
-            return Ok(false);
-        }
-    }
-    Ok(true)
-}
-
-/// Whether these can be the parts of a worker.
-pub fn is_worker(
-    alloc: Global,
-    name: &Id,
-    master: &Id,
-    entries: &[Entry],
-) -> Result<bool, AllocError>
-    ensures test { IfOk result
-        (λ b. b ≡ stored.is_worker (worker.known name.now master.now entries.now)) }
-    ensures kept { IfOk result
-        (λ b. b ≡ true → IsKept (worker.known name.now master.now entries.now)) }
-{
-    if name == master || !are_entries(entries) {
-        return Ok(false);
-    }
-    are_apart(alloc, entries)
+    name != master && are_entries(entries)
 }

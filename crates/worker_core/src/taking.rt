@@ -6,11 +6,10 @@ ghost use Rattle.ticket_rows.specs.Copies.{with_copies};
 ghost use Rattle.ticket_rows.specs.Ticket.{IsValid};
 ghost use Rattle.controller.specs.Reply as replies;
 ghost use Rattle.worker_core.specs.Messages as messages;
-ghost use Rattle.worker_core.specs.Numbers.{are_distinct_numbers};
 ghost use Rattle.worker_core.specs.Worker as worker;
 
 use crate::end::End;
-use crate::entries::{close, entry_of, place_of, told_in};
+use crate::entries::Entries;
 use crate::entry::Entry;
 use crate::ordering::end_entry;
 use crate::stage::Stage;
@@ -36,10 +35,10 @@ fn is_for_workers(body: &Body) -> bool
 }
 
 /// Why a part that goes out is refused.
-fn part_refusal(entries: &[Entry], part: &Part) -> Option<Refusal>
+fn part_refusal(entries: &Entries, part: &Part) -> Option<Refusal>
     ensures { result ≡ messages.part_refusal entries.now part.now }
 {
-    if entry_of(entries, part.spawn_id()).is_some() || part.is_sound() {
+    if entries.entry_of(part.spawn_id()).is_some() || part.is_sound() {
         None
     } else {
         Some(Refusal::BadPart)
@@ -60,17 +59,17 @@ fn ended_refusal(entry: &Entry) -> Option<Refusal>
 }
 
 /// Why an answer is refused: the first reason that holds.
-fn answer_refusal(entries: &[Entry], spawn: SpawnId) -> Option<Refusal>
+fn answer_refusal(entries: &Entries, spawn: SpawnId) -> Option<Refusal>
     ensures { result ≡ messages.answer_refusal entries.now spawn }
 {
-    match entry_of(entries, spawn) {
+    match entries.entry_of(spawn) {
         None => Some(Refusal::UnknownEntry),
         Some(entry) => ended_refusal(entry),
     }
 }
 
 /// Why what a message says is refused: the first reason that holds.
-fn body_refusal(entries: &[Entry], body: &Body) -> Option<Refusal>
+fn body_refusal(entries: &Entries, body: &Body) -> Option<Refusal>
     ensures { result ≡ messages.body_refusal body.now entries.now }
 {
     match body {
@@ -83,7 +82,7 @@ fn body_refusal(entries: &[Entry], body: &Body) -> Option<Refusal>
 
 /// Why a message is refused by the worker of a name that has these entries of its master: the first
 /// reason that holds. Needs no memory.
-fn refusal_of(name: &Id, master: &Id, entries: &[Entry], message: &Message) -> Option<Refusal>
+fn refusal_of(name: &Id, master: &Id, entries: &Entries, message: &Message) -> Option<Refusal>
     ensures { result
         ≡ messages.take_refusal message.now (worker.known name.now master.now entries.now) }
 {
@@ -129,16 +128,16 @@ fn abort_reply(spawn: SpawnId, entry: &Entry) -> Reply
 }
 
 /// What a message is taken as.
-fn reply_to(entries: &[Entry], body: &Body) -> Reply
+fn reply_to(entries: &Entries, body: &Body) -> Reply
     ensures { result ≡ messages.take_reply body.now entries.now }
 {
     match body {
-        Body::Submit(part) => match entry_of(entries, part.spawn_id()) {
+        Body::Submit(part) => match entries.entry_of(part.spawn_id()) {
             None => Reply::Taken(part.spawn_id()),
             Some(entry) => again_reply(part.spawn_id(), entry),
         },
         Body::Return(part) => Reply::Already(part.spawn_id()),
-        Body::Abort(spawn_id) => match entry_of(entries, *spawn_id) {
+        Body::Abort(spawn_id) => match entries.entry_of(*spawn_id) {
             None => Reply::Declined(*spawn_id),
             Some(entry) => abort_reply(*spawn_id, entry),
         },
@@ -151,7 +150,7 @@ fn reply_to(entries: &[Entry], body: &Body) -> Reply
 }
 
 /// The reply to a message: what it is taken as, or the refusal.
-fn reply_or(refusal: &Option<Refusal>, entries: &[Entry], body: &Body) -> Result<Reply, Refusal>
+fn reply_or(refusal: &Option<Refusal>, entries: &Entries, body: &Body) -> Result<Reply, Refusal>
     ensures { result ≡ replies.refused_or refusal.now (messages.take_reply body.now entries.now) }
 {
     match refusal {
@@ -173,23 +172,23 @@ fn abort_told(entry: &Entry) -> Result<QueueStatus, u16>
 }
 
 /// What a command is told that isn't refused, as its entry is after it.
-fn told_after(entries: &[Entry], body: &Body) -> Result<QueueStatus, u16>
+fn told_after(entries: &Entries, body: &Body) -> Result<QueueStatus, u16>
     ensures { (at : ℕ) → result ≡ worker.told_in (messages.taken_entries body.now at entries.now)
         (replies.spawn_in body.now) }
 {
     match body {
-        Body::Submit(part) => told_in(entries, part.spawn_id()),
-        Body::Return(part) => told_in(entries, part.spawn_id()),
-        Body::Abort(spawn_id) => match entry_of(entries, *spawn_id) {
+        Body::Submit(part) => entries.told_in(part.spawn_id()),
+        Body::Return(part) => entries.told_in(part.spawn_id()),
+        Body::Abort(spawn_id) => match entries.entry_of(*spawn_id) {
             None => Stage::Declined.told(),
             Some(entry) => abort_told(entry),
         },
-        Body::Answer { spawn_id, .. } => told_in(entries, *spawn_id),
+        Body::Answer { spawn_id, .. } => entries.told_in(*spawn_id),
     }
 }
 
 /// What a command is told: the number of the refusal, or how its entry is after it.
-fn told_or(refusal: Option<Refusal>, entries: &[Entry], body: &Body) -> Result<QueueStatus, u16>
+fn told_or(refusal: Option<Refusal>, entries: &Entries, body: &Body) -> Result<QueueStatus, u16>
     ensures { (at : ℕ) → result ≡ messages.told_or refusal
         (worker.told_in (messages.taken_entries body.now at entries.now)
         (replies.spawn_in body.now)) }
@@ -205,7 +204,7 @@ fn told_or(refusal: Option<Refusal>, entries: &[Entry], body: &Body) -> Result<Q
 fn outcome_of(
     alloc: Global,
     name: &Id,
-    entries: &[Entry],
+    entries: &Entries,
     refusal: Option<Refusal>,
     message: &Message,
     at: u64,
@@ -225,14 +224,14 @@ fn outcome_of(
 }
 
 /// Makes an entry of a part that is taken at a time, where there is none of its spawn.
-fn enter(entries: &mut Vec<Entry>, part: Part, at: u64) -> Result<(), AllocError>
+fn enter(entries: &mut Entries, part: Part, at: u64) -> Result<(), AllocError>
     ensures ok { OnOk result
-        (entries.new.items ≡ messages.taken_entries (Body.Submit part) at entries.old.items) }
-    ensures err { OnErr result (entries.new.items ≡ entries.old.items) }
+        (entries.new ≡ messages.taken_entries (Body.Submit part) at entries.old) }
+    ensures err { OnErr result (entries.new ≡ entries.old) }
     ensures valid { IsValid (with_copies part.rows part.rw part.ro) }
 {
     let entry = Entry::new(part, at);
-    if entry_of(entries.as_slice(), entry.spawn_id).is_none() {
+    if entries.entry_of(entry.spawn_id).is_none() {
         entries.push(entry)?;
     }
     Ok(())
@@ -254,44 +253,36 @@ fn abort(alloc: Global, entry: &mut Entry, at: u64) -> Result<(), AllocError>
 
 /// Takes it that a spawn is to be given up: its entry is ended if it is open, and where there is
 /// none the spawn is declined, for good.
-fn give_up(
-    alloc: Global,
-    entries: &mut Vec<Entry>,
-    spawn: SpawnId,
-    at: u64,
-) -> Result<(), AllocError>
-    requires { are_distinct_numbers (worker.numbers entries.old.items) ≡ true }
+fn give_up(alloc: Global, entries: &mut Entries, spawn: SpawnId, at: u64) -> Result<(), AllocError>
     ensures ok { OnOk result
-        (entries.new.items ≡ messages.taken_entries (Body.Abort spawn) at entries.old.items) }
-    ensures err { OnErr result (entries.new.items ≡ entries.old.items) }
+        (entries.new ≡ messages.taken_entries (Body.Abort spawn) at entries.old) }
+    ensures err { OnErr result (entries.new ≡ entries.old) }
 {
-    match place_of(entries.as_slice(), spawn) {
+    match entries.place_of(spawn) {
         None => {
             entries.push(Entry::declined(spawn, at))?;
             Ok(())
         }
-        Some(place) => abort(alloc, &mut entries[place], at),
+        Some(place) => abort(alloc, &mut entries.list[place], at),
     }
 }
 
 /// Closes the entry of a part that was given back, if it has come.
-fn take_answer(entries: &mut Vec<Entry>, spawn: SpawnId, told: Result<QueueStatus, u16>)
-    requires { are_distinct_numbers (worker.numbers entries.old.items) ≡ true }
-    ensures { entries.new.items ≡ if is_ok told
-        then worker.with_entry spawn worker.closed_entry entries.old.items
-        else entries.old.items }
+fn take_answer(entries: &mut Entries, spawn: SpawnId, told: Result<QueueStatus, u16>)
+    ensures { entries.new ≡ if is_ok told
+        then worker.with_entry spawn worker.closed_entry entries.old
+        else entries.old }
 {
     if told.is_ok() {
-        close(entries, spawn);
+        entries.close(spawn);
     }
 }
 
 /// Takes what a message says that isn't refused. An answer takes no memory.
-fn take_body(alloc: Global, entries: &mut Vec<Entry>, body: Body, at: u64) -> Result<(), AllocError>
-    requires { are_distinct_numbers (worker.numbers entries.old.items) ≡ true }
+fn take_body(alloc: Global, entries: &mut Entries, body: Body, at: u64) -> Result<(), AllocError>
     ensures ok { OnOk result
-        (entries.new.items ≡ messages.taken_entries body at entries.old.items) }
-    ensures err { OnErr result (entries.new.items ≡ entries.old.items) }
+        (entries.new ≡ messages.taken_entries body at entries.old) }
+    ensures err { OnErr result (entries.new ≡ entries.old) }
     ensures valid { messages.IsValidBody body }
     ensures answers { replies.is_answer body ≡ true → IsOk result }
 {
@@ -314,14 +305,13 @@ fn take_body(alloc: Global, entries: &mut Vec<Entry>, body: Body, at: u64) -> Re
 fn take_unless(
     refused: bool,
     alloc: Global,
-    entries: &mut Vec<Entry>,
+    entries: &mut Entries,
     body: Body,
     at: u64,
 ) -> Result<(), AllocError>
-    requires { are_distinct_numbers (worker.numbers entries.old.items) ≡ true }
-    ensures ok { OnOk result (entries.new.items ≡ if refused then entries.old.items else
-        messages.taken_entries body at entries.old.items) }
-    ensures err { OnErr result (entries.new.items ≡ entries.old.items) }
+    ensures ok { OnOk result (entries.new ≡ if refused then entries.old else
+        messages.taken_entries body at entries.old) }
+    ensures err { OnErr result (entries.new ≡ entries.old) }
     ensures valid { refused ≡ false → messages.IsValidBody body }
     ensures answers { replies.is_answer body ≡ true → IsOk result }
 {
@@ -338,26 +328,25 @@ pub fn do_take(
     alloc: Global,
     name: &Id,
     master: &Id,
-    entries: &mut Vec<Entry>,
+    entries: &mut Entries,
     message: Message,
     at: u64,
 ) -> Result<Outcome, AllocError>
-    requires { are_distinct_numbers (worker.numbers entries.old.items) ≡ true }
-    ensures state { OnOk result (worker.known name.now master.now entries.new.items
+    ensures state { OnOk result (worker.known name.now master.now entries.new
         ≡ messages.after_taking message at
-        (worker.known name.now master.now entries.old.items)) }
+        (worker.known name.now master.now entries.old)) }
     ensures reply { IfOk result (λ outcome. outcome.reply ≡ messages.taken_reply message
-        (worker.known name.now master.now entries.old.items)) }
+        (worker.known name.now master.now entries.old)) }
     ensures answer { IfOk result (λ outcome. outcome.answer ≡ messages.taken_answer message at
-        (worker.known name.now master.now entries.old.items)) }
-    ensures err { OnErr result (entries.new.items ≡ entries.old.items) }
+        (worker.known name.now master.now entries.old)) }
+    ensures err { OnErr result (entries.new ≡ entries.old) }
     ensures answers { replies.is_answer message.body ≡ true → IsOk result }
     ensures valid { OnOk result (messages.take_refusal message
-        (worker.known name.now master.now entries.old.items) ≡ None
+        (worker.known name.now master.now entries.old) ≡ None
         → messages.IsValidBody message.body) }
 {
-    let refusal = refusal_of(name, master, entries.as_slice(), &message);
-    match outcome_of(alloc, name, entries.as_slice(), refusal, &message, at) {
+    let refusal = refusal_of(name, master, entries, &message);
+    match outcome_of(alloc, name, entries, refusal, &message, at) {
         Ok(outcome) => {
             take_unless(refusal.is_some(), alloc, entries, message.body, at).and(Ok(outcome))
         }

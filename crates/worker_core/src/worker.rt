@@ -1,14 +1,13 @@
-use crate::entries;
+use crate::entries::Entries;
 use crate::entry::Entry;
 use crate::order::Order;
 use crate::ordering::do_order;
-use crate::stored::is_worker;
+use crate::stored::are_parts;
 use crate::taking::do_take;
 use controller::{Done, Message, Outcome};
 use std::alloc::{AllocError, Global};
 use std::marker::Model;
-use ticket_items::copies;
-use ticket_tree::{Duplicate, Id, Refusal, SpawnId};
+use ticket_tree::{Id, Refusal, SpawnId};
 
 /// A controller that works on parts of another's ticket, which is its master (JDF 1.5, 4.4). It
 /// keeps each part that it takes, in the order in which they come, until it was given back and has
@@ -17,7 +16,7 @@ use ticket_tree::{Duplicate, Id, Refusal, SpawnId};
 pub struct Worker {
     name: Id,
     master: Id,
-    entries: Vec<Entry>,
+    entries: Entries,
 }
 
 impl Model for Worker {
@@ -25,9 +24,9 @@ impl Model for Worker {
 
     ghost Value = { Known };
 
-    ghost view = { λ a. record { name = a.name; master = a.master; entries = a.entries.items } };
+    ghost view = { λ a. record { name = a.name; master = a.master; entries = a.entries } };
 
-    ghost invariant = { λ a. IsKept (known a.name a.master a.entries.items) };
+    ghost invariant = { λ a. IsKept (known a.name a.master a.entries) };
 }
 
 impl Worker {
@@ -54,7 +53,7 @@ impl Worker {
         Ok(Worker {
             name,
             master,
-            entries: Vec::new(alloc),
+            entries: Entries::new(alloc),
         })
     }
 
@@ -79,14 +78,17 @@ impl Worker {
             → IfErr result (λ e. e ≡ Refusal.Memory) }
         ensures only { IfErr result (λ e. (e ≡ Refusal.BadState) ⊎ (e ≡ Refusal.Memory)) }
     {
-        if !is_worker(alloc, &name, &master, entries.as_slice())? {
+        if !are_parts(&name, &master, entries.as_slice()) {
             return Err(Refusal::BadState);
         }
-        Ok(Worker {
-            name,
-            master,
-            entries,
-        })
+        match Entries::of(alloc, entries)? {
+            None => Err(Refusal::BadState),
+            Some(entries) => Ok(Worker {
+                name,
+                master,
+                entries,
+            }),
+        }
     }
 
     /// Its name.
@@ -120,7 +122,7 @@ impl Worker {
     pub fn may_change(&self, spawn: SpawnId, id: &Id) -> bool
         ensures { result ≡ worker.may_change self.now.entries spawn id.now }
     {
-        entries::may_change(self.entries.as_slice(), spawn, id)
+        self.entries.may_change(spawn, id)
     }
 
     /// Does what it is told, at a time in seconds since 1970: it edits the part of an entry, ends
@@ -177,22 +179,4 @@ impl Worker {
             at,
         )
     }
-}
-
-impl Clone for Worker {
-    ghost use Rattle.std.specs.Prelude.{◌≡◌};
-
-    ghost is_clone = { λ worker copied. copied ≡ worker };
-
-    fn clone(&self) -> Result<Worker, AllocError> {
-        Ok(Worker {
-            name: self.name.clone()?,
-            master: self.master.clone()?,
-            entries: copies(*self.entries.allocator(), self.entries.as_slice())?,
-        })
-    }
-}
-
-impl Duplicate for Worker {
-    ghost equal = { λ _ _ same. same };
 }

@@ -1,8 +1,8 @@
 use Rattle.std.proofs.Common.{◌≡◌, ◌∙◌, Result, Ok, Err, IfOk, sym, ap, subst}
 use Rattle.std.specs.Result.{result_and}
 use Rattle.controller.specs.Reply.{answer_to, spawn_in}
-use Rattle.worker_core.specs.Messages.{take_refusal, taken_entries, told_or}
-use Rattle.worker_core.specs.Worker.{known, told_in}
+use Rattle.worker_core.specs.Messages.{taken_entries, told_or}
+use Rattle.worker_core.specs.Worker.{told_in}
 use Rattle.worker_core.proofs.taking.do_take.Goals as goal
 
 -- what holds of a value holds of the result that is that value or an error
@@ -14,11 +14,6 @@ pub returns-in-Ok-clause-answer : goal.returns-in-Ok-clause-answer
 returns-in-Ok-clause-answer c =
     let name = c.args.name.now in
     let m = c.args.message in
-    let entries = c.args.entries.now.items in
-    let w = known name c.args.master.now entries in
-    let refusal : c.refusal_of-refusal.result ≡ take_refusal m w = c.refusal_of-refusal.ensures ∙ ap (λ es. take_refusal m (known name c.args.master.now es)) c.as_slice.ensures.value in
-    let told = told_in (taken_entries m.body c.args.at entries) (spawn_in m.body) in
+    let entries = c.args.entries.now in
     if_and _ c.take_unless.result c.in-Ok.outcome c.and.result c.and.ensures
-    (c.in-Ok.ensures.answer
-    ∙ ap (λ es. answer_to name m c.args.at (told_or c.refusal_of-refusal.result (told_in (taken_entries m.body c.args.at es) (spawn_in m.body)))) c.as_slice-2.ensures.value
-    ∙ ap (λ r. answer_to name m c.args.at (told_or r told)) refusal)
+    (c.in-Ok.ensures.answer ∙ ap (λ r. answer_to name m c.args.at (told_or r (told_in (taken_entries m.body c.args.at entries) (spawn_in m.body)))) c.refusal_of-refusal.ensures)

@@ -1,21 +1,42 @@
 use Rattle.std.proofs.Common.{◌∙◌, ◌∷◌, ◌++◌, [], sym, ap, slice_set}
 use Rattle.std.proofs.lemmas.Result.{on_ok_weaker}
+use Rattle.ticket_items.proofs.Places.{none_at_position}
+use Rattle.controller.specs.declared.body.Body.TheVariants.{Abort}
+use Rattle.worker_core.proofs.Closing.{aborted_number}
 use Rattle.worker_core.proofs.GivingUp.{declined_behind, given_up}
+use Rattle.worker_core.proofs.SpawnIndex.{index_kept, place_inside, spawn_stays}
+use Rattle.worker_core.specs.Messages.{aborted_entry, taken_entries}
+use Rattle.worker_core.specs.Worker.{entry_of, is_of}
+use Rattle.worker_core.specs.declared.entry.Entry.{Entry}
 use Rattle.worker_core.proofs.taking.give_up.Goals as goal
+
+pub push-requires : goal.push-requires
+push-requires c =
+    let entries = c.args.entries.now in
+    ap (λ (e : Entry). entry_of entries e.spawn_id) c.declined.ensures ∙ none_at_position (is_of c.args.spawn) entries (sym c.in-None.ensures)
 
 pub returns-in_ok-push-in-None-clause-ok : goal.returns-in_ok-push-in-None-clause-ok
 returns-in_ok-push-in-None-clause-ok c =
-    let entries = c.args.entries.now.items in
-    c.in_ok-push-in-None.ensures.items
-    ∙ ap (λ e. entries ++ e ∷ []) c.declined.ensures
-    ∙ declined_behind c.args.spawn c.args.at entries c.as_slice.result.now c.as_slice.ensures.value (sym c.in-None.ensures)
+    let entries = c.args.entries.now in
+    c.in_ok-push-in-None.ensures.ok ∙ ap (λ e. entries ++ e ∷ []) c.declined.ensures ∙ declined_behind c.args.spawn c.args.at entries (sym c.in-None.ensures)
+
+pub invariant_of-entries : goal.invariant_of-entries
+invariant_of-entries c =
+    let at = c.args.at in
+    let x = c.index_mut.result.now in
+    let y = c.abort.new.entry in
+    index_kept c.entries.inside.spawns.keys c.entries.inside.list.items c.in-Some.place x y c.entries.invariant c.index_mut.ensures.value
+    (spawn_stays c.abort.result (aborted_entry at) x y (aborted_number at) c.abort.ensures.ok c.abort.ensures.err)
 
 pub returns-in-Some-clause-ok : goal.returns-in-Some-clause-ok
 returns-in-Some-clause-ok c =
-    let entries = c.args.entries.now.items in
+    let s = c.args.spawn in
+    let at = c.args.at in
     let k = c.in-Some.place in
+    let entries = c.entries.inside.list.items in
     on_ok_weaker c.abort.result
     (λ made.
     ap (slice_set entries k) made
-    ∙ given_up c.args.spawn c.args.at entries c.as_slice.result.now k c.index_mut.result.now c.as_slice.ensures.value c.requires (sym c.in-Some.ensures) c.index_mut.ensures.value)
+    ∙ given_up s at entries k c.index_mut.result.now c.entries.invariant.once (place_inside s k entries c.args.entries.now c.entries.view_is (sym c.in-Some.ensures)) c.index_mut.ensures.value
+    ∙ ap (taken_entries (Abort s) at) c.entries.view_is)
     c.abort.ensures.ok

@@ -1,4 +1,4 @@
-use Rattle.std.proofs.Common.{◌≡◌, ◌∙◌, ℕ, is_ok, refl, sym, ap}
+use Rattle.std.proofs.Common.{◌∙◌, is_ok, refl, sym, ap}
 use Rattle.controller.specs.Reply.{spawn_in}
 use Rattle.controller.specs.declared.body.Body.{Body}
 use Rattle.worker_core.proofs.GivingUp.{told_declined, told_given_up}

@@ -4,5 +4,5 @@ use Rattle.worker_core.proofs.worker.Worker.take.Goals as goal
 
 pub invariant_of-self : goal.invariant_of-self
 invariant_of-self c =
-    let w = known c.self.inside.name c.self.inside.master c.self.inside.entries.items in
-    kept_told c.do_take.result c.args.message c.args.at w c.do_take.new.entries.items c.do_take.ensures.state c.do_take.ensures.err c.do_take.ensures.valid c.self.invariant
+    let w = known c.self.inside.name c.self.inside.master c.self.inside.entries in
+    kept_told c.do_take.result c.args.message c.args.at w c.do_take.new.entries c.do_take.ensures.state c.do_take.ensures.err c.do_take.ensures.valid c.self.invariant
