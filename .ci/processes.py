@@ -286,8 +286,8 @@ class Served:
         self.process.wait()
         self.process.stdout.close()
 
-    def url(self):
-        return f"http://127.0.0.1:{self.port}/jmf"
+    def url(self, target="/jmf"):
+        return f"http://127.0.0.1:{self.port}{target}"
 
     def connect(self):
         return socket.create_connection(("127.0.0.1", self.port), timeout=30)
@@ -302,9 +302,9 @@ class Served:
         self.kill()
 
 
-def request(body, head=""):
+def request(body, head="", target="/jmf"):
     """The bytes of a request that posts a body."""
-    return f"POST /jmf HTTP/1.1\r\nHost: h\r\n{head}Content-Length: {len(body)}\r\n\r\n{body}".encode()
+    return f"POST {target} HTTP/1.1\r\nHost: h\r\n{head}Content-Length: {len(body)}\r\n\r\n{body}".encode()
 
 
 def response(connection):
@@ -329,9 +329,9 @@ def order(name, given):
     return (lines.splitlines() + [""])[:2]
 
 
-def send(served, message):
+def send(served, message, target="/jmf"):
     """The answer to a message."""
-    status, answer, told = run("send", served.url(), given=message)
+    status, answer, told = run("send", served.url(target), given=message)
     wants((status, told), (0, ""))
     return answer
 
@@ -451,6 +451,74 @@ def what_cannot_be_served_is_told():
         os.rename("away", "mis")
         wants(asked(mis, request("{}")), 400)
         wants(mis.process.wait(), 0)
+
+
+def a_folder_is_served():
+    open_shop()
+    os.mkdir("shop")
+    for name in ("mis", "press", "bindery"):
+        os.rename(name, "shop/" + name)
+    cover = order("shop/mis", spawn("cover", "press", ["cover.sheets"]))[1]
+    finish = order("shop/mis", spawn("finish", "bindery", ["brochures"]))[1]
+    with Served("shop") as shop:
+        answers = [send(shop, cover, "/jmf/press"), send(shop, finish, "/bindery")]
+        for answer, given in zip(answers, (cover, finish)):
+            wants(json.loads(answer)["JMF"]["Response"]["refID"], json.loads(given)["JMF"]["Command"]["ID"])
+            send(shop, answer, "/jmf/mis")
+        # A message for one is refused by the other, and what stands behind a `?` isn't looked at.
+        wants(asked(shop, request(cover, target="/jmf/mis")), 200)
+        wants(asked(shop, request(cover, target="/press?mis/bindery")), 200)
+        wants(asked(shop, request("{}", target="/jmf/press")), 400)
+        # A line is written behind its response, and before the next connection is taken.
+        wants(asked(shop, request("{}", target="/jmf/none")), 404)
+        wants([line.split()[2] for line in shop.log().splitlines()[:7]], 6 * ["200"] + ["400"])
+    for name in ("press", "bindery"):
+        wants(len(run("show", "shop/" + name)[1].splitlines()), 1)
+
+
+MISSING = ("HTTP/1.1 404 Not Found\r\nContent-Type: text/plain\r\nContent-Length: 27\r\n"
+           "Connection: close\r\n\r\nno controller of this name\n")
+
+
+def a_target_that_names_no_controller_is_answered_so():
+    open_shop()
+    message = order("mis", spawn("cover", "press", ["cover.sheets"]))[1]
+    os.mkdir("shop")
+    os.mkdir("shop/folder")
+    os.rename("press", "shop/press")
+    os.rename("mis", "mis.new")
+    os.rename("bindery", "shop/press.old")
+    os.symlink("press", "shop/link")
+    before = content("shop/press"), content("mis.new"), content("shop/press.old")
+    targets = ("/", "/jmf/", "/press/", "/..", "/../mis.new", "/press/..", "/.", "/press.old", "/press.new",
+               "/mis.new", "/mis", "/jmf/none", "/%70ress", "/press%2e", "/?press", "?/press", "*",
+               "/1press", "/" + 65 * "a", "/press:80", "/Press")
+    with Served("shop") as shop:
+        for target in targets:
+            with shop.connect() as connection:
+                connection.sendall(request(message, target=target))
+                wants((target, response(connection)), (target, MISSING))
+        wants(shop.log().splitlines()[0].split(" ", 2)[2], "404")
+        wants(run("send", shop.url("/jmf/none"), given=message), (1, "", "Refused by the controller: 404\n"))
+        # What is there and is no file of a controller is told as it is for one file.
+        for target in ("/folder", "/link"):
+            wants(asked(shop, request(message, target=target)), 503)
+        wants(sorted(os.listdir("shop")), ["folder", "link", "press", "press.old"])
+        wants((content("shop/press"), content("mis.new"), content("shop/press.old")), before)
+        # A file that comes is there from then on.
+        os.rename("shop/press", "shop/none")
+        wants(asked(shop, request(message, target="/press")), 404)
+        os.rename("shop/none", "shop/press")
+        wants(asked(shop, request(message, target="/press")), 200)
+
+
+def one_file_is_served_whatever_the_target():
+    open_shop()
+    message = order("mis", spawn("cover", "press", ["cover.sheets"]))[1]
+    with Served("press") as press:
+        for target in ("/", "/..", "/jmf/none", "/mis", "?", "*"):
+            wants(asked(press, request(message, target=target)), 200)
+    wants(len(run("show", "press")[1].splitlines()), 1)
 
 
 def what_cannot_be_sent_is_told():
@@ -594,6 +662,9 @@ TESTS = [
     many_clients_at_once,
     an_early_answer_comes_to_the_client,
     what_cannot_be_served_is_told,
+    a_folder_is_served,
+    a_target_that_names_no_controller_is_answered_so,
+    one_file_is_served_whatever_the_target,
     what_cannot_be_sent_is_told,
     a_silent_server_is_given_up,
     a_killed_server_merges_once,

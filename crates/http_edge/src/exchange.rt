@@ -41,7 +41,7 @@ pub(crate) fn exchange<R: Read, C: Stored, K: Keep>(
     ensures bound { reader.new.calls ≤ reader.old.calls + MAX_READS }
 {
     let body = match read_request(alloc, reader) {
-        Ok(body) => body,
+        Ok(request) => request.body,
         Err(refused) => return Err(refused),
     };
     match kept.take(alloc, body.as_slice(), at) {

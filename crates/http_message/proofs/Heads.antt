@@ -6,17 +6,19 @@ use Rattle.httparse.specs.Outcome.{IfComplete}
 use Rattle.httparse.specs.declared.Error.{Error}
 use Rattle.httparse.specs.declared.Status.{Status}
 use Rattle.httparse.specs.declared.Status.TheVariants.{Complete}
-use Rattle.std.proofs.lemmas.List.{take_all, take-append-le, append-nil, length-map}
+use Rattle.std.proofs.lemmas.List.{take_all, take-append-le, take-append-drop, drop-append-le, length-drop, append-nil, length-map}
 use Rattle.std.proofs.lemmas.Bool.{cases_lt}
 use Rattle.std.proofs.Math.Seq.{take-append-add}
 use Rattle.httparse.specs.declared.spans.HeaderSpan.{HeaderSpan}
+use Rattle.httparse.specs.declared.spans.Span.{Span}
 use Rattle.httparse.specs.declared.spans.RequestSpans.{RequestSpans}
 use Rattle.httparse.specs.declared.spans.ResponseSpans.{ResponseSpans}
 use Rattle.httparse.specs.Grammar.{Field}
 use Rattle.httparse.proofs.GrammarLemmas.{ReadsRequest-append, ReadsResponse-append, request_unique, response_unique}
-use Rattle.httparse.specs.Spans.{IsSectionWithin, IsRequestWithin, IsResponseWithin, IsRequestOf, IsResponseOf, AreFieldsAt, span_bytes, header_bytes, name_and_value}
+use Rattle.httparse.specs.Spans.{IsWithin, IsSectionWithin, IsRequestWithin, IsResponseWithin, IsRequestOf, IsResponseOf, AreFieldsAt, span_bytes, header_bytes, name_and_value}
 use Rattle.http_message.specs.Head.{Head, StartsWith, BeginsWith, HasNoStart, HasNoHead, IsToldOf, request_seen, response_seen}
 use Rattle.http_message.specs.Says.{said}
+use Rattle.http_message.specs.declared.told.Told.{Told}
 use Rattle.http_message.specs.declared.start.Start.TheVariants as starts
 use Rattle.http_message.specs.declared.kind.Kind.{Kind}
 use Rattle.http_message.specs.declared.kind.Kind.TheVariants as kinds
@@ -76,13 +78,13 @@ pub whole_response : (bytes : List ℕ) (spans : List HeaderSpan) (s : Status Re
     → IfComplete {E = Error} (Ok s) (IsResponseOf bytes spans)
     → told ≡ said starts.Response (map (header_bytes bytes) (take r.headers spans))
     → (head : Head) × StartsWith kinds.Response bytes head
-    × IsToldOf head (record { size = r.len; code = r.code; says = told })
+    × IsToldOf bytes head (record { size = r.len; code = r.code; target = record { start = 0; end = 0 }; says = told })
 whole_response bytes spans s r told is room within complete says =
     let in_bytes = complete_at s r (IsResponseWithin bytes spans) is within in
     let of = complete_at s r (IsResponseOf bytes spans) is complete in (
       response_seen of.0,
       (of.0, drop r.len bytes, of.1.reads, few_fields bytes spans r.len r.headers of.0.fields room in_bytes.section of.1.fields, refl),
-      record { size = of.1.len; code = of.1.code; says = says ∙ ap (λ fs. said starts.Response fs) of.1.fields },
+      record { size = of.1.len; code = of.1.code; target = refl; says = says ∙ ap (λ fs. said starts.Response fs) of.1.fields },
     )
 
 pub whole_request : (bytes : List ℕ) (spans : List HeaderSpan) (s : Status RequestSpans) (r : RequestSpans)
@@ -94,7 +96,7 @@ pub whole_request : (bytes : List ℕ) (spans : List HeaderSpan) (s : Status Req
     → is_post ≡ bytes_eq method post_bytes
     → told ≡ said (starts.Request is_post (r.version == 1)) (map (header_bytes bytes) (take r.headers spans))
     → (head : Head) × StartsWith kinds.Request bytes head
-    × IsToldOf head (record { size = r.len; code = 0; says = told })
+    × IsToldOf bytes head (record { size = r.len; code = 0; target = r.path; says = told })
 whole_request bytes spans s r method post post_bytes is_post told is room within complete of_method of_post of_bytes eq says =
     let in_bytes = complete_at s r (IsRequestWithin bytes spans) is within in
     let of = complete_at s r (IsRequestOf bytes spans) is complete in
@@ -103,8 +105,31 @@ whole_request bytes spans s r method post post_bytes is_post told is room within
     let wants : (r.version == 1) ≡ (of.0.minor == 1) = ap (λ v. v == 1) of.1.version in (
       request_seen of.0,
       (of.0, drop r.len bytes, of.1.reads, few_fields bytes spans r.len r.headers of.0.fields room in_bytes.section of.1.fields, refl),
-      record { size = of.1.len; code = refl; says = says ∙ (λ i. said (starts.Request (posts i) (wants i)) (of.1.fields i)) },
+      record { size = of.1.len; code = refl; target = of.1.path; says = says ∙ (λ i. said (starts.Request (posts i) (wants i)) (of.1.fields i)) },
     )
+
+-- ---- where it stands
+
+-- what stands in the front stands there in the whole
+within_front : (front behind : List ℕ) (s : Span) → IsWithin (length front) s
+    → span_bytes (front ++ behind) s ≡ span_bytes front s
+within_front front behind s within =
+    let low : s.start ≤ length front = omega (arith, within.0, within.1) in
+    let room : s.end - s.start ≤ length (drop s.start front) = omega (arith, within.1, length-drop s.start front) in
+    ap (λ xs. take (s.end - s.start) xs) (drop-append-le s.start front behind low)
+    ∙ take-append-le (s.end - s.start) (drop s.start front) behind room
+
+-- what is told of a head in the front is told of it in the whole
+pub told_in_front : (m : ℕ) (bytes : List ℕ) (head : Head) (told : Told) → IsWithin (length (take m bytes)) told.target
+    → IsToldOf (take m bytes) head told → IsToldOf bytes head told
+told_in_front m bytes head told within of =
+    record {
+      size = of.size;
+      code = of.code;
+      target = ap (λ xs. span_bytes xs told.target) (sym (take-append-drop m bytes))
+          ∙ within_front (take m bytes) (drop m bytes) told.target within ∙ of.target;
+      says = of.says;
+    }
 
 -- ---- whatever follows
 

@@ -2,11 +2,12 @@
 use Rattle.std.proofs.Common.{◌≡◌, ◌∙◌, ℕ, ◌<◌, ◌≤◌, ◌-◌, ◌+◌, true, List, ◌++◌, length, drop, slice_range, Option, Some, None, Result, Ok, Err, IfErr, IsErrAnd, IfSome, arith, sym, ap, subst, inl, inr, ⊎_elim, append_assoc, length-append}
 use Rattle.std.proofs.lemmas.List.{take-append-drop, drop-append-le, length-drop}
 use Rattle.httparse.proofs.RunLemmas.{length-slice_range}
+use Rattle.httparse.specs.Spans.{span_bytes}
 use Rattle.streams.specs.Counts.{Counts}
 use Rattle.streams.specs.Streams.{used}
 use Rattle.streams.specs.declared.refused.Refused.{Refused}
 use Rattle.http_message.specs.Head.{Head, head_says}
-use Rattle.http_message.specs.Message.{Carries, IsRefusedAs, is_refusal}
+use Rattle.http_message.specs.Message.{Carries, HasTarget, IsRefusedAs, is_refusal}
 use Rattle.http_message.specs.Reading.{Has, HasHead, IsBodyFault, IsMoreFault, IsUnread}
 use Rattle.http_message.specs.declared.kind.Kind.{Kind}
 use Rattle.http_message.specs.declared.told.Told.{Told}
@@ -44,6 +45,14 @@ carried known kind start a b c bytes new told n has says whole =
           ∙ ap (λ xs. drop told.size (xs ++ rest)) (sym whole.gained.grown)
           ∙ body_behind new rest told.size n whole.enough;
     })
+
+-- its target is that of the head
+pub targeted : {T : Type 0} (known : T → Option (List ℕ)) (kind : Kind) (start : ℕ) (a b : Counts T) (bytes target : List ℕ) (told : Told)
+    → HasHead kind start (used known a b) bytes told → target ≡ span_bytes bytes told.target
+    → IfSome (known a.inner) (λ all. HasTarget kind all target)
+targeted known kind start a b bytes target told has is =
+    whatever_follows _ _ bytes has.read.taken (λ all. HasTarget kind all target)
+    (λ more. record { head = has.head; begins = begins_more kind bytes more has.head has.begins; is = is ∙ has.told_of.target })
 
 -- ---- why none was read
 

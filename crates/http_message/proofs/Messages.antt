@@ -2,7 +2,7 @@
 use Rattle.std.proofs.Common.{◌≡◌, ℕ, true, false, List, ◌++◌, length, codes, Ok, Err, Some, None, refl}
 use Rattle.std.specs.Fmt.{digits}
 use Rattle.streams.specs.declared.refused.Refused.TheVariants.{NotPost}
-use Rattle.http_message.specs.Texts.{is_word, request_text, request_to, response_text, parts_text, status_text}
+use Rattle.http_message.specs.Texts.{is_word, missing_text, request_text, request_to, response_text, parts_text, status_text}
 
 -- the request that posts an empty object
 pub empty_object : request_text (codes "{}")
@@ -29,6 +29,13 @@ pub not_post : response_text (Err NotPost)
     ++ codes "Connection: close\r\n\r\n"
 unfolding status_text parts_text digits
 not_post = refl
+
+-- the response where there is no controller
+pub missing : missing_text
+    ≡ codes "HTTP/1.1 404 Not Found\r\nContent-Type: text/plain\r\nContent-Length: 27\r\n"
+    ++ codes "Connection: close\r\n\r\nno controller of this name\n"
+unfolding status_text parts_text digits
+missing = refl
 
 -- the response without a body
 pub no_body : response_text (Ok None)

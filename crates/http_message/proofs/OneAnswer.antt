@@ -4,7 +4,7 @@ use Rattle.std.proofs.Math.Seq.{take-append_seam}
 use Rattle.streams.specs.declared.refused.Refused.{Refused}
 use Rattle.http_message.specs.Head.{Head, BeginsWith, head_says}
 use Rattle.http_message.specs.Laws.{InputsHaveOneAnswer}
-use Rattle.http_message.specs.Message.{Carries, IsCut, IsRefusedAs}
+use Rattle.http_message.specs.Message.{Carries, HasTarget, IsCut, IsRefusedAs}
 use Rattle.http_message.specs.declared.kind.Kind.{Kind}
 use Rattle.http_message.proofs.Heads.{begins_once}
 
@@ -34,6 +34,10 @@ same_body kind input s t a b x y =
     let same = begins_once kind input x.head y.head x.begins y.begins in
     same_front a b x.rest y.rest (ok_is (length a) (length b) (head_says x.head) x.says (ap head_says same ∙ y.says))
     (sym x.behind ∙ ap (λ h. drop h.size input) same ∙ y.behind)
+
+same_target : (kind : Kind) (input : List ℕ) (a b : List ℕ) → HasTarget kind input a → HasTarget kind input b → a ≡ b
+same_target kind input a b x y =
+    x.is ∙ ap (λ h. h.target) (begins_once kind input x.head y.head x.begins y.begins) ∙ sym y.is
 
 -- what a head says, whose body is there, is a length
 says_length : (kind : Kind) (input : List ℕ) (s : ℕ) (a : List ℕ) (h : Head) → Carries kind input s a → BeginsWith kind input h
@@ -80,4 +84,5 @@ one_answer kind input =
       body = same_body kind input;
       refusal = same_refusal kind input;
       either = λ s a e x refused. carried_or_refused kind input s a e x refused;
+      target = same_target kind input;
     }

@@ -1,10 +1,11 @@
 -- The head at the front of an input: whole, within the limits, and what it says.
-use Rattle.std.specs.Prelude.{◌≡◌, ℕ, ◌≤◌, ◌==◌, List, length, take, map, codes, bytes_eq, Result}
+use Rattle.std.specs.Prelude.{◌≡◌, ℕ, ◌≤◌, ◌==◌, List, [], length, take, map}
+use Rattle.std.specs.Prelude.{codes, bytes_eq, Result}
 use Rattle.std.specs.Prelude.{IfOk, ⊤}
 use Rattle.streams.specs.declared.refused.Refused.{Refused}
 use Rattle.httparse.specs.Grammar.{RequestHead, ReadsRequest, print_request}
 use Rattle.httparse.specs.Grammar.{ResponseHead, ReadsResponse, print_response, status_code}
-use Rattle.httparse.specs.Spans.{name_and_value}
+use Rattle.httparse.specs.Spans.{IsWithin, name_and_value, span_bytes}
 use Rattle.http_message.specs.Fields.{NamedValue}
 use Rattle.http_message.specs.Says.{said}
 use Rattle.http_message.specs.declared.kind.Kind.{Kind}
@@ -16,10 +17,12 @@ use Rattle.http_message.specs.declared.start.Start.{Start}
 use Rattle.http_message.specs.declared.start.Start.TheVariants as starts
 use Rattle.http_message.specs.declared.told.Told.{Told}
 
--- a head: what its first line tells, the status of a response, its fields, and its length
+-- a head: what its first line tells, the status of a response, the target of a request, its fields,
+-- and its length
 pub record Head : Type 0 where
   pub start : Start
   pub code : ℕ
+  pub target : List ℕ
   pub fields : List NamedValue
   pub size : ℕ
 
@@ -29,6 +32,7 @@ request_seen h =
     record {
       start = starts.Request (bytes_eq h.method (codes "POST")) (h.minor == 1);
       code = 0;
+      target = h.target;
       fields = map name_and_value h.fields;
       size = length (print_request h);
     }
@@ -38,6 +42,7 @@ response_seen h =
     record {
       start = starts.Response;
       code = status_code h;
+      target = [];
       fields = map name_and_value h.fields;
       size = length (print_response h);
     }
@@ -67,15 +72,17 @@ HasNoHead kind input = (head : Head) → ¬ (BeginsWith kind input head)
 abbrev pub head_says : Head → Result ℕ Refused
 head_says head = said head.start head.fields
 
--- what is told of a head is what the head is
-pub record IsToldOf (head : Head) (told : Told) : Type 0 where
+-- what is told of a head in these bytes is what the head is
+pub record IsToldOf (bytes : List ℕ) (head : Head) (told : Told) : Type 0 where
   pub size : told.size ≡ head.size
   pub code : told.code ≡ head.code
+  pub target : span_bytes bytes told.target ≡ head.target
   pub says : told.says ≡ head_says head
 
--- the head lies within the bytes, and the body within the limit
+-- the head and the target lie within the bytes, and the body within the limit
 pub record IsBounded (most len : ℕ) (told : Told) : Type 0 where
   pub size : told.size ≤ len
+  pub target : IsWithin len told.target
   pub body : IfOk told.says (λ n. n ≤ most)
 
 -- P of what is told, where there is a head

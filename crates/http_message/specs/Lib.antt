@@ -8,3 +8,4 @@ pub mod Laws
 pub mod Pieces
 pub mod Status
 pub mod Texts
+pub mod Target

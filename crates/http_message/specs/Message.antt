@@ -16,6 +16,12 @@ pub record Carries (kind : Kind) (input : List ℕ) (status : ℕ) (body : List 
   pub rest : List ℕ
   pub behind : drop head.size input ≡ body ++ rest
 
+-- the input begins with a head of this target
+pub record HasTarget (kind : Kind) (input target : List ℕ) : Type 0 where
+  pub head : Head
+  pub begins : BeginsWith kind input head
+  pub is : target ≡ head.target
+
 -- the input ends before its body does
 pub record IsCut (kind : Kind) (input : List ℕ) : Type 0 where
   pub head : Head

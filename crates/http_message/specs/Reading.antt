@@ -54,7 +54,7 @@ pub record HasHead (kind : Kind) (start : ℕ) (u : Use) (bytes : List ℕ) (tol
   pub read : HasRead start u bytes
   pub head : Head
   pub begins : BeginsWith kind bytes head
-  pub told_of : IsToldOf head told
+  pub told_of : IsToldOf bytes head told
   pub bounded : IsBounded MAX_BODY_BYTES (length bytes) told
 
 -- there is no head, or no more was read

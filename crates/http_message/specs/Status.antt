@@ -10,6 +10,10 @@ use Rattle.streams.specs.declared.refused.Refused.TheVariants as refusals
 abbrev pub done_status : ℕ
 done_status = 200
 
+-- the status where a request names nothing that is there
+abbrev pub missing_status : ℕ
+missing_status = 404
+
 -- 503 where memory ran out, and 400 for what is refused for what it is
 abbrev pub core_status : Refusal → ℕ
 core_status Memory = 503

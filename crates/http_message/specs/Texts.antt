@@ -7,7 +7,7 @@ use Rattle.std.specs.Borrow.{Bor}
 use Rattle.http.specs.StatusCode.{code_digits}
 use Rattle.streams.specs.declared.refused.Refused.{Refused}
 use Rattle.streams.specs.declared.refused.Refused.TheVariants.{NotPost}
-use Rattle.http_message.specs.Status.{done_status, status_of, phrase_of}
+use Rattle.http_message.specs.Status.{done_status, missing_status, status_of, phrase_of}
 
 -- a line of a head
 abbrev pub head_line : List ℕ → List ℕ
@@ -16,6 +16,10 @@ head_line text = text ++ codes "\r\n"
 -- the line that tells what a body is
 abbrev pub type_line : List ℕ
 type_line = head_line (codes "Content-Type: application/json")
+
+-- the line that tells of one that is a text for a reader
+abbrev pub plain_line : List ℕ
+plain_line = head_line (codes "Content-Type: text/plain")
 
 -- the line that tells the length of a body
 abbrev pub length_line : List ℕ → List ℕ
@@ -64,6 +68,10 @@ answer_text None = status_text done_status [] []
 -- the response to a request that was refused
 abbrev pub refusal_text : Refused → List ℕ
 refusal_text e = status_text (status_of e) (refusal_lines e) []
+
+-- the response to a request that names no controller that is there
+abbrev pub missing_text : List ℕ
+missing_text = status_text missing_status plain_line (codes "no controller of this name\n")
 
 -- the response to a request that was answered or refused
 abbrev pub response_text : Result (Option (List ℕ)) Refused → List ℕ

@@ -18,6 +18,7 @@ mod says;
 mod sending;
 mod start;
 mod status;
+mod target;
 mod told;
 
 pub use body::Body;
@@ -26,6 +27,7 @@ pub use length::MAX_BODY_BYTES;
 pub use looking::{MAX_FIELDS, MAX_HEAD_BYTES};
 pub use reading::{MAX_READS, read_request, receive};
 pub use received::Received;
-pub use response::write_response;
+pub use response::{write_missing, write_response};
 pub use sending::{is_word, send, send_to};
 pub use status::status_of;
+pub use target::last_segment;

@@ -14,7 +14,7 @@ use crate::start::Start;
 use crate::told::Told;
 use http::Method;
 use httparse::Status;
-use httparse::spans::{EMPTY_HEADER_SPAN, parse_request, parse_response};
+use httparse::spans::{EMPTY_HEADER_SPAN, Span, parse_request, parse_response};
 
 /// How many bytes a head has at most.
 pub const MAX_HEAD_BYTES: usize = 8_192;
@@ -22,9 +22,12 @@ pub const MAX_HEAD_BYTES: usize = 8_192;
 /// How many fields a head has at most.
 pub const MAX_FIELDS: usize = 64;
 
+// Where what a response hasn't stands.
+const NOWHERE: Span = Span { start: 0, end: 0 };
+
 fn look_for_request(bytes: &[u8]) -> Look
     ensures head { IfHead result (λ told. (head : Head) × StartsWith kinds.Request bytes.now head
-        × IsToldOf head told) }
+        × IsToldOf bytes.now head told) }
     ensures bound { IfHead result (IsBounded MAX_BODY_BYTES (length bytes.now)) }
     ensures part { result ≡ looks.Part → HasNoStart kinds.Request bytes.now }
     ensures never { result ≡ looks.Never
@@ -40,6 +43,7 @@ fn look_for_request(bytes: &[u8]) -> Look
             Look::Head(Told {
                 size: head.len,
                 code: 0,
+                target: head.path,
                 says: says(start, bytes, &fields[..head.headers]),
             })
         }
@@ -50,7 +54,7 @@ fn look_for_request(bytes: &[u8]) -> Look
 
 fn look_for_response(bytes: &[u8]) -> Look
     ensures head { IfHead result (λ told. (head : Head) × StartsWith kinds.Response bytes.now head
-        × IsToldOf head told) }
+        × IsToldOf bytes.now head told) }
     ensures bound { IfHead result (IsBounded MAX_BODY_BYTES (length bytes.now)) }
     ensures part { result ≡ looks.Part → HasNoStart kinds.Response bytes.now }
     ensures never { result ≡ looks.Never
@@ -61,6 +65,7 @@ fn look_for_response(bytes: &[u8]) -> Look
         Ok(Status::Complete(head)) => Look::Head(Told {
             size: head.len,
             code: head.code,
+            target: NOWHERE,
             says: says(Start::Response, bytes, &fields[..head.headers]),
         }),
         Ok(Status::Partial) => Look::Part,
@@ -71,7 +76,7 @@ fn look_for_response(bytes: &[u8]) -> Look
 // Looks at all of the bytes.
 fn look_in(kind: Kind, bytes: &[u8]) -> Look
     ensures head { IfHead result (λ told. (head : Head) × StartsWith kind bytes.now head
-        × IsToldOf head told) }
+        × IsToldOf bytes.now head told) }
     ensures bound { IfHead result (IsBounded MAX_BODY_BYTES (length bytes.now)) }
     ensures part { result ≡ looks.Part → HasNoStart kind bytes.now }
     ensures never { result ≡ looks.Never → (more : List ℕ) → HasNoStart kind (bytes.now ++ more) }
@@ -87,7 +92,7 @@ fn look_in(kind: Kind, bytes: &[u8]) -> Look
 /// lines may stand before it.
 pub(crate) fn look_for_head(kind: Kind, bytes: &[u8]) -> Look
     ensures head { IfHead result (λ told. (head : Head) × BeginsWith kind bytes.now head
-        × IsToldOf head told) }
+        × IsToldOf bytes.now head told) }
     ensures bound { IfHead result (IsBounded MAX_BODY_BYTES (length bytes.now)) }
     ensures part { result ≡ looks.Part → HasNoHead kind bytes.now }
     ensures never { result ≡ looks.Never → (more : List ℕ) → HasNoHead kind (bytes.now ++ more) }

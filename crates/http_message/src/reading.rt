@@ -5,7 +5,7 @@ ghost use Rattle.std.specs.Prelude.{[], IfErr, IfOk, IfSome, OnOk, vec_len};
 ghost use Rattle.std.specs.Io.KnownBytes.{IsAtEnd};
 ghost use Rattle.streams.specs.Streams.{used};
 ghost use Rattle.streams.specs.declared.refused.Refused.TheVariants.{ReadFailed};
-ghost use Rattle.http_message.specs.Message.{Carries};
+ghost use Rattle.http_message.specs.Message.{Carries, HasTarget};
 ghost use Rattle.http_message.specs.Reading.{Grows, Has, HasFailedIn, HasHead, HasRead};
 ghost use Rattle.http_message.specs.Reading.{IsBodyFault, IsHeadFault, IsMoreFault, IsUnfailed, IsUnread};
 
@@ -150,6 +150,8 @@ fn read_message<R: Read>(
 ) -> Result<Received, Refused>
     ensures ok { IfOk result (λ message. IfSome (R.remaining reader.old.inner)
         (λ all. Carries kind all message.status message.body)) }
+    ensures target { IfOk result (λ message. IfSome (R.remaining reader.old.inner)
+        (λ all. HasTarget kind all message.target.items)) }
     ensures unfailed { OnOk result (IsUnfailed (used R.remaining reader.old reader.new)) }
     ensures unread { IfErr result (IsUnread kind reader.old.calls
         (used R.remaining reader.old reader.new)) }
@@ -159,36 +161,37 @@ fn read_message<R: Read>(
     let mut buffer = zeros(alloc, READ_SIZE)?;
     let mut bytes = Vec::new(alloc);
     let told = read_head(reader, kind, &mut buffer, &mut bytes, start)?;
+    let target = Vec::from_slice(alloc, told.target.of(&bytes))?;
     let length = told.says?;
     let whole = told.size + length;
     match read_body(reader, &mut buffer, &mut bytes, whole, start) {
         Ok(()) => Ok(Received {
             status: told.code,
+            target,
             body: Body::new(bytes, told.size, whole),
         }),
         Err(refused) => Err(refused),
     }
 }
 
-/// Reads a request (RFC 9112) and gives its body. Fields have any case; the target and what isn't
-/// named here are ignored. Refuses in this order: `BadHead` where no whole head comes within 8,192
+/// Reads a request (RFC 9112) and gives its target and its body. Fields have any case; what isn't
+/// named here is ignored. Refuses in this order: `BadHead` where no whole head comes within 8,192
 /// bytes and 64 fields, where HTTP/1.1 hasn't one Host, and where Content-Length isn't one field of
 /// digits alone; `NotPost`; `Coding` for any Transfer-Encoding or Content-Encoding; `NoLength`;
 /// `TooLarge` more than 1,048,576 bytes of body; `CutShort`. A read that was interrupted is made
 /// again; where one failed, or 2,000,000 were made, it refuses `ReadFailed`, and `Memory` where
 /// that runs out. Limits and refusals are our own.
-pub fn read_request<R: Read>(alloc: Global, reader: &mut Counted<R>) -> Result<Body, Refused>
-    ensures ok { IfOk result (λ body. IfSome (R.remaining reader.old.inner)
-        (λ all. Carries Kind.Request all 0 body)) }
+pub fn read_request<R: Read>(alloc: Global, reader: &mut Counted<R>) -> Result<Received, Refused>
+    ensures ok { IfOk result (λ request. IfSome (R.remaining reader.old.inner)
+        (λ all. Carries Kind.Request all 0 request.body)) }
+    ensures target { IfOk result (λ request. IfSome (R.remaining reader.old.inner)
+        (λ all. HasTarget Kind.Request all request.target.items)) }
     ensures unfailed { OnOk result (IsUnfailed (used R.remaining reader.old reader.new)) }
     ensures unread { IfErr result (IsUnread Kind.Request reader.old.calls
         (used R.remaining reader.old reader.new)) }
     ensures bound { reader.new.calls ≤ reader.old.calls + MAX_READS }
 {
-    match read_message(alloc, reader, Kind::Request) {
-        Ok(message) => Ok(message.body),
-        Err(refused) => Err(refused),
-    }
+    read_message(alloc, reader, Kind::Request)
 }
 
 /// Reads a response (RFC 9112) and gives its status and body. Refuses as `read_request`, but that

@@ -5,5 +5,7 @@ use crate::body::Body;
 pub struct Received {
     /// The status of a response, and 0 of a request.
     pub status: u16,
+    /// The target of a request as it stands in its first line, and nothing of a response.
+    pub target: Vec<u8>,
     pub body: Body,
 }

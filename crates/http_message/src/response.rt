@@ -5,13 +5,16 @@ ghost use Rattle.streams.specs.declared.refused.Refused.TheVariants.{WriteFailed
 ghost use Rattle.streams.specs.Streams.{used, Writes, WritesFront};
 ghost use Rattle.http_message.specs.Texts as texts;
 
-use crate::lines::{BEFORE_LENGTH, BEHIND_LENGTH, NOTHING, TYPE_LINE};
+use crate::lines::{BEFORE_LENGTH, BEHIND_LENGTH, NOTHING, PLAIN_LINE, TYPE_LINE};
 use crate::pieces::write_pieces;
 use crate::status::{phrase_of, status_of};
 use http::StatusCode;
 use itoa::Buffer;
 use std::io::Write;
 use streams::{Counted, Refused};
+
+/// What is answered to a request that names no controller that is there.
+const MISSING: &[u8] = b"no controller of this name\n";
 
 /// The lines that only the response to this refusal has: RFC 9110 asks for the methods that are
 /// allowed, where another came.
@@ -98,6 +101,19 @@ fn write_refusal<W: Write>(writer: &mut Counted<W>, refused: Refused) -> Result<
 {
     let lines = refusal_lines(&refused);
     write_status(writer, status_of(refused), lines, NOTHING)
+}
+
+/// Writes the response to a request that names no controller that is there. Its form is that of RFC
+/// 9112, and its one line of text our own. It takes no memory. Refuses `WriteFailed` where a write
+/// fails.
+pub fn write_missing<W: Write>(writer: &mut Counted<W>) -> Result<(), Refused>
+    ensures ok { OnOk result (Writes (used W.contents writer.old writer.new)
+        texts.missing_text) }
+    ensures front { OnErr result (WritesFront (used W.contents writer.old writer.new)
+        texts.missing_text) }
+    ensures refusal { IfErr result (λ e. e ≡ WriteFailed) }
+{
+    write_status(writer, StatusCode::NOT_FOUND, PLAIN_LINE, MISSING)
 }
 
 /// Writes the response to a request that was answered with a body or with none, or was refused. Its

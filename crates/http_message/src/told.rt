@@ -1,3 +1,4 @@
+use httparse::spans::Span;
 use streams::Refused;
 
 /// What a head tells of the message.
@@ -7,6 +8,8 @@ pub(crate) struct Told {
     pub size: usize,
     /// The status of a response, and 0 of a request.
     pub code: u16,
+    /// Where the target of a request stands, and nowhere for a response.
+    pub target: Span,
     /// How many bytes the body takes, or the first refusal.
     pub says: Result<usize, Refused>,
 }

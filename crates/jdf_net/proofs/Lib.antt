@@ -2,6 +2,7 @@ pub mod Taking
 mod AllEvents
 mod AnyCalls
 mod EventLines
+mod FileNames
 mod ShopKept
 mod ShopOpened
 mod ShopWorkers

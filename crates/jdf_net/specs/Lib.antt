@@ -2,4 +2,5 @@ pub mod LoopCommand
 pub mod OrderCommand
 pub mod SendCommand
 pub mod ServeCommand
+pub mod Targets
 pub mod Words

@@ -53,7 +53,7 @@ fn run_call<R: Locks + Net + Clock, I: Read, W: Write, F: Write>(
             requests,
         } => {
             let service = Service {
-                file,
+                path: file,
                 listen,
                 limit: *limit,
                 requests: *requests,

@@ -2,6 +2,7 @@
 
 use crate::serve_command::answering::{drain, is_early, serve_request};
 use crate::serve_command::log::log;
+use crate::serve_command::place::Place;
 use crate::serve_command::stepping::now;
 use crate::until::Until;
 use http_edge::{EdgeFault, Served};
@@ -16,11 +17,11 @@ use streams::Counted;
 fn serve_stream<R: Locks + Clock, S: Read + Write + OpenStream + Drop>(
     rt: &R,
     alloc: Global,
-    file: &str,
+    place: &Place<'_>,
     stream: Until<'_, R, S>,
 ) -> Result<Served, EdgeFault> {
     let mut counted = Counted::new(stream);
-    let served = serve_request(rt, alloc, file, &mut counted)?;
+    let served = serve_request(rt, alloc, place, &mut counted)?;
     let mut stream = counted.into_inner();
     if is_early(&served) && stream.end_writing().is_ok() {
         drain(&mut stream);
@@ -33,7 +34,7 @@ fn serve_stream<R: Locks + Clock, S: Read + Write + OpenStream + Drop>(
 pub(crate) fn serve_connection<R: Locks + Clock, S: Read + Write + OpenStream + Drop, F: Write>(
     rt: &R,
     alloc: Global,
-    file: &str,
+    place: &Place<'_>,
     stream: S,
     limit: Duration,
     faults: &mut F,
@@ -41,7 +42,7 @@ pub(crate) fn serve_connection<R: Locks + Clock, S: Read + Write + OpenStream + 
     let at = now(rt);
     let peer = stream.peer_addr().ok();
     let served = match Until::new(rt, stream, limit) {
-        Ok(stream) => serve_stream(rt, alloc, file, stream),
+        Ok(stream) => serve_stream(rt, alloc, place, stream),
         Err(_) => Err(EdgeFault::ReadFailed),
     };
     log(faults, at, peer, &served);

@@ -4,6 +4,7 @@ ghost use Rattle.std.specs.Prelude.{◌≡◌, ◌≤◌, IfErr, IfOk, IfSome};
 ghost use Rattle.streams.specs.declared.refused.Refused.TheVariants.{NoConnection};
 
 use crate::serve_command::connection::serve_connection;
+use crate::serve_command::place::Place;
 use keepers::Locks;
 use std::alloc::Global;
 use std::io::{Read, Write};
@@ -19,7 +20,7 @@ const MAX_ERRORS: u32 = 100;
 pub(crate) fn serve_all<R: Locks + Clock, L: OpenListener, F: Write>(
     rt: &R,
     alloc: Global,
-    file: &str,
+    place: &Place<'_>,
     listener: &L,
     limit: Duration,
     requests: Option<u64>,
@@ -39,7 +40,7 @@ where
         match stream {
             Ok(stream) => {
                 errors = 0;
-                serve_connection(rt, alloc, file, stream, limit, faults);
+                serve_connection(rt, alloc, place, stream, limit, faults);
                 served = u64::saturating_add(served, 1);
             }
             Err(_) => errors = u32::saturating_add(errors, 1),

@@ -1,8 +1,9 @@
-//! The command, from a file and an address to its exit status.
+//! The command, from a path and an address to its exit status.
 
 ghost use Rattle.jdf_net.specs.ServeCommand.{EndsServe};
 
 use crate::serve_command::listening::serve_all;
+use crate::serve_command::place::Place;
 use crate::serve_command::service::Service;
 use crate::serve_command::stepping::check_file;
 use keepers::Locks;
@@ -24,6 +25,15 @@ fn announce<L: OpenListener, W: Write>(listener: &L, writer: &mut W) -> Result<(
     Ok(())
 }
 
+/// Whether a controller can be loaded of a file that is served. Of a folder nothing is read, so that
+/// many files cost nothing. Refuses as `check_file`.
+fn check<R: Locks>(rt: &R, alloc: Global, place: &Place<'_>) -> Result<(), Refused> {
+    match place {
+        Place::File(file) => check_file(rt, alloc, file),
+        Place::Folder(_) => Ok(()),
+    }
+}
+
 /// Listens, and serves the connections that come.
 fn serve<R: Locks + Net + Clock, W: Write, F: Write>(
     rt: &R,
@@ -32,7 +42,8 @@ fn serve<R: Locks + Net + Clock, W: Write, F: Write>(
     writer: &mut W,
     faults: &mut F,
 ) -> Result<(), Refused> {
-    check_file(rt, alloc, service.file)?;
+    let place = Place::at(rt, service.path);
+    check(rt, alloc, &place)?;
     let listener = match TcpListener::bind(rt, service.listen) {
         Ok(listener) => listener,
         Err(_) => return Err(Refused::NoConnection),
@@ -42,7 +53,7 @@ fn serve<R: Locks + Net + Clock, W: Write, F: Write>(
     serve_all(
         rt,
         alloc,
-        service.file,
+        &place,
         &listener,
         limit,
         service.requests,
@@ -51,14 +62,16 @@ fn serve<R: Locks + Net + Clock, W: Write, F: Write>(
     Ok(())
 }
 
-/// Serves the controller that is kept in a file over HTTP/1.1 (RFC 9112): listens on an address,
-/// writes it as soon as it does, and answers one request of each connection, one connection after
-/// the other. Each is cut off behind the limit. The state is loaded again for each message, and
-/// saved before its response is written; the file is locked for that step alone, so that the
-/// commands on the file go on beside it. A line of each connection is written in `faults`.
+/// Serves the controller that is kept in a file, or those in the files of a folder, over HTTP/1.1
+/// (RFC 9112): listens on an address, writes it as soon as it does, and answers one request of each
+/// connection, one connection after the other. Each is cut off behind the limit. Of a folder the
+/// target tells which controller a request is for, and a request for none that is there is answered
+/// with 404. The state is loaded again for each message, and saved before its response is written;
+/// the file is locked for that step alone, so that the commands on the file go on beside it. A line
+/// of each connection is written in `faults`.
 ///
 /// Answers the exit status: 0 where it served as many connections as were asked for; 1 where memory
-/// ran out before it served any; 4 where no controller can be loaded of the file as it begins,
+/// ran out before it served any; 4 where no controller can be loaded of a file as it begins,
 /// where it can't listen or write where it does, and where the system fails to give 100 connections
 /// in a row; that is told in `faults`.
 pub fn run_serve<R: Locks + Net + Clock, W: Write, F: Write>(

@@ -1,8 +1,8 @@
 /// What `serve` serves, and how.
 #[derive(Clone, Copy)]
 pub struct Service<'a> {
-    /// The path of the file that the controller is kept in.
-    pub file: &'a str,
+    /// The path of the file that the controller is kept in, or of a folder of such files.
+    pub path: &'a str,
     /// The address to listen on, as a host and a port.
     pub listen: &'a str,
     /// The longest time for a connection, in seconds.

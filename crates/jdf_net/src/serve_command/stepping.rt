@@ -9,6 +9,9 @@ ghost use Rattle.jdf_net.specs.ServeCommand.{IsSavedAs, TakesHeld, TakesInFile};
 
 use keepers::{FileKeep, FileLock, Keep, Locks};
 use std::alloc::Global;
+use std::fs;
+use std::io::ErrorKind;
+use std::rt::Files;
 use std::time::{Clock, SystemTime};
 use stored_state::{Kept, Opened, Stored, TakenBytes, open_any};
 use streams::Refused;
@@ -102,6 +105,15 @@ pub(crate) fn take_in_file<R: Locks + Clock>(
     };
     let (given, _opened) = take_body(alloc, FileKeep::new(rt, alloc, file), body, at)?;
     Ok(given)
+}
+
+/// Whether the system says that nothing is there under a path. No contract says more: others may
+/// make or remove it at any time.
+pub(crate) fn is_missing<R: Files>(rt: &R, path: &str) -> bool {
+    match fs::symlink_metadata(rt, path) {
+        Ok(_) => false,
+        Err(error) => error.kind() == ErrorKind::NotFound,
+    }
 }
 
 /// Whether a controller can be loaded of a file. Refuses `LoadFailed`, what the file holds is

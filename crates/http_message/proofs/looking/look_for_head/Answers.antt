@@ -1,13 +1,13 @@
 use Rattle.std.proofs.Common.{ℕ, ◌≤◌, List, length, take, subst, sym, arith, ⊎_elim, length-take}
 use Rattle.http_message.specs.Head.{Head, StartsWith, IfHead, IsToldOf, IsBounded}
 use Rattle.http_message.specs.declared.told.Told.{Told}
-use Rattle.http_message.proofs.Heads.{few_taken, none_in_few, none_after_few, none_after_many, none_at_all}
+use Rattle.http_message.proofs.Heads.{few_taken, none_in_few, none_after_few, none_after_many, none_at_all, told_in_front}
 use Rattle.http_message.proofs.looking.look_for_head.Goals as goal
 
 pub returns-then-bytes-lt-MAX_HEAD_BYTES-clause-head :
     goal.returns-then-bytes-lt-MAX_HEAD_BYTES-clause-head
 returns-then-bytes-lt-MAX_HEAD_BYTES-clause-head c =
-    subst (λ (b : List ℕ). IfHead c.look_in.result (λ told. (h : Head) × StartsWith c.args.kind b h × IsToldOf h told))
+    subst (λ (b : List ℕ). IfHead c.look_in.result (λ told. (h : Head) × StartsWith c.args.kind b h × IsToldOf c.args.bytes.now h told))
     (sym (few_taken 8192 c.args.bytes.now c.if-bytes-lt-MAX_HEAD_BYTES.true)) c.look_in.ensures.head
 
 pub returns-then-bytes-lt-MAX_HEAD_BYTES-clause-part :
@@ -26,8 +26,17 @@ bounded_in : (most m : ℕ) (bytes : List ℕ) (told : Told) → m ≤ length by
     → IsBounded most (length (take m bytes)) told → IsBounded most (length bytes) told
 bounded_in most m bytes told long bounded = record {
   size = omega (arith, bounded.size, length-take {A = ℕ});
+  target = (bounded.target.0, omega (arith, bounded.target.1, length-take {A = ℕ}));
   body = bounded.body;
 }
+
+pub returns-in-Head-clause-head : goal.returns-in-Head-clause-head
+returns-in-Head-clause-head c =
+    let head = c.in-Head.ensures.head in (
+      head.0,
+      head.1,
+      told_in_front 8192 c.args.bytes.now head.0 c.in-Head.told c.in-Head.ensures.bound.target head.2,
+    )
 
 pub returns-in-Head-clause-bound : goal.returns-in-Head-clause-bound
 returns-in-Head-clause-bound c =

@@ -1,0 +1,51 @@
+//! The target of a request.
+
+ghost use Rattle.std.specs.Prelude.{◌≡◌, ◌≤◌, ◌==◌, length};
+ghost use Rattle.std.specs.List.{position, position_or_len};
+ghost use Rattle.http_message.specs.Target as targets;
+
+/// Where the query of a target begins, if it has one.
+fn query_place(target: &[u8]) -> Option<usize>
+    ensures { result ≡ position (λ c. c == 63) target.now }
+{
+    target.iter().position(|byte| *byte == b'?')
+}
+
+/// How many bytes stand before it.
+#[tactic(auto, using(ticket_items::proofs::Places::unwrap_or_position))]
+fn path_length(target: &[u8]) -> usize
+    ensures { result ≡ position_or_len (λ c. c == 63) target.now }
+{
+    query_place(target).unwrap_or(target.len())
+}
+
+/// A target without its query.
+fn path_of(target: &[u8]) -> &[u8]
+    ensures { result.now ≡ targets.path_of target.now }
+{
+    &target[..path_length(target)]
+}
+
+/// Where the last segment of a path begins.
+fn segment_start(path: &[u8]) -> usize
+    ensures value { result ≡ targets.segment_start path.now (length path.now) }
+    ensures bound { result ≤ length path.now }
+{
+    let mut start = path.len();
+    while start > 0 {
+        if path[start - 1] == b'/' {
+            return start;
+        }
+        start -= 1;
+    }
+    0
+}
+
+/// The last segment of a target (RFC 3986): what stands behind the last slash of its path, which
+/// ends before a `?`. Nothing of it is decoded.
+pub fn last_segment(target: &[u8]) -> &[u8]
+    ensures { result.now ≡ targets.last_segment target.now }
+{
+    let path = path_of(target);
+    &path[segment_start(path)..]
+}
