@@ -8,3 +8,4 @@ pub mod OneAnswer
 pub mod Writing
 pub mod TextLemmas
 pub mod Messages
+pub mod Segments

@@ -1,6 +1,6 @@
 //! The target of a request.
 
-ghost use Rattle.std.specs.Prelude.{◌≡◌, ◌≤◌, ◌==◌, length};
+ghost use Rattle.std.specs.Prelude.{◌≡◌, ◌≤◌, ◌==◌, length, drop};
 ghost use Rattle.std.specs.List.{position, position_or_len};
 ghost use Rattle.http_message.specs.Target as targets;
 
@@ -27,8 +27,9 @@ fn path_of(target: &[u8]) -> &[u8]
 }
 
 /// Where the last segment of a path begins.
+#[tactic(auto, using(crate::proofs::Segments::whole, crate::proofs::Segments::behind))]
 fn segment_start(path: &[u8]) -> usize
-    ensures value { result ≡ targets.segment_start path.now (length path.now) }
+    ensures value { drop result path.now ≡ targets.segment_of path.now }
     ensures bound { result ≤ length path.now }
 {
     let mut start = path.len();
