@@ -1,9 +1,8 @@
 -- Names of files are of ASCII, so that what is no text is none.
-use Rattle.std.proofs.Common.{◌≡◌, ℕ, zero, suc, ◌<◌, Bool, true, false, List, [], ◌∷◌, length, get_or, IsAscii, IsUtf8, Option, None, refl, sym, ap, subst, arith, rules}
-use Rattle.std.specs.Prelude.{◌&&◌, slice_index}
+use Rattle.std.proofs.Common.{◌≡◌, ℕ, zero, suc, ◌<◌, Bool, true, false, List, [], ◌∷◌, IsAscii, IsUtf8, None, refl, ap, subst, arith, rules}
+use Rattle.std.specs.Prelude.{◌&&◌}
 use Rattle.std.specs.List.{list_all}
 use Rattle.std.proofs.lemmas.Bool.Decides.{nat_tests}
-use Rattle.std.proofs.lemmas.List.Sums.{AllPass-from_list_all}
 use Rattle.std.proofs.lemmas.Str.{IsUtf8-from_ascii}
 use Rattle.ticket_items.specs.Names.{is_name, is_name_part, is_name_start}
 use Rattle.jdf_net.specs.Targets.{has_no_dot, is_file_name, name_in}

@@ -1,5 +1,5 @@
 -- A worker of a shop at its place, and what comes of a message that is handed over to it.
-use Rattle.std.proofs.Common.{◌≡◌, ◌∙◌, ◌+◌, ◌<◌, ◌++◌, ◌∷◌, [], ℕ, List, length, map, take, Option, Some, Result, Ok, Err, IfOk, OnOk, ap, get_or, inr, refl, set, slice_get, sym}
+use Rattle.std.proofs.Common.{◌≡◌, ◌∙◌, ◌+◌, ◌<◌, ◌++◌, ◌∷◌, [], ℕ, List, length, map, take, Option, Some, Result, Ok, Err, IfOk, OnOk, ap, get_or, inr, refl, set, sym}
 use Rattle.std.proofs.lemmas.List.{map-append, take_more}
 use Rattle.std.proofs.lemmas.Option.{slice_get-get_or}
 use Rattle.std.specs.List.{position}

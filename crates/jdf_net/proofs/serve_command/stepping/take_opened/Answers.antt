@@ -1,4 +1,4 @@
-use Rattle.std.proofs.Common.{◌≡◌, IfOk, refl, subst, sym}
+use Rattle.std.proofs.Common.{IfOk, refl, subst, sym}
 use Rattle.serde_json.specs.Written.{compact_text}
 use Rattle.controller_form.specs.States.MasterForm.{master_state_data}
 use Rattle.controller_form.specs.States.WorkerForm.{worker_state_data}

@@ -1,4 +1,4 @@
-use Rattle.std.proofs.Common.{◌≡◌, ◌∙◌, IfOk, ap, subst}
+use Rattle.std.proofs.Common.{◌∙◌, IfOk, ap, subst}
 use Rattle.std.specs.Option.{option_map}
 use Rattle.master_core.specs.Master.{Known}
 use Rattle.master_core.specs.Messages.{take_reply}

@@ -1,8 +1,8 @@
-use Rattle.std.proofs.Common.{◌≡◌, ◌∙◌, IfOk, ap, set, subst}
+use Rattle.std.proofs.Common.{◌∙◌, IfOk, ap, set, subst}
 use Rattle.std.specs.Option.{option_map}
 use Rattle.worker_core.specs.Messages.{take_reply}
 use Rattle.worker_core.specs.Worker.{Known}
-use Rattle.jdf_net.specs.LoopCommand.Shop.{HandsToNamed, InMemory, State}
+use Rattle.jdf_net.specs.LoopCommand.Shop.{HandsToNamed, State}
 use Rattle.jdf_net.proofs.ShopWorkers.{hands_there}
 use Rattle.jdf_net.proofs.loop_command.shop.Shop.hand_to_worker.Goals as goal
 

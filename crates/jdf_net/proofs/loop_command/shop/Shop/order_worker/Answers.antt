@@ -1,4 +1,4 @@
-use Rattle.std.proofs.Common.{◌≡◌, IfOk, set, subst}
+use Rattle.std.proofs.Common.{IfOk, set, subst}
 use Rattle.std.specs.Option.{option_map}
 use Rattle.jdf_net.specs.LoopCommand.Shop.{OrdersNamed, State}
 use Rattle.jdf_net.proofs.ShopOrders.{orders_there}

@@ -1,4 +1,4 @@
-use Rattle.std.proofs.Common.{◌≡◌, refl, set, subst}
+use Rattle.std.proofs.Common.{refl, set, subst}
 use Rattle.jdf_net.specs.LoopCommand.Shop.{RestartsNamed, State}
 use Rattle.jdf_net.proofs.ShopOrders.{restarts_there}
 use Rattle.jdf_net.proofs.loop_command.shop.Shop.restart_worker.Goals as goal
