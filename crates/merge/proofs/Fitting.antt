@@ -1,47 +1,24 @@
 -- The tests of a part tell whether it fits.
-use Rattle.std.proofs.Common.{◌≡◌, ◌∙◌, ℕ, ◌-◌, ◌&&◌, ◌==◌, true, false, List, [], length, take}
-use Rattle.std.proofs.Common.{drop, Some, slice_get, refl, sym, ap, arith, eq-eqb}
-use Rattle.std.proofs.lemmas.Bool.{and_parts, and_from, eqb-true}
-use Rattle.std.proofs.lemmas.List.{length-reverse}
-use Rattle.std.specs.Option.{option_map}
+use Rattle.std.proofs.Common.{◌≡◌, ◌∙◌, ◌-◌, ◌&&◌, ◌==◌, true, false, List, [], ◌∷◌, length, map}
+use Rattle.std.proofs.Common.{sym, ap, eq-eqb}
+use Rattle.std.proofs.lemmas.Bool.{true≢false, and_parts, and_from, eqb-true}
 use Rattle.std.specs.Str.{bytes_eq}
-use Rattle.ticket_rows.proofs.Below.{mem-node_ids}
 use Rattle.ticket_tree.specs.Part.{Copied}
-use Rattle.ticket_rows.specs.Place.{node_places, BoundsNodesBelow, fixed}
+use Rattle.ticket_rows.specs.Place.{fixed}
 use Rattle.ticket_rows.specs.Ticket.{Job, IsValid, has_node}
 use Rattle.ticket_items.specs.declared.node_row.NodeRow.{NodeRow}
-use Rattle.spawn.proofs.Ancestry.{above_is}
-use Rattle.spawn.proofs.PartFor.{depth_is}
-use Rattle.spawn.proofs.RowsBelow.{own_places-rows, kept_none, rows_below-around}
-use Rattle.spawn.proofs.Slices.{rows_between}
-use Rattle.spawn.proofs.Split.{Around, none_below}
-use Rattle.spawn.specs.Parts.{above, rows_below, resources_among}
+use Rattle.ticket_items.specs.declared.resource.Resource.{Resource}
+use Rattle.ticket_rows.specs.Copies.{with_copies}
+use Rattle.spawn.proofs.AroundAt.{levels_are}
+use Rattle.spawn.specs.Parts.{above, lifted, resources_among}
+use Rattle.ticket_tree.proofs.AtNode.{none_below_unknown}
+use Rattle.ticket_tree.specs.At.{IsAt, rows_below}
+use Rattle.ticket_tree.specs.declared.at.At.{At}
 use Rattle.spawn.specs.declared.records.spawn_rec.SpawnRec.{SpawnRec}
 use Rattle.merge.proofs.Told.{same_bytes, bytes_from, rows_same, rows_from_shape, pairs_map}
 use Rattle.merge.proofs.Told.{pairs_from, fixed_same, fixed_from}
-use Rattle.merge.specs.Alike.{are_pairs, is_row, is_fixed, is_part}
-use Rattle.merge.specs.Shape.{Fits}
-
--- ---- the rows below a node
-
--- there are none below an unknown node
-pub unknown_rows : (rows : List NodeRow) (n : List ℕ) → IsValid rows → has_node rows n ≡ false
-    → rows_below rows n ≡ []
-unknown_rows rows n valid unknown = kept_none (node_places rows) n [] rows (own_places-rows rows valid) (none_below n [] rows refl (mem-node_ids rows n ∙ unknown))
-
-pub known_rows : (rows : List NodeRow) (n : List ℕ) (from to : ℕ) → IsValid rows
-    → BoundsNodesBelow rows n from to → Around rows n
-    → take (to - from) (drop from rows) ≡ rows_below rows n
-known_rows rows n from to valid bounds at = rows_between rows n from to valid bounds at ∙ sym (rows_below-around rows n valid at)
-
-pub known_levels : (rows : List NodeRow) (n : List ℕ) (from to depth : ℕ) → IsValid rows
-    → BoundsNodesBelow rows n from to → Around rows n
-    → option_map (λ r. r.depth) (slice_get rows from) ≡ Some depth
-    → depth - 1 ≡ length (above rows n)
-known_levels rows n from to depth valid bounds at found =
-    let deep = depth_is rows n from to depth valid bounds at found in
-    let high : length (above rows n) ≡ length at.up = ap length (above_is rows n valid at) ∙ length-reverse at.up in
-    omega (arith, deep, high, at.level)
+use Rattle.merge.specs.Alike.{are_pairs, is_fit, is_row, is_fixed, is_part}
+use Rattle.merge.specs.Shape.{Fits, shape}
 
 -- ---- the tests
 
@@ -66,8 +43,18 @@ fits_part t r p fits =
     (and_from _ _ (and_from _ _ (bytes_from p.job_id t.job_id fits.job) (eq-eqb p.spawn_id r.id fits.spawn)) (rows_from_shape levels below p.rows fits.rows fits.audits))
     (pairs_from is_fixed fixed fixed (resources_among r.rw t.rows) p.rw fixed_from fits.rw)
 
-pub is_part-at : (t : Job) (r : SpawnRec) (p : Copied) (below : List NodeRow) (levels : ℕ)
-    → below ≡ rows_below t.rows r.node → levels ≡ length (above t.rows r.node)
-    → is_part t r below levels p
-    ≡ is_part t r (rows_below t.rows r.node) (length (above t.rows r.node)) p
-is_part-at t r p below levels rows high = ap (λ rs. is_part t r rs levels p) rows ∙ ap (λ n. is_part t r (rows_below t.rows r.node) n p) high
+no_rows : (rows : List NodeRow) (rw ro : List Resource) → IsValid (with_copies rows rw ro)
+    → map shape rows ≡ [] → ⊥
+no_rows [] rw ro valid e = true≢false (sym valid.tree)
+no_rows (x ∷ rows) rw ro valid e = cc
+
+-- a part has rows, so that none fits where the node is unknown
+pub unfit : (t : Job) (r : SpawnRec) (p : Copied) → IsValid (with_copies p.rows p.rw p.ro)
+    → has_node t.rows r.node ≡ false → Fits t r p → ⊥
+unfit t r p valid unknown fits =
+    no_rows p.rows p.rw p.ro valid (fits.rows ∙ ap (λ rows. map shape (map (lifted (length (above t.rows r.node))) rows)) (none_below_unknown t.rows r.node unknown))
+
+-- at the node at which the ticket is seen
+pub is_part-at : (t : Job) (r : SpawnRec) (p : Copied) (a : At) → IsAt t.rows r.node a
+    → is_part t r a.below.now (a.depth - 1) p ≡ is_fit t r p
+is_part-at t r p a is = ap (λ rs. is_part t r rs (a.depth - 1) p) is.below ∙ ap (λ n. is_part t r (rows_below t.rows r.node) n p) (levels_are t.rows r.node a is)

@@ -1,6 +1,6 @@
 -- The parent of a node is the last row in front of it that stands higher.
 use Rattle.std.proofs.Common.{◌≡◌, ◌∙◌, ℕ, zero, suc, ◌+◌, ◌-◌, ◌≤◌, inl, inr, Bool, true, false}
-use Rattle.std.proofs.Common.{cond, List, [], ◌∷◌, ◌++◌, length, take, drop, reverse, slice_get}
+use Rattle.std.proofs.Common.{cond, List, [], ◌∷◌, ◌++◌, length, drop, reverse, slice_get}
 use Rattle.std.proofs.Common.{Option, Some, None, is_some, nat_lt, Result, IfErr, IfNone, refl, sym}
 use Rattle.std.proofs.Common.{ap, subst, append_assoc, arith}
 use Rattle.std.proofs.lemmas.Bool.{ltb-true, ltb-false}
@@ -12,7 +12,7 @@ use Rattle.ticket_rows.proofs.Below.{Path, Follows, Follows-outline, length-path
 use Rattle.ticket_tree.proofs.OnPlaces.{stands_node}
 use Rattle.ticket_tree.proofs.Parents.{one_parent_each}
 use Rattle.ticket_rows.specs.Place.{Place, node_place, node_places, place_at, up, parent}
-use Rattle.ticket_rows.specs.Place.{BoundsNodesBelow, path_of}
+use Rattle.ticket_rows.specs.Place.{path_of}
 use Rattle.ticket_rows.specs.Edit.{node_refusal}
 use Rattle.ticket_rows.specs.Ticket.{IsValid, has_node, unless}
 use Rattle.ticket_items.specs.declared.refusal.Refusal.{Refusal}
@@ -20,8 +20,10 @@ use Rattle.ticket_items.specs.declared.refusal.Refusal.TheVariants.{UnknownNode,
 use Rattle.ticket_items.specs.declared.node_row.NodeRow.{NodeRow}
 use Rattle.spawn.proofs.Ancestry.{root_place}
 use Rattle.spawn.proofs.HomesBelow.{tail}
-use Rattle.spawn.proofs.Slices.{from_is, rows_before, at_end}
-use Rattle.spawn.proofs.Split.{path_after, follows_front, Around}
+use Rattle.spawn.proofs.AroundAt.{shows}
+use Rattle.spawn.proofs.Split.{path_after, follows_front, Around, around}
+use Rattle.ticket_tree.specs.At.{IsAt}
+use Rattle.ticket_tree.specs.declared.at.At.{At}
 
 -- ---- the last row that stands higher, told from the front
 
@@ -29,7 +31,7 @@ abbrev last_above : ℕ → Option (List ℕ) → List NodeRow → Option (List 
 last_above depth known [] = known
 last_above depth known (r ∷ rows) = last_above depth (cond (nat_lt r.depth depth) (Some r.id) known) rows
 
-abbrev found_above : ℕ → List NodeRow → Option (List ℕ)
+abbrev pub found_above : ℕ → List NodeRow → Option (List ℕ)
 found_above depth rows = option_map (λ r. r.id) (find (λ r. nat_lt r.depth depth) (reverse rows))
 
 or_here : (b : Bool) (o : Option NodeRow) (r : NodeRow) (known : Option (List ℕ))
@@ -121,17 +123,12 @@ front_above rows n valid at =
     ∙ ap (λ p. slice_get p 0) above
 
 -- the row that is found in front of a node is its parent
-pub parent_is : (rows : List NodeRow) (n : List ℕ) (from to : ℕ) → IsValid rows
-    → BoundsNodesBelow rows n from to → (at : Around rows n)
-    → option_map (λ r. r.id) (find (λ r. nat_lt r.depth at.root.depth) (reverse (take from rows)))
-    ≡ up (node_places rows) n
-parent_is rows n from to valid bounds at =
-    ap (found_above at.root.depth) (rows_before rows n from to valid bounds at) ∙ front_above rows n valid at ∙ sym (up_is rows n valid at)
-
-pub root_at : (rows : List NodeRow) (n : List ℕ) (from to : ℕ) → IsValid rows
-    → BoundsNodesBelow rows n from to → (at : Around rows n) → slice_get rows from ≡ Some at.root
-root_at rows n from to valid bounds at =
-    ap (slice_get rows) (sym (from_is rows n from to valid bounds at)) ∙ ap (λ rs. slice_get rs (length at.front)) (at.whole ∙ append_assoc at.front (at.root ∷ at.inner) at.back) ∙ at_end at.front at.root (at.inner ++ at.back)
+pub parent_is : (rows : List NodeRow) (n : List ℕ) (a : At) → IsValid rows → IsAt rows n a
+    → has_node rows n ≡ true → found_above a.depth a.front.now ≡ up (node_places rows) n
+parent_is rows n a valid is known =
+    let at = around rows n valid known in
+    let seen = shows rows n a valid is at in
+    ap (λ d. found_above d a.front.now) seen.depth ∙ ap (found_above at.root.depth) seen.front ∙ front_above rows n valid at ∙ sym (up_is rows n valid at)
 
 no_place : (o : Option Place) → is_some o ≡ false → option_and_then parent o ≡ None
 no_place None h = refl
@@ -141,13 +138,6 @@ no_place (Some p) h = cc
 pub unknown_parent : (rows : List NodeRow) (n : List ℕ) → has_node rows n ≡ false
     → up (node_places rows) n ≡ None
 unknown_parent rows n unknown = no_place (place_at (node_places rows) n) (stands_node rows n ∙ unknown)
-
--- the same of the rows as they were seen
-pub seen_parent : (seen rows : List NodeRow) (n : List ℕ) (from to : ℕ) → seen ≡ rows → IsValid rows
-    → BoundsNodesBelow rows n from to → (at : Around rows n)
-    → option_map (λ r. r.id) (find (λ r. nat_lt r.depth at.root.depth) (reverse (take from seen)))
-    ≡ up (node_places rows) n
-seen_parent seen rows n from to same valid bounds at = ap (λ rs. found_above at.root.depth (take from rs)) same ∙ parent_is rows n from to valid bounds at
 
 parent_on : (o : Option Place) (p : Place) (u : List ℕ) → o ≡ Some p
     → option_and_then parent o ≡ Some u → parent p ≡ Some u

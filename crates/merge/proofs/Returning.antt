@@ -30,7 +30,8 @@ use Rattle.spawn.proofs.HomesBelow.{not_above}
 use Rattle.spawn.proofs.RowsBelow.{rows_below-around}
 use Rattle.spawn.proofs.Outside.{some_of}
 use Rattle.spawn.proofs.Split.{Around, around}
-use Rattle.spawn.specs.Parts.{above, lifted, resources, resources_among, rows_below}
+use Rattle.spawn.specs.Parts.{above, lifted, resources, resources_among}
+use Rattle.ticket_tree.specs.At.{rows_below}
 use Rattle.spawn.specs.Records.{IsGood}
 use Rattle.spawn.specs.Spawning.{parent_of}
 use Rattle.spawn.specs.declared.records.spawn_rec.SpawnRec.{SpawnRec}

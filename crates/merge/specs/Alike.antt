@@ -11,7 +11,8 @@ use Rattle.ticket_items.specs.declared.node_row.NodeRow.{NodeRow}
 use Rattle.ticket_items.specs.declared.resource.Resource.{Resource}
 use Rattle.ticket_items.specs.declared.usage.Usage.{Usage}
 use Rattle.ticket_items.specs.declared.usage.Usage.TheVariants.{Input, Output}
-use Rattle.spawn.specs.Parts.{above, resources_among, rows_below}
+use Rattle.spawn.specs.Parts.{above, resources_among}
+use Rattle.ticket_tree.specs.At.{rows_below}
 use Rattle.spawn.specs.declared.records.spawn_rec.SpawnRec.{SpawnRec}
 
 -- whether two lists are equally long, and each two at the same place pass a test

@@ -2,6 +2,7 @@
 
 ghost use Rattle.std.specs.Prelude.{◌≡◌, true, IfOk, IfErr, OnOk, OnErr};
 ghost use Rattle.ticket_rows.specs.OneRow.{appended};
+ghost use Rattle.ticket_rows.specs.Ticket.{IsValid};
 ghost use Rattle.spawn.specs.Records.{IsGood, is_out};
 ghost use Rattle.spawn.specs.Spawning as spawning;
 ghost use Rattle.spawn.specs.declared.records.phase.Phase.TheVariants.{Merged};
@@ -46,6 +47,7 @@ fn tell_of_merge(
         }) }
     ensures err { OnErr result (ticket.new ≡ ticket.old) }
     ensures memory { IfErr result (λ e. e ≡ Refusal.Memory) }
+    ensures valid { OnOk result (IsValid ticket.old.rows) }
 {
     let audit = merged_audit(alloc, spawn, at)?;
     tell(alloc, ticket, spawn, audit)
@@ -68,20 +70,11 @@ pub fn merge_fitting(
     ensures spawn { OnErr result (spawn.new ≡ spawn.old) }
     ensures memory { IfErr result (λ e. e ≡ Refusal.Memory) }
 {
-    // What their rows tell: both are valid.
-    let _rows = ticket.rows();
-    let _part_rows = part.rows();
-    match tell_of_merge(alloc, ticket, spawn, at) {
-        Ok(()) => {
-            put_back(ticket, part);
-            spawn.phase = Phase::Merged;
-            Ok(())
-        }
-        Err(refusal) => {
-            drop(part);
-            Err(refusal)
-        }
-    }
+    let (nodes, copies) = part.into_rows();
+    tell_of_merge(alloc, ticket, spawn, at)?;
+    put_back(ticket, nodes, copies);
+    spawn.phase = Phase::Merged;
+    Ok(())
 }
 
 /// Merges a part that comes back from a spawn that is out (JDF 1.5, 4.4): each of its nodes takes

@@ -3,7 +3,7 @@
 ghost use Rattle.std.specs.Prelude.{◌≡◌};
 ghost use Rattle.merge.specs.Putting.{MayTakeNodes, MayTakeResources, with_nodes, with_resources};
 
-use ticket_tree::{NodeRow, Part, Resource, Ticket};
+use ticket_tree::{NodeRow, Resource, Ticket};
 
 /// Puts each of the nodes in the place of the one of its id.
 fn replace_nodes(ticket: &mut Ticket, nodes: Vec<NodeRow>)
@@ -28,17 +28,15 @@ fn replace_resources(ticket: &mut Ticket, resources: Vec<Resource>)
     }
 }
 
-/// Puts the nodes of a part and its copies that may be changed in the places of those of their ids.
-/// Needs no memory.
-pub fn put_back(ticket: &mut Ticket, part: Part)
-    requires nodes { MayTakeNodes ticket.old.rows part.rows }
-    requires copies { MayTakeResources ticket.old.rows part.rw }
+/// Puts nodes and resources in the places of those of their ids. Needs no memory.
+pub fn put_back(ticket: &mut Ticket, nodes: Vec<NodeRow>, resources: Vec<Resource>)
+    requires nodes { MayTakeNodes ticket.old.rows nodes.items }
+    requires resources { MayTakeResources ticket.old.rows resources.items }
     ensures { ticket.new ≡ record ticket.old {
-      rows = with_nodes part.rows
-          (with_resources part.rw ticket.old.rows);
+      rows = with_nodes nodes.items
+          (with_resources resources.items ticket.old.rows);
     } }
 {
-    let (nodes, resources) = part.into_rows();
     replace_resources(ticket, resources);
     replace_nodes(ticket, nodes);
 }

@@ -2,6 +2,7 @@
 
 ghost use Rattle.std.specs.Prelude.{◌≡◌, IfErr, OnErr, OnOk};
 ghost use Rattle.ticket_rows.specs.OneRow.{appended};
+ghost use Rattle.ticket_rows.specs.Ticket.{IsValid};
 ghost use Rattle.spawn.specs.Records.{IsGood};
 ghost use Rattle.spawn.specs.Spawning as spawning;
 
@@ -24,9 +25,8 @@ pub fn tell(
         }) }
     ensures err { OnErr result (ticket.new ≡ ticket.old) }
     ensures memory { IfErr result (λ e. e ≡ Refusal.Memory) }
+    ensures valid { IsValid ticket.old.rows }
 {
-    // What its rows tell: the ticket is valid, so that a parent stands in it.
-    let _rows = ticket.rows();
     let Some(parent) = parent_of(ticket, &spawn.node) else {
         return Err(Refusal::UnknownNode);
     };

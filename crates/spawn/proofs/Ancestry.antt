@@ -15,7 +15,8 @@ use Rattle.ticket_rows.specs.Place.{node_place, node_places, place_at, path_of}
 use Rattle.ticket_rows.specs.Ticket.{IsValid, node_ids, row_of}
 use Rattle.ticket_items.specs.declared.node_row.NodeRow.{NodeRow}
 use Rattle.spawn.proofs.HomesBelow.{tail}
-use Rattle.spawn.proofs.RowsBelow.{OwnPlaces, own_places-rows, own_back}
+use Rattle.ticket_tree.proofs.OwnPlaces.{OwnPlaces, own_places-rows}
+use Rattle.spawn.proofs.RowsBelow.{own_back}
 use Rattle.spawn.proofs.Split.{path_after, follows_front, Around}
 use Rattle.spawn.specs.Parts.{above, ancestor, ancestors, as_ancestor, way_from}
 

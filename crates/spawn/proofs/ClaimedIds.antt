@@ -23,23 +23,19 @@ use Rattle.spawn.proofs.Chosen.{AllOwn, all_own}
 use Rattle.spawn.proofs.GoodTest.{same_test}
 use Rattle.spawn.proofs.HomesBelow.{ids-append}
 use Rattle.spawn.proofs.Outside.{inside, none_found, outside}
-use Rattle.spawn.proofs.RowsBelow.{kept_none, own_places-rows, rows_below-around}
+use Rattle.spawn.proofs.RowsBelow.{rows_below-around}
 use Rattle.spawn.proofs.Split.{Around, around, none_below}
 use Rattle.spawn.proofs.Standing.{ids_apart}
 use Rattle.spawn.specs.Claim.{is_claimed}
 use Rattle.spawn.specs.IdSet.{IsSetOf, is_in}
-use Rattle.spawn.specs.Parts.{rows_below}
+use Rattle.ticket_tree.proofs.AtNode.{none_below_unknown}
+use Rattle.ticket_tree.specs.At.{rows_below}
 use Rattle.spawn.specs.Records.{is_out}
 use Rattle.spawn.specs.Stored.{claimed_by, claims_id}
 use Rattle.spawn.specs.Table.{holds}
 use Rattle.spawn.specs.declared.records.spawn_rec.SpawnRec.{SpawnRec}
 
 -- ---- a place below a node
-
--- there are no rows below an unknown node
-pub unknown_rows : (rows : List NodeRow) (n : List ℕ) → IsValid rows → has_node rows n ≡ false
-    → rows_below rows n ≡ []
-unknown_rows rows n valid unknown = kept_none (node_places rows) n [] rows (own_places-rows rows valid) (none_below n [] rows refl (mem-node_ids rows n ∙ unknown))
 
 known_at : (b : Bool) (rows : List NodeRow) (n : List ℕ) (p : Place) → IsValid rows
     → (at : Around rows n) → mem p.id (ids (at.root ∷ at.inner)) ≡ b
@@ -54,7 +50,7 @@ below_at true rows n p valid e own =
     let at = around rows n valid e in
     known_at (mem p.id (ids (at.root ∷ at.inner))) rows n p valid at refl own ∙ ap (λ rs. mem p.id (ids rs)) (sym (rows_below-around rows n valid at))
 below_at false rows n p valid e own =
-    none_found (below n) (places rows) p.id p (none_below n [] rows refl (mem-node_ids rows n ∙ e)) own ∙ ap (λ rs. mem p.id (ids rs)) (sym (unknown_rows rows n valid e))
+    none_found (below n) (places rows) p.id p (none_below n [] rows refl (mem-node_ids rows n ∙ e)) own ∙ ap (λ rs. mem p.id (ids rs)) (sym (none_below_unknown rows n e))
 
 pub below_rows : (rows : List NodeRow) (n : List ℕ) (p : Place) → IsValid rows
     → place_at (places rows) p.id ≡ Some p → below n p ≡ mem p.id (ids (rows_below rows n))

@@ -1,27 +1,30 @@
 -- The first record that holds what stands at a node, by the nodes above it and by its copies.
-use Rattle.std.proofs.Common.{◌≡◌, ◌∙◌, ℕ, zero, suc, ◌+◌, ◌-◌, ◌<◌, ◌≤◌, ◌&&◌, ◌||◌, Bool, true}
-use Rattle.std.proofs.Common.{false, not, cond, List, [], ◌∷◌, ◌++◌, length, take, drop, get_or, Some, None}
-use Rattle.std.proofs.Common.{refl, sym, ap, subst, append_assoc, append-nil, arith, one-add, slice_get}
-use Rattle.std.proofs.Common.{Option, Bor, is_some, nat_lt}
+use Rattle.std.proofs.Common.{◌≡◌, ◌∙◌, ℕ, suc, ◌+◌, ◌-◌, ◌<◌, ◌≤◌, ◌&&◌, ◌||◌, Bool, true, false}
+use Rattle.std.proofs.Common.{not, cond, List, [], ◌∷◌, ◌++◌, length, take, drop, get_or, Some}
+use Rattle.std.proofs.Common.{None, refl, sym, ap, subst, append_assoc, append-nil, arith, one-add}
+use Rattle.std.proofs.Common.{slice_get, Option, Bor, is_some, nat_lt}
 use Rattle.std.proofs.lemmas.Bool.{ltb-true, ltb-false}
 use Rattle.std.proofs.lemmas.Option.{slice_get_past, slice_get-get_or}
 use Rattle.std.proofs.lemmas.List.Folds.{find_at}
-use Rattle.std.proofs.lemmas.List.{take_more, drop-drop, drop_all, take-append-drop}
+use Rattle.std.proofs.lemmas.List.{take_all, take_more, drop-drop, drop_all, take-append-drop}
 use Rattle.std.proofs.lemmas.List.{length-take-le}
 use Rattle.std.proofs.lemmas.List.Sums.{prefix_len-le-length}
-use Rattle.std.specs.List.{find, position, position_or_len}
-use Rattle.std.specs.Option.{option_copied, IfSome}
+use Rattle.std.specs.List.{find, position_or_len}
+use Rattle.std.specs.Option.{option_copied, option_map_or, IfSome}
 use Rattle.std.specs.Str.{bytes_eq}
 use Rattle.ticket_items.proofs.Apart.{mem-append}
 use Rattle.ticket_items.specs.Ids.{mem}
 use Rattle.ticket_rows.proofs.Below.{Path, Follows, Follows-outline, length-path_of}
-use Rattle.ticket_rows.proofs.Below.{below_none, place_found, is_below-place}
-use Rattle.ticket_rows.proofs.NodePlaces.{nodes_from, node_places-rows}
-use Rattle.ticket_rows.specs.Place.{Place, path_of, last_of, below, node_places}
-use Rattle.ticket_rows.specs.Ticket.{IsValid}
+use Rattle.ticket_rows.specs.Place.{Place, path_of, last_of, below, is_below, node_places, place_at}
+use Rattle.ticket_rows.specs.Ticket.{IsValid, has_node}
+use Rattle.ticket_tree.proofs.OnPlaces.{stands_node}
+use Rattle.ticket_tree.specs.At.{IsAt}
+use Rattle.ticket_tree.specs.declared.at.At.{At}
+use Rattle.spawn.proofs.Ancestry.{root_place}
+use Rattle.spawn.proofs.AroundAt.{shows}
 use Rattle.ticket_items.specs.declared.node_row.NodeRow.{NodeRow}
 use Rattle.spawn.proofs.Holding.{claims_at}
-use Rattle.spawn.proofs.Split.{path_after, path_after-append, follows_front}
+use Rattle.spawn.proofs.Split.{path_after, path_after-append, follows_front, around}
 use Rattle.spawn.specs.Records.{is_out}
 use Rattle.spawn.specs.declared.records.spawn_rec.SpawnRec.{SpawnRec}
 
@@ -45,7 +48,7 @@ nearer f g [] = refl
 nearer f g (x ∷ xs) =
     nearer_row (f x) (g x) g x xs (position_or_len f xs) (position_or_len (λ y. f y || g y) xs) refl (nearer f g xs)
 
-first_as : {X : Type 0} (f g : X → Bool) → ((x : X) → f x ≡ g x) → (xs : List X)
+pub first_as : {X : Type 0} (f g : X → Bool) → ((x : X) → f x ≡ g x) → (xs : List X)
     → position_or_len f xs ≡ position_or_len g xs
 first_as f g same [] = refl
 first_as f g same (x ∷ xs) =
@@ -54,14 +57,7 @@ first_as f g same (x ∷ xs) =
 first_within : {X : Type 0} (f : X → Bool) (xs : List X) → position_or_len f xs ≤ length xs
 first_within f xs = prefix_len-le-length (λ x. not (f x)) xs
 
--- ---- the path of a row
-
-pub path_at : (before : Path) (rows : List NodeRow) (k : ℕ) (p : Place)
-    → slice_get (nodes_from before rows) k ≡ Some p
-    → p.path ≡ path_after before (take (suc k) rows)
-path_at before [] k p h = cc
-path_at before (r ∷ rows) zero p h = cc
-path_at before (r ∷ rows) (suc k) p h = path_at (path_of before r) rows k p h
+-- ---- what leads up from a row
 
 follows_last : (before : Path) (xs : List NodeRow) (r : NodeRow) → Follows before (xs ++ r ∷ [])
     → (1 ≤ r.depth) × (r.depth ≤ suc (length (path_after before xs)))
@@ -102,12 +98,12 @@ last_path : (rows : List NodeRow) (i : ℕ) (r : NodeRow) → 0 < i → i ≤ le
 last_path rows i r some within is =
     ap (path_after []) (last_row rows i r some within is) ∙ path_after-append [] (take (i - 1) rows) (r ∷ [])
 
-last_follows : (rows : List NodeRow) (i : ℕ) (r : NodeRow) → IsValid rows → 0 < i
+last_follows : (rows : List NodeRow) (i : ℕ) (r : NodeRow) → Follows [] rows → 0 < i
     → i ≤ length rows → r ≡ get_or rows (i - 1) r
     → (1 ≤ r.depth) × (r.depth ≤ suc (length (path_after [] (take (i - 1) rows))))
-last_follows rows i r valid some within is =
-    let follows = follows_front [] (take i rows) (drop i rows) (subst (Follows []) (sym (take-append-drop i rows)) (Follows-outline rows valid.tree)) in
-    follows_last [] (take (i - 1) rows) r (subst (Follows []) (last_row rows i r some within is) follows)
+last_follows rows i r follows some within is =
+    let first = follows_front [] (take i rows) (drop i rows) (subst (Follows []) (sym (take-append-drop i rows)) follows) in
+    follows_last [] (take (i - 1) rows) r (subst (Follows []) (last_row rows i r some within is) first)
 
 -- ---- the records in front of the first that is out at a node that was met
 
@@ -141,25 +137,28 @@ next_first seen n recs free next first is =
     is ∙ ap (λ k. position_or_len (out_at n) (take k recs)) first ∙ nearer (out_among seen) (out_at n) recs
     ∙ first_as (λ r. out_among seen r || out_at n r) (out_among (seen ++ n ∷ [])) (λ r. one_more (is_out r) (mem r.node seen) (bytes_eq n r.node) ∙ ap (λ b. is_out r && b) (sym (mem-append r.node seen (n ∷ [])))) recs
 
-pub met_first : (rows : List NodeRow) (recs : List SpawnRec) (place free : ℕ) (r : NodeRow)
-    → place < length rows → r ≡ get_or rows place r → free ≡ position_or_len (out_at r.id) recs
-    → Met rows (path_after [] (take (suc place) rows)) recs place r.depth free
-met_first rows recs place free r within is first =
-    let back : place ≡ suc place - 1 = omega arith in
+-- the path of a node at a depth behind these rows
+abbrev pub path_behind : List ℕ → ℕ → List NodeRow → Path
+path_behind n depth front = n ∷ last_of (depth - 1) (path_after [] front)
+
+pub met_first : (front : List NodeRow) (recs : List SpawnRec) (n : List ℕ) (depth free : ℕ)
+    → free ≡ position_or_len (out_at n) recs
+    → Met front (path_behind n depth front) recs (length front) depth free
+met_first front recs n depth free first =
     record {
-      seen = r.id ∷ [];
-      whole = last_path rows (suc place) r (omega arith) (omega (arith, within)) (is ∙ ap (λ k. get_or rows k r) back) ∙ ap (λ k. path_of (path_after [] (take k rows)) r) (sym back);
-      first = first ∙ first_as (out_at r.id) (out_among (r.id ∷ [])) (λ s. ap (λ b. is_out s && b) (sym (or_none (bytes_eq r.id s.node)))) recs;
+      seen = n ∷ [];
+      whole = ap (path_behind n depth) (sym (take_all (length front) front (omega arith)));
+      first = first ∙ first_as (out_at n) (out_among (n ∷ [])) (λ s. ap (λ b. is_out s && b) (sym (or_none (bytes_eq n s.node)))) recs;
     }
 
 pub met_higher : (rows : List NodeRow) (path : Path) (recs : List SpawnRec)
-    (i depth free next : ℕ) (r : NodeRow) → IsValid rows → Met rows path recs i depth free
+    (i depth free next : ℕ) (r : NodeRow) → Follows [] rows → Met rows path recs i depth free
     → 0 < i → i ≤ length rows → r ≡ get_or rows (i - 1) r → r.depth < depth
     → next ≡ position_or_len (out_at r.id) (take free recs)
     → Met rows path recs (i - 1) r.depth next
-met_higher rows path recs i depth free next r valid met some within is less found =
+met_higher rows path recs i depth free next r follow met some within is less found =
     let behind = path_after [] (take (i - 1) rows) in
-    let follows = last_follows rows i r valid some within is in
+    let follows = last_follows rows i r follow some within is in
     record {
       seen = met.seen ++ r.id ∷ [];
       whole = met.whole ∙ ap (λ p. met.seen ++ last_of (depth - 1) p) (last_path rows i r some within is) ∙ ap (λ p. met.seen ++ p) (climb_higher depth r behind less follows.0 follows.1)
@@ -168,12 +167,12 @@ met_higher rows path recs i depth free next r valid met some within is less foun
     }
 
 pub met_deeper : (rows : List NodeRow) (path : Path) (recs : List SpawnRec)
-    (i depth free : ℕ) (r : NodeRow) → IsValid rows → Met rows path recs i depth free
+    (i depth free : ℕ) (r : NodeRow) → Follows [] rows → Met rows path recs i depth free
     → 0 < i → i ≤ length rows → r ≡ get_or rows (i - 1) r → depth ≤ r.depth
     → Met rows path recs (i - 1) depth free
-met_deeper rows path recs i depth free r valid met some within is more =
+met_deeper rows path recs i depth free r follow met some within is more =
     let behind = path_after [] (take (i - 1) rows) in
-    let follows = last_follows rows i r valid some within is in
+    let follows = last_follows rows i r follow some within is in
     record {
       seen = met.seen;
       whole = met.whole ∙ ap (λ p. met.seen ++ last_of (depth - 1) p) (last_path rows i r some within is) ∙ ap (λ p. met.seen ++ p) (climb_deeper depth r behind more follows.0 follows.1);
@@ -195,15 +194,46 @@ met_within rows path recs i depth free met =
     let within : free ≤ length recs = subst (λ n. n ≤ length recs) (sym met.first) (first_within (out_among met.seen) recs) in
     sym (length-take-le free recs within)
 
--- ---- the records in front of the first that holds what stands under x at a
+-- ---- the path of a node, as it is seen
 
-pub copy_first : (rows given : List NodeRow) (a x : List ℕ) (recs : List SpawnRec) (free : ℕ)
-    → given ≡ rows → position (λ r. bytes_eq r.id a) given ≡ None
-    → free ≡ position_or_len (λ r. is_out r && mem x r.rw) recs
-    → free ≡ position_or_len (claims_at rows x a) recs
-copy_first rows given a x recs free seen none first =
-    let unknown : position (λ r. bytes_eq r.id a) rows ≡ None = ap (position (λ r. bytes_eq r.id a)) (sym seen) ∙ none in
-    first ∙ first_as (λ r. is_out r && mem x r.rw) (claims_at rows x a) (λ r. ap (λ b. is_out r && (b || mem x r.rw)) (sym (below_none rows a r.node unknown))) recs
+pub front_follows : (rows : List NodeRow) (n : List ℕ) (a : At) → IsValid rows → IsAt rows n a
+    → Follows [] a.front.now
+front_follows rows n a valid is =
+    follows_front [] a.front.now (a.below.now ++ a.behind.now) (subst (Follows []) (is.whole ∙ append_assoc a.front.now a.below.now a.behind.now) (Follows-outline rows valid.tree))
+
+-- a node is below just those of its path
+pub below_path : (rows : List NodeRow) (n : List ℕ) (a : At) → IsValid rows → IsAt rows n a
+    → has_node rows n ≡ true → (x : List ℕ)
+    → mem x (path_behind n a.depth a.front.now) ≡ is_below (node_places rows) n x
+below_path rows n a valid is known x =
+    let at = around rows n valid known in
+    let seen = shows rows n a valid is at in
+    ap (λ front. mem x (path_behind n a.depth front)) seen.front ∙ ap (λ depth. mem x (path_behind n depth at.front)) seen.depth
+    ∙ ap (λ i. mem x (path_behind i at.root.depth at.front)) (sym at.named)
+    ∙ sym (ap (λ o. option_map_or (below x) o false) (root_place rows n valid at))
+
+none_first : {X : Type 0} (f : X → Bool) (xs : List X) → ((x : X) → f x ≡ false)
+    → length xs ≡ position_or_len f xs
+none_first f [] none = refl
+none_first f (x ∷ xs) none = sym (ap (λ b. cond (not b) (1 + position_or_len f xs) 0) (none x) ∙ ap (λ n. 1 + n) (sym (none_first f xs none)) ∙ one-add (length xs))
+
+and_none : (b : Bool) → (b && false) ≡ false
+and_none true = refl
+and_none false = refl
+
+below_at_none : (o : Option Place) (x : List ℕ) → is_some o ≡ false
+    → option_map_or (below x) o false ≡ false
+below_at_none None x none = refl
+below_at_none (Some p) x none = cc
+
+-- an unknown node is below none
+pub unknown_first : (rows : List NodeRow) (n : List ℕ) (recs : List SpawnRec)
+    → has_node rows n ≡ false
+    → length recs ≡ position_or_len (λ r. is_out r && is_below (node_places rows) n r.node) recs
+unknown_first rows n recs unknown =
+    none_first (λ r. is_out r && is_below (node_places rows) n r.node) recs (λ r. ap (λ b. is_out r && b) (below_at_none (place_at (node_places rows) n) r.node (stands_node rows n ∙ unknown)) ∙ and_none (is_out r))
+
+-- ---- the records in front of the first that holds what stands under x at a node
 
 either : (out one other : Bool) → ((out && one) || (out && other)) ≡ (out && (other || one))
 either false one other = refl
@@ -212,20 +242,16 @@ either true true false = refl
 either true false true = refl
 either true false false = refl
 
-pub above_first : (rows given : List NodeRow) (a x : List ℕ) (recs : List SpawnRec) (k free next : ℕ)
-    → given ≡ rows → position (λ r. bytes_eq r.id a) given ≡ Some k
+pub claims_first : (rows : List NodeRow) (n x : List ℕ) (recs : List SpawnRec) (free next : ℕ)
     → free ≡ position_or_len (λ r. is_out r && mem x r.rw) recs
-    → ((p : Place) → slice_get (node_places given) k ≡ Some p
-    → next ≡ position_or_len (λ r. is_out r && below r.node p) (take free recs))
-    → next ≡ position_or_len (claims_at rows x a) recs
-above_first rows given a x recs k free next seen found first go =
-    let known : position (λ r. bytes_eq r.id a) rows ≡ Some k = ap (position (λ r. bytes_eq r.id a)) (sym seen) ∙ found in
-    let h = place_found [] rows a k known in
-    let at : slice_get (node_places given) k ≡ Some h.0 = ap (λ rs. slice_get (node_places rs) k) seen ∙ ap (λ nodes. slice_get nodes k) (node_places-rows rows) ∙ h.1 in
+    → next
+    ≡ position_or_len (λ r. is_out r && is_below (node_places rows) n r.node) (take free recs)
+    → next ≡ position_or_len (claims_at rows x n) recs
+claims_first rows n x recs free next first found =
     let copied : SpawnRec → Bool = λ r. is_out r && mem x r.rw in
-    let out_above : SpawnRec → Bool = λ r. is_out r && below r.node h.0 in
-    go h.0 at ∙ ap (λ n. position_or_len out_above (take n recs)) first ∙ nearer copied out_above recs
-    ∙ first_as (λ r. copied r || out_above r) (claims_at rows x a) (λ r. either (is_out r) (mem x r.rw) (below r.node h.0) ∙ ap (λ b. is_out r && (b || mem x r.rw)) (sym (is_below-place rows a r.node k h))) recs
+    let out_above : SpawnRec → Bool = λ r. is_out r && is_below (node_places rows) n r.node in
+    found ∙ ap (λ k. position_or_len out_above (take k recs)) first ∙ nearer copied out_above recs
+    ∙ first_as (λ r. copied r || out_above r) (claims_at rows x n) (λ r. either (is_out r) (mem x r.rw) (is_below (node_places rows) n r.node)) recs
 
 -- ---- the first itself
 

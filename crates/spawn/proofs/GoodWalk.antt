@@ -3,10 +3,9 @@
 -- good.
 use Rattle.std.proofs.Common.{◌≡◌, ◌∙◌, ℕ, ◌+◌, ◌<◌, ◌&&◌, Bool, true, false, not, cond, List, []}
 use Rattle.std.proofs.Common.{◌∷◌, ◌++◌, length, map, drop, get_or, Option, Some, None, refl, sym}
-use Rattle.std.proofs.Common.{ap, ◌||◌, append_assoc, suc, ◌-◌, take, is_some, nat_lt, slice_get}
-use Rattle.std.proofs.Common.{arith}
-use Rattle.std.proofs.lemmas.Bool.{true≢false, and_parts, and_from, or_parts, lt-ltb, le-ltb}
-use Rattle.std.proofs.lemmas.List.{drop_more, map-append, take-append-drop, drop-drop}
+use Rattle.std.proofs.Common.{ap, ◌||◌, append_assoc, is_some, nat_lt}
+use Rattle.std.proofs.lemmas.Bool.{true≢false, and_parts, and_from, or_parts}
+use Rattle.std.proofs.lemmas.List.{drop_more, map-append}
 use Rattle.std.proofs.lemmas.Slice.Eq.{bytes_eq-Decides}
 use Rattle.std.proofs.lemmas.List.Folds.{list_any-append}
 use Rattle.std.specs.List.{filter, list_all, list_any}
@@ -18,7 +17,6 @@ use Rattle.ticket_items.specs.Ids.{mem}
 use Rattle.ticket_tree.specs.Part.{is_linked}
 use Rattle.ticket_rows.specs.Place.{Thing, resource, fixed, Place, resource_place, places}
 use Rattle.ticket_rows.specs.Place.{places_from, is_node, below, path_of, fixed_at, node_places, up}
-use Rattle.ticket_rows.specs.Place.{parent, BoundsNodesBelow}
 use Rattle.ticket_items.specs.declared.node_row.NodeRow.{NodeRow}
 use Rattle.ticket_items.specs.declared.resource.Resource.{Resource}
 use Rattle.spawn.specs.Parts.{resources}
@@ -26,14 +24,15 @@ use Rattle.spawn.specs.Walk.{Left, are_same, behind, met, all_met, are_none}
 use Rattle.ticket_rows.proofs.Below.{Path}
 use Rattle.spawn.proofs.Outside.{around_places}
 use Rattle.spawn.proofs.RowsBelow.{filter-append}
-use Rattle.spawn.proofs.Split.{Around, path_after, path_after-append, places_from-append}
+use Rattle.spawn.proofs.Split.{Around, around, path_after, path_after-append, places_from-append}
 use Rattle.spawn.specs.Claim.{links, is_linked_below, is_linked_outside, linked_outside, ids_of}
 use Rattle.spawn.specs.Claim.{linked_rw, linked_ro}
-use Rattle.ticket_rows.specs.Ticket.{IsValid}
-use Rattle.spawn.proofs.Ancestry.{root_place}
+use Rattle.ticket_rows.specs.Ticket.{IsValid, has_node}
 use Rattle.spawn.proofs.GoodCopies.{first_of_fixed, first_of_places}
-use Rattle.spawn.proofs.PartFor.{bounds_apart}
-use Rattle.spawn.proofs.Slices.{rows_between, rows_before, rows_behind}
+use Rattle.spawn.proofs.AroundAt.{shows}
+use Rattle.ticket_tree.proofs.AtNode.{deeper_has_parent}
+use Rattle.ticket_tree.specs.At.{IsAt}
+use Rattle.ticket_tree.specs.declared.at.At.{At}
 use Rattle.spawn.specs.Records.{IsGood}
 use Rattle.spawn.specs.declared.records.spawn_rec.SpawnRec.{SpawnRec}
 
@@ -421,39 +420,6 @@ outside_fixed rows n t at =
     ∙ ap (map fixed) (filter-append (λ x. t x.id) (filter lk (resources at.front)) (filter lk (resources at.back)))
     ∙ map-append fixed (filter (λ x. t x.id) (filter lk (resources at.front))) (filter (λ x. t x.id) (filter lk (resources at.back))))
 
--- ---- the rows behind those below a node
-
-same_behind : {X : Type 0} (xs ys zs : List X) → xs ++ ys ≡ xs ++ zs → ys ≡ zs
-same_behind [] ys zs e = e
-same_behind (x ∷ xs) ys zs e = same_behind xs ys zs (tail_is x x (xs ++ ys) (xs ++ zs) e)
-
-rows_after : (rows : List NodeRow) (n : List ℕ) (from to : ℕ) → IsValid rows
-    → BoundsNodesBelow rows n from to → (at : Around rows n) → drop to rows ≡ at.back
-rows_after rows n from to valid bounds at =
-    let mid = at.root ∷ at.inner in
-    let later = drop from rows in
-    let apart = bounds_apart rows n from to valid bounds at in
-    let sum : to ≡ from + (to - from) = omega (arith, apart) in
-    ap (λ k. drop k rows) sum ∙ sym (drop-drop (to - from) from rows)
-    ∙ same_behind mid (drop (to - from) later) at.back (ap (λ rs. rs ++ drop (to - from) later) (sym (rows_between rows n from to valid bounds at)) ∙ take-append-drop (to - from) later ∙ rows_behind rows n from to valid bounds at)
-
--- ---- the parent
-
-above_at : (n : List ℕ) (above : Path) (depth : ℕ) → depth ≡ suc (length above)
-    → nat_lt 1 depth ≡ is_some (slice_get (n ∷ above) 1)
-above_at n [] depth level = le-ltb 1 depth (omega (arith, level))
-above_at n (u ∷ above) depth level = lt-ltb 1 depth (omega (arith, level))
-
-pub parent_is : (rows : List NodeRow) (n : List ℕ) (from to : ℕ) (inside : List NodeRow)
-    → IsValid rows → BoundsNodesBelow rows n from to → (at : Around rows n)
-    → inside ≡ take (to - from) (drop from rows)
-    → option_map_or (λ r. nat_lt 1 r.depth) (slice_get inside 0) false
-    ≡ is_some (up (node_places rows) n)
-parent_is rows n from to inside valid bounds at seen =
-    ap (λ rs. option_map_or (λ r. nat_lt 1 r.depth) (slice_get rs 0) false) (seen ∙ rows_between rows n from to valid bounds at)
-    ∙ above_at n at.up at.root.depth at.level
-    ∙ sym (ap (λ o. is_some (option_and_then parent o)) (root_place rows n valid at) ∙ ap (λ path. is_some (slice_get path 1)) at.path)
-
 -- ---- the copies
 
 abbrev AreCopied : List NodeRow → SpawnRec → Type 0
@@ -480,18 +446,8 @@ copied_around rows r at =
       λ those. both.1 (those.0 ∙ sym changed, those.1 ∙ read),
     )
 
-pub copies_are : (rows : List NodeRow) (r : SpawnRec) (from to : ℕ)
-    (front inside back : List NodeRow)
-    → IsValid rows → BoundsNodesBelow rows r.node from to → (at : Around rows r.node)
-    → front ≡ take from rows → inside ≡ take (to - from) (drop from rows) → back ≡ drop to rows
-    → copied_in front inside back r ≡ copied_in at.front (at.root ∷ at.inner) at.back r
-copies_are rows r from to front inside back valid bounds at f i b =
-    ap (λ rs. copied_in rs inside back r) (f ∙ rows_before rows r.node from to valid bounds at)
-    ∙ ap (λ rs. copied_in at.front rs back r) (i ∙ rows_between rows r.node from to valid bounds at)
-    ∙ ap (λ rs. copied_in at.front (at.root ∷ at.inner) rs r) (b ∙ rows_after rows r.node from to valid bounds at)
-
 -- a record is good exactly if its node has a parent and the walk finds its copies
-pub good_if : (rows : List NodeRow) (r : SpawnRec) (result : Bool) → (at : Around rows r.node)
+good_if : (rows : List NodeRow) (r : SpawnRec) (result : Bool) → (at : Around rows r.node)
     → is_some (up (node_places rows) r.node) ≡ true
     → result ≡ copied_in at.front (at.root ∷ at.inner) at.back r
     → (result ≡ true → IsGood rows r) × (IsGood rows r → result ≡ true)
@@ -500,3 +456,18 @@ good_if rows r result at above e =
       λ done. let those = both.0 (sym e ∙ done) in record { has_parent = above; rw = those.0; ro = those.1 },
       λ good. e ∙ both.1 (good.rw, good.ro),
     )
+
+-- the same of the rows that a ticket shows at the node
+pub good_at : (rows : List NodeRow) (r : SpawnRec) (a : At) (result : Bool) → IsValid rows
+    → IsAt rows r.node a → has_node rows r.node ≡ true → nat_lt 1 a.depth ≡ true
+    → result ≡ copied_in a.front.now a.below.now a.behind.now r
+    → (result ≡ true → IsGood rows r) × (IsGood rows r → result ≡ true)
+good_at rows r a result valid is known deeper e =
+    let at = around rows r.node valid known in
+    let mid = at.root ∷ at.inner in
+    let seen = shows rows r.node a valid is at in
+    good_if rows r result at (sym (deeper_has_parent rows r.node a is) ∙ deeper)
+    (e
+    ∙ ap (λ rs. copied_in rs a.below.now a.behind.now r) seen.front
+    ∙ ap (λ rs. copied_in at.front rs a.behind.now r) seen.below
+    ∙ ap (λ rs. copied_in at.front mid rs r) seen.behind)

@@ -20,7 +20,7 @@ use Rattle.spawn.proofs.Standing.{ids_apart}
 use Rattle.spawn.proofs.Winner.{is_won, won}
 use Rattle.spawn.specs.Claim.{is_claimed}
 use Rattle.spawn.specs.Holdings.{Holdings, IsTable, has_master, held_by}
-use Rattle.spawn.specs.Parts.{rows_below}
+use Rattle.ticket_tree.specs.At.{rows_below}
 use Rattle.spawn.specs.Spawning.{not_held}
 use Rattle.spawn.specs.Table.{holder_at, holding, is_masters}
 use Rattle.spawn.specs.declared.records.spawn_rec.SpawnRec.{SpawnRec}

@@ -1,16 +1,16 @@
 -- The record of a new spawn: what its copies are, that it is good, and that it stays so while
 -- nothing moves.
-use Rattle.std.proofs.Common.{◌≡◌, ◌∙◌, ℕ, ◌-◌, ◌<◌, ◌&&◌, ◌||◌, Bool, true, false, not, List, []}
-use Rattle.std.proofs.Common.{◌∷◌, ◌++◌, length, map, take, drop, is_some, refl, sym, ap, arith}
+use Rattle.std.proofs.Common.{◌≡◌, ◌∙◌, ℕ, ◌&&◌, ◌||◌, Bool, true, false, not, List, []}
+use Rattle.std.proofs.Common.{◌∷◌, ◌++◌, map, is_some, refl, sym, ap}
 use Rattle.std.proofs.lemmas.Bool.{and_from}
-use Rattle.std.proofs.lemmas.List.{map-append, drop_at, length-take, length-drop, length-append}
+use Rattle.std.proofs.lemmas.List.{map-append}
 use Rattle.std.specs.List.{filter, list_all}
 use Rattle.std.specs.Str.{bytes_eq}
 use Rattle.ticket_items.proofs.Apart.{bytes_eq-same}
 use Rattle.ticket_items.specs.Ids.{mem}
 use Rattle.ticket_items.specs.Resource.{resource_ids}
 use Rattle.ticket_tree.specs.Part.{is_linked}
-use Rattle.ticket_rows.specs.Place.{places, node_places, nodes_in, up, BoundsNodesBelow, fixed}
+use Rattle.ticket_rows.specs.Place.{places, node_places, nodes_in, up, fixed}
 use Rattle.ticket_rows.specs.Place.{fixed_at}
 use Rattle.ticket_rows.specs.Ticket.{IsValid, has_node}
 use Rattle.ticket_items.specs.declared.node_row.NodeRow.{NodeRow}
@@ -19,29 +19,16 @@ use Rattle.spawn.proofs.Among.{kept_keys}
 use Rattle.spawn.proofs.Chosen.{all_too, around_kept, kept_fixed, kept_ids, linked_and, same_where}
 use Rattle.spawn.proofs.Chosen.{wanted}
 use Rattle.spawn.proofs.HomesBelow.{or_right}
-use Rattle.spawn.proofs.PartFor.{bounds_apart}
-use Rattle.spawn.proofs.Slices.{from_is, rows_before, rows_between}
+use Rattle.spawn.proofs.AroundAt.{shows}
 use Rattle.spawn.proofs.Split.{Around, around}
-use Rattle.spawn.specs.At.{IsAt}
+use Rattle.ticket_tree.specs.At.{IsAt}
 use Rattle.spawn.specs.Claim.{ids_of, linked_outside, linked_rw, linked_ro}
 use Rattle.spawn.specs.Parts.{resources, resources_among}
 use Rattle.spawn.specs.Records.{IsGood}
 use Rattle.spawn.specs.Spawning.{new_record}
-use Rattle.spawn.specs.declared.claims.node_at.At.{At}
+use Rattle.ticket_tree.specs.declared.at.At.{At}
 use Rattle.spawn.specs.declared.records.phase.Phase.TheVariants.{Out}
 use Rattle.spawn.specs.declared.records.spawn_rec.SpawnRec.{SpawnRec}
-
--- ---- rows behind a node
-
-pub rows_after : (rows : List NodeRow) (n : List ℕ) (from to : ℕ) → IsValid rows
-    → BoundsNodesBelow rows n from to → (at : Around rows n) → drop to rows ≡ at.back
-rows_after rows n from to valid bounds at =
-    let mid = at.root ∷ at.inner in
-    let front : length at.front ≡ from = from_is rows n from to valid bounds at in
-    let between : length (take (to - from) (drop from rows)) ≡ length mid = ap length (rows_between rows n from to valid bounds at) in
-    let apart : from < to = bounds_apart rows n from to valid bounds at in
-    let long : length (at.front ++ mid) ≡ to = omega (arith, length-append at.front mid, front, between, length-take (to - from) (drop from rows), length-drop from rows, bounds.end, apart) in
-    ap (drop to) at.whole ∙ drop_at (at.front ++ mid) at.back to long
 
 -- ---- ids among ids
 
@@ -90,28 +77,17 @@ pub changes_are : (rows : List NodeRow) (n : List ℕ) (ids : List (List ℕ)) �
     ≡ resource_ids (filter (λ x. wanted at x.id && mem x.id ids) (resources rows))
 changes_are rows n ids valid at = ap ids_of (linked_and rows n (λ x. mem x ids) valid at) ∙ kept_ids (λ x. wanted at x && mem x ids) rows
 
-fronts : (rows : List NodeRow) (n : List ℕ) (a : At) → IsValid rows → IsAt rows n a
-    → (at : Around rows n) → a.front.now ≡ at.front
-fronts rows n a valid here at = here.front ∙ rows_before rows n here.from here.to valid here.bounds at
-
-mids : (rows : List NodeRow) (n : List ℕ) (a : At) → IsValid rows → IsAt rows n a
-    → (at : Around rows n) → a.below.now ≡ at.root ∷ at.inner
-mids rows n a valid here at = here.below ∙ rows_between rows n here.from here.to valid here.bounds at
-
-backs : (rows : List NodeRow) (n : List ℕ) (a : At) → IsValid rows → IsAt rows n a
-    → (at : Around rows n) → a.back.now ≡ at.back
-backs rows n a valid here at = here.back ∙ rows_after rows n here.from here.to valid here.bounds at
-
 -- those that pass in front of n and behind it
 both_sides : (rows : List NodeRow) (n : List ℕ) (a : At) (q : List ℕ → Bool) → IsValid rows
     → IsAt rows n a → (at : Around rows n)
     → filter (λ x. is_linked a.below.now x.id && q x.id) (resources a.front.now)
-    ++ filter (λ x. is_linked a.below.now x.id && q x.id) (resources a.back.now)
+    ++ filter (λ x. is_linked a.below.now x.id && q x.id) (resources a.behind.now)
     ≡ filter (λ x. wanted at x.id && q x.id) (resources rows)
 both_sides rows n a q valid here at =
-    ap (λ rs. filter (λ x. is_linked rs x.id && q x.id) (resources a.front.now) ++ filter (λ x. is_linked rs x.id && q x.id) (resources a.back.now)) (mids rows n a valid here at)
-    ∙ ap (λ rs. filter (λ x. is_linked (at.root ∷ at.inner) x.id && q x.id) (resources rs) ++ filter (λ x. is_linked (at.root ∷ at.inner) x.id && q x.id) (resources a.back.now)) (fronts rows n a valid here at)
-    ∙ ap (λ rs. filter (λ x. is_linked (at.root ∷ at.inner) x.id && q x.id) (resources at.front) ++ filter (λ x. is_linked (at.root ∷ at.inner) x.id && q x.id) (resources rs)) (backs rows n a valid here at)
+    let seen = shows rows n a valid here at in
+    ap (λ rs. filter (λ x. is_linked rs x.id && q x.id) (resources a.front.now) ++ filter (λ x. is_linked rs x.id && q x.id) (resources a.behind.now)) seen.below
+    ∙ ap (λ rs. filter (λ x. is_linked (at.root ∷ at.inner) x.id && q x.id) (resources rs) ++ filter (λ x. is_linked (at.root ∷ at.inner) x.id && q x.id) (resources a.behind.now)) seen.front
+    ∙ ap (λ rs. filter (λ x. is_linked (at.root ∷ at.inner) x.id && q x.id) (resources at.front) ++ filter (λ x. is_linked (at.root ∷ at.inner) x.id && q x.id) (resources rs)) seen.behind
     ∙ sym (around_kept rows n q valid at)
 
 pub new_changes : (rows : List NodeRow) (n : List ℕ) (a : At) (ids : List (List ℕ)) → IsValid rows
@@ -119,17 +95,17 @@ pub new_changes : (rows : List NodeRow) (n : List ℕ) (a : At) (ids : List (Lis
     → resource_ids
     (filter (λ x. is_linked a.below.now x.id && mem x.id ids) (resources a.front.now))
     ++ resource_ids
-    (filter (λ x. is_linked a.below.now x.id && mem x.id ids) (resources a.back.now))
+    (filter (λ x. is_linked a.below.now x.id && mem x.id ids) (resources a.behind.now))
     ≡ ids_of (linked_rw (places rows) n ids)
 new_changes rows n a ids valid known here =
     let at = around rows n valid known in
     let test : Resource → Bool = λ x. is_linked a.below.now x.id && mem x.id ids in
-    sym (map-append (λ x. x.id) (filter test (resources a.front.now)) (filter test (resources a.back.now))) ∙ ap resource_ids (both_sides rows n a (λ x. mem x ids) valid here at) ∙ sym (changes_are rows n ids valid at)
+    sym (map-append (λ x. x.id) (filter test (resources a.front.now)) (filter test (resources a.behind.now))) ∙ ap resource_ids (both_sides rows n a (λ x. mem x ids) valid here at) ∙ sym (changes_are rows n ids valid at)
 
 pub new_reads : (rows : List NodeRow) (n : List ℕ) (a : At) (ids : List (List ℕ)) → IsValid rows
     → has_node rows n ≡ true → IsAt rows n a
     → filter (λ x. is_linked a.below.now x.id && not (mem x.id ids)) (resources a.front.now)
-    ++ filter (λ x. is_linked a.below.now x.id && not (mem x.id ids)) (resources a.back.now)
+    ++ filter (λ x. is_linked a.below.now x.id && not (mem x.id ids)) (resources a.behind.now)
     ≡ resources_among (ids_of (linked_ro (places rows) n ids)) rows
 new_reads rows n a ids valid known here =
     let at = around rows n valid known in

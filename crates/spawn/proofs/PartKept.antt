@@ -28,7 +28,8 @@ use Rattle.ticket_items.specs.declared.refusal.Refusal.TheVariants.{TooManySpawn
 use Rattle.spawn.proofs.Ancestry.{reverse-cons}
 use Rattle.spawn.proofs.Chosen.{resources_cons}
 use Rattle.spawn.specs.Parts.{above, ancestor, ancestors, lifted, part_for, resources}
-use Rattle.spawn.specs.Parts.{resources_among, rows_below}
+use Rattle.spawn.specs.Parts.{resources_among}
+use Rattle.ticket_tree.specs.At.{rows_below}
 use Rattle.spawn.specs.Spawning.{new_record, parent_of, spawn_refusal}
 use Rattle.spawn.specs.declared.records.spawn_rec.SpawnRec.{SpawnRec}
 

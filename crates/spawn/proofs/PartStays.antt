@@ -12,10 +12,11 @@ use Rattle.ticket_rows.specs.Place.{is_below, path_of, places, node_places, row_
 use Rattle.ticket_items.specs.declared.node_row.NodeRow.{NodeRow}
 use Rattle.ticket_items.specs.declared.resource.Resource.{Resource}
 use Rattle.spawn.proofs.Chosen.{resources_cons, filter_as, filter_twice}
-use Rattle.spawn.proofs.RowsBelow.{OwnPlaces, filter-append, stands_below, own_places-rows}
+use Rattle.ticket_tree.proofs.OwnPlaces.{OwnPlaces, stands_below, own_places-rows}
+use Rattle.spawn.proofs.RowsBelow.{filter-append}
 use Rattle.spawn.specs.Claim.{is_claimed, claim, ids_of}
 use Rattle.spawn.specs.Parts.{resources, resources_among, above, ancestor, ancestors, lifted}
-use Rattle.spawn.specs.Parts.{rows_below}
+use Rattle.ticket_tree.specs.At.{rows_below}
 use Rattle.ticket_items.proofs.Apart.{bytes_eq-same}
 use Rattle.ticket_tree.specs.Part.{copied}
 use Rattle.ticket_rows.specs.Ticket.{IsValid, ids}

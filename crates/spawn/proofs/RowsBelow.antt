@@ -1,50 +1,24 @@
 -- The rows below a node are its own and the deeper ones behind it.
-use Rattle.std.proofs.Common.{◌≡◌, ◌∙◌, ℕ, Bool, true, false, not, cond, List, [], ◌∷◌, ◌++◌, Some}
-use Rattle.std.proofs.Common.{map, is_some, refl, sym, ap, subst, append-nil, ◌+◌, ◌<◌, length}
+use Rattle.std.proofs.Common.{◌≡◌, ◌∙◌, ℕ, Bool, true, false, cond, List, [], ◌∷◌, ◌++◌}
+use Rattle.std.proofs.Common.{map, refl, sym, ap, subst, append-nil, ◌+◌, ◌<◌, length}
 use Rattle.std.proofs.Common.{take, get_or, append_assoc}
 use Rattle.std.proofs.lemmas.Bool.{and_parts, or_parts}
 use Rattle.std.proofs.lemmas.List.{map-append, take_more}
 use Rattle.std.specs.List.{filter, list_all, list_any}
-use Rattle.std.specs.Option.{option_map_or}
-use Rattle.ticket_items.proofs.Apart.{bytes_eq-same}
-use Rattle.ticket_rows.proofs.Below.{Path, mem-node_ids, is_some-place_at}
-use Rattle.ticket_rows.proofs.NodePlaces.{nodes_from, node_places-rows, node_ids_distinct}
-use Rattle.ticket_tree.proofs.Parents.{other_id}
-use Rattle.ticket_items.specs.Ids.{mem, are_distinct}
-use Rattle.ticket_rows.specs.Place.{Place, node_place, resource_place, places_from, node_places}
-use Rattle.ticket_rows.specs.Place.{place_at, below, is_below, path_of}
-use Rattle.ticket_rows.specs.Ticket.{IsValid, node_ids}
+use Rattle.ticket_rows.proofs.Below.{Path}
+use Rattle.ticket_tree.proofs.OwnPlaces.{OwnPlaces, own_places-rows, stands_below}
+use Rattle.ticket_items.specs.Ids.{mem}
+use Rattle.ticket_rows.specs.Place.{Place, resource_place, places_from, node_places}
+use Rattle.ticket_rows.specs.Place.{below, is_below, path_of}
+use Rattle.ticket_rows.specs.Ticket.{IsValid}
 use Rattle.ticket_items.specs.declared.node_row.NodeRow.{NodeRow}
 use Rattle.spawn.proofs.Split.{path_after, path_after-append, Around}
-use Rattle.spawn.specs.Parts.{rows_below, resources, resources_among}
+use Rattle.spawn.specs.Parts.{resources, resources_among}
+use Rattle.ticket_tree.specs.At.{rows_below}
 use Rattle.ticket_rows.specs.Homes.{homes, homed}
 use Rattle.ticket_items.specs.declared.resource.Resource.{Resource}
 
--- ---- each row's own place is found by its id
-
-abbrev FindsAll : List Place → List Place → Type 0
-FindsAll tree later = (y : List ℕ) (p : Place) → place_at later y ≡ Some p → place_at tree y ≡ Some p
-
-abbrev pub OwnPlaces : List Place → Path → List NodeRow → Type 0
-OwnPlaces tree before [] = Unit {0}
-OwnPlaces tree before (r ∷ rows) = (place_at tree r.id ≡ Some (node_place r (path_of before r))) × OwnPlaces tree (path_of before r) rows
-
-own_places : (tree : List Place) (before : Path) (rows : List NodeRow)
-    → FindsAll tree (nodes_from before rows) → are_distinct (node_ids rows) ≡ true
-    → OwnPlaces tree before rows
-own_places tree before [] finds apart = tt
-own_places tree before (r ∷ rows) finds apart =
-    let path = path_of before r in
-    let parts = and_parts (not (mem r.id (node_ids rows))) (are_distinct (node_ids rows)) apart in (
-      finds r.id (node_place r path) (ap (λ b. cond b (Some (node_place r path)) (place_at (nodes_from path rows) r.id)) (bytes_eq-same r.id)),
-      own_places tree path rows
-          (λ y p found. finds y p (ap (λ b. cond b (Some (node_place r path)) (place_at (nodes_from path rows) y)) (other_id r rows y apart (mem-node_ids rows y ∙ sym (is_some-place_at path rows y) ∙ ap is_some found)) ∙ found))
-          parts.1,
-    )
-
-pub own_places-rows : (rows : List NodeRow) → IsValid rows → OwnPlaces (node_places rows) [] rows
-own_places-rows rows valid =
-    own_places (node_places rows) [] rows (λ y p found. ap (λ ps. place_at ps y) (node_places-rows rows) ∙ found) (node_ids_distinct rows valid.distinct)
+-- ---- the places of the rows of two lists, one behind the other
 
 own_front : (tree : List Place) (before : Path) (xs ys : List NodeRow)
     → OwnPlaces tree before (xs ++ ys) → OwnPlaces tree before xs
@@ -67,10 +41,6 @@ all_front : {X : Type 0} (f : X → Bool) (xs ys : List X) → list_all f (xs ++
     → list_all f ys ≡ true
 all_front f [] ys all = all
 all_front f (x ∷ xs) ys all = all_front f xs ys (and_parts (f x) (list_all f (xs ++ ys)) all).1
-
-pub stands_below : (tree : List Place) (n : List ℕ) (r : NodeRow) (path : Path) (b : Bool)
-    → place_at tree r.id ≡ Some (node_place r path) → mem n path ≡ b → is_below tree r.id n ≡ b
-stands_below tree n r path b there on = ap (λ o. option_map_or (below n) o false) there ∙ on
 
 pub kept_none : (tree : List Place) (n : List ℕ) (before : Path) (rows : List NodeRow)
     → OwnPlaces tree before rows → list_any (below n) (places_from before rows) ≡ false

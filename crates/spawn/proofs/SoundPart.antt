@@ -35,7 +35,8 @@ use Rattle.spawn.proofs.Standing.{ids_apart, named}
 use Rattle.spawn.specs.Claim.{ids_of, is_linked_below, is_linked_outside, linked_outside}
 use Rattle.spawn.specs.Laws.{PartIsSound}
 use Rattle.spawn.specs.Parts.{above, ancestor, ancestors, lifted, part_for, resources}
-use Rattle.spawn.specs.Parts.{resources_among, rows_below}
+use Rattle.spawn.specs.Parts.{resources_among}
+use Rattle.ticket_tree.specs.At.{rows_below}
 use Rattle.spawn.specs.Records.{IsGood}
 use Rattle.spawn.specs.declared.records.spawn_rec.SpawnRec.{SpawnRec}
 

@@ -12,7 +12,8 @@ use Rattle.ticket_rows.specs.Ticket.{Job, IsValid, has_node}
 use Rattle.ticket_items.specs.declared.edit.Edit.{Edit}
 use Rattle.ticket_items.specs.declared.node_row.NodeRow.{NodeRow}
 use Rattle.spawn.specs.Claim.{claim, ids_of, is_claimed, linked_outside}
-use Rattle.spawn.specs.Parts.{above, ancestors, lifted, part_for, rows_below}
+use Rattle.spawn.specs.Parts.{above, ancestors, lifted, part_for}
+use Rattle.ticket_tree.specs.At.{rows_below}
 use Rattle.spawn.specs.Records.{IsGood, is_out}
 use Rattle.spawn.specs.Spawning.{new_record, parent_of, spawn_refusal, spawned}
 use Rattle.spawn.specs.Table.{holds, holding, holder_of}

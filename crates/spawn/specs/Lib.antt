@@ -6,7 +6,6 @@ pub mod Spawning
 pub mod Marking
 pub mod Bounds
 pub mod IdSet
-pub mod At
 pub mod Laws
 pub mod Stored
 pub mod Walk

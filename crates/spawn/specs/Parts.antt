@@ -5,8 +5,9 @@ use Rattle.std.specs.List.{filter}
 use Rattle.std.specs.Option.{option_map_or}
 use Rattle.ticket_rows.specs.Homes.{homes}
 use Rattle.ticket_items.specs.Ids.{mem}
+use Rattle.ticket_tree.specs.At.{rows_below}
 use Rattle.ticket_tree.specs.Part.{Copied, copied}
-use Rattle.ticket_rows.specs.Place.{place_at, node_places, is_below}
+use Rattle.ticket_rows.specs.Place.{place_at, node_places}
 use Rattle.ticket_rows.specs.Ticket.{Job, row_of}
 use Rattle.ticket_items.specs.declared.ancestor.Ancestor.{Ancestor}
 use Rattle.ticket_items.specs.declared.node_row.NodeRow.{NodeRow}
@@ -33,10 +34,6 @@ way_from before (r ∷ rows) = way_from (take (r.depth - 1) before ++ r ∷ []) 
 -- a row as an ancestor
 abbrev pub as_ancestor : NodeRow → Ancestor
 as_ancestor r = record { node_id = r.id; job_part = r.job_part }
-
--- the rows of n and of the nodes below it
-abbrev pub rows_below : List NodeRow → List ℕ → List NodeRow
-rows_below rows n = filter (λ r. is_below (node_places rows) r.id n) rows
 
 -- a row so many levels higher
 abbrev pub lifted : ℕ → NodeRow → NodeRow

@@ -10,9 +10,9 @@ use Rattle.ticket_items.specs.declared.resource.Resource.{Resource}
 use Rattle.ticket_rows.specs.Homes.{has_resource}
 use Rattle.ticket_rows.specs.Place.{Place, Thing, node, resource, places, node_places, up}
 use Rattle.ticket_rows.specs.Ticket.{IsValid, ids}
+use Rattle.ticket_tree.specs.At.{rows_below}
 use Rattle.spawn.specs.Claim.{ids_of, linked_rw, linked_ro}
 use Rattle.spawn.specs.Laws.{StandApart}
-use Rattle.spawn.specs.Parts.{rows_below}
 use Rattle.spawn.specs.Records.{is_out}
 use Rattle.spawn.specs.Table.{holds}
 use Rattle.spawn.specs.declared.records.spawn_rec.SpawnRec.{SpawnRec}

@@ -4,4 +4,3 @@ pub mod claim;
 pub mod copies;
 pub mod id_set;
 pub mod links_outside;
-pub mod node_at;

@@ -1,7 +1,10 @@
+pub mod AtNode
+pub mod Between
 pub mod ById
 pub mod ByKind
 pub mod LookUps
 pub mod OnPlaces
+pub mod OwnPlaces
 pub mod Parents
 pub mod PartEdits
 pub mod Pieces

@@ -16,7 +16,7 @@ use Rattle.ticket_rows.proofs.Below.{mem-node_ids}
 use Rattle.ticket_rows.proofs.ResourcePlaces.{resources_from, resource_places-rows, home_is}
 use Rattle.ticket_rows.specs.Homes.{resource_of}
 use Rattle.ticket_rows.specs.Place.{Place, path_of, node_place, resource_place, Row, node_row}
-use Rattle.ticket_rows.specs.Place.{resource_row, places, is_node, place_at, home, lines}
+use Rattle.ticket_rows.specs.Place.{resource_row, places, is_node, place_at, lines}
 use Rattle.ticket_rows.specs.Ticket.{ids, node_ids, row_of}
 use Rattle.ticket_items.specs.declared.node_row.NodeRow.{NodeRow}
 use Rattle.ticket_items.specs.declared.resource.Resource.{Resource}

@@ -106,14 +106,14 @@ here_parent tree x r (y ∷ ys) p long way named same found out =
       once = ap (mem x) way.2 ∙ out;
     }
 
-finds_later : (tree : List Place) (before : Path) (r : NodeRow) (rows : List NodeRow)
+pub finds_later : (tree : List Place) (before : Path) (r : NodeRow) (rows : List NodeRow)
     → are_distinct (node_ids (r ∷ rows)) ≡ true → FindsAll tree (nodes_from before (r ∷ rows))
     → FindsAll tree (nodes_from (path_of before r) rows)
 finds_later tree before r rows apart finds y p found =
     let there : mem y (node_ids rows) ≡ true = mem-node_ids rows y ∙ sym (is_some-place_at (path_of before r) rows y) ∙ ap is_some found in
     finds y p (ap (λ b. cond b (Some (node_place r (path_of before r))) (place_at (nodes_from (path_of before r) rows) y)) (other_id r rows y apart there) ∙ found)
 
-finds_here : (tree : List Place) (before : Path) (r : NodeRow) (rows : List NodeRow)
+pub finds_here : (tree : List Place) (before : Path) (r : NodeRow) (rows : List NodeRow)
     → FindsAll tree (nodes_from before (r ∷ rows))
     → place_at tree r.id ≡ Some (node_place r (path_of before r))
 finds_here tree before r rows finds =

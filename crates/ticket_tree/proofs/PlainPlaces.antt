@@ -1,5 +1,5 @@
 -- Each edit of the rows but a new node, seen on the places.
-use Rattle.std.proofs.Common.{◌≡◌, ℕ, ◌-◌, ◌&&◌, ◌||◌, Bool, true, false, not, cond, List, [], ◌∷◌}
+use Rattle.std.proofs.Common.{◌≡◌, ℕ, ◌&&◌, ◌||◌, Bool, true, false, not, cond, List, [], ◌∷◌}
 use Rattle.std.proofs.Common.{◌++◌, map, Some, refl, sym, ap, ◌∙◌, append_assoc}
 use Rattle.std.proofs.lemmas.Bool.{and_parts, and_from, or_parts, not-true, or_from}
 use Rattle.std.proofs.lemmas.List.{map-append}

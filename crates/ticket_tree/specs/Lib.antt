@@ -1,4 +1,5 @@
 pub mod PlainEdit
 pub mod Part
 pub mod PartView
+pub mod At
 pub mod Laws

@@ -2,11 +2,15 @@
 //! stands in a ticket is handed on.
 #![tactic(auto)]
 
+mod at;
 pub mod laws;
+mod linked;
 mod part;
 mod soundness;
 mod ticket;
 
+pub use at::At;
+pub use linked::is_linked;
 pub use part::Part;
 pub use ticket::Ticket;
 pub use ticket_items::{

@@ -145,7 +145,8 @@ impl Part {
 
     /// The spawn that it was made for.
     pub fn spawn_id(&self) -> SpawnId
-        ensures { result ≡ self.now.spawn_id }
+        ensures id { result ≡ self.now.spawn_id }
+        ensures valid { IsValid (with_copies self.now.rows self.now.rw self.now.ro) }
     {
         self.spawn_id
     }

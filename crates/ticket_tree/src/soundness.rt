@@ -1,12 +1,13 @@
 //! Whether a part can have come from a ticket.
 
-ghost use Rattle.std.specs.Prelude.{◌≡◌, ◌+◌, ◌||◌, length, nat_le};
+ghost use Rattle.std.specs.Prelude.{◌≡◌, ◌+◌, ◌||◌, nat_le};
 ghost use Rattle.std.specs.List.{list_any};
 ghost use Rattle.std.specs.Str.{bytes_eq};
 ghost use Rattle.ticket_items.specs.Ids as id_lists;
 ghost use Rattle.ticket_tree.specs.Part as part;
 ghost use Rattle.ticket_rows.specs.Ticket.{ids, max_depth};
 
+use crate::linked::is_linked;
 use ticket_items::{Ancestor, Id, NodeRow, Resource};
 use ticket_rows::pools::{has_id, holds};
 use ticket_rows::rows::MAX_DEPTH;
@@ -90,20 +91,6 @@ pub fn are_shallow_below(above: usize, rows: &[NodeRow]) -> bool
     ensures { result ≡ part.are_shallow_below above rows.now }
 {
     rows.iter().all(|row| is_shallow_below(above, row))
-}
-
-/// Whether the row links the resource of an id.
-fn links(row: &NodeRow, id: &Id) -> bool
-    ensures { result ≡ list_any (λ l. bytes_eq l.rref id.now) row.now.links }
-{
-    row.links.as_slice().iter().any(|link| link.rref == *id)
-}
-
-/// Whether some row links the resource of an id.
-fn is_linked(rows: &[NodeRow], id: &Id) -> bool
-    ensures { result ≡ part.is_linked rows.now id.now }
-{
-    rows.iter().any(|row| links(row, id))
 }
 
 /// Whether each of the resources is linked by some row.

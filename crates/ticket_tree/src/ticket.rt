@@ -1,3 +1,4 @@
+use crate::at::At;
 use std::alloc::{AllocError, Global};
 use std::marker::Model;
 use ticket_items::{Audit, Duplicate, Edit, Id, Name, NodeRow, Refusal, Resource};
@@ -36,6 +37,7 @@ impl Ticket {
     ghost use Rattle.ticket_rows.specs.Place.{BoundsNodesBelow, node_places};
     ghost use Rattle.ticket_rows.specs.Place as tree;
     ghost use Rattle.ticket_rows.specs.Ticket.{IsValid, fault_of, has_node, row_of};
+    ghost use Rattle.ticket_tree.specs.At.{IsAt, rows_below};
 
     /// The ticket of a job with these nodes, in preorder with their depths. Refuses the first of
     /// `NotATree` (no row, a first depth other than 1, a later one under 2 or more than one above
@@ -113,6 +115,29 @@ impl Ticket {
         ensures known { is_some result ≡ has_node self.now.rows id.now }
     {
         self.rows.subtree(id)
+    }
+
+    /// The ticket at a node. `None` where no node has the id. Needs no memory.
+    pub fn at(&self, node: &Id) -> Option<At<'_>>
+        ensures known { is_some result ≡ has_node self.now.rows node.now }
+        ensures at { IfSome result (λ a. IsAt self.now.rows node.now a) }
+        ensures valid { IsValid self.now.rows }
+    {
+        match self.rows.subtree(node) {
+            None => None,
+            Some((from, to)) => Some(At::between(self.rows.as_slice(), from, to)),
+        }
+    }
+
+    /// The rows of a node and of those below it; none where no node has the id.
+    pub fn rows_below(&self, node: &Id) -> &[NodeRow]
+        ensures rows { result.now ≡ rows_below self.now.rows node.now }
+        ensures valid { IsValid self.now.rows }
+    {
+        match self.at(node) {
+            None => &[],
+            Some(at) => at.below,
+        }
     }
 
     /// Whether `lower` is `upper` or stands below it; false where either is unknown.

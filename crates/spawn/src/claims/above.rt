@@ -4,7 +4,7 @@ ghost use Rattle.std.specs.Prelude.{◌≡◌, ◌++◌, ◌∷◌, [], ◌-◌,
 ghost use Rattle.spawn.specs.Parts as parts;
 
 use std::alloc::{AllocError, Global};
-use ticket_tree::{Ancestor, Duplicate, NodeRow};
+use ticket_tree::{Ancestor, At, Duplicate, NodeRow};
 
 /// Goes on to a row, on the way from the root.
 fn go_to<'a>(way: &mut Vec<&'a NodeRow>, row: &'a NodeRow) -> Result<(), AllocError>
@@ -27,17 +27,13 @@ fn way_to<'a>(alloc: Global, rows: &'a [NodeRow]) -> Result<Vec<&'a NodeRow>, Al
     Ok(way)
 }
 
-/// The nodes above one at this depth that stands behind these rows, from the root to the parent.
-fn rows_above<'a>(
-    alloc: Global,
-    front: &'a [NodeRow],
-    depth: u32,
-) -> Result<Vec<&'a NodeRow>, AllocError>
+/// The nodes above the one at which a ticket is seen, from the root to the parent.
+fn rows_above<'a>(alloc: Global, at: &At<'a>) -> Result<Vec<&'a NodeRow>, AllocError>
     ensures { IfOk result (λ v. map (λ s. s.now) v.items
-        ≡ take (depth - 1) (parts.way_from [] front.now)) }
+        ≡ take (at.now.depth - 1) (parts.way_from [] at.now.front.now)) }
 {
-    let mut way = way_to(alloc, front)?;
-    way.truncate(depth.saturating_sub(1) as usize);
+    let mut way = way_to(alloc, at.front)?;
+    way.truncate(at.levels() as usize);
     Ok(way)
 }
 
@@ -55,15 +51,11 @@ fn as_ancestors(alloc: Global, rows: &[&NodeRow]) -> Result<Vec<Ancestor>, Alloc
     Ok(ancestors)
 }
 
-/// The ancestors of a node at this depth that stands behind these rows.
-pub fn ancestors_of(
-    alloc: Global,
-    front: &[NodeRow],
-    depth: u32,
-) -> Result<Vec<Ancestor>, AllocError>
+/// The ancestors of the node at which a ticket is seen.
+pub fn ancestors_of(alloc: Global, at: &At<'_>) -> Result<Vec<Ancestor>, AllocError>
     ensures { IfOk result (λ v. v.items
-        ≡ map parts.as_ancestor (take (depth - 1) (parts.way_from [] front.now))) }
+        ≡ map parts.as_ancestor (take (at.now.depth - 1) (parts.way_from [] at.now.front.now))) }
 {
-    let above = rows_above(alloc, front, depth)?;
+    let above = rows_above(alloc, at)?;
     as_ancestors(alloc, above.as_slice())
 }

@@ -5,31 +5,18 @@ ghost use Rattle.std.specs.Prelude.{IfOk, OnOk};
 ghost use Rattle.std.specs.List.{list_any};
 ghost use Rattle.ticket_items.specs.Ids.{mem};
 ghost use Rattle.ticket_rows.specs.Place.{places};
-ghost use Rattle.ticket_rows.specs.Ticket.{IsValid, ids, ids_of};
+ghost use Rattle.ticket_rows.specs.Ticket.{ids, ids_of};
 ghost use Rattle.spawn.specs.IdSet.{IsSetOf, is_in};
-ghost use Rattle.spawn.specs.Parts as parts;
 ghost use Rattle.spawn.specs.Stored as stored;
 ghost use Rattle.spawn.specs.Stored.{claimed_by};
 ghost use Rattle.spawn.specs.Table.{holds};
 ghost use Rattle.spawn.specs.declared.records.spawn_rec.SpawnRec.{SpawnRec};
 
 use crate::claims::id_set::{IdSet, add_all, add_rows, has_in_both, has_in_rows};
-use crate::claims::node_at::node_at;
 use crate::records::spawn_rec::SpawnRec;
 use std::alloc::{AllocError, Global};
 use std::collections::BTreeSet;
 use ticket_tree::{Id, NodeRow, Ticket};
-
-/// The rows of a node and of those below it; none where the node is unknown.
-pub fn rows_below<'a>(ticket: &'a Ticket, node: &Id) -> &'a [NodeRow]
-    ensures rows { result.now ≡ parts.rows_below ticket.now.rows node.now }
-    ensures valid { IsValid ticket.now.rows }
-{
-    match node_at(ticket, node) {
-        None => &[],
-        Some(at) => at.below,
-    }
-}
 
 /// Whether something of these rows was claimed, or something known of these copies.
 fn meets(known: &IdSet<'_>, claimed: &IdSet<'_>, below: &[NodeRow], rw: &[Id]) -> bool
@@ -71,7 +58,7 @@ fn claim<'a>(
     if !spawn.is_out() {
         return Ok(true);
     }
-    let below = rows_below(ticket, &spawn.node);
+    let below = ticket.rows_below(&spawn.node);
     let rw = spawn.rw.as_slice();
     if meets(known, claimed, below, rw) {
         return Ok(false);

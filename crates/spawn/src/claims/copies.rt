@@ -9,9 +9,8 @@ ghost use Rattle.spawn.specs.IdSet.{IsSetOf};
 ghost use Rattle.spawn.specs.Parts.{resources};
 
 use crate::claims::id_set::{IdSet, has, linked_by, set_of};
-use crate::claims::node_at::At;
 use std::alloc::{AllocError, Global};
-use ticket_tree::{Duplicate, Id, NodeRow, Resource};
+use ticket_tree::{At, Duplicate, Id, NodeRow, Resource};
 
 /// The resources of which the copies may be changed, and copies of the others, each in ticket
 /// order.
@@ -70,7 +69,8 @@ fn push_rows(
     Ok(())
 }
 
-/// What a spawn of the node takes along, where the copies of these may be changed.
+/// What a spawn of the node at which a ticket is seen takes along, where the copies of these may be
+/// changed.
 pub fn copies_at(alloc: Global, at: &At<'_>, rw: &[Id]) -> Result<Copies, AllocError>
     ensures rw { IfOk result (λ c. c.rw.items
         ≡ resource_ids
@@ -78,12 +78,12 @@ pub fn copies_at(alloc: Global, at: &At<'_>, rw: &[Id]) -> Result<Copies, AllocE
         (resources at.now.front.now))
         ++ resource_ids
         (filter (λ x. is_linked at.now.below.now x.id && mem x.id rw.now)
-        (resources at.now.back.now))) }
+        (resources at.now.behind.now))) }
     ensures ro { IfOk result (λ c. c.ro.items
         ≡ filter (λ x. is_linked at.now.below.now x.id && not (mem x.id rw.now))
         (resources at.now.front.now)
         ++ filter (λ x. is_linked at.now.below.now x.id && not (mem x.id rw.now))
-        (resources at.now.back.now)) }
+        (resources at.now.behind.now)) }
 {
     let linked = linked_by(alloc, at.below)?;
     let chosen = set_of(alloc, rw)?;
@@ -92,6 +92,6 @@ pub fn copies_at(alloc: Global, at: &At<'_>, rw: &[Id]) -> Result<Copies, AllocE
         ro: Vec::new(alloc),
     };
     push_rows(alloc, &mut copies, at.front, &linked, &chosen)?;
-    push_rows(alloc, &mut copies, at.back, &linked, &chosen)?;
+    push_rows(alloc, &mut copies, at.behind, &linked, &chosen)?;
     Ok(copies)
 }

@@ -8,28 +8,28 @@ ghost use Rattle.spawn.specs.Parts as parts;
 ghost use Rattle.spawn.specs.Records.{IsGood, is_out};
 
 use crate::claims::above::ancestors_of;
-use crate::claims::node_at::{At, at_between};
 use crate::parts::part_rows::{lifted_rows, resources_among};
 use crate::records::spawn_rec::SpawnRec;
 use std::alloc::Global;
-use ticket_tree::{Duplicate, Items, Name, Part, Refusal, Ticket};
+use ticket_tree::{At, Duplicate, Items, Part, Refusal, Ticket};
 
-/// The part of a spawn of the node at which the rows are taken apart.
-fn part_at(alloc: Global, job: &Name, spawn: &SpawnRec, at: &At<'_>) -> Result<Part, Refusal>
+/// The part of a spawn of the node at which the ticket is seen.
+fn part_at(alloc: Global, ticket: &Ticket, spawn: &SpawnRec, at: &At<'_>) -> Result<Part, Refusal>
     requires { IsValid
         (with_copies (map (parts.lifted (at.now.depth - 1)) at.now.below.now)
-        (parts.resources_among spawn.now.rw at.now.rows.now) spawn.now.ro) }
-    ensures ok { IfOk result (λ p. p ≡ copied job.now spawn.now.id
+        (parts.resources_among spawn.now.rw ticket.now.rows) spawn.now.ro) }
+    ensures ok { IfOk result (λ p. p ≡ copied ticket.now.job_id spawn.now.id
         (map parts.as_ancestor (take (at.now.depth - 1) (parts.way_from [] at.now.front.now)))
         (map (parts.lifted (at.now.depth - 1)) at.now.below.now)
-        (parts.resources_among spawn.now.rw at.now.rows.now) spawn.now.ro) }
+        (parts.resources_among spawn.now.rw ticket.now.rows) spawn.now.ro) }
     ensures memory { IfErr result (λ e. e ≡ Refusal.Memory) }
 {
-    let ancestors = ancestors_of(alloc, at.front, at.depth)?;
-    let below = lifted_rows(alloc, at.below, at.depth.saturating_sub(1))?;
-    let rw = resources_among(alloc, at.rows, spawn.rw.as_slice())?;
+    let nodes = ticket.rows();
+    let ancestors = ancestors_of(alloc, at)?;
+    let below = lifted_rows(alloc, at.below, at.levels())?;
+    let rw = resources_among(alloc, nodes.as_slice(), spawn.rw.as_slice())?;
     let ro = spawn.ro.copy(alloc)?;
-    let job = job.copy(alloc)?;
+    let job = ticket.job().copy(alloc)?;
     let (ancestors, rw) = (Items::new(ancestors), Items::new(rw));
     Ok(Part::known(job, spawn.id, ancestors, below, rw, ro))
 }
@@ -44,13 +44,8 @@ pub fn part_for(alloc: Global, ticket: &Ticket, spawn: &SpawnRec) -> Result<Part
     ensures ok { IfOk result (λ p. p ≡ parts.part_for ticket.now spawn.now) }
     ensures memory { IfErr result (λ e. e ≡ Refusal.Memory) }
 {
-    let nodes = ticket.rows();
-    let rows = nodes.as_slice();
-    let Some((from, to)) = ticket.subtree(&spawn.node) else {
-        return Err(Refusal::UnknownNode);
-    };
-    let Some(at) = at_between(rows, from, to) else {
-        return Err(Refusal::UnknownNode);
-    };
-    part_at(alloc, ticket.job(), spawn, &at)
+    match ticket.at(&spawn.node) {
+        None => Err(Refusal::UnknownNode),
+        Some(at) => part_at(alloc, ticket, spawn, &at),
+    }
 }

@@ -1,6 +1,6 @@
 //! Tables of what is out, filled spawn by spawn.
 
-ghost use Rattle.std.specs.Prelude.{◌≡◌, ◌++◌, ◌||◌, [], ℕ, List, false, map, unwrap_or, IfOk};
+ghost use Rattle.std.specs.Prelude.{◌≡◌, ◌++◌, [], ℕ, List, false, map, unwrap_or, IfOk};
 ghost use Rattle.std.specs.Prelude.{OnOk};
 ghost use Rattle.std.specs.List.{filter, list_any};
 ghost use Rattle.std.specs.Str.{bytes_eq};

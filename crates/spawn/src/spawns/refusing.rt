@@ -1,22 +1,19 @@
 //! Why a spawn is refused: the first reason that holds.
 
-ghost use Rattle.std.specs.Prelude.{◌≡◌, ◌++◌, ◌∷◌, [], true, false, Some, None, nat_lt, is_some};
-ghost use Rattle.std.specs.Prelude.{slice_get, IfSome, MatchResult};
+ghost use Rattle.std.specs.Prelude.{◌≡◌, ◌++◌, ◌∷◌, [], true, false, Some, None, is_some};
+ghost use Rattle.std.specs.Prelude.{IfSome, MatchResult};
 ghost use Rattle.std.specs.List.{list_all};
-ghost use Rattle.std.specs.Option.{option_map_or};
 ghost use Rattle.ticket_rows.specs.Homes.{has_resource};
 ghost use Rattle.ticket_items.specs.Ids.{mem};
 ghost use Rattle.ticket_rows.specs.Place.{node_places, places, up};
-ghost use Rattle.ticket_items.specs.SpawnId.{is_spawn_number};
 ghost use Rattle.ticket_rows.specs.Ticket.{IsValid, first_of, has_node, ids, unless};
+ghost use Rattle.ticket_tree.specs.At.{rows_below};
 ghost use Rattle.spawn.specs.Claim.{ids_of, linked_outside};
 ghost use Rattle.spawn.specs.Holdings.{IsTable, has_master};
-ghost use Rattle.spawn.specs.Parts.{rows_below};
 ghost use Rattle.spawn.specs.Spawning as spawning;
 
 use crate::claims::claim::Claim;
 use crate::claims::links_outside::is_linked_outside;
-use crate::claims::node_at::node_at;
 use crate::records::spawn_rec::SpawnRec;
 use crate::tables::first_holding::first_holding;
 use crate::tables::holders::Holders;
@@ -35,7 +32,7 @@ fn spawnable<'a>(ticket: &'a Ticket, node: &Id) -> Result<&'a [NodeRow], Refusal
         ∷ []) ≡ Some e) }
     ensures valid { IsValid ticket.now.rows }
 {
-    let Some(at) = node_at(ticket, node) else {
+    let Some(at) = ticket.at(node) else {
         return Err(Refusal::UnknownNode);
     };
     if at.depth <= 1 {

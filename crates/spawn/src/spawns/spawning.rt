@@ -12,7 +12,6 @@ ghost use Rattle.spawn.specs.Spawning as spawning;
 ghost use Rattle.spawn.specs.Spawning.{spawn_refusal};
 
 use crate::claims::copies::copies_at;
-use crate::claims::node_at::node_at;
 use crate::parts::spawned_part::part_for;
 use crate::records::phase::Phase;
 use crate::records::spawn_rec::SpawnRec;
@@ -35,9 +34,10 @@ fn new_record(
     requires known { has_node ticket.now.rows node ≡ true }
     ensures ok { IfOk result (λ r. r
         ≡ spawning.new_record ticket.now.rows id node worker rw.now at) }
+    ensures valid { IsValid ticket.now.rows }
     ensures memory { IfErr result (λ e. e ≡ Refusal.Memory) }
 {
-    let Some(here) = node_at(ticket, &node) else {
+    let Some(here) = ticket.at(&node) else {
         return Err(Refusal::UnknownNode);
     };
     let copies = copies_at(alloc, &here, rw)?;
@@ -151,8 +151,6 @@ fn enter(
     ensures records_stay { OnErr result (records.new.items ≡ records.old.items) }
     ensures memory { IfErr result (λ e. e ≡ Refusal.Memory) }
 {
-    // What its rows tell: the ticket is valid.
-    let _rows = ticket.rows();
     let before = records.len();
     records.push(new_record(alloc, ticket, id, node, worker, rw, at)?)?;
     match send_out(alloc, ticket, &records[before]) {

@@ -4,7 +4,6 @@ ghost use Rattle.std.specs.Prelude.{◌≡◌, List, filter, slice_get, ℕ};
 ghost use Rattle.std.specs.List.{filter_map};
 ghost use Rattle.std.specs.Option.{option_copied};
 ghost use Rattle.ticket_rows.specs.Place.{places};
-ghost use Rattle.ticket_rows.specs.Ticket.{IsValid};
 ghost use Rattle.spawn.specs.Bounds as bounds;
 ghost use Rattle.spawn.specs.Bounds.{Bounds};
 ghost use Rattle.spawn.specs.Claim.{is_claimed};

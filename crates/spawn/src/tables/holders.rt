@@ -11,7 +11,6 @@ ghost use Rattle.spawn.specs.Holdings.{IsTable, claim_given, given, held_by, hel
 ghost use Rattle.spawn.specs.Holdings.{has_master, without_last};
 ghost use Rattle.spawn.specs.declared.records.spawn_rec.SpawnRec.{SpawnRec};
 
-use crate::claims::apart::rows_below;
 use crate::records::spawn_rec::SpawnRec;
 use crate::tables::holder::Holder;
 use indexmap::IndexMap;
@@ -163,7 +162,7 @@ impl Holders {
     pub fn set(&mut self, ticket: &Ticket, spawn: &SpawnRec, holder: Holder)
         ensures { self.new ≡ claim_given ticket.now.rows spawn.now holder self.old }
     {
-        self.give_rows(rows_below(ticket, &spawn.node), &holder);
+        self.give_rows(ticket.rows_below(&spawn.node), &holder);
         self.give_all(spawn.rw.as_slice(), &holder);
     }
 

@@ -1,19 +1,17 @@
 //! The first spawn that holds what stands at a node.
 
-ghost use Rattle.std.specs.Prelude.{◌≡◌, ◌&&◌, ◌||◌, ◌<◌, Some, slice_get, length};
+ghost use Rattle.std.specs.Prelude.{◌≡◌, ◌&&◌, ◌||◌};
 ghost use Rattle.std.specs.List.{find, position, position_or_len};
 ghost use Rattle.std.specs.Option.{option_copied};
 ghost use Rattle.std.specs.Str.{bytes_eq};
 ghost use Rattle.ticket_items.specs.Ids.{mem};
-ghost use Rattle.ticket_rows.specs.Place.{Place, node_places, below};
+ghost use Rattle.ticket_rows.specs.Place.{node_places};
 ghost use Rattle.ticket_rows.specs.Place as tree;
-ghost use Rattle.ticket_rows.specs.Ticket.{IsValid};
 ghost use Rattle.spawn.specs.Records.{is_out};
 
 use crate::records::spawn_rec::SpawnRec;
 use ticket_items::is_among;
-use ticket_rows::rows::place_of;
-use ticket_tree::{Id, NodeRow, Ticket};
+use ticket_tree::{Id, Ticket};
 
 /// Where the first record stands that is out with a copy of this resource to change.
 fn place_with_copy(records: &[SpawnRec], id: &Id) -> Option<usize>
@@ -47,19 +45,21 @@ fn before_node(records: &[SpawnRec], node: &Id) -> usize
     place_at_node(records, node).unwrap_or(records.len())
 }
 
-/// How many records stand before the first that is out at the node of the row at this place, or
-/// at a node above it. Goes once over the rows in front, and once over records for each node above.
-fn before_above(rows: &[NodeRow], place: usize, records: &[SpawnRec]) -> usize
-    requires valid { IsValid rows.now }
-    requires place { place < length rows.now }
-    ensures { (p : Place) → slice_get (node_places rows.now) place ≡ Some p
-        → result ≡ position_or_len (λ r. is_out r && below r.node p) records.now }
+/// How many records stand before the first that is out at a node or at one above it; all where no
+/// node has the id. Goes once over the rows in front, and once over records for each node above.
+fn before_above(ticket: &Ticket, records: &[SpawnRec], node: &Id) -> usize
+    ensures { result ≡ position_or_len
+        (λ r. is_out r && tree.is_below (node_places ticket.now.rows) node.now r.node)
+        records.now }
 {
-    let root = &rows[place];
-    let mut depth = root.depth;
-    let mut free = before_node(records, &root.id);
-    for row_place in (0..place).rev() {
-        let row = &rows[row_place];
+    let Some(at) = ticket.at(node) else {
+        return records.len();
+    };
+    let front = at.front;
+    let mut depth = at.depth;
+    let mut free = before_node(records, node);
+    for place in (0..front.len()).rev() {
+        let row = &front[place];
         if row.depth < depth {
             depth = row.depth;
             free = before_node(&records[..free], &row.id);
@@ -76,13 +76,8 @@ fn before_holder(ticket: &Ticket, records: &[SpawnRec], node: &Id, id: &Id) -> u
         && (tree.is_below (node_places ticket.now.rows) node.now r.node
         || mem id.now r.rw)) records.now }
 {
-    let nodes = ticket.rows();
-    let rows = nodes.as_slice();
     let free = before_copy(records, id);
-    match place_of(rows, node) {
-        None => free,
-        Some(place) => before_above(rows, place, &records[..free]),
-    }
+    before_above(ticket, &records[..free], node)
 }
 
 /// The first spawn that holds what stands under this id at this node.

@@ -1,5 +1,7 @@
 use Rattle.std.proofs.Common.{◌∙◌, sym, ap, subst}
-use Rattle.ticket_rows.specs.Ticket.{Job}
+use Rattle.ticket_rows.specs.Copies.{with_copies}
+use Rattle.ticket_rows.specs.OneRow.{appended}
+use Rattle.ticket_rows.specs.Ticket.{Job, IsValid}
 use Rattle.spawn.specs.Spawning.{parent_of}
 use Rattle.merge.proofs.Returning.{part_nodes, part_copies, nodes_told, copies_told, put_told}
 use Rattle.merge.proofs.Returning.{parent_of_out}
@@ -12,22 +14,32 @@ put_back-requires-clause-nodes c =
     let t = c.args.ticket.now in
     let r = c.args.spawn.now in
     let p = c.args.part in
-    subst (λ rows. MayTakeNodes rows p.rows) (sym (ap (λ s. s.rows) c.in-Ok.ensures.ok))
-    (nodes_told (parent_of t.rows r.node) (merged_audit r c.args.at) t.rows p.rows (part_nodes t r p c.rows-rows.ensures.valid c.rows-part_rows.ensures.valid c.requires.fits))
+    let taken = c.into_rows-nodes in
+    let told = c.in_ok-tell_of_merge.ensures in
+    let part_valid = subst (λ rows. IsValid (with_copies rows p.rw p.ro)) taken.ensures.rows (subst (λ pool. IsValid (with_copies taken.result.0.items pool p.ro)) taken.ensures.copies taken.ensures.valid) in
+    subst (MayTakeNodes c.tell_of_merge.new.ticket.rows) (sym taken.ensures.rows)
+    (subst (λ rows. MayTakeNodes rows p.rows) (sym (ap (λ s. s.rows) told.ok))
+    (nodes_told (parent_of t.rows r.node) (merged_audit r c.args.at) t.rows p.rows (part_nodes t r p told.valid part_valid c.requires.fits)))
 
-pub put_back-requires-clause-copies : goal.put_back-requires-clause-copies
-put_back-requires-clause-copies c =
+pub put_back-requires-clause-resources : goal.put_back-requires-clause-resources
+put_back-requires-clause-resources c =
     let t = c.args.ticket.now in
     let r = c.args.spawn.now in
     let p = c.args.part in
-    subst (λ rows. MayTakeResources rows p.rw) (sym (ap (λ s. s.rows) c.in-Ok.ensures.ok))
-    (copies_told (parent_of t.rows r.node) (merged_audit r c.args.at) t.rows p.rw (part_copies t r p c.rows-rows.ensures.valid c.requires.fits))
+    let told = c.in_ok-tell_of_merge.ensures in
+    subst (MayTakeResources c.tell_of_merge.new.ticket.rows) (sym c.into_rows-nodes.ensures.copies)
+    (subst (λ rows. MayTakeResources rows p.rw) (sym (ap (λ s. s.rows) told.ok))
+    (copies_told (parent_of t.rows r.node) (merged_audit r c.args.at) t.rows p.rw (part_copies t r p told.valid c.requires.fits)))
 
-pub returns-in-Ok-clause-merged : goal.returns-in-Ok-clause-merged
-returns-in-Ok-clause-merged c =
+pub returns-clause-merged : goal.returns-clause-merged
+returns-clause-merged c =
     let t = c.args.ticket.now in
     let r = c.args.spawn.now in
     let p = c.args.part in
+    let taken = c.into_rows-nodes in
+    let told = c.in_ok-tell_of_merge.ensures in
     c.put_back.ensures
-    ∙ ap (λ (s : Job). record s { rows = with_nodes p.rows (with_resources p.rw s.rows) }) c.in-Ok.ensures.ok
-    ∙ ap (λ rows. record t { rows = rows }) (put_told (parent_of t.rows r.node) (merged_audit r c.args.at) p t.rows (parent_of_out t r p c.rows-rows.ensures.valid c.requires.good c.requires.fits))
+    ∙ ap (λ (s : Job). record s { rows = with_nodes taken.result.0.items (with_resources taken.result.1.items s.rows) }) told.ok
+    ∙ ap (λ nodes. record t { rows = with_nodes nodes (with_resources taken.result.1.items (appended (parent_of t.rows r.node) (merged_audit r c.args.at) t.rows)) }) taken.ensures.rows
+    ∙ ap (λ pool. record t { rows = with_nodes p.rows (with_resources pool (appended (parent_of t.rows r.node) (merged_audit r c.args.at) t.rows)) }) taken.ensures.copies
+    ∙ ap (λ rows. record t { rows = rows }) (put_told (parent_of t.rows r.node) (merged_audit r c.args.at) p t.rows (parent_of_out t r p told.valid c.requires.good c.requires.fits))

@@ -1,12 +1,15 @@
 use Rattle.std.proofs.Common.{◌∙◌, sym}
-use Rattle.merge.proofs.Fitting.{is_part-at, part_fits, fits_part}
+use Rattle.std.proofs.lemmas.Bool.{true≢false}
+use Rattle.merge.proofs.Fitting.{is_part-at, part_fits, fits_part, unfit}
 use Rattle.merge.proofs.shape.fits.Goals as goal
+
+pub returns-in-None : goal.returns-in-None
+returns-in-None c = (λ no. absurd (true≢false (sym no)), λ fits. absurd (unfit c.args.ticket.now c.args.spawn.now c.args.part.now c.rows-came.ensures.valid (sym c.in-None.ensures.known) fits))
 
 pub returns-in-Some : goal.returns-in-Some
 returns-in-Some c =
     let t = c.args.ticket.now in
     let r = c.args.spawn.now in
     let p = c.args.part.now in
-    let found = c.in-Some.ensures.found in
-    let same = c.is_part.ensures ∙ is_part-at t r p c.in-Some.below.now c.in-Some.levels found.0 found.1 in
+    let same = c.is_part.ensures ∙ is_part-at t r p c.in-Some.at c.in-Some.ensures.at in
     (λ h. part_fits t r p (sym same ∙ h), λ fits. same ∙ fits_part t r p fits)

@@ -5,6 +5,6 @@ use Rattle.spawn.proofs.claims.above.rows_above.Goals as goal
 
 pub returns : goal.returns
 returns c =
-    ap borrowed (c.truncate.ensures.items ∙ ap (λ n. take n c.in_ok-way.way.items) c.saturating_sub.ensures)
-    ∙ sym (take-map (λ s. s.now) (c.args.depth - 1) c.in_ok-way.way.items)
-    ∙ ap (take (c.args.depth - 1)) c.in_ok-way.ensures
+    ap borrowed (c.truncate.ensures.items ∙ ap (λ n. take n c.in_ok-way.way.items) c.levels.ensures)
+    ∙ sym (take-map (λ s. s.now) (c.args.at.now.depth - 1) c.in_ok-way.way.items)
+    ∙ ap (take (c.args.at.now.depth - 1)) c.in_ok-way.ensures

@@ -9,7 +9,7 @@ use Rattle.spawn.proofs.ApartMore.{hold_both}
 use Rattle.spawn.proofs.ClaimedIds.{claimed_still, claimed_too, met_is, none_both}
 use Rattle.spawn.proofs.LinkedOutside.{same_set}
 use Rattle.spawn.specs.IdSet.{is_in}
-use Rattle.spawn.specs.Parts.{rows_below}
+use Rattle.ticket_tree.specs.At.{rows_below}
 use Rattle.spawn.specs.Stored.{claimed_by, claims_id}
 use Rattle.spawn.proofs.claims.apart.claim.Goals as goal
 

@@ -2,7 +2,7 @@ use Rattle.std.proofs.Common.{◌≡◌, ◌∙◌, ◌++◌, ◌∷◌, [], Non
 use Rattle.ticket_rows.specs.Ticket.{Job}
 use Rattle.spawn.proofs.HoldingsKept.{spawn_keeps_table}
 use Rattle.spawn.specs.Holdings.{IsTable, claim_given}
-use Rattle.spawn.specs.Spawning.{new_record, spawn_refusal, spawned}
+use Rattle.spawn.specs.Spawning.{new_record, spawn_refusal}
 use Rattle.spawn.specs.declared.tables.holder.Holder.TheVariants.{Spawn}
 use Rattle.spawn.proofs.spawns.by_table.spawn_by_table.Goals as goal
 

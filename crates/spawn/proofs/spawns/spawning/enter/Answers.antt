@@ -11,7 +11,7 @@ send_out-requires-clause-good c =
     let rows = c.args.ticket.now.rows in
     let s = c.index.result.now in
     let made : s ≡ new_record rows c.args.id c.args.node c.args.worker c.args.rw.now c.args.at = c.index.ensures ∙ ap (λ rs. get_or rs c.len-before.result s) c.in_ok-push.ensures.items ∙ get_or_push c.args.records.now.items c.in_ok-new_record.field-0 s c.len-before.result (omega arith) ∙ c.in_ok-new_record.ensures.ok in
-    subst (IsGood rows) (sym made) (new_is_good rows c.args.id c.args.node c.args.worker c.args.rw.now c.args.at c.rows-rows.ensures.valid c.requires.known c.requires.parent)
+    subst (IsGood rows) (sym made) (new_is_good rows c.args.id c.args.node c.args.worker c.args.rw.now c.args.at c.in_ok-new_record.ensures.valid c.requires.known c.requires.parent)
 
 pub returns-in-Ok-clause-ticket : goal.returns-in-Ok-clause-ticket
 returns-in-Ok-clause-ticket c =

@@ -1,33 +1,40 @@
-use Rattle.std.proofs.Common.{◌∙◌, suc, [], take, sym, ap, arith, slice_get}
-use Rattle.ticket_rows.proofs.NodePlaces.{node_places-rows}
-use Rattle.spawn.proofs.FirstHolder.{met_first, met_higher, met_deeper, met_all, met_within, path_at, out_among}
-use Rattle.spawn.proofs.Split.{path_after}
-use Rattle.std.specs.List.{position_or_len}
+use Rattle.std.proofs.Common.{◌∙◌, ◌&&◌, sym, ap}
+use Rattle.spawn.proofs.FirstHolder.{met_first, met_higher, met_deeper, met_all, met_within, front_follows}
+use Rattle.spawn.proofs.FirstHolder.{below_path, first_as, out_among, path_behind, unknown_first}
+use Rattle.spawn.specs.Records.{is_out}
+use Rattle.spawn.specs.declared.records.spawn_rec.SpawnRec.{SpawnRec}
+use Rattle.ticket_rows.specs.Place.{is_below, node_places}
 use Rattle.spawn.proofs.tables.holding.before_above.Goals as goal
 
-pub loop-row_place-init : goal.loop-row_place-init
-loop-row_place-init c =
-    met_first c.args.rows.now c.args.records.now c.args.place c.before_node-free.result c.index-rows-place.result c.requires.place c.index-rows-place.is c.before_node-free.ensures
+pub returns-in_default : goal.returns-in_default
+returns-in_default c = unknown_first c.args.ticket.now.rows c.args.node.now c.args.records.now (sym c.in_default.ensures.known)
+
+pub loop-place-init : goal.loop-place-init
+loop-place-init c = met_first c.in-Some.at.front.now c.args.records.now c.args.node.now c.in-Some.at.depth c.before_node-free.result c.before_node-free.ensures
 
 pub slice_bounds-before_node-end : goal.slice_bounds-before_node-end
 slice_bounds-before_node-end c =
-    met_within c.args.rows.now (path_after [] (take (suc c.args.place) c.args.rows.now)) c.args.records.now c.loop-row_place.row_place c.loop-row_place.depth c.loop-row_place.free c.loop-row_place.invariant
+    let a = c.in-Some.at in
+    met_within a.front.now (path_behind c.args.node.now a.depth a.front.now) c.args.records.now c.loop-place.place c.loop-place.depth c.loop-place.free c.loop-place.invariant
 
-pub loop-row_place-preserved-then-row-depth : goal.loop-row_place-preserved-then-row-depth
-loop-row_place-preserved-then-row-depth c =
-    met_higher c.args.rows.now (path_after [] (take (suc c.args.place) c.args.rows.now)) c.args.records.now c.loop-row_place.row_place c.loop-row_place.depth c.loop-row_place.free c.before_node-free-then-row-depth.result c.index-rows-row_place.result c.requires.valid c.loop-row_place.invariant c.loop-row_place-test.true
-    (omega (arith, c.loop-row_place.auto.row_place, c.requires.place)) c.index-rows-row_place.is c.if-row-depth.true c.before_node-free-then-row-depth.ensures
+pub loop-place-preserved-then-row-depth : goal.loop-place-preserved-then-row-depth
+loop-place-preserved-then-row-depth c =
+    let a = c.in-Some.at in
+    met_higher a.front.now (path_behind c.args.node.now a.depth a.front.now) c.args.records.now c.loop-place.place c.loop-place.depth c.loop-place.free c.before_node-free-then-row-depth.result c.index-front-place.result (front_follows c.args.ticket.now.rows c.args.node.now a c.in-Some.ensures.valid c.in-Some.ensures.at) c.loop-place.invariant c.loop-place-test.true
+    c.loop-place.auto.place c.index-front-place.is c.if-row-depth.true c.before_node-free-then-row-depth.ensures
 
-pub loop-row_place-preserved : goal.loop-row_place-preserved
-loop-row_place-preserved c =
-    met_deeper c.args.rows.now (path_after [] (take (suc c.args.place) c.args.rows.now)) c.args.records.now c.loop-row_place.row_place c.loop-row_place.depth c.loop-row_place.free c.index-rows-row_place.result c.requires.valid c.loop-row_place.invariant c.loop-row_place-test.true
-    (omega (arith, c.loop-row_place.auto.row_place, c.requires.place)) c.index-rows-row_place.is c.if-row-depth.false
+pub loop-place-preserved : goal.loop-place-preserved
+loop-place-preserved c =
+    let a = c.in-Some.at in
+    met_deeper a.front.now (path_behind c.args.node.now a.depth a.front.now) c.args.records.now c.loop-place.place c.loop-place.depth c.loop-place.free c.index-front-place.result (front_follows c.args.ticket.now.rows c.args.node.now a c.in-Some.ensures.valid c.in-Some.ensures.at) c.loop-place.invariant c.loop-place-test.true
+    c.loop-place.auto.place c.index-front-place.is c.if-row-depth.false
 
 pub returns : goal.returns
 returns c =
-    let rows = c.args.rows.now in
-    let recs = c.args.records.now in
-    let place = c.args.place in
-    let path = path_after [] (take (suc place) rows) in
-    λ p at. met_all rows path recs c.loop-row_place.row_place c.loop-row_place.depth c.loop-row_place.free c.loop-row_place.invariant c.loop-row_place-test.false
-    ∙ ap (λ way. position_or_len (out_among way) recs) (sym (path_at [] rows place p (ap (λ nodes. slice_get nodes place) (sym (node_places-rows rows)) ∙ at)))
+    let rows = c.args.ticket.now.rows in
+    let n = c.args.node.now in
+    let a = c.in-Some.at in
+    let path = path_behind n a.depth a.front.now in
+    let seen = c.in-Some.ensures in
+    met_all a.front.now path c.args.records.now c.loop-place.place c.loop-place.depth c.loop-place.free c.loop-place.invariant c.loop-place-test.false
+    ∙ first_as (out_among path) (λ (r : SpawnRec). is_out r && is_below (node_places rows) n r.node) (λ r. ap (λ b. is_out r && b) (below_path rows n a seen.valid seen.at (sym seen.known) r.node)) c.args.records.now

@@ -1,8 +1,6 @@
-use Rattle.std.proofs.Common.{suc, [], take}
-use Rattle.spawn.proofs.FirstHolder.{Met}
-use Rattle.spawn.proofs.Split.{path_after}
+use Rattle.spawn.proofs.FirstHolder.{Met, path_behind}
 use Rattle.spawn.proofs.tables.holding.before_above.Given as goal
 
 -- the nodes above that were met so far
-abbrev pub invariant-loop-row_place : goal.invariant-loop-row_place
-invariant-loop-row_place l = Met l.rows (path_after [] (take (suc l.place) l.rows)) l.records l.row_place l.depth l.free
+abbrev pub invariant-loop-place : goal.invariant-loop-place
+invariant-loop-place l = Met l.front (path_behind l.node l.initial.depth l.front) l.records l.place l.depth l.free

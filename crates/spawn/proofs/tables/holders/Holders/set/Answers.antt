@@ -3,7 +3,7 @@ use Rattle.ticket_items.specs.Ids.{mem}
 use Rattle.ticket_rows.specs.Ticket.{ids}
 use Rattle.spawn.proofs.Holdings.{given_more}
 use Rattle.spawn.specs.Holdings.{given}
-use Rattle.spawn.specs.Parts.{rows_below}
+use Rattle.ticket_tree.specs.At.{rows_below}
 use Rattle.spawn.proofs.tables.holders.Holders.set.Goals as goal
 
 pub returns : goal.returns
