@@ -1,7 +1,8 @@
 -- One step, of a controller or of a shop.
-use Rattle.std.specs.Prelude.{Option, None, Result, Ok, Err}
+use Rattle.std.specs.Prelude.{◌≡◌, Option, None, Result, Ok, Err, IfOk, IfErr, OnErr}
 use Rattle.std.specs.Option.{option_map, option_map_or}
 use Rattle.ticket_items.specs.declared.refusal.Refusal.{Refusal}
+use Rattle.ticket_items.specs.declared.refusal.Refusal.TheVariants.{Memory}
 use Rattle.controller.specs.declared.done.Done.{Done}
 use Rattle.controller.specs.declared.message.Message.{Message}
 use Rattle.controller.specs.declared.outcome.Outcome.{Outcome}
@@ -38,3 +39,12 @@ done_step done next = record { reply = Ok done.reply; sent = done.message; next 
 abbrev pub outcome_step : {S : Type 0} → Outcome → S → Step S Message
 outcome_step outcome next =
     record { reply = outcome.reply; sent = outcome.answer; next = next }
+
+-- an order makes a step of a state: it is done as that says, or refused as that is, or else memory
+-- runs out; and what isn't done changes nothing
+pub record Makes {S : Type 0} (step : Step S Message) (old : S) (result : Result Done Refusal)
+    (new : S) : Type 0 where
+  pub ok : IfOk result (λ done. done_step done new ≡ step)
+  pub err : OnErr result (new ≡ old)
+  pub refused : IfErr step.reply (λ e. result ≡ Err e)
+  pub memory : IfOk step.reply (λ _. IfErr result (λ e. e ≡ Memory))

@@ -1,5 +1,5 @@
 -- The table of holders beside a master goes on to be that of its ticket and its records.
-use Rattle.std.proofs.Common.{◌≡◌, ◌∙◌, ℕ, true, List, Option, Some, None, Result, Ok, Err, OnOk, OnErr, IfNone, slice_set, refl, sym, ap, subst}
+use Rattle.std.proofs.Common.{◌≡◌, ◌∙◌, ℕ, true, List, Option, None, Result, Ok, Err, OnOk, OnErr, slice_set, refl, sym, ap, subst}
 use Rattle.std.specs.Option.{option_map_or}
 use Rattle.ticket_items.specs.declared.refusal.Refusal.{Refusal}
 use Rattle.ticket_rows.specs.Copies.{with_copies}
@@ -27,10 +27,6 @@ use Rattle.master_core.specs.Orders.{held_refusal, not_held}
 -- what the table says of an id
 pub held_told : (h : Holdings) (w : Known) (told : Option Refusal) (x : List ℕ) → IsTable w.ticket.rows w.records h → told ≡ option_map_or held_refusal (held_by h x) None → told ≡ not_held w x
 held_told h w told x table is = is ∙ ap (λ o. option_map_or held_refusal o None) (table.same x)
-
-pub if_none : {P : Type 0} (o : Option Refusal) → P → IfNone o P
-if_none None p = p
-if_none (Some r) p = tt
 
 -- what follows from what holds where it went well
 pub on_ok : {X E P Q : Type 0} (result : Result X E) → OnOk result P → (P → Q) → OnOk result Q
@@ -73,9 +69,8 @@ free_keeps_table (Ok x) t later recs s k r made at h new told phase given valid 
 free_keeps_table (Err e) t later recs s k r made at h new told phase given valid apart own table = tt
 
 -- a table that is in step with what was made, or stayed where nothing was, is in step
-pub table_done : {X E : Type 0} (result : Result X E) (w : Known) (ticket : Job) (records : List SpawnRec) (h new : Holdings)
-    → OnOk result (IsTable ticket.rows records new) → OnErr result (ticket ≡ w.ticket) → OnErr result (records ≡ w.records) → OnErr result (new ≡ h) → IsTable w.ticket.rows w.records h → IsTable ticket.rows records new
-table_done (Ok x) w ticket records h new made ticket_stays records_stay holders_stay table = made
-table_done (Err e) w ticket records h new made ticket_stays records_stay holders_stay table =
-    subst (λ (t : Job). IsTable t.rows records new) (sym ticket_stays)
-    (subst (λ rs. IsTable w.ticket.rows rs new) (sym records_stay) (subst (IsTable w.ticket.rows w.records) (sym holders_stay) table))
+pub table_done : {X E : Type 0} (result : Result X E) (w new : Known) (h later : Holdings)
+    → OnOk result (IsTable new.ticket.rows new.records later) → OnErr result (new ≡ w) → OnErr result (later ≡ h) → IsTable w.ticket.rows w.records h → IsTable new.ticket.rows new.records later
+table_done (Ok x) w new h later made stays holders_stay table = made
+table_done (Err e) w new h later made stays holders_stay table =
+    subst (λ (v : Known). IsTable v.ticket.rows v.records later) (sym stays) (subst (IsTable w.ticket.rows w.records) (sym holders_stay) table)

@@ -1,19 +1,21 @@
--- That memory runs out is no refusal of a master's order.
-use Rattle.std.proofs.Common.{Bool, true, false, [], ◌∷◌, Option, Some, None, slice_get, refl}
+-- That memory runs out is no refusal of a master's order, and what is refused changes nothing.
+use Rattle.std.proofs.Common.{◌≡◌, ◌≢◌, ℕ, Bool, true, false, [], ◌∷◌, Option, Some, None, slice_get, refl}
 use Rattle.std.specs.Option.{option_map, option_map_or}
 use Rattle.std.specs.List.{list_all}
-use Rattle.std.specs.Prelude.{is_some}
+use Rattle.std.specs.Prelude.{IfErr, is_some}
 use Rattle.ticket_items.specs.Ids.{mem}
 use Rattle.ticket_items.specs.SpawnId.{is_spawn_number}
 use Rattle.ticket_items.specs.declared.refusal.Refusal.{Refusal}
-use Rattle.ticket_items.specs.declared.refusal.Refusal.TheVariants.{NotHeld}
+use Rattle.ticket_items.specs.declared.refusal.Refusal.TheVariants.{Memory, NotHeld}
 use Rattle.ticket_items.specs.declared.refusal.Refusal.TheVariants as refusals
 use Rattle.ticket_rows.specs.Edit.{lookups, target}
 use Rattle.ticket_rows.specs.EditRefusal.{later_refusal, unknown_refusal}
 use Rattle.ticket_rows.specs.Homes.{has_resource}
 use Rattle.ticket_rows.specs.Place.{node_places, places, up}
 use Rattle.ticket_rows.specs.Ticket.{first_of, has_node, unless}
+use Rattle.controller.proofs.Answered.{is_idle, replies_so}
 use Rattle.controller.proofs.NeverMemory.{IsOther, either, later, none, other, test, three, unknown}
+use Rattle.controller.specs.Step.{refused}
 use Rattle.spawn.specs.Claim.{ids_of, linked_outside}
 use Rattle.spawn.specs.Spawning as spawning
 use Rattle.spawn.specs.declared.records.spawn_rec.SpawnRec.{SpawnRec}
@@ -55,3 +57,18 @@ never_memory (to_master.Spawn n v rw) w =
     none)
 never_memory (to_master.Resend s) w = test _ _ (other refusals.NotOut refl)
 never_memory (to_master.Withdraw s) w = test _ _ (other refusals.NotOut refl)
+
+-- ---- what a step tells of a refusal
+
+-- what isn't refused is done
+done : (o : master_order.Order) (at' : ℕ) (w : master.Known) (P : Refusal → Type 0) → IfErr (master_orders.ordered o at' w).reply P
+done (to_master.Edit e) at' w P = tt
+done (to_master.Spawn n v rw) at' w P = tt
+done (to_master.Resend s) at' w P = tt
+done (to_master.Withdraw s) at' w P = tt
+
+pub order_known : (o : master_order.Order) (at' : ℕ) (w : master.Known) → IfErr (master_orders.order_step o at' w).reply (λ e. e ≢ Memory)
+order_known o at' w = replies_so (master_orders.order_refusal o w) w (master_orders.ordered o at' w) (λ e. e ≢ Memory) (done o at' w _) (never_memory o w)
+
+pub order_idle : (o : master_order.Order) (at' : ℕ) (w : master.Known) → IfErr (master_orders.order_step o at' w).reply (λ e. master_orders.order_step o at' w ≡ refused e w)
+order_idle o at' w = is_idle (master_orders.order_refusal o w) w (master_orders.ordered o at' w) (done o at' w _)

@@ -1,5 +1,5 @@
 -- What always holds of a master holds after an order.
-use Rattle.std.proofs.Common.{◌≡◌, ℕ, true, List, Option, Some, None, cond, get_or, is_some, refl}
+use Rattle.std.proofs.Common.{◌≡◌, ℕ, true, List, Option, Some, None, get_or, refl}
 use Rattle.std.proofs.lemmas.List.Elements.{All-push}
 use Rattle.ticket_items.specs.Ids.{mem}
 use Rattle.ticket_items.specs.declared.edit.Edit.{Edit}
@@ -7,6 +7,7 @@ use Rattle.ticket_items.specs.declared.refusal.Refusal.{Refusal}
 use Rattle.ticket_rows.specs.Place.{places}
 use Rattle.ticket_tree.proofs.PlainOneRow.{append_of_places}
 use Rattle.ticket_tree.proofs.StaysValid.{append_is_valid, edit_is_valid}
+use Rattle.controller.specs.Step.{unless_refused}
 use Rattle.spawn.proofs.EditApart.{edit_keeps_apart}
 use Rattle.spawn.proofs.KeptApart.{spawn_keeps_apart}
 use Rattle.spawn.proofs.NewRecord.{new_is_good}
@@ -23,7 +24,7 @@ use Rattle.master_core.specs.Orders.{next_record, order_refusal, ordered}
 use Rattle.master_core.specs.declared.order.Order.{Order}
 use Rattle.master_core.specs.declared.order.Order.TheVariants as order
 
-edit_kept : (e : Edit) (at : ℕ) (w : Known) → IsKept w → order_refusal (order.Edit e) w ≡ None → IsKept (ordered (order.Edit e) at w)
+edit_kept : (e : Edit) (at : ℕ) (w : Known) → IsKept w → order_refusal (order.Edit e) w ≡ None → IsKept (ordered (order.Edit e) at w).next
 edit_kept e at w kept none =
     let free = edit_free e w none in
     record {
@@ -35,7 +36,7 @@ edit_kept e at w kept none =
       apart = edit_keeps_apart w.ticket.rows w.records e at kept.valid free.rows free.held kept.apart;
     }
 
-spawn_kept : (node worker : List ℕ) (rw : List (List ℕ)) (at : ℕ) (w : Known) → IsKept w → order_refusal (order.Spawn node worker rw) w ≡ None → IsKept (ordered (order.Spawn node worker rw) at w)
+spawn_kept : (node worker : List ℕ) (rw : List (List ℕ)) (at : ℕ) (w : Known) → IsKept w → order_refusal (order.Spawn node worker rw) w ≡ None → IsKept (ordered (order.Spawn node worker rw) at w).next
 spawn_kept node worker copies at w kept none =
     let free = spawn_free w node worker copies none in
     let new : SpawnRec = next_record w node worker copies at in
@@ -51,13 +52,13 @@ spawn_kept node worker copies at w kept none =
       apart = spawn_keeps_apart w.ticket w.records (next_number w.records) node worker copies at kept.valid kept.apart free.1;
     }
 
-pub ordered_kept : (o : Order) (at : ℕ) (w : Known) → IsKept w → order_refusal o w ≡ None → IsKept (ordered o at w)
+pub ordered_kept : (o : Order) (at : ℕ) (w : Known) → IsKept w → order_refusal o w ≡ None → IsKept (ordered o at w).next
 ordered_kept (order.Edit e) at w kept none = edit_kept e at w kept none
 ordered_kept (order.Spawn node worker rw) at w kept none = spawn_kept node worker rw at w kept none
 ordered_kept (order.Resend s) at w kept none = kept
 ordered_kept (order.Withdraw s) at w kept none = kept
 
-kept_either : (refusal : Option Refusal) (o : Order) (at : ℕ) (w : Known) → order_refusal o w ≡ refusal → IsKept w → IsKept (cond (is_some refusal) w (ordered o at w))
+kept_either : (refusal : Option Refusal) (o : Order) (at : ℕ) (w : Known) → order_refusal o w ≡ refusal → IsKept w → IsKept (unless_refused refusal w (ordered o at w)).next
 kept_either None o at w none kept = ordered_kept o at w kept none
 kept_either (Some r) o at w refused kept = kept
 

@@ -1,6 +1,6 @@
 -- The part of a spawn that is out stays the same as another is merged, withdrawn or goes out, and as
 -- the master edits what it holds.
-use Rattle.std.proofs.Common.{◌≡◌, ◌∙◌, ◌⊎◌, ℕ, ◌++◌, true, false, cond, List, [], ◌∷◌, Option, Some, None, Ok, is_some, length, slice_get, inl, inr, refl, sym, ap, subst}
+use Rattle.std.proofs.Common.{◌≡◌, ◌∙◌, ◌⊎◌, ℕ, ◌++◌, true, false, cond, List, [], ◌∷◌, Option, Some, None, Ok, length, slice_get, inl, inr, refl, sym, ap, subst}
 use Rattle.std.proofs.lemmas.Bool.{and_from}
 use Rattle.std.proofs.lemmas.Slice.Eq.{bytes_eq-Decides}
 use Rattle.std.specs.Option.{option_map, option_map_or}
@@ -18,6 +18,7 @@ use Rattle.ticket_tree.specs.Part.{Copied}
 use Rattle.ticket_tree.specs.PartView.{part_row}
 use Rattle.ticket_tree.specs.PlainEdit.{touch}
 use Rattle.controller.specs.Reply.{spawn_in}
+use Rattle.controller.specs.Step.{unless_refused}
 use Rattle.controller.specs.declared.body.Body.TheVariants.{Return}
 use Rattle.controller.specs.declared.message.Message.{Message}
 use Rattle.spawn.proofs.KeptApart.{spawn_keeps_apart}
@@ -136,7 +137,7 @@ spawn_keeps_part w node worker copies at k r kept none at_r out =
 
 -- ---- the laws
 
-ordered_parts : (o : Order) (at : ℕ) (w : Known) (k : ℕ) (r : SpawnRec) → IsKept w → order_refusal o w ≡ None → slice_get w.records k ≡ Some r → is_out r ≡ true → part_for (ordered o at w).ticket r ≡ part_for w.ticket r
+ordered_parts : (o : Order) (at : ℕ) (w : Known) (k : ℕ) (r : SpawnRec) → IsKept w → order_refusal o w ≡ None → slice_get w.records k ≡ Some r → is_out r ≡ true → part_for (ordered o at w).next.ticket r ≡ part_for w.ticket r
 ordered_parts (order.Edit e) at w k r kept none there out =
     let free = edit_free e w none in
     edit_keeps_parts w.ticket w.records e at k r kept.valid kept.apart free.rows free.held there out
@@ -144,7 +145,7 @@ ordered_parts (order.Spawn node worker copies) at w k r kept none there out = sp
 ordered_parts (order.Resend s) at w k r kept none there out = refl
 ordered_parts (order.Withdraw s) at w k r kept none there out = refl
 
-parts_either : (refusal : Option Refusal) (o : Order) (at : ℕ) (w : Known) (k : ℕ) (r : SpawnRec) → IsKept w → order_refusal o w ≡ refusal → slice_get w.records k ≡ Some r → is_out r ≡ true → part_for (cond (is_some refusal) w (ordered o at w)).ticket r ≡ part_for w.ticket r
+parts_either : (refusal : Option Refusal) (o : Order) (at : ℕ) (w : Known) (k : ℕ) (r : SpawnRec) → IsKept w → order_refusal o w ≡ refusal → slice_get w.records k ≡ Some r → is_out r ≡ true → part_for (unless_refused refusal w (ordered o at w)).next.ticket r ≡ part_for w.ticket r
 parts_either None o at w k r kept none there out = ordered_parts o at w k r kept none there out
 parts_either (Some e) o at w k r kept refused there out = refl
 

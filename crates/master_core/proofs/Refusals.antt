@@ -17,6 +17,7 @@ use Rattle.ticket_rows.specs.Ticket.{first_of, has_node, unless}
 use Rattle.ticket_tree.proofs.OnPlaces.{stands_node, stands_resource}
 use Rattle.ticket_tree.specs.Part.{Copied}
 use Rattle.controller.specs.Reply.{spawn_in}
+use Rattle.controller.specs.Step.{unless_refused}
 use Rattle.controller.specs.declared.body.Body.TheVariants.{Return}
 use Rattle.controller.specs.declared.message.Message.{Message}
 use Rattle.spawn.specs.Records.{is_out, is_out_phase}
@@ -30,7 +31,8 @@ use Rattle.spawn.specs.declared.tables.holder.Holder.TheVariants as held_by
 use Rattle.merge.specs.Alike.{is_fit}
 use Rattle.master_core.specs.Master.{Known, holder, is_spawn_out, next_number, record_of}
 use Rattle.master_core.specs.Messages.{body_refusal, is_for_masters, record_refusal, return_refusal, take_refusal}
-use Rattle.master_core.specs.Orders.{edit_refusal, held_refusal, not_held, order_refusal}
+use Rattle.master_core.specs.Orders.{edit_refusal, held_refusal, not_held, order_refusal, order_step, ordered}
+use Rattle.master_core.specs.declared.order.Order.{Order}
 use Rattle.master_core.specs.declared.order.Order.TheVariants as order
 
 -- ---- what an edit names stands in the ticket
@@ -127,6 +129,10 @@ resend_free w s none = only_out (is_spawn_out w.records s) none
 
 pub withdraw_free : (w : Known) (s : ℕ) → order_refusal (order.Withdraw s) w ≡ None → is_spawn_out w.records s ≡ true
 withdraw_free w s none = only_out (is_spawn_out w.records s) none
+
+-- an order that isn't refused is done
+pub done_order : (o : Order) (at : ℕ) (w : Known) → order_refusal o w ≡ None → order_step o at w ≡ ordered o at w
+done_order o at w free = ap (λ why. unless_refused why w (ordered o at w)) free
 
 -- ---- messages
 

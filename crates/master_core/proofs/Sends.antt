@@ -11,7 +11,7 @@ use Rattle.ticket_rows.specs.Ticket.{Job}
 use Rattle.spawn.specs.declared.records.spawn_rec.SpawnRec.{SpawnRec}
 use Rattle.master_core.specs.Master.{Known}
 use Rattle.master_core.specs.Messages.{end_of, take_refusal, take_step, taken_result}
-use Rattle.master_core.specs.Orders.{abort_of, order_message, order_refusal, order_reply, order_step, ordered, submit_of}
+use Rattle.master_core.specs.Orders.{abort_of, order_refusal, order_step, ordered, submit_of}
 use Rattle.master_core.specs.declared.order.Order.{Order}
 use Rattle.master_core.specs.declared.order.Order.TheVariants.{Edit, Spawn, Resend, Withdraw}
 
@@ -27,14 +27,14 @@ asked : (name : List ℕ) (r : Option SpawnRec) → IsSendable (option_map (abor
 asked name None = tt
 asked name (Some r) = refl
 
-message : (o : Order) (at' : ℕ) (w : Known) → IsSendable (order_message o at' w)
-message (Edit e) at' w = tt
-message (Spawn node worker rw) at' w = refl
-message (Resend s) at' w = again w.name w.ticket _
-message (Withdraw s) at' w = asked w.name _
+ordered_sends : (o : Order) (at' : ℕ) (w : Known) → IsSendable (ordered o at' w).sent
+ordered_sends (Edit e) at' w = tt
+ordered_sends (Spawn node worker rw) at' w = refl
+ordered_sends (Resend s) at' w = again w.name w.ticket _
+ordered_sends (Withdraw s) at' w = asked w.name _
 
 pub by_order : (o : Order) (at' : ℕ) (w : Known) → IsSendable (order_step o at' w).sent
-by_order o at' w = sends_so (order_refusal o w) (order_reply o w) (order_message o at' w) w (ordered o at' w) (λ m. may_be_sent m.body ≡ true) (message o at' w)
+by_order o at' w = sends_so (order_refusal o w) w (ordered o at' w) (λ m. may_be_sent m.body ≡ true) (ordered_sends o at' w)
 
 pub by_message : (m : Message) (at' : ℕ) (w : Known) → IsSendable (take_step m at' w).sent
 by_message m at' w = answers_sent w.name m at' (taken_result m w) (told (take_refusal m w) (end_of m.body))

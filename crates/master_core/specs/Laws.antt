@@ -18,8 +18,8 @@ use Rattle.master_core.specs.Master.{IsKept, Known, holder, is_spawn_out, may_ch
 use Rattle.master_core.specs.Master.{record_of, withdrawn_record}
 use Rattle.master_core.specs.Messages.{IsValidBody, after_taking, freed, merged, take_refusal}
 use Rattle.master_core.specs.Messages.{taken_reply}
-use Rattle.master_core.specs.Orders.{abort_of, after_order, order_message, order_refusal, ordered}
-use Rattle.master_core.specs.Orders.{spawn_asked, spawn_sent, submit_of}
+use Rattle.master_core.specs.Orders.{abort_of, order_refusal, order_step, spawn_asked, spawn_sent}
+use Rattle.master_core.specs.Orders.{submit_of}
 use Rattle.master_core.specs.declared.order.Order.{Order}
 use Rattle.master_core.specs.declared.order.Order.TheVariants as order
 
@@ -40,15 +40,15 @@ EditIsOfHeld =
 
 -- what always holds of a master holds after an order
 abbrev pub OrderIsKept : Type 0
-OrderIsKept = (o : Order) (at : ℕ) (w : Known) → IsKept w → IsKept (after_order o at w)
+OrderIsKept = (o : Order) (at : ℕ) (w : Known) → IsKept w → IsKept (order_step o at w).next
 
 -- an order changes the record of no spawn, and no part of one that is out
 abbrev pub OrderKeepsSpawns : Type 0
 OrderKeepsSpawns =
     (o : Order) (at : ℕ) (w : Known) (s : ℕ) (r : SpawnRec) → IsKept w
     → record_of w.records s ≡ Some r
-    → (record_of (after_order o at w).records s ≡ Some r)
-    × (is_out r ≡ true → part_for (after_order o at w).ticket r ≡ part_for w.ticket r)
+    → (record_of (order_step o at w).next.records s ≡ Some r)
+    × (is_out r ≡ true → part_for (order_step o at w).next.ticket r ≡ part_for w.ticket r)
 
 -- ---- what a message changes
 
@@ -110,7 +110,7 @@ MergedIsIn =
 abbrev pub InStaysIn : Type 0
 InStaysIn =
     (w : Known) (s : ℕ) (r : SpawnRec) → record_of w.records s ≡ Some r → is_out r ≡ false
-    → ((o : Order) (at : ℕ) → record_of (after_order o at w).records s ≡ Some r)
+    → ((o : Order) (at : ℕ) → record_of (order_step o at w).next.records s ≡ Some r)
     × ((m : Message) (at : ℕ) → record_of (after_taking m at w).records s ≡ Some r)
 
 -- a part that comes back once more, whatever it holds, changes nothing and was put in before
@@ -128,18 +128,18 @@ abbrev pub SubmitIsOfRecord : Type 0
 SubmitIsOfRecord =
     (o : Order) (at : ℕ) (w : Known) (s : ℕ) → IsKept w → order_refusal o w ≡ None
     → spawn_sent o w ≡ Some s
-    → (r : SpawnRec) × (record_of (ordered o at w).records s ≡ Some r) × (is_out r ≡ true)
-    × (order_message o at w ≡ Some (submit_of w.name (ordered o at w).ticket r))
+    → (r : SpawnRec) × (record_of (order_step o at w).next.records s ≡ Some r) × (is_out r ≡ true)
+    × ((order_step o at w).sent ≡ Some (submit_of w.name (order_step o at w).next.ticket r))
 
 -- what asks a worker to give a spawn up is made of the record of that, which is out
 abbrev pub AbortIsOfRecord : Type 0
 AbortIsOfRecord =
     (o : Order) (at : ℕ) (w : Known) (s : ℕ) → order_refusal o w ≡ None → spawn_asked o ≡ Some s
     → (r : SpawnRec) × (record_of w.records s ≡ Some r) × (is_out r ≡ true)
-    × (order_message o at w ≡ Some (abort_of w.name r))
+    × ((order_step o at w).sent ≡ Some (abort_of w.name r))
 
 -- and where no spawn is sent or asked for nothing goes out
 abbrev pub NothingIsSent : Type 0
 NothingIsSent =
     (o : Order) (at : ℕ) (w : Known) → spawn_sent o w ≡ None → spawn_asked o ≡ None
-    → order_message o at w ≡ None
+    → (order_step o at w).sent ≡ None

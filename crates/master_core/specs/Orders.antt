@@ -1,7 +1,6 @@
--- What a master does with an order: why it is refused, and else what becomes of the ticket and of
--- the records, what is replied and what goes out.
-use Rattle.std.specs.Prelude.{ℕ, List, [], ◌∷◌, ◌++◌, if◌then◌else◌}
-use Rattle.std.specs.Prelude.{Option, Some, None, is_some, Ok}
+-- What a master does with an order: why it is refused, and else its step.
+use Rattle.std.specs.Prelude.{ℕ, List, [], ◌∷◌, ◌++◌, Option, Some, None, Result}
+use Rattle.std.specs.Prelude.{Ok}
 use Rattle.std.specs.Option.{option_map, option_map_or}
 use Rattle.ticket_items.specs.Ids.{mem}
 use Rattle.ticket_items.specs.declared.edit.Edit.{Edit}
@@ -10,10 +9,10 @@ use Rattle.ticket_items.specs.declared.refusal.Refusal.TheVariants.{NotHeld, Not
 use Rattle.ticket_rows.specs.Edit.{edited, lookups, target}
 use Rattle.ticket_rows.specs.EditRefusal.{later_refusal, unknown_refusal}
 use Rattle.ticket_rows.specs.Ticket.{Job, first_of, unless}
-use Rattle.controller.specs.Step.{Step, unless_refused}
+use Rattle.controller.specs.Step.{Makes, Step, unless_refused}
 use Rattle.controller.specs.declared.body.Body.TheVariants.{Submit, Abort}
+use Rattle.controller.specs.declared.done.Done.{Done}
 use Rattle.controller.specs.declared.message.Message.{Message}
-use Rattle.controller.specs.declared.reply.Reply.{Reply}
 use Rattle.controller.specs.declared.reply.Reply.TheVariants as reply
 use Rattle.spawn.specs.Parts.{part_for}
 use Rattle.spawn.specs.Spawning.{new_record, spawn_refusal, spawned}
@@ -53,35 +52,16 @@ order_refusal (order.Spawn node worker rw) w =
 order_refusal (order.Resend s) w = unless (is_spawn_out w.records s) NotOut
 order_refusal (order.Withdraw s) w = unless (is_spawn_out w.records s) NotOut
 
--- ---- what becomes of the ticket and the records
+-- ---- what goes out
 
--- the record of the next spawn
-abbrev pub next_record : Known → List ℕ → List ℕ → List (List ℕ) → ℕ → SpawnRec
-next_record w node worker rw at =
-    new_record w.ticket.rows (next_number w.records) node worker rw at
+-- the message by which the master of a name sends the part of a spawn out, as its ticket is
+abbrev pub submit_of : List ℕ → Job → SpawnRec → Message
+submit_of name t r =
+    record { sender = name; receiver = r.worker; at = r.at; body = Submit (part_for t r) }
 
--- the master after an order at a time that isn't refused
-abbrev pub ordered : Order → ℕ → Known → Known
-ordered (order.Edit e) at w = record w { ticket = edited e at w.ticket }
-ordered (order.Spawn node worker rw) at w =
-    record w {
-      ticket = spawned w.ticket (next_record w node worker rw at);
-      records = w.records ++ next_record w node worker rw at ∷ [];
-    }
-ordered (order.Resend s) at w = w
-ordered (order.Withdraw s) at w = w
-
--- the master after an order at a time. A refusal changes nothing
-abbrev pub after_order : Order → ℕ → Known → Known
-after_order o at w = if is_some (order_refusal o w) then w else ordered o at w
-
--- ---- what is replied, and what goes out
-
-abbrev pub order_reply : Order → Known → Reply
-order_reply (order.Edit e) w = reply.Edited
-order_reply (order.Spawn node worker rw) w = reply.Spawned (next_number w.records)
-order_reply (order.Resend s) w = reply.Sent s
-order_reply (order.Withdraw s) w = reply.Asked s
+-- the message by which the master of a name asks the worker of a spawn to give it up
+abbrev pub abort_of : List ℕ → SpawnRec → Message
+abort_of name r = record { sender = name; receiver = r.worker; at = r.at; body = Abort r.id }
 
 -- the spawn whose part an order sends out
 abbrev pub spawn_sent : Order → Known → Option ℕ
@@ -97,31 +77,48 @@ spawn_asked (order.Spawn node worker rw) = None
 spawn_asked (order.Resend s) = None
 spawn_asked (order.Withdraw s) = Some s
 
--- the message by which the master of a name sends the part of a spawn out, as its ticket is
-abbrev pub submit_of : List ℕ → Job → SpawnRec → Message
-submit_of name t r =
-    record { sender = name; receiver = r.worker; at = r.at; body = Submit (part_for t r) }
-
--- the message by which the master of a name asks the worker of a spawn to give it up
-abbrev pub abort_of : List ℕ → SpawnRec → Message
-abort_of name r = record { sender = name; receiver = r.worker; at = r.at; body = Abort r.id }
-
--- the message that goes out: the part of a spawn, as the ticket is after the order, or that its
--- worker is to give it up
-abbrev pub order_message : Order → ℕ → Known → Option Message
-order_message (order.Edit e) at w = None
-order_message (order.Spawn node worker rw) at w =
-    Some
-    (submit_of w.name (spawned w.ticket (next_record w node worker rw at))
-    (next_record w node worker rw at))
-order_message (order.Resend s) at w =
-    option_map (submit_of w.name w.ticket) (record_of w.records s)
-order_message (order.Withdraw s) at w = option_map (abort_of w.name) (record_of w.records s)
-
 -- ---- the step
+
+-- the record of the next spawn
+abbrev pub next_record : Known → List ℕ → List ℕ → List (List ℕ) → ℕ → SpawnRec
+next_record w node worker rw at =
+    new_record w.ticket.rows (next_number w.records) node worker rw at
+
+-- the step that spawns by a record, which is new
+abbrev pub spawning : SpawnRec → Known → Step Known Message
+spawning r w =
+    record {
+      reply = Ok (reply.Spawned r.id);
+      sent = Some (submit_of w.name (spawned w.ticket r) r);
+      next = record w { ticket = spawned w.ticket r; records = w.records ++ r ∷ [] };
+    }
+
+-- the master's step on an order at a time that isn't refused
+abbrev pub ordered : Order → ℕ → Known → Step Known Message
+ordered (order.Edit e) at w =
+    record {
+      reply = Ok reply.Edited;
+      sent = None;
+      next = record w { ticket = edited e at w.ticket };
+    }
+ordered (order.Spawn node worker rw) at w = spawning (next_record w node worker rw at) w
+ordered (order.Resend s) at w =
+    record {
+      reply = Ok (reply.Sent s);
+      sent = option_map (submit_of w.name w.ticket) (record_of w.records s);
+      next = w;
+    }
+ordered (order.Withdraw s) at w =
+    record {
+      reply = Ok (reply.Asked s);
+      sent = option_map (abort_of w.name) (record_of w.records s);
+      next = w;
+    }
 
 -- the master's step on an order at a time
 abbrev pub order_step : Order → ℕ → Known → Step Known Message
-order_step o at w =
-    unless_refused (order_refusal o w) w
-    (record { reply = Ok (order_reply o w); sent = order_message o at w; next = ordered o at w })
+order_step o at w = unless_refused (order_refusal o w) w (ordered o at w)
+
+-- a master makes the step of an order at a time: with this result, and it is then this
+abbrev pub Does : Order → ℕ → Known → Result Done Refusal → Known → Type 0
+Does o at old result new = Makes (order_step o at old) old result new

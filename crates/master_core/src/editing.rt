@@ -1,7 +1,6 @@
 //! What a master does with an edit of its ticket.
 
-ghost use Rattle.std.specs.Prelude.{◌≡◌, ℕ, List, None, Some, OnOk, OnErr, IfOk, IfErr};
-ghost use Rattle.std.specs.Prelude.{IfNone, IfSome};
+ghost use Rattle.std.specs.Prelude.{◌≡◌, ℕ, List, None, Some, OnOk, OnErr, IfErr};
 ghost use Rattle.std.specs.Option.{option_map, option_map_or};
 ghost use Rattle.ticket_rows.specs.Edit as edits;
 ghost use Rattle.ticket_rows.specs.Ticket.{IsValid};
@@ -12,6 +11,7 @@ ghost use Rattle.spawn.specs.declared.records.spawn_rec.SpawnRec.{SpawnRec};
 ghost use Rattle.master_core.specs.Master as master;
 ghost use Rattle.master_core.specs.Orders as orders;
 
+use crate::order::Order;
 use controller::{Done, Reply};
 use spawn::{Holder, Holders};
 use std::alloc::Global;
@@ -102,22 +102,14 @@ pub fn do_edit(
     at: u64,
 ) -> Result<Done, Refusal>
     requires { (records : List SpawnRec) × IsTable ticket.old.rows records holders.old }
-    ensures ok { OnOk result (ticket.new ≡ edits.edited edit at ticket.old) }
+    ensures done { (name : List ℕ) (workers : List (List ℕ)) (records : List SpawnRec)
+        → IsTable ticket.old.rows records holders.old
+        → orders.Does (Order.Edit edit) at (master.known name workers ticket.old records) result
+        (master.known name workers ticket.new records) }
     ensures table { OnOk result ((records : List SpawnRec) → IsValid ticket.old.rows
         → StandApart ticket.old.rows records → IsTable ticket.old.rows records holders.old
         → IsTable ticket.new.rows records holders.new) }
-    ensures reply { IfOk result (λ done. done.reply ≡ Reply.Edited) }
-    ensures message { IfOk result (λ done. done.message ≡ None) }
-    ensures err { OnErr result (ticket.new ≡ ticket.old) }
     ensures holders_stay { OnErr result (holders.new ≡ holders.old) }
-    ensures refused { (name : List ℕ) (workers : List (List ℕ)) (records : List SpawnRec)
-        → IsTable ticket.old.rows records holders.old
-        → IfSome (orders.edit_refusal edit (master.known name workers ticket.old records))
-        (λ e. result ≡ Err e) }
-    ensures memory { (name : List ℕ) (workers : List (List ℕ)) (records : List SpawnRec)
-        → IsTable ticket.old.rows records holders.old
-        → IfNone (orders.edit_refusal edit (master.known name workers ticket.old records))
-        (IfErr result (λ e. e ≡ Refusal.Memory)) }
 {
     match refusal_of(ticket, holders, &edit) {
         Some(refusal) => {

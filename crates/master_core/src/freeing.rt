@@ -66,8 +66,6 @@ pub fn free(
     ensures holders_stay { OnErr result (holders.new ≡ holders.old) }
     ensures idle { masters.is_spawn_out records.old.items spawn ≡ false → IsOk result }
 {
-    // A ticket has valid rows.
-    let _rows = ticket.rows();
     if is_spawn_out(records.as_slice(), spawn) {
         let place = place_of(spawn);
         take_back(alloc, ticket, &mut records[place], holders, at)

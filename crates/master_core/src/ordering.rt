@@ -1,12 +1,13 @@
 //! What a master does with an order.
 
-ghost use Rattle.std.specs.Prelude.{◌≡◌, ◌++◌, ◌∷◌, [], true, false, None, Some, OnOk, OnErr};
+ghost use Rattle.std.specs.Prelude.{◌≡◌, ℕ, List, true, false, Some, Err, OnOk, OnErr};
 ghost use Rattle.std.specs.Prelude.{IfOk, IfErr, IfNone, IfSome};
-ghost use Rattle.ticket_rows.specs.Ticket.{IsValid};
+ghost use Rattle.ticket_rows.specs.Ticket.{IsValid, Job};
+ghost use Rattle.controller.specs.Step.{done_step};
 ghost use Rattle.spawn.specs.Holdings.{IsTable};
 ghost use Rattle.spawn.specs.Laws.{StandApart};
 ghost use Rattle.spawn.specs.Records.{IsGood, is_out};
-ghost use Rattle.spawn.specs.Spawning as spawning;
+ghost use Rattle.spawn.specs.Spawning.{spawn_refusal};
 ghost use Rattle.master_core.specs.Master as master;
 ghost use Rattle.master_core.specs.Orders as orders;
 
@@ -40,27 +41,17 @@ fn spawn_to(
 ) -> Result<Done, Refusal>
     requires valid { IsValid ticket.old.rows }
     requires table { IsTable ticket.old.rows records.old.items holders.old }
-    ensures ticket { OnOk result (ticket.new
-        ≡ spawning.spawned ticket.old
-        (spawning.new_record ticket.old.rows (master.next_number records.old.items)
-        node worker rw at)) }
-    ensures records { OnOk result (records.new.items
-        ≡ records.old.items
-        ++ spawning.new_record ticket.old.rows (master.next_number records.old.items)
-        node worker rw at ∷ []) }
-    ensures reply { IfOk result
-        (λ done. done.reply ≡ Reply.Spawned (master.next_number records.old.items)) }
-    ensures message { IfOk result (λ done. done.message
-        ≡ Some (orders.submit_of name.now ticket.new
-        (spawning.new_record ticket.old.rows (master.next_number records.old.items)
-        node worker rw at))) }
+    ensures ok { (workers : List (List ℕ)) → IfOk result
+        (λ done. done_step done (master.known name.now workers ticket.new records.new.items)
+        ≡ orders.ordered (Order.Spawn node worker rw) at
+        (master.known name.now workers ticket.old records.old.items)) }
     ensures table { OnOk result (IsTable ticket.new.rows records.new.items holders.new) }
     ensures ticket_stays { OnErr result (ticket.new ≡ ticket.old) }
     ensures records_stay { OnErr result (records.new.items ≡ records.old.items) }
     ensures holders_stay { OnErr result (holders.new ≡ holders.old) }
-    ensures refused { IfSome (spawning.spawn_refusal ticket.old.rows records.old.items
+    ensures refused { IfSome (spawn_refusal ticket.old.rows records.old.items
         (master.next_number records.old.items) node rw) (λ e. result ≡ Err e) }
-    ensures memory { IfNone (spawning.spawn_refusal ticket.old.rows records.old.items
+    ensures memory { IfNone (spawn_refusal ticket.old.rows records.old.items
         (master.next_number records.old.items) node rw)
         (IfErr result (λ e. e ≡ Refusal.Memory)) }
 {
@@ -82,6 +73,33 @@ fn spawn_to(
         reply: Reply::Spawned(id),
         message: Some(message),
     })
+}
+
+/// Does a spawn that is ordered of the master of a name with these workers, at a time.
+fn do_spawn(
+    alloc: Global,
+    name: &Id,
+    workers: &[Id],
+    ticket: &mut Ticket,
+    records: &mut Vec<SpawnRec>,
+    holders: &mut Holders,
+    node: Id,
+    worker: Id,
+    rw: Ids,
+    at: u64,
+) -> Result<Done, Refusal>
+    requires valid { IsValid ticket.old.rows }
+    requires table { IsTable ticket.old.rows records.old.items holders.old }
+    ensures done { orders.Does (Order.Spawn node worker rw) at
+        (master.known name.now workers.now ticket.old records.old.items) result
+        (master.known name.now workers.now ticket.new records.new.items) }
+    ensures table { OnOk result (IsTable ticket.new.rows records.new.items holders.new) }
+    ensures holders_stay { OnErr result (holders.new ≡ holders.old) }
+{
+    if !is_among(workers, &worker) {
+        return Err(Refusal::UnknownWorker);
+    }
+    spawn_to(alloc, name, ticket, records, holders, node, worker, rw, at)
 }
 
 /// The message by which the master of a name sends the part of a spawn that is out.
@@ -139,6 +157,48 @@ fn record_out<'a>(records: &'a [SpawnRec], spawn: SpawnId) -> Result<&'a SpawnRe
     }
 }
 
+/// Sends the part of a spawn once more, of the master of a name.
+fn do_resend(
+    alloc: Global,
+    name: &Id,
+    ticket: &Ticket,
+    records: &[SpawnRec],
+    spawn: SpawnId,
+) -> Result<Done, Refusal>
+    requires numbered { master.IsNumbered records.now }
+    requires apart { StandApart ticket.now.rows records.now }
+    ensures { (workers : List (List ℕ)) (at : ℕ) → orders.Does (Order.Resend spawn) at
+        (master.known name.now workers ticket.now records.now) result
+        (master.known name.now workers ticket.now records.now) }
+{
+    let record = record_out(records, spawn)?;
+    let message = submit_of(alloc, name, ticket, record)?;
+    Ok(Done {
+        reply: Reply::Sent(spawn),
+        message: Some(message),
+    })
+}
+
+/// Asks the worker of a spawn to give it up, of the master of a name.
+fn do_withdraw(
+    alloc: Global,
+    name: &Id,
+    records: &[SpawnRec],
+    spawn: SpawnId,
+) -> Result<Done, Refusal>
+    requires { master.IsNumbered records.now }
+    ensures { (workers : List (List ℕ)) (ticket : Job) (at : ℕ)
+        → orders.Does (Order.Withdraw spawn) at (master.known name.now workers ticket records.now)
+        result (master.known name.now workers ticket records.now) }
+{
+    let record = record_out(records, spawn)?;
+    let message = abort_of(alloc, name, record)?;
+    Ok(Done {
+        reply: Reply::Asked(spawn),
+        message: Some(message),
+    })
+}
+
 /// Does what the master of a name is told to do, that has these workers, ticket and records, by
 /// which these hold what is there.
 pub fn do_order(
@@ -155,50 +215,18 @@ pub fn do_order(
     requires valid { IsValid ticket.old.rows }
     requires apart { StandApart ticket.old.rows records.old.items }
     requires table { IsTable ticket.old.rows records.old.items holders.old }
-    ensures state { OnOk result (master.known name.now workers.now ticket.new records.new.items
-        ≡ orders.ordered order at
-        (master.known name.now workers.now ticket.old records.old.items)) }
-    ensures reply { IfOk result (λ done. done.reply
-        ≡ orders.order_reply order
-        (master.known name.now workers.now ticket.old records.old.items)) }
-    ensures message { IfOk result (λ done. done.message
-        ≡ orders.order_message order at
-        (master.known name.now workers.now ticket.old records.old.items)) }
+    ensures done { orders.Does order at
+        (master.known name.now workers.now ticket.old records.old.items) result
+        (master.known name.now workers.now ticket.new records.new.items) }
     ensures table { OnOk result (IsTable ticket.new.rows records.new.items holders.new) }
-    ensures ticket_stays { OnErr result (ticket.new ≡ ticket.old) }
-    ensures records_stay { OnErr result (records.new.items ≡ records.old.items) }
     ensures holders_stay { OnErr result (holders.new ≡ holders.old) }
-    ensures free { OnOk result (orders.order_refusal order
-        (master.known name.now workers.now ticket.old records.old.items) ≡ None) }
-    ensures refused { IfSome (orders.order_refusal order
-        (master.known name.now workers.now ticket.old records.old.items)) (λ e. result ≡ Err e) }
-    ensures memory { IfNone (orders.order_refusal order
-        (master.known name.now workers.now ticket.old records.old.items))
-        (IfErr result (λ e. e ≡ Refusal.Memory)) }
 {
     match order {
         Order::Edit(edit) => do_edit(alloc, ticket, holders, edit, at),
-        Order::Spawn { node, worker, rw } => {
-            if !is_among(workers, &worker) {
-                return Err(Refusal::UnknownWorker);
-            }
-            spawn_to(alloc, name, ticket, records, holders, node, worker, rw, at)
-        }
-        Order::Resend(spawn) => {
-            let record = record_out(records.as_slice(), spawn)?;
-            let message = submit_of(alloc, name, ticket, record)?;
-            Ok(Done {
-                reply: Reply::Sent(spawn),
-                message: Some(message),
-            })
-        }
-        Order::Withdraw(spawn) => {
-            let record = record_out(records.as_slice(), spawn)?;
-            let message = abort_of(alloc, name, record)?;
-            Ok(Done {
-                reply: Reply::Asked(spawn),
-                message: Some(message),
-            })
-        }
+        Order::Spawn { node, worker, rw } => do_spawn(
+            alloc, name, workers, ticket, records, holders, node, worker, rw, at,
+        ),
+        Order::Resend(spawn) => do_resend(alloc, name, ticket, records.as_slice(), spawn),
+        Order::Withdraw(spawn) => do_withdraw(alloc, name, records.as_slice(), spawn),
     }
 }

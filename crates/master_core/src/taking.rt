@@ -242,8 +242,6 @@ fn take_part(
     ensures holders_stay { OnErr result (holders.new ≡ holders.old) }
     ensures valid { IsValid (with_copies part.rows part.rw part.ro) }
 {
-    // A part has valid rows.
-    let _rows = part.rows();
     if is_spawn_out(records.as_slice(), part.spawn_id()) {
         let place = place_of(part.spawn_id());
         put_in(alloc, ticket, &mut records[place], holders, part, at)

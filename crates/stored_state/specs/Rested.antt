@@ -35,13 +35,7 @@ never is = absurd (true≢false (sym is))
 -- its step on an order, by why that is refused
 abbrev master_told : Option Refusal → master_order.Order → ℕ → master.Known
     → Step master.Known Message
-master_told why o at w =
-    unless_refused why w
-    (record {
-      reply = Ok (of_master.order_reply o w);
-      sent = of_master.order_message o at w;
-      next = of_master.ordered o at w;
-    })
+master_told why o at w = unless_refused why w (of_master.ordered o at w)
 
 told_master : (why : Option Refusal) (o : master_order.Order) (at : ℕ) (w : master.Known)
     → rests (master_told why o at w).reply ≡ true → (master_told why o at w).next ≡ w
@@ -100,13 +94,7 @@ master_rests_on m at w is = taken_master (by_master.take_refusal m w) m.body at 
 
 abbrev worker_told : Option Refusal → worker_order.Order → ℕ → worker.Known
     → Step worker.Known Message
-worker_told why o at w =
-    unless_refused why w
-    (record {
-      reply = Ok (of_worker.order_reply o);
-      sent = of_worker.order_message o at w;
-      next = of_worker.ordered o at w;
-    })
+worker_told why o at w = unless_refused why w (of_worker.ordered o at w)
 
 told_worker : (why : Option Refusal) (o : worker_order.Order) (at : ℕ) (w : worker.Known)
     → rests (worker_told why o at w).reply ≡ true → (worker_told why o at w).next ≡ w

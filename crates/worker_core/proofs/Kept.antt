@@ -14,6 +14,8 @@ use Rattle.ticket_tree.proofs.PartEdits.{part_edit_is_valid}
 use Rattle.ticket_tree.specs.Part.{Copied, edited_part, is_sound}
 use Rattle.controller.specs.declared.body.Body.{Body}
 use Rattle.controller.specs.declared.body.Body.TheVariants.{Submit, Return, Abort, Answer}
+use Rattle.controller.specs.Step.{Step, unless_refused}
+use Rattle.controller.specs.declared.done.Done.{Done as Did}
 use Rattle.controller.specs.declared.message.Message.{Message}
 use Rattle.worker_core.proofs.AtNumber.{All-at_number, All-each_at_number, any_number, distinct-push, found_holds, numbers_stay}
 use Rattle.worker_core.proofs.Closing.{aborted_number, aborted_shut, closed_kept, closed_number}
@@ -22,7 +24,7 @@ use Rattle.worker_core.proofs.Refusals.{body_free, edit_free, of_open, open_free
 use Rattle.worker_core.specs.Laws.{MessageIsKept, OrderIsKept}
 use Rattle.worker_core.specs.Messages.{IsValidBody, aborted_entry, after_taking, body_refusal, take_refusal, taken}
 use Rattle.worker_core.specs.Numbers.{are_distinct_numbers, has_number}
-use Rattle.worker_core.specs.Orders.{edit_refusal, edited_entry, ended_part, ending, finished_entry, order_refusal, ordered, ordered_entries}
+use Rattle.worker_core.specs.Orders.{Does, edit_refusal, edited_entry, ended_part, ending, finished_entry, order_refusal, ordered}
 use Rattle.worker_core.specs.Worker.{IsKept, IsKeptEntry, IsKeptPart, Known, closed_entry, entry_of, declined_entry, has_ended_so, is_of, is_open, is_open_stage, keeps_part, known, new_entry, numbers, open_part, with_entry}
 use Rattle.worker_core.specs.declared.end.End.TheVariants.{Aborted}
 use Rattle.worker_core.specs.declared.end.End.{End}
@@ -89,7 +91,7 @@ kept_finish how at x kept none =
 
 -- ---- orders
 
-pub kept_ordered : (o : Order) (at : ℕ) (w : Known) → IsKept w → order_refusal o w.entries ≡ None → IsKept (ordered o at w)
+pub kept_ordered : (o : Order) (at : ℕ) (w : Known) → IsKept w → order_refusal o w.entries ≡ None → IsKept (ordered o at w).next
 kept_ordered (order.Edit s e) at w kept none =
     let on = ordered_on (order.Edit s e) w.entries none in
     let own : IsKeptEntry on.0 = found_holds IsKeptEntry (is_of s) w.entries on.0 on.1 kept.each in
@@ -106,20 +108,19 @@ kept_ordered (order.Finish s how) at w kept none =
       once = ap are_distinct_numbers (numbers_stay number_of s (finished_entry how at) w.entries (λ y. refl)) ∙ kept.once;
       each = All-at_number IsKeptEntry number_of s (finished_entry how at) w.entries on.0 kept.once on.1 (kept_finish how at on.0 own on.2) kept.each;
     }
-kept_ordered (order.Resend s) at w kept none = record { apart = kept.apart; once = kept.once; each = kept.each }
+kept_ordered (order.Resend s) at w kept none = kept
 
-order_either : (refusal : Option Refusal) (o : Order) (at : ℕ) (w : Known) → order_refusal o w.entries ≡ refusal → IsKept w → IsKept (cond (is_some refusal) w (ordered o at w))
+order_either : (refusal : Option Refusal) (o : Order) (at : ℕ) (w : Known) → order_refusal o w.entries ≡ refusal → IsKept w → IsKept (unless_refused refusal w (ordered o at w)).next
 order_either None o at w e kept = kept_ordered o at w kept e
 order_either (Some r) o at w e kept = kept
 
 pub order_is_kept : OrderIsKept
 order_is_kept o at w kept = order_either (order_refusal o w.entries) o at w refl kept
 
--- a worker whose entries are what an order makes of them, or that was refused it, is kept
-pub kept_done : {X : Type 0} (result : Result X Refusal) (o : Order) (at : ℕ) (w : Known) (entries : List Entry) → OnOk result (entries ≡ ordered_entries o at w.entries) → OnErr result (entries ≡ w.entries) → OnOk result (order_refusal o w.entries ≡ None) → IsKept w
-    → IsKept (known w.name w.master entries)
-kept_done (Ok x) o at w entries made stays free kept = subst (λ es. IsKept (known w.name w.master es)) (sym made) (kept_ordered o at w kept free)
-kept_done (Err e) o at w entries made stays free kept = subst (λ es. IsKept (known w.name w.master es)) (sym stays) kept
+-- a worker that does an order is kept
+pub kept_done : (result : Result Did Refusal) (o : Order) (at : ℕ) (w new : Known) → Does o at w result new → IsKept w → IsKept new
+kept_done (Ok done) o at w new does kept = subst IsKept (sym (ap (λ (s : Step Known Message). s.next) does.ok)) (order_is_kept o at w kept)
+kept_done (Err e) o at w new does kept = subst IsKept (sym does.err) kept
 
 -- ---- messages
 

@@ -1,16 +1,19 @@
--- That memory runs out is no refusal of a worker's order.
-use Rattle.std.proofs.Common.{Bool, true, false, [], ◌∷◌, Option, Some, None, refl}
+-- That memory runs out is no refusal of a worker's order, and what is refused changes nothing.
+use Rattle.std.proofs.Common.{◌≡◌, ◌≢◌, ℕ, Bool, true, false, [], ◌∷◌, Option, Some, None, refl}
 use Rattle.std.specs.Option.{option_map_or}
-use Rattle.std.specs.Prelude.{◌||◌, not}
+use Rattle.std.specs.Prelude.{◌||◌, IfErr, not}
 use Rattle.ticket_items.specs.declared.edit.Edit.{Edit}
 use Rattle.ticket_items.specs.declared.refusal.Refusal.{Refusal}
+use Rattle.ticket_items.specs.declared.refusal.Refusal.TheVariants.{Memory}
 use Rattle.ticket_items.specs.declared.refusal.Refusal.TheVariants as refusals
 use Rattle.ticket_rows.specs.Edit.{is_structural}
 use Rattle.ticket_rows.specs.EditRefusal.{later_refusal}
 use Rattle.ticket_rows.specs.PartEdit.{part_lookups}
 use Rattle.ticket_rows.specs.Ticket.{first_of, unless}
 use Rattle.ticket_tree.specs.Part.{Copied}
+use Rattle.controller.proofs.Answered.{is_idle, replies_so}
 use Rattle.controller.proofs.NeverMemory.{IsOther, later, other, test}
+use Rattle.controller.specs.Step.{refused}
 use Rattle.worker_core.specs.Orders as worker_orders
 use Rattle.worker_core.specs.Worker as worker
 use Rattle.worker_core.specs.declared.entry.Entry.{Entry}
@@ -55,3 +58,17 @@ found o (Some e) = in_entry o e
 
 pub never_memory : (o : worker_order.Order) (w : worker.Known) → IsOther (worker_orders.order_refusal o w.entries)
 never_memory o w = found o (worker.entry_of w.entries (worker_orders.spawn_of_order o))
+
+-- ---- what a step tells of a refusal
+
+-- what isn't refused is done
+done : (o : worker_order.Order) (at' : ℕ) (w : worker.Known) (P : Refusal → Type 0) → IfErr (worker_orders.ordered o at' w).reply P
+done (to_worker.Edit s e) at' w P = tt
+done (to_worker.Finish s how) at' w P = tt
+done (to_worker.Resend s) at' w P = tt
+
+pub order_known : (o : worker_order.Order) (at' : ℕ) (w : worker.Known) → IfErr (worker_orders.order_step o at' w).reply (λ e. e ≢ Memory)
+order_known o at' w = replies_so (worker_orders.order_refusal o w.entries) w (worker_orders.ordered o at' w) (λ e. e ≢ Memory) (done o at' w _) (never_memory o w)
+
+pub order_idle : (o : worker_order.Order) (at' : ℕ) (w : worker.Known) → IfErr (worker_orders.order_step o at' w).reply (λ e. worker_orders.order_step o at' w ≡ refused e w)
+order_idle o at' w = is_idle (worker_orders.order_refusal o w.entries) w (worker_orders.ordered o at' w) (done o at' w _)

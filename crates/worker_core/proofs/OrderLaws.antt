@@ -24,15 +24,16 @@ use Rattle.ticket_tree.proofs.PartEdits.{part_edit_of_places, part_edit_of_rows}
 use Rattle.ticket_tree.specs.Part.{Copied, edited_part, refusal_of_part}
 use Rattle.ticket_tree.specs.PartView.{part_row}
 use Rattle.ticket_tree.specs.PlainEdit.{plain_changed, touch}
+use Rattle.controller.specs.Step.{Step, unless_refused}
 use Rattle.controller.specs.declared.message.Message.{Message}
 use Rattle.worker_core.proofs.AtNumber.{find-at_number, find-other, found_holds}
 use Rattle.worker_core.proofs.Closing.{has_ended}
 use Rattle.worker_core.proofs.EditedPart.{ending_free, first_known}
 use Rattle.worker_core.proofs.Kept.{kept_part, number_of}
-use Rattle.worker_core.proofs.Refusals.{done_free, edit_free, of_open, open_free, ordered_on}
+use Rattle.worker_core.proofs.Refusals.{done_free, done_order, edit_free, of_open, open_free, ordered_on, refused_on}
 use Rattle.worker_core.specs.Laws.{EditIsOfHeld, IsNext, IsNextPart, MayChangeIsHeld, OrderKeepsEntries, ResentIsSame, ReturnIsOfEntry}
-use Rattle.worker_core.specs.Orders.{edit_refusal, edited_entry, ended_part, ending, finished_entry, is_here, order_refusal, ordered, return_of}
-use Rattle.worker_core.specs.Worker.{IsKept, IsKeptEntry, Known, entry_of, has, is_of, is_open_stage, may_change, open_part, root_id, with_entry}
+use Rattle.worker_core.specs.Orders.{edit_refusal, edited_entry, ended_part, ending, finished_entry, is_here, order_refusal, order_step, ordered, return_of, spawn_of_order}
+use Rattle.worker_core.specs.Worker.{IsKept, IsKeptEntry, Known, entry_of, has, is_ended, is_of, is_open_stage, may_change, open_part, root_id, with_entry}
 use Rattle.worker_core.specs.declared.end.End.{End}
 use Rattle.worker_core.specs.declared.entry.Entry.{Entry}
 use Rattle.worker_core.specs.declared.order.Order.{Order}
@@ -185,7 +186,7 @@ changed_either true t f entries s e same keeps found next =
     (f e, ap (entry_of (with_entry t f entries)) one ∙ find-at_number number_of t f entries keeps ∙ ap (option_map f) (ap (entry_of entries) (sym one) ∙ found), next one)
 changed_either false t f entries s e other keeps found next = (e, find-other s t number_of f entries other keeps ∙ found, unchanged entries s e)
 
-ordered_next : (o : Order) (at : ℕ) (w : Known) (s : ℕ) (e : Entry) → IsKept w → order_refusal o w.entries ≡ None → entry_of w.entries s ≡ Some e → NextIn w.entries (ordered o at w).entries s e
+ordered_next : (o : Order) (at : ℕ) (w : Known) (s : ℕ) (e : Entry) → IsKept w → order_refusal o w.entries ≡ None → entry_of w.entries s ≡ Some e → NextIn w.entries (ordered o at w).next.entries s e
 ordered_next (order.Edit t edit) at w s e kept none found =
     let own : IsKeptEntry e = found_holds IsKeptEntry (is_of s) w.entries e found kept.each in
     changed_either (s == t) t (edited_entry edit at) w.entries s e refl (λ y. refl) found (λ same. edit_next edit at w.entries s e own (ap (λ n. order_refusal (order.Edit n edit) w.entries) same ∙ none) found)
@@ -194,7 +195,7 @@ ordered_next (order.Finish t how) at w s e kept none found =
     changed_either (s == t) t (finished_entry how at) w.entries s e refl (λ y. refl) found (λ same. finish_next how at w.entries s e own (ap (λ n. order_refusal (order.Finish n how) w.entries) same ∙ none) found)
 ordered_next (order.Resend t) at w s e kept none found = (e, found, unchanged w.entries s e)
 
-next_either : (refusal : Option Refusal) (o : Order) (at : ℕ) (w : Known) (s : ℕ) (e : Entry) → order_refusal o w.entries ≡ refusal → IsKept w → entry_of w.entries s ≡ Some e → NextIn w.entries (cond (is_some refusal) w (ordered o at w)).entries s e
+next_either : (refusal : Option Refusal) (o : Order) (at : ℕ) (w : Known) (s : ℕ) (e : Entry) → order_refusal o w.entries ≡ refusal → IsKept w → entry_of w.entries s ≡ Some e → NextIn w.entries (unless_refused refusal w (ordered o at w)).next.entries s e
 next_either None o at w s e none kept found = ordered_next o at w s e kept none found
 next_either (Some r) o at w s e refused kept found = (e, found, unchanged w.entries s e)
 
@@ -206,9 +207,15 @@ order_keeps_entries o at w s e kept found = next_either (order_refusal o w.entri
 no_message : (m : Message) {P : Type 0} → ◌≡◌ {A = Option Message} None (Some m) → P
 no_message m e = cc
 
-pub return_is_of_entry : ReturnIsOfEntry
-return_is_of_entry (order.Edit s e) at w m none made = no_message m made
-return_is_of_entry (order.Finish s how) at w m none made =
+-- a message gives back the part of an entry, which is ended
+abbrev pub IsReturnOf : Known → List Entry → ℕ → Option Message → Type 0
+IsReturnOf w later s sent =
+    (m : Message) → sent ≡ Some m
+    → (e : Entry) × (entry_of later s ≡ Some e) × (is_ended e ≡ true) × (return_of w.name w.master e ≡ Some m)
+
+pub ordered_return : (o : Order) (at : ℕ) (w : Known) → order_refusal o w.entries ≡ None → IsReturnOf w (ordered o at w).next.entries (spawn_of_order o) (ordered o at w).sent
+ordered_return (order.Edit s e) at w none m made = no_message m made
+ordered_return (order.Finish s how) at w none m made =
     let on = ordered_on (order.Finish s how) w.entries none in
     let x : Entry = on.0 in (
       finished_entry how at x,
@@ -216,14 +223,34 @@ return_is_of_entry (order.Finish s how) at w m none made =
       refl,
       sym (ap (option_and_then (λ entry. return_of w.name w.master (finished_entry how at entry))) on.1) ∙ made,
     )
-return_is_of_entry (order.Resend s) at w m none made =
+ordered_return (order.Resend s) at w none m made =
     let on = ordered_on (order.Resend s) w.entries none in
     (on.0, on.1, has_ended on.0 (done_free on.0 on.2).0 on.3, sym (ap (option_and_then (return_of w.name w.master)) on.1) ∙ made)
+
+return_either : (refusal : Option Refusal) (o : Order) (at : ℕ) (w : Known) → order_refusal o w.entries ≡ refusal
+    → IsReturnOf w (unless_refused refusal w (ordered o at w)).next.entries (spawn_of_order o) (unless_refused refusal w (ordered o at w)).sent
+return_either None o at w none m made = ordered_return o at w none m made
+return_either (Some r) o at w refused m made = no_message m made
+
+pub return_is_of_entry : ReturnIsOfEntry
+return_is_of_entry o at w m made = return_either (order_refusal o w.entries) o at w refl m made
 
 then_mapped : (f : Entry → Entry) (g : Entry → Option Message) (found : Option Entry) → option_and_then g (option_map f found) ≡ option_and_then (λ e. g (f e)) found
 then_mapped f g None = refl
 then_mapped f g (Some e) = refl
 
+-- what is finished may be given back once more
+finished_free : (s : ℕ) (how : End) (at : ℕ) (w : Known) → order_refusal (order.Finish s how) w.entries ≡ None → order_refusal (order.Resend s) (with_entry s (finished_entry how at) w.entries) ≡ None
+finished_free s how at w none =
+    let on = ordered_on (order.Finish s how) w.entries none in
+    refused_on (order.Resend s) (with_entry s (finished_entry how at) w.entries) (finished_entry how at on.0)
+    (find-at_number number_of s (finished_entry how at) w.entries (λ y. refl) ∙ ap (option_map (finished_entry how at)) on.1)
+
 pub resent_is_same : ResentIsSame
 resent_is_same s how at later w none =
-    ap (option_and_then (return_of w.name w.master)) (find-at_number number_of s (finished_entry how at) w.entries (λ y. refl)) ∙ then_mapped (finished_entry how at) (return_of w.name w.master) (entry_of w.entries s)
+    let finish = order.Finish s how in
+    let next : Known = (ordered finish at w).next in
+    subst (λ (step : Step Known Message). (order_step (order.Resend s) later step.next).sent ≡ step.sent) (sym (done_order finish at w none))
+    (ap (λ (step : Step Known Message). step.sent) (done_order (order.Resend s) later next (finished_free s how at w none))
+    ∙ ap (option_and_then (return_of w.name w.master)) (find-at_number number_of s (finished_entry how at) w.entries (λ y. refl))
+    ∙ then_mapped (finished_entry how at) (return_of w.name w.master) (entry_of w.entries s))

@@ -1,5 +1,5 @@
 -- What an order or a message that isn't refused says.
-use Rattle.std.proofs.Common.{◌≡◌, ◌||◌, ◌&&◌, Bool, true, false, cond, not, List, [], ◌∷◌, Option, Some, None, is_some, refl, ap, ◌∙◌}
+use Rattle.std.proofs.Common.{◌≡◌, ◌||◌, ◌&&◌, ℕ, Bool, true, false, cond, not, List, [], ◌∷◌, Option, Some, None, is_some, refl, ap, ◌∙◌}
 use Rattle.std.proofs.lemmas.Bool.{true≢false}
 use Rattle.std.specs.Option.{option_map_or}
 use Rattle.std.specs.Str.{bytes_eq}
@@ -12,9 +12,10 @@ use Rattle.ticket_rows.specs.EditRefusal.{later_refusal}
 use Rattle.ticket_rows.specs.PartEdit.{part_lookups}
 use Rattle.ticket_rows.specs.Ticket.{first_of, is_reserved, unless}
 use Rattle.ticket_tree.specs.Part.{Copied, refusal_of_part}
+use Rattle.controller.specs.Step.{unless_refused}
 use Rattle.controller.specs.declared.message.Message.{Message}
 use Rattle.worker_core.specs.Messages.{body_refusal, is_for_workers, take_refusal}
-use Rattle.worker_core.specs.Orders.{edit_refusal, entry_refusal, is_here, is_to_read, order_refusal, part_edit_refusal, resend_refusal, spawn_of_order, work_refusal}
+use Rattle.worker_core.specs.Orders.{edit_refusal, entry_refusal, is_here, is_to_read, order_refusal, order_step, ordered, part_edit_refusal, resend_refusal, spawn_of_order, work_refusal}
 use Rattle.worker_core.specs.Worker.{Known, entry_of, is_closed, is_declined, is_open, open_part}
 use Rattle.worker_core.specs.declared.entry.Entry.{Entry}
 use Rattle.worker_core.specs.declared.order.Order.{Order}
@@ -128,6 +129,10 @@ only_done true b e = cc
 -- what may be given back once more is done
 pub done_free : (e : Entry) → resend_refusal e ≡ None → (is_open e ≡ false) × (is_closed e ≡ false)
 done_free e none = only_done (is_open e) (is_closed e) none
+
+-- an order that isn't refused is done
+pub done_order : (o : Order) (at : ℕ) (w : Known) → order_refusal o w.entries ≡ None → order_step o at w ≡ ordered o at w
+done_order o at w free = ap (λ why. unless_refused why w (ordered o at w)) free
 
 -- ---- messages
 

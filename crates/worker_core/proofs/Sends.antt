@@ -12,7 +12,7 @@ use Rattle.controller.specs.declared.message.Message.{Message}
 use Rattle.controller.specs.declared.queue_status.QueueStatus.{QueueStatus}
 use Rattle.controller.specs.declared.queue_status.QueueStatus.TheVariants as queue
 use Rattle.worker_core.specs.Messages.{take_refusal, take_step, taken_entries, taken_result, told_or}
-use Rattle.worker_core.specs.Orders.{finished_entry, order_message, order_refusal, order_reply, order_step, ordered, part_return, return_of}
+use Rattle.worker_core.specs.Orders.{finished_entry, order_refusal, order_step, ordered, part_return, return_of}
 use Rattle.worker_core.specs.Worker.{Known, entry_of, told_in, told_of_stage}
 use Rattle.worker_core.specs.declared.entry.Entry.{Entry}
 use Rattle.worker_core.specs.declared.order.Order.{Order}
@@ -32,13 +32,13 @@ returned : (name master : List ℕ) (f : Entry → Entry) (e : Option Entry) →
 returned name master f None = tt
 returned name master f (Some e) = let new = f e in part_returned name master new.at new.part
 
-message : (o : Order) (at' : ℕ) (w : Known) → IsSendable (order_message o at' w)
-message (Edit s e) at' w = tt
-message (Finish s how) at' w = returned w.name w.master (finished_entry how at') (entry_of w.entries s)
-message (Resend s) at' w = returned w.name w.master (λ entry. entry) (entry_of w.entries s)
+ordered_sends : (o : Order) (at' : ℕ) (w : Known) → IsSendable (ordered o at' w).sent
+ordered_sends (Edit s e) at' w = tt
+ordered_sends (Finish s how) at' w = returned w.name w.master (finished_entry how at') (entry_of w.entries s)
+ordered_sends (Resend s) at' w = returned w.name w.master (λ entry. entry) (entry_of w.entries s)
 
 pub by_order : (o : Order) (at' : ℕ) (w : Known) → IsSendable (order_step o at' w).sent
-by_order o at' w = sends_so (order_refusal o w.entries) (order_reply o) (order_message o at' w) w (ordered o at' w) (λ m. may_be_sent m.body ≡ true) (message o at' w)
+by_order o at' w = sends_so (order_refusal o w.entries) w (ordered o at' w) (λ m. may_be_sent m.body ≡ true) (ordered_sends o at' w)
 
 told_of : (stage : Stage) → is_told (told_of_stage stage) ≡ true
 told_of Open = refl

@@ -18,7 +18,7 @@ use Rattle.controller.specs.declared.queue_status.QueueStatus.TheVariants.{Runni
 use Rattle.controller.specs.declared.reply.Reply.TheVariants.{Again, Acked, Noted, Taken}
 use Rattle.controller.specs.declared.reply.Reply.TheVariants as reply
 use Rattle.worker_core.specs.Messages.{after_taking, taken_answer, taken_reply}
-use Rattle.worker_core.specs.Orders.{order_message, order_refusal, ordered}
+use Rattle.worker_core.specs.Orders.{order_refusal, ordered}
 use Rattle.worker_core.specs.Stored.{is_worker}
 use Rattle.worker_core.specs.Worker.{Known, known, may_change}
 use Rattle.worker_core.specs.declared.end.End.TheVariants as end
@@ -70,7 +70,7 @@ abbrev taken : Known
 taken = after_taking sent 110 press
 
 abbrev done : Known
-done = ordered (Finish 1 end.Completed) 120 taken
+done = (ordered (Finish 1 end.Completed) 120 taken).next
 
 abbrev acknowledged : Message
 acknowledged = from_to (codes "mis") (codes "press") 150 (Answer command.Return 1 (Ok Completed))
@@ -117,7 +117,7 @@ not_done = refl
 noted : order_refusal (Edit 1 (Note (codes "n1") (codes "washed up"))) taken.entries ≡ None
 noted = refl
 
-note : map (λ e. option_map (λ p. map (λ r. r.audits) p.rows) e.part) (ordered (Edit 1 (Note (codes "n1") (codes "washed up"))) 115 taken).entries ≡ Some ((Notification 115 (codes "washed up") ∷ []) ∷ []) ∷ []
+note : map (λ e. option_map (λ p. map (λ r. r.audits) p.rows) e.part) (ordered (Edit 1 (Note (codes "n1") (codes "washed up"))) 115 taken).next.entries ≡ Some ((Notification 115 (codes "washed up") ∷ []) ∷ []) ∷ []
 note = refl
 
 not_open : order_refusal (Edit 1 (SetStatus (codes "n1") (codes "Waiting"))) done.entries ≡ Some NotOpen
@@ -133,10 +133,10 @@ finished : done.entries ≡ record { spawn_id = 1; phase = Done end.Completed; p
 finished = refl
 
 -- the part comes back with the Status of the end, and is the same once more
-returned : order_message (Finish 1 end.Completed) 120 taken ≡ Some (from_to (codes "press") (codes "mis") 120 (Return (part (codes "Completed"))))
+returned : (ordered (Finish 1 end.Completed) 120 taken).sent ≡ Some (from_to (codes "press") (codes "mis") 120 (Return (part (codes "Completed"))))
 returned = refl
 
-resent : order_message (Resend 1) 130 done ≡ Some (from_to (codes "press") (codes "mis") 120 (Return (part (codes "Completed"))))
+resent : (ordered (Resend 1) 130 done).sent ≡ Some (from_to (codes "press") (codes "mis") 120 (Return (part (codes "Completed"))))
 resent = refl
 
 may : map (may_change taken.entries 1) (codes "n1" ∷ codes "r2" ∷ codes "r1" ∷ codes "n0" ∷ []) ≡ true ∷ true ∷ false ∷ false ∷ []
@@ -280,7 +280,7 @@ ends_answer = refl
 ended_entries : ended.entries ≡ record { spawn_id = 1; phase = Done end.Aborted; part = Some (part (codes "Aborted")); at = 120 } ∷ []
 ended_entries = refl
 
-ended_return : order_message (Resend 1) 123 ended ≡ Some (from_to (codes "press") (codes "mis") 120 (Return (part (codes "Aborted"))))
+ended_return : (ordered (Resend 1) 123 ended).sent ≡ Some (from_to (codes "press") (codes "mis") 120 (Return (part (codes "Aborted"))))
 ended_return = refl
 
 -- one that is finished or closed stays so

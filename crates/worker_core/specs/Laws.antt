@@ -13,8 +13,7 @@ use Rattle.controller.specs.declared.message.Message.{Message}
 use Rattle.controller.specs.declared.reply.Reply.TheVariants as reply
 use Rattle.worker_core.specs.Messages.{IsValidBody, aborted_entry, after_taking, again_reply}
 use Rattle.worker_core.specs.Messages.{take_refusal, taken_reply, taken_result}
-use Rattle.worker_core.specs.Orders.{after_order, order_message, order_refusal, ordered, return_of}
-use Rattle.worker_core.specs.Orders.{spawn_of_order}
+use Rattle.worker_core.specs.Orders.{order_refusal, order_step, return_of, spawn_of_order}
 use Rattle.worker_core.specs.Worker.{IsKept, Known, closed_entry, entry_of, has, is_open}
 use Rattle.worker_core.specs.Worker.{is_declined, is_ended, may_change, told_of_stage}
 use Rattle.worker_core.specs.declared.end.End.{End}
@@ -68,12 +67,12 @@ pub record IsNext (entries : List Entry) (s : ℕ) (old new : Entry) : Type 0 wh
 abbrev pub OrderKeepsEntries : Type 0
 OrderKeepsEntries =
     (o : Order) (at : ℕ) (w : Known) (s : ℕ) (e : Entry) → IsKept w → entry_of w.entries s ≡ Some e
-    → (next : Entry) × (entry_of (after_order o at w).entries s ≡ Some next)
+    → (next : Entry) × (entry_of (order_step o at w).next.entries s ≡ Some next)
     × IsNext w.entries s e next
 
 -- what always holds of a worker holds after an order
 abbrev pub OrderIsKept : Type 0
-OrderIsKept = (o : Order) (at : ℕ) (w : Known) → IsKept w → IsKept (after_order o at w)
+OrderIsKept = (o : Order) (at : ℕ) (w : Known) → IsKept w → IsKept (order_step o at w).next
 
 -- ---- what a message changes
 
@@ -135,7 +134,7 @@ AbortIsDeclined =
 abbrev pub DeclinedStays : Type 0
 DeclinedStays =
     (w : Known) (s : ℕ) (e : Entry) → entry_of w.entries s ≡ Some e → is_declined e ≡ true
-    → ((o : Order) (at : ℕ) → IsKept w → entry_of (after_order o at w).entries s ≡ Some e)
+    → ((o : Order) (at : ℕ) → IsKept w → entry_of (order_step o at w).next.entries s ≡ Some e)
     × ((m : Message) (at : ℕ) → entry_of (after_taking m at w).entries s ≡ Some e)
 
 -- ---- what is given back
@@ -143,9 +142,8 @@ DeclinedStays =
 -- a message that goes out is that of the entry as it is after the order, which is finished
 abbrev pub ReturnIsOfEntry : Type 0
 ReturnIsOfEntry =
-    (o : Order) (at : ℕ) (w : Known) (m : Message) → order_refusal o w.entries ≡ None
-    → order_message o at w ≡ Some m
-    → (e : Entry) × (entry_of (ordered o at w).entries (spawn_of_order o) ≡ Some e)
+    (o : Order) (at : ℕ) (w : Known) (m : Message) → (order_step o at w).sent ≡ Some m
+    → (e : Entry) × (entry_of (order_step o at w).next.entries (spawn_of_order o) ≡ Some e)
     × (is_ended e ≡ true) × (return_of w.name w.master e ≡ Some m)
 
 -- and so it is the same once more
@@ -153,5 +151,5 @@ abbrev pub ResentIsSame : Type 0
 ResentIsSame =
     (s : ℕ) (how : End) (at later : ℕ) (w : Known)
     → order_refusal (order.Finish s how) w.entries ≡ None
-    → order_message (order.Resend s) later (ordered (order.Finish s how) at w)
-    ≡ order_message (order.Finish s how) at w
+    → (order_step (order.Resend s) later (order_step (order.Finish s how) at w).next).sent
+    ≡ (order_step (order.Finish s how) at w).sent

@@ -1,7 +1,6 @@
--- What a worker does with an order: why it is refused, and else what becomes of the entries, what
--- is replied and what goes out.
+-- What a worker does with an order: why it is refused, and else its step.
 use Rattle.std.specs.Prelude.{ℕ, ◌&&◌, ◌||◌, Bool, not, List, [], ◌∷◌, if◌then◌else◌, Option, Some}
-use Rattle.std.specs.Prelude.{None, is_some, Ok}
+use Rattle.std.specs.Prelude.{None, is_some, Result, Ok}
 use Rattle.std.specs.Option.{option_and_then, option_map, option_map_or}
 use Rattle.ticket_items.specs.Ids.{mem}
 use Rattle.ticket_items.specs.Resource.{resource_ids}
@@ -17,16 +16,16 @@ use Rattle.ticket_rows.specs.Homes.{has_resource}
 use Rattle.ticket_rows.specs.PartEdit.{part_lookups}
 use Rattle.ticket_rows.specs.Ticket.{first_of, has_node, unless}
 use Rattle.ticket_tree.specs.Part.{Copied, edited_part}
-use Rattle.controller.specs.Step.{Step, unless_refused}
+use Rattle.controller.specs.Step.{Makes, Step, unless_refused}
 use Rattle.controller.specs.declared.body.Body.TheVariants.{Return}
+use Rattle.controller.specs.declared.done.Done.{Done}
 use Rattle.controller.specs.declared.message.Message.{Message}
-use Rattle.controller.specs.declared.reply.Reply.{Reply}
 use Rattle.controller.specs.declared.reply.Reply.TheVariants as reply
 use Rattle.worker_core.specs.declared.end.End.{End}
 use Rattle.worker_core.specs.declared.entry.Entry.{Entry}
 use Rattle.worker_core.specs.declared.order.Order.{Order}
 use Rattle.worker_core.specs.declared.order.Order.TheVariants as order
-use Rattle.worker_core.specs.declared.stage.Stage.TheVariants.{Done}
+use Rattle.worker_core.specs.declared.stage.Stage.TheVariants as stages
 use Rattle.worker_core.specs.Worker.{Known, end_word, entry_of, is_closed, is_declined, is_open}
 use Rattle.worker_core.specs.Worker.{open_part, root_id, with_entry}
 
@@ -83,7 +82,7 @@ abbrev pub order_refusal : Order → List Entry → Option Refusal
 order_refusal o entries =
     option_map_or (entry_refusal o) (entry_of entries (spawn_of_order o)) (Some UnknownEntry)
 
--- ---- what becomes of the entries
+-- ---- what becomes of an entry
 
 -- an entry after an edit at a time
 abbrev pub edited_entry : Edit → ℕ → Entry → Entry
@@ -100,33 +99,13 @@ ended_part how at p = edited_part (ending p how) at p
 -- an entry that is finished: its part has ended, and its time is that of the end
 abbrev pub finished_entry : End → ℕ → Entry → Entry
 finished_entry how at entry =
-    record entry { phase = Done how; part = option_map (ended_part how at) entry.part; at = at }
+    record entry {
+      phase = stages.Done how;
+      part = option_map (ended_part how at) entry.part;
+      at = at;
+    }
 
--- an entry after an order at a time that isn't refused
-abbrev pub ordered_entry : Order → ℕ → Entry → Entry
-ordered_entry (order.Edit s e) at entry = edited_entry e at entry
-ordered_entry (order.Finish s how) at entry = finished_entry how at entry
-ordered_entry (order.Resend s) at entry = entry
-
--- the entries after an order at a time that isn't refused
-abbrev pub ordered_entries : Order → ℕ → List Entry → List Entry
-ordered_entries (order.Edit s e) at entries = with_entry s (edited_entry e at) entries
-ordered_entries (order.Finish s how) at entries = with_entry s (finished_entry how at) entries
-ordered_entries (order.Resend s) at entries = entries
-
-abbrev pub ordered : Order → ℕ → Known → Known
-ordered o at w = record w { entries = ordered_entries o at w.entries }
-
--- the worker after an order at a time. A refusal changes nothing
-abbrev pub after_order : Order → ℕ → Known → Known
-after_order o at w = if is_some (order_refusal o w.entries) then w else ordered o at w
-
--- ---- what is replied, and what goes out
-
-abbrev pub order_reply : Order → Reply
-order_reply (order.Edit s e) = reply.Edited
-order_reply (order.Finish s how) = reply.Finished s
-order_reply (order.Resend s) = reply.Sent s
+-- ---- what goes out
 
 -- the message that gives a part back at a time, from a name to another
 abbrev pub part_return : List ℕ → List ℕ → ℕ → Copied → Message
@@ -137,25 +116,35 @@ part_return name master at p =
 abbrev pub return_of : List ℕ → List ℕ → Entry → Option Message
 return_of name master entry = option_map (part_return name master entry.at) entry.part
 
--- the message that goes out after an order on an entry, which is then so
-abbrev pub entry_message : Order → List ℕ → List ℕ → Entry → Option Message
-entry_message (order.Edit s e) name master entry = None
-entry_message (order.Finish s how) name master entry = return_of name master entry
-entry_message (order.Resend s) name master entry = return_of name master entry
-
--- the message that goes out: it gives back the part of an entry that is finished, as that is then
-abbrev pub order_message : Order → ℕ → Known → Option Message
-order_message (order.Edit s e) at w = None
-order_message (order.Finish s how) at w =
-    option_and_then (λ entry. return_of w.name w.master (finished_entry how at entry))
-    (entry_of w.entries s)
-order_message (order.Resend s) at w =
-    option_and_then (return_of w.name w.master) (entry_of w.entries s)
-
 -- ---- the step
+
+-- the worker's step on an order at a time that isn't refused
+abbrev pub ordered : Order → ℕ → Known → Step Known Message
+ordered (order.Edit s e) at w =
+    record {
+      reply = Ok reply.Edited;
+      sent = None;
+      next = record w { entries = with_entry s (edited_entry e at) w.entries };
+    }
+ordered (order.Finish s how) at w =
+    record {
+      reply = Ok (reply.Finished s);
+      sent =
+          option_and_then (λ entry. return_of w.name w.master (finished_entry how at entry))
+          (entry_of w.entries s);
+      next = record w { entries = with_entry s (finished_entry how at) w.entries };
+    }
+ordered (order.Resend s) at w =
+    record {
+      reply = Ok (reply.Sent s);
+      sent = option_and_then (return_of w.name w.master) (entry_of w.entries s);
+      next = w;
+    }
 
 -- the worker's step on an order at a time
 abbrev pub order_step : Order → ℕ → Known → Step Known Message
-order_step o at w =
-    unless_refused (order_refusal o w.entries) w
-    (record { reply = Ok (order_reply o); sent = order_message o at w; next = ordered o at w })
+order_step o at w = unless_refused (order_refusal o w.entries) w (ordered o at w)
+
+-- a worker makes the step of an order at a time: with this result, and it is then this
+abbrev pub Does : Order → ℕ → Known → Result Done Refusal → Known → Type 0
+Does o at old result new = Makes (order_step o at old) old result new

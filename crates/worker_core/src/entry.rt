@@ -27,8 +27,6 @@ impl Entry {
         ensures entry { result ≡ worker.new_entry part at }
         ensures valid { IsValid (with_copies part.rows part.rw part.ro) }
     {
-        // A part has valid rows.
-        let _rows = part.rows();
         Entry {
             spawn_id: part.spawn_id(),
             phase: Stage::Open,

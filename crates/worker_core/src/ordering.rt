@@ -1,11 +1,12 @@
 //! What a worker does with an order.
 
-ghost use Rattle.std.specs.Prelude.{◌≡◌, true, false, None, Some, Ok, Err, OnOk, OnErr, IfOk};
-ghost use Rattle.std.specs.Prelude.{IfErr, IfNone, IfSome, MatchResult};
+ghost use Rattle.std.specs.Prelude.{◌≡◌, false, None, Some, Ok, OnOk, OnErr, IfOk, IfErr, IfSome};
+ghost use Rattle.std.specs.Prelude.{MatchResult};
 ghost use Rattle.std.specs.List.{position};
 ghost use Rattle.std.specs.Option.{option_map};
 ghost use Rattle.ticket_rows.specs.Edit.{is_structural};
 ghost use Rattle.ticket_tree.specs.Part.{edited_part, refusal_of_part};
+ghost use Rattle.controller.specs.Step.{Makes};
 ghost use Rattle.worker_core.specs.Orders as orders;
 ghost use Rattle.worker_core.specs.Worker as worker;
 
@@ -17,7 +18,7 @@ use crate::order::Order;
 use crate::stage::Stage;
 use controller::{Body, Done, Message, Reply};
 use std::alloc::{AllocError, Global};
-use ticket_tree::{Duplicate, Edit, Id, Name, Part, Refusal};
+use ticket_tree::{Duplicate, Edit, Id, Name, Part, Refusal, SpawnId};
 
 /// Why the part of an entry isn't given back once more: it is open, or was given up.
 fn resend_refusal(entry: &Entry) -> Option<Refusal>
@@ -191,42 +192,52 @@ fn part_return(sender: Id, receiver: Id, at: u64, part: Option<Part>) -> Option<
     }
 }
 
-/// Ends the work on an entry, and answers the message that gives its part back.
-fn finish_to(
+/// Ends the work on an entry, and gives its part back.
+fn do_finish(
     alloc: Global,
     name: &Id,
     master: &Id,
     entry: &mut Entry,
+    spawn: SpawnId,
     end: End,
     at: u64,
-) -> Result<Option<Message>, Refusal>
-    ensures ok { OnOk result (entry.new ≡ orders.finished_entry end at entry.old) }
-    ensures message { IfOk result (λ message. message
-        ≡ orders.return_of name.now master.now (orders.finished_entry end at entry.old)) }
-    ensures err { OnErr result (entry.new ≡ entry.old) }
-    ensures memory { IfErr result (λ e. e ≡ Refusal.Memory) }
+) -> Result<Done, Refusal>
+    ensures { Makes (record {
+      reply = Ok (Reply.Finished spawn);
+      sent = orders.return_of name.now master.now (orders.finished_entry end at entry.old);
+      next = orders.finished_entry end at entry.old;
+    }) entry.old result entry.new }
 {
     let sender = name.copy(alloc)?;
     let receiver = master.copy(alloc)?;
     let part = finish(alloc, entry, end, at)?;
-    Ok(part_return(sender, receiver, at, part))
+    Ok(Done {
+        reply: Reply::Finished(spawn),
+        message: part_return(sender, receiver, at, part),
+    })
 }
 
-/// The message that gives the part of an entry back.
-fn return_of(
+/// Gives the part of an entry back once more.
+fn do_resend(
     alloc: Global,
     name: &Id,
     master: &Id,
     entry: &Entry,
-) -> Result<Option<Message>, Refusal>
-    ensures message { IfOk result (λ message. message
-        ≡ orders.return_of name.now master.now entry.now) }
-    ensures memory { IfErr result (λ e. e ≡ Refusal.Memory) }
+    spawn: SpawnId,
+) -> Result<Done, Refusal>
+    ensures { Makes (record {
+      reply = Ok (Reply.Sent spawn);
+      sent = orders.return_of name.now master.now entry.now;
+      next = entry.now;
+    }) entry.now result entry.now }
 {
     let sender = name.copy(alloc)?;
     let receiver = master.copy(alloc)?;
     let part = copy_of(alloc, &entry.part)?;
-    Ok(part_return(sender, receiver, entry.at, part))
+    Ok(Done {
+        reply: Reply::Sent(spawn),
+        message: part_return(sender, receiver, entry.at, part),
+    })
 }
 
 /// Does an edit of the part that there is, which doesn't refuse it.
@@ -247,58 +258,19 @@ fn edit_held(alloc: Global, part: &mut Option<Part>, edit: Edit, at: u64) -> Res
 }
 
 /// Does an edit, that isn't refused, of the part of an entry.
-fn edit_entry(alloc: Global, entry: &mut Entry, edit: Edit, at: u64) -> Result<Done, Refusal>
+fn do_edit(alloc: Global, entry: &mut Entry, edit: Edit, at: u64) -> Result<Done, Refusal>
     requires { orders.edit_refusal edit entry.old ≡ None }
-    ensures ok { OnOk result (entry.new ≡ orders.edited_entry edit at entry.old) }
-    ensures reply { IfOk result (λ done. done.reply ≡ Reply.Edited) }
-    ensures message { IfOk result (λ done. done.message ≡ None) }
-    ensures err { OnErr result (entry.new ≡ entry.old) }
-    ensures memory { IfErr result (λ e. e ≡ Refusal.Memory) }
+    ensures { Makes (record {
+      reply = Ok Reply.Edited;
+      sent = None;
+      next = orders.edited_entry edit at entry.old;
+    }) entry.old result entry.new }
 {
     edit_held(alloc, &mut entry.part, edit, at)?;
     Ok(Done {
         reply: Reply::Edited,
         message: None,
     })
-}
-
-/// What is done by an order that has a message go out.
-fn sent(reply: Reply, message: Result<Option<Message>, Refusal>) -> Result<Done, Refusal>
-    ensures { MatchResult message (λ m. result ≡ Ok (record { reply = reply; message = m }))
-        (λ e. result ≡ Err e) }
-{
-    match message {
-        Ok(message) => Ok(Done { reply, message }),
-        Err(refusal) => Err(refusal),
-    }
-}
-
-/// Does what a worker is told to do with an entry, where that isn't refused.
-fn order_entry(
-    alloc: Global,
-    name: &Id,
-    master: &Id,
-    entry: &mut Entry,
-    order: Order,
-    at: u64,
-) -> Result<Done, Refusal>
-    requires { orders.work_refusal order entry.old ≡ None }
-    ensures entry { OnOk result (entry.new ≡ orders.ordered_entry order at entry.old) }
-    ensures reply { IfOk result (λ done. done.reply ≡ orders.order_reply order) }
-    ensures message { IfOk result (λ done. done.message
-        ≡ orders.entry_message order name.now master.now
-        (orders.ordered_entry order at entry.old)) }
-    ensures err { OnErr result (entry.new ≡ entry.old) }
-    ensures memory { IfErr result (λ e. e ≡ Refusal.Memory) }
-{
-    match order {
-        Order::Edit(_, edit) => edit_entry(alloc, entry, edit, at),
-        Order::Finish(spawn, end) => sent(
-            Reply::Finished(spawn),
-            finish_to(alloc, name, master, entry, end, at),
-        ),
-        Order::Resend(spawn) => sent(Reply::Sent(spawn), return_of(alloc, name, master, entry)),
-    }
 }
 
 /// Does what the worker of a name is told to do with the entries that it has of its master.
@@ -310,20 +282,20 @@ pub fn do_order(
     order: Order,
     at: u64,
 ) -> Result<Done, Refusal>
-    ensures entries { OnOk result
-        (entries.new ≡ orders.ordered_entries order at entries.old) }
-    ensures reply { IfOk result (λ done. done.reply ≡ orders.order_reply order) }
-    ensures message { IfOk result (λ done. done.message ≡ orders.order_message order at
-        (worker.known name.now master.now entries.old)) }
-    ensures err { OnErr result (entries.new ≡ entries.old) }
-    ensures free { OnOk result (orders.order_refusal order entries.old ≡ None) }
-    ensures refused { IfSome (orders.order_refusal order entries.old)
-        (λ e. result ≡ Err e) }
-    ensures memory { IfNone (orders.order_refusal order entries.old)
-        (IfErr result (λ e. e ≡ Refusal.Memory)) }
+    ensures { orders.Does order at (worker.known name.now master.now entries.old) result
+        (worker.known name.now master.now entries.new) }
 {
     match open_to(&order, entries) {
-        Ok(place) => order_entry(alloc, name, master, &mut entries.list[place], order, at),
+        Ok(place) => {
+            let entry = &mut entries.list[place];
+            match order {
+                Order::Edit(_, edit) => do_edit(alloc, entry, edit, at),
+                Order::Finish(spawn, end) => {
+                    do_finish(alloc, name, master, entry, spawn, end, at)
+                }
+                Order::Resend(spawn) => do_resend(alloc, name, master, entry, spawn),
+            }
+        }
         Err(refusal) => {
             drop(order);
             Err(refusal)

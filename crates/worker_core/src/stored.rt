@@ -31,8 +31,6 @@ fn is_part_of(entry: &Entry, part: &Part) -> bool
     ensures test { result ≡ stored.is_part_of entry.now part.now }
     ensures valid { IsValid (with_copies part.now.rows part.now.rw part.now.ro) }
 {
-    // A part has valid rows.
-    let _rows = part.rows();
     part.spawn_id() == entry.spawn_id && part.is_sound() && has_ended_so(entry.phase, part)
 }
 

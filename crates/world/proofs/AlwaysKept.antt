@@ -4,7 +4,7 @@ use Rattle.std.proofs.lemmas.Bool.{eq-eqb, true≢false}
 use Rattle.std.proofs.lemmas.List.Elements.{All-contains}
 use Rattle.std.proofs.lemmas.Option.{get_or_from_slice_get, slice_get_within}
 use Rattle.std.proofs.lemmas.Slice.Eq.{bytes_eq-Decides}
-use Rattle.std.specs.List.{All, Contains}
+use Rattle.std.specs.List.{Contains}
 use Rattle.std.specs.Option.{option_map, option_map_or}
 use Rattle.std.specs.Str.{bytes_eq}
 use Rattle.ticket_items.specs.declared.refusal.Refusal.{Refusal}
@@ -36,12 +36,12 @@ use Rattle.world.proofs.Doors.{master_refuses_nothing, returned_in, returned_tol
 use Rattle.world.proofs.Kept.{Keeps, master_stored, settled_kept, worker_stored}
 use Rattle.world.proofs.Later.{in_order_later}
 use Rattle.world.proofs.MasterSteps as master_steps
-use Rattle.world.proofs.Names.{ordered_names, taken_by_master_names, taken_by_worker_names}
+use Rattle.world.proofs.Names.{ordered_names, taken_by_master_names, taken_by_worker_names, worker_ordered_names}
 use Rattle.world.proofs.Stored.{entry_there, found_and}
 use Rattle.world.proofs.Receivers.{worker_receives}
 use Rattle.world.proofs.Sending.{IsTaken, answer_is_new}
 use Rattle.world.proofs.WorkerSteps as worker_steps
-use Rattle.world.specs.Controllers.{Controllers, entry_at, is_named, worker_of}
+use Rattle.world.specs.Controllers.{entry_at, is_named, worker_of}
 use Rattle.world.specs.Happening.{after, after_all, master_takes, receiver_takes, settled, step_of, worker_takes}
 use Rattle.world.specs.Messages.{AreRecorded, IsInOrder, TellsEntry, entry_for}
 use Rattle.world.specs.State.{IsKept, State, message_at}
@@ -67,7 +67,7 @@ keeps_unless_refused (Some e) w v ok go = record { stored = ok; sent = tt }
 pub master_order_keeps : (o : master_order.Order) (at : ℕ) (w : State) → IsKept w → Keeps w (master_moved w.controllers (ordered_master o at w.controllers.master))
 master_order_keeps o at w ok =
     let c = w.controllers in
-    let next = master_orders.ordered o at c.master in
+    let next = (master_orders.ordered o at c.master).next in
     keeps_unless_refused (master_orders.order_refusal o c.master) w _ ok (λ none.
     let later = master_steps.ordered_later o at c ok.master none in
     let kept = ordered_kept o at c.master ok.master none in
@@ -128,13 +128,14 @@ keeps_unless_worker_refused (Some e) w v moved ok found go =
 pub worker_order_keeps : (o : worker_order.Order) (at : ℕ) (w : State) (v : worker.Known) → IsKept w → worker_of w.controllers.workers v.name ≡ Some v → Keeps w (worker_moved w.controllers v (ordered_worker o at v))
 worker_order_keeps o at w v ok found =
     let c = w.controllers in
-    let next = worker_orders.ordered o at v in
+    let next = (worker_orders.ordered o at v).next in
+    let names = worker_ordered_names o at v in
     let is = is_there w v ok found in
     keeps_unless_worker_refused (worker_orders.order_refusal o v.entries) w v _ ok found (λ none.
-    let later = worker_steps.worker_later c v next found refl (worker_steps.ordered_stays o at v is.kept none) in
+    let later = worker_steps.worker_later c v next found names.own (worker_steps.ordered_stays o at v is.kept none) in
     let kept = worker_kept.kept_ordered o at v is.kept none in
     let recorded = worker_steps.ordered_recorded o at c v is.kept none is.recorded in
-    let stored = worker_stored c v next w.messages ok is.knows kept (record { own = refl; masters = refl }) later recorded in
+    let stored = worker_stored c v next w.messages ok is.knows kept names later recorded in
     record { stored = stored; sent = worker_steps.ordered_sends o at c w.messages v found is.knows none kept recorded stored.messages.each })
 
 -- what is to be given up has an entry then, which tells what is told

@@ -1,5 +1,5 @@
 -- Where the part of a spawn was put in, the work on its entry has ended, and where a spawn was withdrawn, its entry is declined: also after each step.
-use Rattle.std.proofs.Common.{◌≡◌, ℕ, true, false, IsSomeAnd, List, Some, Result, Ok, Err, inl, inr, refl, sym, ap, ◌∙◌, subst, arith, get_or, slice_get}
+use Rattle.std.proofs.Common.{◌≡◌, ℕ, true, false, IsSomeAnd, List, Some, Result, Err, inl, inr, refl, sym, ap, ◌∙◌, subst, arith, get_or, slice_get}
 use Rattle.std.proofs.lemmas.Bool.{true≢false}
 use Rattle.std.proofs.lemmas.List.Elements.{All-map, All-push, All-weaker}
 use Rattle.std.proofs.lemmas.Option.{slice_get-get_or}
@@ -27,7 +27,7 @@ use Rattle.master_core.specs.Orders.{ordered}
 use Rattle.master_core.specs.declared.order.Order.{Order}
 use Rattle.master_core.specs.declared.order.Order.TheVariants as order
 use Rattle.worker_core.proofs.Closing.{closed_declined, closed_ended, declined_shut, ended_shut}
-use Rattle.worker_core.specs.Worker.{closed_entry, is_declined, is_declined_stage, is_ended, is_open, told_of_stage}
+use Rattle.worker_core.specs.Worker.{closed_entry, is_declined, is_declined_stage, is_open, told_of_stage}
 use Rattle.worker_core.specs.declared.entry.Entry.{Entry}
 use Rattle.worker_core.specs.declared.stage.Stage.{Stage}
 use Rattle.worker_core.specs.declared.stage.Stage.TheVariants as stage
@@ -55,7 +55,7 @@ back_later c d records later all =
 -- ---- orders
 
 -- a record that an order adds is out
-pub ordered_back : (o : Order) (at : ℕ) (c : Controllers) → All (HasComeBack c) c.master.records → All (HasComeBack c) (ordered o at c.master).records
+pub ordered_back : (o : Order) (at : ℕ) (c : Controllers) → All (HasComeBack c) c.master.records → All (HasComeBack c) (ordered o at c.master).next.records
 ordered_back (order.Edit e) at c all = all
 ordered_back (order.Spawn node worker rw) at c all = All-push (HasComeBack c) c.master.records _ all (λ isn't. absurd (true≢false isn't))
 ordered_back (order.Resend s) at c all = all

@@ -17,7 +17,8 @@ use Rattle.spawn.proofs.RowsBelow.{rows_below-around}
 use Rattle.spawn.proofs.Split.{Around, around}
 use Rattle.spawn.proofs.Standing.{ids_apart, named}
 use Rattle.spawn.specs.Claim.{is_claimed, is_linked_below, is_linked_outside}
-use Rattle.spawn.specs.Parts.{above, part_for, resources, resources_among, rows_below}
+use Rattle.spawn.specs.Parts.{above, part_for, resources, resources_among}
+use Rattle.ticket_tree.specs.At.{rows_below}
 use Rattle.spawn.specs.Records.{IsGood}
 use Rattle.spawn.specs.declared.records.spawn_rec.SpawnRec.{SpawnRec}
 use Rattle.merge.specs.Shape.{Fits, Shape, shape}

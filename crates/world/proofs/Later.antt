@@ -13,7 +13,7 @@ use Rattle.spawn.specs.declared.records.spawn_rec.SpawnRec.{SpawnRec}
 use Rattle.merge.specs.Shape.{Fits}
 use Rattle.master_core.proofs.Recorded.{number_is}
 use Rattle.master_core.specs.Master.{record_of}
-use Rattle.master_core.specs.Orders.{abort_of, submit_of}
+use Rattle.master_core.specs.Orders.{submit_of}
 use Rattle.worker_core.proofs.Closing.{closed_ended, closed_open, closed_told, ended_shut}
 use Rattle.worker_core.specs.Messages.{is_for_workers}
 use Rattle.worker_core.specs.Worker.{closed_entry, closed_in, is_ended, is_open}

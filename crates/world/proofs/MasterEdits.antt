@@ -233,7 +233,7 @@ new_is_masters e at m i x valid apart free added own =
 
 -- the controllers after the edit
 abbrev later : Edit → ℕ → Controllers → Controllers
-later e at c = with_master c (orders.ordered (order.Edit e) at c.master)
+later e at c = with_master c (orders.ordered (order.Edit e) at c.master).next
 
 other_by : (b : Bool) → (b ≡ true → ⊥) → b ≡ false
 other_by true never = absurd (never refl)

@@ -134,7 +134,7 @@ spawn_refused n worker copies c valid =
 record IsSent (c : Controllers) (n worker : List ℕ) (rw : List (List ℕ)) (at : ℕ) : Type 0 where
   valid : IsValid c.master.ticket.rows
   numbered : IsNumbered c.master.records
-  next : master.IsKept (orders.ordered (order.Spawn n worker rw) at c.master)
+  next : master.IsKept (orders.ordered (order.Spawn n worker rw) at c.master).next
   known : has_node c.master.ticket.rows n ≡ true
   above : List ℕ
   is_above : up (node_places c.master.ticket.rows) n ≡ Some above
@@ -186,7 +186,7 @@ new c n worker rw at = next_record c.master n worker rw at
 
 -- the controllers after it
 abbrev later : Controllers → List ℕ → List ℕ → List (List ℕ) → ℕ → Controllers
-later c n worker rw at = with_master c (orders.ordered (order.Spawn n worker rw) at c.master)
+later c n worker rw at = with_master c (orders.ordered (order.Spawn n worker rw) at c.master).next
 
 -- the spawn as the shop has it
 abbrev next : Controllers → List ℕ → List ℕ → List (List ℕ) → SpawnState

@@ -2,19 +2,20 @@
 use Rattle.std.proofs.Common.{◌≡◌, inl, inr, ℕ, true, List, Some, None, IfSome, refl, sym, ap, ◌∙◌, subst}
 use Rattle.std.proofs.lemmas.Bool.{true≢false}
 use Rattle.std.specs.List.{All}
+use Rattle.controller.specs.Step.{Step}
 use Rattle.controller.specs.declared.message.Message.{Message}
 use Rattle.spawn.proofs.Lawful.{placed}
 use Rattle.spawn.proofs.SoundPart.{part_is_sound}
 use Rattle.spawn.specs.Parts.{part_for}
 use Rattle.spawn.specs.Records.{is_out}
 use Rattle.spawn.specs.declared.records.spawn_rec.SpawnRec.{SpawnRec}
-use Rattle.master_core.proofs.Kept.{done_order}
-use Rattle.master_core.proofs.OrderLaws.{abort_is_of_record, submit_is_of_record}
+use Rattle.master_core.proofs.OrderLaws.{asks, submits}
 use Rattle.master_core.proofs.PartsKept.{message_keeps_spawns, order_keeps_spawns}
 use Rattle.master_core.proofs.Recorded.{number_is}
+use Rattle.master_core.proofs.Refusals.{done_order}
 use Rattle.master_core.specs.Master.{IsKept, Known, is_of, merged_record, next_number, record_of, withdrawn_record}
 use Rattle.master_core.specs.Messages.{IsValidBody, after_taking}
-use Rattle.master_core.specs.Orders.{abort_of, order_message, order_refusal, ordered, spawn_sent, submit_of}
+use Rattle.master_core.specs.Orders.{abort_of, order_refusal, ordered, spawn_sent, submit_of}
 use Rattle.master_core.specs.declared.order.Order.{Order}
 use Rattle.master_core.specs.declared.order.Order.TheVariants as order
 use Rattle.world.proofs.Later.{AreLater}
@@ -30,7 +31,7 @@ with_master c next = record c { master = next }
 
 -- ---- orders
 
-pub ordered_later : (o : Order) (at : ℕ) (c : Controllers) → IsKept c.master → order_refusal o c.master ≡ None → AreLater c (with_master c (ordered o at c.master))
+pub ordered_later : (o : Order) (at : ℕ) (c : Controllers) → IsKept c.master → order_refusal o c.master ≡ None → AreLater c (with_master c (ordered o at c.master).next)
 ordered_later o at c kept none =
     let done = sym (done_order o at c.master none) in
     record {
@@ -39,11 +40,11 @@ ordered_later o at c kept none =
           let stays = order_keeps_spawns o at c.master s r kept found in
           record {
             next = r;
-            found = ap (λ (v : Known). record_of v.records s) done ∙ stays.0;
+            found = ap (λ (step : Step Known Message). record_of step.next.records s) done ∙ stays.0;
             worker = refl;
             since = refl;
             same = λ out. refl;
-            part = λ out. ap (λ (v : Known). part_for v.ticket r) done ∙ stays.1 out;
+            part = λ out. ap (λ (step : Step Known Message). part_for step.next.ticket r) done ∙ stays.1 out;
           };
       ended = λ n s e there ended. (e, there, inl refl);
     }
@@ -66,11 +67,11 @@ submit_is_new c messages s r kept all found out =
     })
     out
 
-part_is_sent : (o : Order) (at : ℕ) (c : Controllers) (messages : List Message) (s : ℕ) → IsKept c.master → order_refusal o c.master ≡ None → IsKept (ordered o at c.master) → All (IsInOrder (with_master c (ordered o at c.master))) messages → spawn_sent o c.master ≡ Some s
-    → IfSome (order_message o at c.master) (IsNew (with_master c (ordered o at c.master)) messages)
+part_is_sent : (o : Order) (at : ℕ) (c : Controllers) (messages : List Message) (s : ℕ) → IsKept c.master → order_refusal o c.master ≡ None → IsKept (ordered o at c.master).next → All (IsInOrder (with_master c (ordered o at c.master).next)) messages → spawn_sent o c.master ≡ Some s
+    → IfSome (ordered o at c.master).sent (IsNew (with_master c (ordered o at c.master).next) messages)
 part_is_sent o at c messages s kept none next all is =
-    let d = with_master c (ordered o at c.master) in
-    let sends = submit_is_of_record o at c.master s kept none is in
+    let d = with_master c (ordered o at c.master).next in
+    let sends = submits o at c.master s kept none is in
     subst (λ m. IfSome m (IsNew d messages)) (sym sends.3)
     (subst (λ n. IsNew d messages (submit_of n d.master.ticket sends.0)) (ordered_names o at c.master).own (submit_is_new d messages s sends.0 next all sends.1 sends.2))
 
@@ -90,13 +91,13 @@ abort_is_new c messages s r all found =
     })
     tt
 
-pub ordered_sends : (o : Order) (at : ℕ) (c : Controllers) (messages : List Message) → IsKept c.master → order_refusal o c.master ≡ None → IsKept (ordered o at c.master) → All (IsInOrder (with_master c (ordered o at c.master))) messages
-    → IfSome (order_message o at c.master) (IsNew (with_master c (ordered o at c.master)) messages)
+pub ordered_sends : (o : Order) (at : ℕ) (c : Controllers) (messages : List Message) → IsKept c.master → order_refusal o c.master ≡ None → IsKept (ordered o at c.master).next → All (IsInOrder (with_master c (ordered o at c.master).next)) messages
+    → IfSome (ordered o at c.master).sent (IsNew (with_master c (ordered o at c.master).next) messages)
 ordered_sends (order.Edit e) at c messages kept none next all = tt
 ordered_sends (order.Spawn node worker copies) at c messages kept none next all = part_is_sent (order.Spawn node worker copies) at c messages (next_number c.master.records) kept none next all refl
 ordered_sends (order.Resend s) at c messages kept none next all = part_is_sent (order.Resend s) at c messages s kept none next all refl
 ordered_sends (order.Withdraw s) at c messages kept none next all =
-    let sends = abort_is_of_record (order.Withdraw s) at c.master s none refl in
+    let sends = asks (order.Withdraw s) at c.master s none refl in
     subst (λ m. IfSome m (IsNew c messages)) (sym sends.3) (abort_is_new c messages s sends.0 all sends.1)
 
 -- ---- messages

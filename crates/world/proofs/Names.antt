@@ -13,6 +13,9 @@ use Rattle.spawn.specs.Records.{is_out}
 use Rattle.spawn.specs.declared.records.spawn_rec.SpawnRec.{SpawnRec}
 use Rattle.worker_core.specs.Worker as worker
 use Rattle.worker_core.specs.Messages as worker_messages
+use Rattle.worker_core.specs.Orders as worker_orders
+use Rattle.worker_core.specs.declared.order.Order as worker_order
+use Rattle.worker_core.specs.declared.order.Order.TheVariants as to_worker
 use Rattle.master_core.specs.Messages.{take_step as taken_by_master}
 use Rattle.worker_core.specs.Messages.{take_step as taken_by_worker}
 
@@ -26,7 +29,7 @@ pub record HasNames (old next : master.Known) : Type 0 where
 same : (m : master.Known) → HasNames m m
 same m = record { own = refl; workers = refl }
 
-pub ordered_names : (o : master_order.Order) (at : ℕ) (m : master.Known) → HasNames m (master_orders.ordered o at m)
+pub ordered_names : (o : master_order.Order) (at : ℕ) (m : master.Known) → HasNames m (master_orders.ordered o at m).next
 ordered_names (order.Edit e) at m = record { own = refl; workers = refl }
 ordered_names (order.Spawn node to rw) at m = record { own = refl; workers = refl }
 ordered_names (order.Resend s) at m = same m
@@ -62,6 +65,11 @@ taken_by_master_names message at m = if_refused (is_some (master_messages.take_r
 pub record HasItsNames (old next : worker.Known) : Type 0 where
   pub own : next.name ≡ old.name
   pub masters : next.master ≡ old.master
+
+pub worker_ordered_names : (o : worker_order.Order) (at : ℕ) (w : worker.Known) → HasItsNames w (worker_orders.ordered o at w).next
+worker_ordered_names (to_worker.Edit s e) at w = record { own = refl; masters = refl }
+worker_ordered_names (to_worker.Finish s how) at w = record { own = refl; masters = refl }
+worker_ordered_names (to_worker.Resend s) at w = record { own = refl; masters = refl }
 
 if_worker_refused : (b : Bool) (w next : worker.Known) → HasItsNames w next → HasItsNames w (cond b w next)
 if_worker_refused true w next names = record { own = refl; masters = refl }

@@ -16,9 +16,9 @@ use Rattle.controller.specs.declared.reply.Reply.{Reply}
 use Rattle.controller.specs.declared.reply.Reply.TheVariants as reply
 use Rattle.spawn.specs.Records.{is_out}
 use Rattle.spawn.specs.declared.records.spawn_rec.SpawnRec.{SpawnRec}
-use Rattle.master_core.proofs.Kept.{done_order}
 use Rattle.master_core.proofs.MessageLaws.{in_stays_in, merged_is_in}
 use Rattle.master_core.proofs.PartsKept.{message_keeps_spawns}
+use Rattle.master_core.proofs.Refusals.{done_order}
 use Rattle.master_core.specs.Master.{Known, is_spawn_out, merged_record, record_of, withdrawn_record}
 use Rattle.master_core.specs.Messages as master_messages
 use Rattle.master_core.specs.Orders as master_orders
@@ -69,8 +69,8 @@ ordered_has : (o : master_order.Order) (at : ℕ) (m : Known) (s : ℕ) (r : Spa
 ordered_has o at m s r has isn't = by (master_orders.order_refusal o m) refl
   where
     by : (e : Option Refusal) → master_orders.order_refusal o m ≡ e
-        → record_of (unless_refused e m (record { reply = Ok (master_orders.order_reply o m); next = master_orders.ordered o at m; sent = master_orders.order_message o at m })).next.records s ≡ Some r
-    by None free = ap (λ (v : Known). record_of v.records s) (sym (done_order o at m free)) ∙ (in_stays_in m s r has isn't).0 o at
+        → record_of (unless_refused e m (master_orders.ordered o at m)).next.records s ≡ Some r
+    by None free = ap (λ (step : Step Known Message). record_of step.next.records s) (sym (done_order o at m free)) ∙ (in_stays_in m s r has isn't).0 o at
     by (Some e) is = has
 
 found_has : (found : Option worker.Known) (f : worker.Known → Step worker.Known Message) (word : Word) (stop : Stop) (w : State) (s : ℕ) (r : SpawnRec) → Has w.controllers s r
@@ -104,26 +104,18 @@ record Merges (w next : State) (s : ℕ) : Type 0 where
   has : Has next.controllers s now
   isn't : is_out now ≡ false
 
-no_order_reply : (o : master_order.Order) (m : Known) (s : ℕ) → Did (master_orders.order_reply o m) ≡ Did (reply.Merged s) → ⊥
-no_order_reply (master_orders_are.Edit e) m s is = cc
-no_order_reply (master_orders_are.Spawn node name rw) m s is = cc
-no_order_reply (master_orders_are.Resend t) m s is = cc
-no_order_reply (master_orders_are.Withdraw t) m s is = cc
-
-no_master_order : (refusal : Option Refusal) (o : master_order.Order) (at : ℕ) (m : Known) (s : ℕ)
-    → word_of (unless_refused refusal m (record { reply = Ok (master_orders.order_reply o m); next = master_orders.ordered o at m; sent = master_orders.order_message o at m })).reply ≡ Did (reply.Merged s) → ⊥
-no_master_order None o at m s is = no_order_reply o m s is
+no_master_order : (refusal : Option Refusal) (o : master_order.Order) (at : ℕ) (m : Known) (s : ℕ) → word_of (unless_refused refusal m (master_orders.ordered o at m)).reply ≡ Did (reply.Merged s) → ⊥
 no_master_order (Some e) o at m s is = cc
+no_master_order None (master_orders_are.Edit e) at m s is = cc
+no_master_order None (master_orders_are.Spawn node name rw) at m s is = cc
+no_master_order None (master_orders_are.Resend t) at m s is = cc
+no_master_order None (master_orders_are.Withdraw t) at m s is = cc
 
-no_worker_reply : (o : worker_order.Order) (s : ℕ) → Did (worker_orders.order_reply o) ≡ Did (reply.Merged s) → ⊥
-no_worker_reply (worker_orders_are.Edit t e) s is = cc
-no_worker_reply (worker_orders_are.Finish t how) s is = cc
-no_worker_reply (worker_orders_are.Resend t) s is = cc
-
-no_worker_order : (refusal : Option Refusal) (o : worker_order.Order) (at : ℕ) (v : worker.Known) (s : ℕ)
-    → word_of (unless_refused refusal v (record { reply = Ok (worker_orders.order_reply o); next = worker_orders.ordered o at v; sent = worker_orders.order_message o at v })).reply ≡ Did (reply.Merged s) → ⊥
-no_worker_order None o at v s is = no_worker_reply o s is
+no_worker_order : (refusal : Option Refusal) (o : worker_order.Order) (at : ℕ) (v : worker.Known) (s : ℕ) → word_of (unless_refused refusal v (worker_orders.ordered o at v)).reply ≡ Did (reply.Merged s) → ⊥
 no_worker_order (Some e) o at v s is = cc
+no_worker_order None (worker_orders_are.Edit t e) at v s is = cc
+no_worker_order None (worker_orders_are.Finish t how) at v s is = cc
+no_worker_order None (worker_orders_are.Resend t) at v s is = cc
 
 again_reply : (declined : Bool) (t s : ℕ) → cond declined (reply.Declined t) (reply.Again t) ≡ reply.Merged s → ⊥
 again_reply true t s is = cc

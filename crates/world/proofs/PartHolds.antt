@@ -27,7 +27,8 @@ use Rattle.spawn.proofs.PartShows.{copy_no_node}
 use Rattle.spawn.proofs.SoundPart.{false_by}
 use Rattle.spawn.proofs.Standing.{named}
 use Rattle.spawn.specs.Claim.{is_claimed}
-use Rattle.spawn.specs.Parts.{above, lifted, part_for, rows_below}
+use Rattle.spawn.specs.Parts.{above, lifted, part_for}
+use Rattle.ticket_tree.specs.At.{rows_below}
 use Rattle.spawn.specs.Records.{IsGood}
 use Rattle.spawn.specs.declared.records.spawn_rec.SpawnRec.{SpawnRec}
 use Rattle.merge.proofs.PutPlaces.{same_places}

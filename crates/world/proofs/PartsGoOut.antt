@@ -9,7 +9,8 @@ use Rattle.spawn.proofs.Lifting.{all_lifted}
 use Rattle.spawn.proofs.PartValid.{part_valid}
 use Rattle.spawn.proofs.RowsBelow.{rows_below-around}
 use Rattle.spawn.proofs.Split.{around}
-use Rattle.spawn.specs.Parts.{above, part_for, resources_among, rows_below}
+use Rattle.spawn.specs.Parts.{above, part_for, resources_among}
+use Rattle.ticket_tree.specs.At.{rows_below}
 use Rattle.spawn.specs.Records.{IsGood}
 use Rattle.spawn.specs.declared.records.spawn_rec.SpawnRec.{SpawnRec}
 

@@ -1,10 +1,9 @@
 -- The texts of messages are those of what they are read as, one by one.
-use Rattle.std.proofs.Common.{◌≡◌, ◌∙◌, ℕ, zero, suc, List, [], ◌∷◌, ◌++◌, map, length, slice_get, Option, Some, None, IfSome, Ok, option_map, option_and_then, ap, sym, refl, subst, length-append, arith}
+use Rattle.std.proofs.Common.{◌≡◌, ◌∙◌, ℕ, zero, suc, List, [], ◌∷◌, ◌++◌, map, length, slice_get, Some, IfSome, Ok, option_map, ap, sym, refl, subst, length-append, arith}
 use Rattle.std.proofs.lemmas.List.Elements.{All-head, All-push, All-tail, filter_map-append}
 use Rattle.std.proofs.lemmas.List.{length-map, map-append}
 use Rattle.std.proofs.lemmas.Option.{slice_get-map}
 use Rattle.std.specs.List.{All, cons_option}
-use Rattle.controller.specs.declared.message.Message.{Message}
 use Rattle.jmf_message.specs.Decoded.{IsDecodedAs}
 use Rattle.stored_state.proofs.MessageTexts.{decoded_in}
 use Rattle.stored_state.specs.Kept.{message_text}

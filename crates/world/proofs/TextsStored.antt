@@ -1,5 +1,5 @@
 -- The controller of a name is started again, and its text is read again as it.
-use Rattle.std.proofs.Common.{◌≡◌, ◌∙◌, ℕ, true, false, ◌||◌, Bool, List, Option, Some, None, cond, if◌then◌else◌, option_map, is_some, Ok, Err, IsSomeAnd, MatchBool, ap, sym, refl, subst}
+use Rattle.std.proofs.Common.{◌≡◌, ◌∙◌, ℕ, true, false, ◌||◌, Bool, List, Option, Some, None, cond, if◌then◌else◌, option_map, is_some, Ok, IsSomeAnd, MatchBool, ap, sym, subst}
 use Rattle.std.specs.Str.{bytes_eq}
 use Rattle.serde_json.specs.Written.{compact_text}
 use Rattle.json_profile.specs.ReadAs.{IsReadAs}

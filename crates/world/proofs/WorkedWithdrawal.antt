@@ -11,7 +11,6 @@ use Rattle.ticket_rows.specs.Ticket.{row_of}
 use Rattle.controller.specs.declared.reply.Reply.TheVariants as reply
 use Rattle.master_core.specs.declared.order.Order.TheVariants as master
 use Rattle.worker_core.specs.Worker as worker_state
-use Rattle.worker_core.specs.declared.end.End.TheVariants.{Aborted}
 use Rattle.worker_core.specs.declared.order.Order.TheVariants as worker
 use Rattle.worker_core.specs.declared.stage.Stage.TheVariants as stage
 use Rattle.world.proofs.Worked.{deliver, event, job, press, print_at, says, sends, shop}

@@ -1,5 +1,5 @@
 -- A worker's step and the shop's agree: where it is refused, and where it isn't.
-use Rattle.std.proofs.Common.{◌≡◌, ◌∙◌, ℕ, false, Option, Some, None, Ok, refl, sym, ap, subst}
+use Rattle.std.proofs.Common.{◌≡◌, ◌∙◌, ℕ, false, Option, Some, None, refl, sym, ap, subst}
 use Rattle.std.specs.Option.{option_map_or}
 use Rattle.ticket_items.specs.declared.refusal.Refusal.{Refusal}
 use Rattle.ticket_items.specs.declared.refusal.Refusal.TheVariants.{UnknownEntry}
@@ -36,7 +36,7 @@ refused_or_agrees c v (Some e) moved plain found go = record { reply = refl; nex
 abbrev pub AgreesThere : State → worker.Known → Order → ℕ → Type 0
 AgreesThere w v o at =
     (e : Entry) (h : HasRecord w.controllers v.name (orders.spawn_of_order o) e) → worker.entry_of v.entries (orders.spawn_of_order o) ≡ Some e → worker.is_declined e ≡ false
-    → Agrees (worker_moved w.controllers v (unless_refused (orders.work_refusal o e) v (record { reply = Ok (orders.order_reply o); next = orders.ordered o at v; sent = orders.order_message o at v })))
+    → Agrees (worker_moved w.controllers v (unless_refused (orders.work_refusal o e) v (orders.ordered o at v)))
     (spawn_worked o at (shop_shown w.controllers) (spawn_shown w.controllers h.spawn))
 
 -- where it has none, or has declined the spawn, both refuse
@@ -45,7 +45,7 @@ worker_agrees w v o at ok found there =
     let c = w.controllers in
     let p = shop_shown c in
     let s = orders.spawn_of_order o in
-    let step = λ (why : Option Refusal). unless_refused why v (record { reply = Ok (orders.order_reply o); next = orders.ordered o at v; sent = orders.order_message o at v }) in
+    let step = λ (why : Option Refusal). unless_refused why v (orders.ordered o at v) in
     split_some (worker.entry_of v.entries s)
     (λ e has_entry.
     let h = entry_record w v.name s v e ok found has_entry in

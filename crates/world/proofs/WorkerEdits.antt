@@ -1,5 +1,5 @@
 -- A worker's edits: its step and the shop's agree.
-use Rattle.std.proofs.Common.{◌≡◌, ◌∙◌, ◌&&◌, ◌||◌, ℕ, Bool, true, false, cond, not, List, [], ◌∷◌, Option, Some, None, IsSomeAnd, Ok, is_some, refl, sym, ap, subst}
+use Rattle.std.proofs.Common.{◌≡◌, ◌∙◌, ◌&&◌, ◌||◌, ℕ, Bool, true, false, cond, not, List, [], ◌∷◌, Option, Some, None, IsSomeAnd, is_some, refl, sym, ap, subst}
 use Rattle.std.proofs.lemmas.Bool.{and_parts, true≢false}
 use Rattle.std.proofs.lemmas.Slice.Eq.{bytes_eq-Decides}
 use Rattle.std.specs.Option.{option_and_then, option_map, option_map_or}
@@ -17,7 +17,6 @@ use Rattle.ticket_tree.proofs.PartEdits.{part_edit_of_rows}
 use Rattle.ticket_tree.specs.Part.{Copied, edited_part, refusal_of_part}
 use Rattle.ticket_tree.specs.PartView.{part_row}
 use Rattle.ticket_tree.specs.PlainEdit.{plain_changed, plain_lookups, plain_rows, stands, touch}
-use Rattle.controller.specs.declared.message.Message.{Message}
 use Rattle.controller.specs.declared.reply.Reply.TheVariants as reply
 use Rattle.spawn.specs.Records.{is_out}
 use Rattle.spawn.specs.declared.records.phase.Phase as records
@@ -53,7 +52,7 @@ use Rattle.world.specs.ShopActs.{is_held_by, worked}
 use Rattle.world.specs.ShopSteps as steps
 use Rattle.world.specs.Showing.{now_shown, phase_shown, row_at, seen_shown, shop_shown, spawn_shown}
 use Rattle.world.specs.State.{IsKept, State}
-use Rattle.controller.specs.Step.{Step, unless_refused}
+use Rattle.controller.specs.Step.{unless_refused}
 use Rattle.worker_core.specs.Orders.{order_step as ordered_worker}
 use Rattle.world.specs.Stepping.{worker_moved}
 
@@ -212,7 +211,7 @@ edit_agrees w v s e at ok found x h has_entry taken =
     let c = w.controllers in
     let p = shop_shown c in
     let a = spawn_shown c h.spawn in
-    let moved : Step worker.Known Message = record { reply = Ok reply.Edited; next = orders.ordered (order.Edit s e) at v; sent = None } in
+    let moved = orders.ordered (order.Edit s e) at v in
     let plain = steps.replies reply.Edited (worked e at p) in
     agrees_as c v
     (unless_refused (orders.edit_refusal e x) v moved)
@@ -239,9 +238,9 @@ edit_agrees w v s e at ok found x h has_entry taken =
             job = refl;
             tree = refl;
             seen = λ y. refl;
-            now = λ y. edited_now c v.name s e at (orders.ordered (order.Edit s e) at v) x (orders.edited_entry e at x) q h stored of.1 (ap (option_map (edited_part e at)) of.1) kept free.plain free.free held y;
+            now = λ y. edited_now c v.name s e at moved.next x (orders.edited_entry e at x) q h stored of.1 (ap (option_map (edited_part e at)) of.1) kept free.plain free.free held y;
             holder = λ y. refl;
-            spawns = spawns_stay c v.name s (orders.ordered (order.Edit s e) at v) (orders.edited_entry e at x) h.spawn stored (same_phase h.spawn.phase x (orders.edited_entry e at x) refl ∙ ap (phase_shown h.spawn.phase) (sym h.entered));
+            spawns = spawns_stay c v.name s moved.next (orders.edited_entry e at x) h.spawn stored (same_phase h.spawn.phase x (orders.edited_entry e at x) refl ∙ ap (phase_shown h.spawn.phase) (sym h.entered));
           });
       sent = refl;
     }))

@@ -1,5 +1,5 @@
 -- A worker finishes the work on a part: its step and the shop's agree.
-use Rattle.std.proofs.Common.{◌≡◌, ◌∙◌, ◌||◌, ℕ, true, List, [], ◌∷◌, length, map, Some, is_some, slice_get, Ok, refl, sym, ap}
+use Rattle.std.proofs.Common.{◌≡◌, ◌∙◌, ◌||◌, ℕ, true, List, [], ◌∷◌, length, map, Some, is_some, slice_get, refl, sym, ap}
 use Rattle.std.specs.Option.{option_and_then, option_map, option_map_or}
 use Rattle.ticket_items.specs.Ids.{mem}
 use Rattle.ticket_items.specs.Resource.{resource_ids}
@@ -11,7 +11,6 @@ use Rattle.ticket_rows.specs.Ticket.{IsValid, Job, unless}
 use Rattle.ticket_tree.proofs.ById.{among_ids}
 use Rattle.ticket_tree.specs.Part.{Copied}
 use Rattle.ticket_tree.specs.PlainEdit.{plain_rows}
-use Rattle.controller.specs.declared.message.Message.{Message}
 use Rattle.controller.specs.declared.reply.Reply.TheVariants as reply
 use Rattle.spawn.proofs.GoodCopies.{good_node}
 use Rattle.spawn.proofs.RowsBelow.{rows_below-around}
@@ -43,7 +42,7 @@ use Rattle.world.specs.ShopActs.{finished, in_phase, is_held_by}
 use Rattle.world.specs.ShopSteps as steps
 use Rattle.world.specs.Showing.{now_shown, phase_shown, shop_shown, spawn_shown, tag_of}
 use Rattle.world.specs.State.{IsKept, State}
-use Rattle.controller.specs.Step.{Step, unless_refused}
+use Rattle.controller.specs.Step.{unless_refused}
 use Rattle.worker_core.specs.Orders.{order_step as ordered_worker}
 use Rattle.world.specs.Stepping.{worker_moved}
 
@@ -77,9 +76,8 @@ finish_agrees w v s how at ok found x h has_entry taken =
     let p = shop_shown c in
     let r = h.spawn in
     let a = spawn_shown c r in
-    let next = orders.ordered (order.Finish s how) at v in
     let new = orders.finished_entry how at x in
-    let moved : Step worker.Known Message = record { reply = Ok (reply.Finished s); next = next; sent = orders.order_message (order.Finish s how) at v } in
+    let moved = orders.ordered (order.Finish s how) at v in
     let plain = steps.sends (reply.Finished s) (finished how at a p) (steps.Return s) in
     let kept = kept_entry w v s x ok found has_entry in
     let shown = open_shown c v.name s x h ∙ sym (open_has_part x kept) in
@@ -111,10 +109,10 @@ finish_agrees w v s how at ok found x h has_entry taken =
             job = refl;
             tree = refl;
             seen = λ y. refl;
-            now = λ y. edited_now c v.name s (orders.ending q how) at next x new q h stored of.1 (ap (option_map (orders.ended_part how at)) of.1) part refl (ending_free q how part.valid) held y
+            now = λ y. edited_now c v.name s (orders.ending q how) at moved.next x new q h stored of.1 (ap (option_map (orders.ended_part how at)) of.1) part refl (ending_free q how part.valid) held y
                 ∙ ap (λ n. plain_rows (SetStatus n (worker.end_word how)) at (now_shown c) y) root;
             holder = λ y. refl;
-            spawns = spawns_stored c v.name s next new r shop.Done stored (ap (λ phase. phase_shown phase (Some new)) (phase_out r.phase out))
+            spawns = spawns_stored c v.name s moved.next new r shop.Done stored (ap (λ phase. phase_shown phase (Some new)) (phase_out r.phase out))
                 ∙ ap (λ n. in_phase shop.Done n (map (spawn_shown c) c.master.records)) (sym h.number);
           });
       sent = ap (λ o. option_map tag_of (option_and_then (λ (e : Entry). orders.return_of v.name v.master (orders.finished_entry how at e)) o)) has_entry

@@ -1,11 +1,10 @@
 -- A part that its worker sends back once more: the controllers' step and the shop's agree.
-use Rattle.std.proofs.Common.{◌≡◌, ◌∙◌, ℕ, Bool, true, false, cond, not, List, [], ◌∷◌, Option, Some, None, IsSomeAnd, Ok, is_some, refl, sym, ap}
+use Rattle.std.proofs.Common.{◌≡◌, ◌∙◌, ℕ, Bool, true, false, cond, not, List, [], ◌∷◌, Option, Some, None, IsSomeAnd, is_some, refl, sym, ap}
 use Rattle.std.specs.Option.{option_and_then, option_map}
 use Rattle.ticket_items.specs.declared.refusal.Refusal.{Refusal}
 use Rattle.ticket_items.specs.declared.refusal.Refusal.TheVariants.{Acknowledged, NotDone}
 use Rattle.ticket_rows.specs.Ticket.{first_of, unless}
 use Rattle.ticket_tree.specs.Part.{Copied}
-use Rattle.controller.specs.declared.message.Message.{Message}
 use Rattle.controller.specs.declared.reply.Reply.TheVariants as reply
 use Rattle.spawn.proofs.Outside.{some_of}
 use Rattle.spawn.specs.Records.{is_out}
@@ -27,7 +26,7 @@ use Rattle.world.specs.Shop as shop
 use Rattle.world.specs.ShopSteps as steps
 use Rattle.world.specs.Showing.{phase_shown, shop_shown, spawn_shown, tag_of}
 use Rattle.world.specs.State.{IsKept, State}
-use Rattle.controller.specs.Step.{Step, unless_refused}
+use Rattle.controller.specs.Step.{unless_refused}
 use Rattle.worker_core.specs.Orders.{order_step as ordered_worker}
 use Rattle.world.specs.Stepping.{worker_moved}
 
@@ -70,7 +69,7 @@ resend_agrees w v s at ok found x h has_entry taken =
     let p = shop_shown c in
     let a = spawn_shown c h.spawn in
     let kept = kept_entry w v s x ok found has_entry in
-    let moved : Step worker.Known Message = record { reply = Ok (reply.Sent s); next = orders.ordered (order.Resend s) at v; sent = orders.order_message (order.Resend s) at v } in
+    let moved = orders.ordered (order.Resend s) at v in
     let plain = steps.sends (reply.Sent s) p (steps.Return s) in
     let shown : steps.back_refusal a.phase ≡ orders.resend_refusal x =
     ap (λ b. refusal_by b (shop.is_closed a.phase)) (open_shown c v.name s x h) ∙ ap (refusal_by (worker.is_open x)) (closed_shown c v.name s x h kept taken) in

@@ -12,6 +12,7 @@ use Rattle.ticket_tree.specs.Part.{Copied, edited_part}
 use Rattle.controller.specs.declared.body.Body.{Body}
 use Rattle.controller.specs.declared.body.Body.TheVariants.{Submit, Return, Abort, Answer}
 use Rattle.controller.specs.declared.command.Command.TheVariants as command
+use Rattle.controller.specs.Step.{Step}
 use Rattle.controller.specs.declared.message.Message.{Message}
 use Rattle.spawn.specs.Parts.{part_for}
 use Rattle.spawn.specs.Records.{is_out}
@@ -22,11 +23,11 @@ use Rattle.worker_core.proofs.AtNumber.{All-at_number, All-each_at_number, found
 use Rattle.worker_core.proofs.Closing.{aborted_shut, closed_number, open_taken}
 use Rattle.worker_core.proofs.Kept.{kept_part, number_of}
 use Rattle.worker_core.proofs.MessageLaws.{message_keeps_entries}
-use Rattle.worker_core.proofs.OrderLaws.{order_keeps_entries, return_is_of_entry}
-use Rattle.worker_core.proofs.Refusals.{edit_free, for_free, ordered_on}
+use Rattle.worker_core.proofs.OrderLaws.{order_keeps_entries, ordered_return}
+use Rattle.worker_core.proofs.Refusals.{done_order, edit_free, for_free, ordered_on}
 use Rattle.worker_core.specs.Laws.{entry_after}
 use Rattle.worker_core.specs.Messages.{aborted_entry, after_taking, is_for_workers, take_refusal, taken, taken_entries}
-use Rattle.worker_core.specs.Orders.{after_order, edited_entry, ended_part, ending, finished_entry, order_message, order_refusal, ordered, part_return, spawn_of_order}
+use Rattle.worker_core.specs.Orders.{edited_entry, ended_part, ending, finished_entry, order_refusal, ordered, part_return, spawn_of_order}
 use Rattle.worker_core.specs.Worker.{IsKept, IsKeptEntry, IsKeptPart, Known, closed_entry, declined_entry, entry_of, is_declined, is_ended, is_of, is_open, new_entry, with_entry}
 use Rattle.worker_core.specs.declared.end.End.TheVariants.{Aborted}
 use Rattle.worker_core.specs.declared.entry.Entry.{Entry}
@@ -36,6 +37,7 @@ use Rattle.master_core.specs.Master.{record_of}
 use Rattle.world.proofs.EditedFits.{edited_fits}
 use Rattle.world.proofs.Cases.{made_of}
 use Rattle.world.proofs.Later.{AreLater, IsSameOrClosed}
+use Rattle.world.proofs.Names.{worker_ordered_names}
 use Rattle.world.proofs.Sending.{IsNew, new_message}
 use Rattle.world.proofs.Stored.{and_found, and_mapped, entry_goes_on, entry_there, found_and, if_some}
 use Rattle.world.specs.Controllers.{Controllers, with_worker, worker_of}
@@ -57,13 +59,10 @@ worker_later c v next found own stays =
 
 -- ---- orders
 
-done_order : (o : Order) (at : ℕ) (v : Known) → order_refusal o v.entries ≡ None → after_order o at v ≡ ordered o at v
-done_order o at v none = ap (λ r. cond (is_some r) v (ordered o at v)) none
-
-pub ordered_stays : (o : Order) (at : ℕ) (v : Known) → IsKept v → order_refusal o v.entries ≡ None → (s : ℕ) (e : Entry) → entry_of v.entries s ≡ Some e → is_open e ≡ false → (x : Entry) × (entry_of (ordered o at v).entries s ≡ Some x) × IsSameOrClosed e x
+pub ordered_stays : (o : Order) (at : ℕ) (v : Known) → IsKept v → order_refusal o v.entries ≡ None → (s : ℕ) (e : Entry) → entry_of v.entries s ≡ Some e → is_open e ≡ false → (x : Entry) × (entry_of (ordered o at v).next.entries s ≡ Some x) × IsSameOrClosed e x
 ordered_stays o at v kept none s e found ended =
     let next = order_keeps_entries o at v s e kept found in
-    (next.0, ap (λ (u : Known). entry_of u.entries s) (sym (done_order o at v none)) ∙ next.1, inl (next.2.finished ended))
+    (next.0, ap (λ (step : Step Known Message). entry_of step.next.entries s) (sym (done_order o at v none)) ∙ next.1, inl (next.2.finished ended))
 
 -- an order makes no entry, and the part that one has fits still
 changed_recorded : (f : Copied → Copied) (c : Controllers) (name : List ℕ) (x y : Entry) → ((r : SpawnRec) (p : Copied) → Fits c.master.ticket r p → Fits c.master.ticket r (f p)) → y.spawn_id ≡ x.spawn_id → y.part ≡ option_map f x.part → is_declined x ≡ false → IsRecorded c name x → IsRecorded c name y
@@ -75,7 +74,7 @@ changed_recorded f c name x y fits number part taken h =
       λ out next. subst (λ o. IsSomeAnd o (Fits c.master.ticket r)) (sym part) (and_mapped (Fits c.master.ticket r) (Fits c.master.ticket r) f x.part (fits r) (there.2.1 out taken)),
     )
 
-pub ordered_recorded : (o : Order) (at : ℕ) (c : Controllers) (v : Known) → IsKept v → order_refusal o v.entries ≡ None → All (IsRecorded c v.name) v.entries → All (IsRecorded c v.name) (ordered o at v).entries
+pub ordered_recorded : (o : Order) (at : ℕ) (c : Controllers) (v : Known) → IsKept v → order_refusal o v.entries ≡ None → All (IsRecorded c v.name) v.entries → All (IsRecorded c v.name) (ordered o at v).next.entries
 ordered_recorded (order.Edit s e) at c v kept none all =
     let on = ordered_on (order.Edit s e) v.entries none in
     let x : Entry = on.0 in
@@ -114,14 +113,15 @@ return_is_new c messages v next s e p found own knows kept recorded all here end
     })
     (found_and _ (entry_for d r) e entered (ap is_some has))
 
-pub ordered_sends : (o : Order) (at : ℕ) (c : Controllers) (messages : List Message) (v : Known) → worker_of c.workers v.name ≡ Some v → v.master ≡ c.master.name → order_refusal o v.entries ≡ None → IsKept (ordered o at v) → All (IsRecorded (with_next c v.name (ordered o at v)) v.name) (ordered o at v).entries
-    → All (IsInOrder (with_next c v.name (ordered o at v))) messages → IfSome (order_message o at v) (IsNew (with_next c v.name (ordered o at v)) messages)
+pub ordered_sends : (o : Order) (at : ℕ) (c : Controllers) (messages : List Message) (v : Known) → worker_of c.workers v.name ≡ Some v → v.master ≡ c.master.name → order_refusal o v.entries ≡ None → IsKept (ordered o at v).next → All (IsRecorded (with_next c v.name (ordered o at v).next) v.name) (ordered o at v).next.entries
+    → All (IsInOrder (with_next c v.name (ordered o at v).next)) messages → IfSome (ordered o at v).sent (IsNew (with_next c v.name (ordered o at v).next) messages)
 ordered_sends o at c messages v found knows none kept recorded all =
-    if_some _ (order_message o at v) (λ m is.
-    let gives = return_is_of_entry o at v m none is in
+    let next = (ordered o at v).next in
+    if_some _ (ordered o at v).sent (λ m is.
+    let gives = ordered_return o at v none m is in
     let e : Entry = gives.0 in
     let made = made_of (part_return v.name v.master e.at) e.part m gives.3 in
-    subst (IsNew (with_next c v.name (ordered o at v)) messages) made.2 (return_is_new c messages v (ordered o at v) (spawn_of_order o) e made.0 found refl knows kept recorded all gives.1 gives.2 made.1))
+    subst (IsNew (with_next c v.name next) messages) made.2 (return_is_new c messages v next (spawn_of_order o) e made.0 found (worker_ordered_names o at v).own knows kept recorded all gives.1 gives.2 made.1))
 
 -- ---- messages
 

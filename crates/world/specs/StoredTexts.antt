@@ -1,5 +1,5 @@
 -- The texts from which controllers are started again.
-use Rattle.std.specs.Prelude.{◌≡◌, ℕ, List, Option, Some, option_map, Ok, IsSomeAnd, MatchBool}
+use Rattle.std.specs.Prelude.{ℕ, List, Option, Some, option_map, Ok, IsSomeAnd, MatchBool}
 use Rattle.std.specs.Prelude.{if◌then◌else◌}
 use Rattle.std.specs.Str.{bytes_eq}
 use Rattle.serde_json.specs.Written.{compact_text}

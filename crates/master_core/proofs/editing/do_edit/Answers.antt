@@ -1,14 +1,13 @@
-use Rattle.std.proofs.Common.{◌≡◌, ◌∙◌, [], Err, None, refl, sym, subst}
+use Rattle.std.proofs.Common.{◌≡◌, ◌∙◌, [], None, rules, sym, subst}
 use Rattle.ticket_rows.specs.Edit.{edited_rows}
 use Rattle.ticket_rows.specs.Ticket.{Job}
+use Rattle.controller.proofs.Answered.{free_makes, refused_makes}
 use Rattle.spawn.proofs.HoldingsEdited.{added_is_new, edit_keeps_table}
 use Rattle.spawn.specs.Holdings.{IsTable}
-use Rattle.controller.specs.declared.done.Done.{Done}
-use Rattle.master_core.proofs.HoldersKept.{if_none}
-use Rattle.master_core.proofs.Passing.{if_free, if_refused, memory_through, not_wanted}
 use Rattle.master_core.proofs.Refusals.{edit_free}
 use Rattle.master_core.specs.Master.{known}
-use Rattle.master_core.specs.Orders.{edit_refusal}
+use Rattle.master_core.specs.Orders.{edit_refusal, ordered}
+use Rattle.master_core.specs.declared.order.Order.TheVariants as order
 use Rattle.master_core.proofs.editing.do_edit.Goals as goal
 
 pub apply_held-requires-clause-free : goal.apply_held-requires-clause-free
@@ -22,32 +21,23 @@ apply_held-requires-clause-new c i added =
     let free = edit_free c.args.edit w (sym (c.refusal_of.ensures [] [] c.requires.0 c.requires.1) ∙ c.in-None.is) in
     added_is_new c.args.ticket.now.rows c.requires.0 c.args.edit i c.args.holders.now free.rows added c.requires.1
 
-pub returns-in-Some-clause-refused : goal.returns-in-Some-clause-refused
-returns-in-Some-clause-refused c name workers records table =
+pub returns-in-Some-clause-done : goal.returns-in-Some-clause-done
+returns-in-Some-clause-done c name workers records table =
     let w = known name workers c.args.ticket.now records in
-    if_refused (edit_refusal c.args.edit w) c.refusal_of.result c.in-Some.refusal (Err c.in-Some.refusal) (c.refusal_of.ensures name workers records table) c.in-Some.is refl
+    let told = sym (c.refusal_of.ensures name workers records table) ∙ c.in-Some.is in
+    refused_makes (edit_refusal c.args.edit w) c.in-Some.refusal w (ordered (order.Edit c.args.edit) c.args.at w) told
 
-pub returns-in-Some-clause-memory : goal.returns-in-Some-clause-memory
-returns-in-Some-clause-memory c name workers records table =
-    let w = known name workers c.args.ticket.now records in
-    not_wanted {X = Done} (edit_refusal c.args.edit w) c.refusal_of.result c.in-Some.refusal (Err c.in-Some.refusal) (c.refusal_of.ensures name workers records table) c.in-Some.is
-
-pub returns-in_err-apply_held-in-None-clause-refused : goal.returns-in_err-apply_held-in-None-clause-refused
-returns-in_err-apply_held-in-None-clause-refused c name workers records table =
+pub returns-in_err-apply_held-in-None-clause-done : goal.returns-in_err-apply_held-in-None-clause-done
+returns-in_err-apply_held-in-None-clause-done c name workers records table =
     let w = known name workers c.args.ticket.now records in
     let free : edit_refusal c.args.edit w ≡ None = sym (c.refusal_of.ensures name workers records table) ∙ c.in-None.is in
-    if_free (edit_refusal c.args.edit w) c.from_residual.result free
+    free_makes (edit_refusal c.args.edit w) w (ordered (order.Edit c.args.edit) c.args.at w) _ _ free (search rules)
 
-pub returns-in_err-apply_held-in-None-clause-memory : goal.returns-in_err-apply_held-in-None-clause-memory
-returns-in_err-apply_held-in-None-clause-memory c name workers records table =
-    let w = known name workers c.args.ticket.now records in
-    memory_through (edit_refusal c.args.edit w) c.apply_held.result c.from_residual.result c.in_err-apply_held-in-None.field-0.0 (if_none (edit_refusal c.args.edit w) c.apply_held.ensures.memory) c.in_err-apply_held-in-None.was c.from_residual.ensures.1
-
-pub returns-in_ok-apply_held-in-None-clause-refused : goal.returns-in_ok-apply_held-in-None-clause-refused
-returns-in_ok-apply_held-in-None-clause-refused c name workers records table =
+pub returns-in_ok-apply_held-in-None-clause-done : goal.returns-in_ok-apply_held-in-None-clause-done
+returns-in_ok-apply_held-in-None-clause-done c name workers records table =
     let w = known name workers c.args.ticket.now records in
     let free : edit_refusal c.args.edit w ≡ None = sym (c.refusal_of.ensures name workers records table) ∙ c.in-None.is in
-    if_free (edit_refusal c.args.edit w) _ free
+    free_makes (edit_refusal c.args.edit w) w (ordered (order.Edit c.args.edit) c.args.at w) _ _ free (search rules)
 
 pub returns-in_ok-apply_held-in-None-clause-table : goal.returns-in_ok-apply_held-in-None-clause-table
 returns-in_ok-apply_held-in-None-clause-table c records valid apart table =

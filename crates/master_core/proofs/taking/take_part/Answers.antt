@@ -10,9 +10,9 @@ index_mut-requires c =
     let records = c.args.records.now.items in
     let s = c.args.part.spawn_id in
     let k = c.place_of-place.result in
-    let number : suc k ≡ s = c.place_of-place.ensures ∙ c.spawn_id-then-is_spawn_out.ensures in
+    let number : suc k ≡ s = c.place_of-place.ensures ∙ c.spawn_id-then-is_spawn_out.ensures.id in
     let out : is_spawn_out records s ≡ true =
-    ap (λ rs. is_spawn_out rs s) (sym c.as_slice.ensures.value) ∙ ap (is_spawn_out c.as_slice.result.now) (sym c.spawn_id.ensures) ∙ sym c.is_spawn_out.ensures ∙ c.if-is_spawn_out.true in
+    ap (λ rs. is_spawn_out rs s) (sym c.as_slice.ensures.value) ∙ ap (is_spawn_out c.as_slice.result.now) (sym c.spawn_id.ensures.id) ∙ sym c.is_spawn_out.ensures ∙ c.if-is_spawn_out.true in
     subst (λ n. k < n) (ap length (sym c.as_slice.ensures.value) ∙ c.as_slice.ensures.len) (out_there records s k c.requires.numbered number out).1.within
 
 pub put_in-requires-clause-good : goal.put_in-requires-clause-good
@@ -20,9 +20,9 @@ put_in-requires-clause-good c =
     let records = c.args.records.now.items in
     let s = c.args.part.spawn_id in
     let k = c.place_of-place.result in
-    let number : suc k ≡ s = c.place_of-place.ensures ∙ c.spawn_id-then-is_spawn_out.ensures in
+    let number : suc k ≡ s = c.place_of-place.ensures ∙ c.spawn_id-then-is_spawn_out.ensures.id in
     let out : is_spawn_out records s ≡ true =
-    ap (λ rs. is_spawn_out rs s) (sym c.as_slice.ensures.value) ∙ ap (is_spawn_out c.as_slice.result.now) (sym c.spawn_id.ensures) ∙ sym c.is_spawn_out.ensures ∙ c.if-is_spawn_out.true in
+    ap (λ rs. is_spawn_out rs s) (sym c.as_slice.ensures.value) ∙ ap (is_spawn_out c.as_slice.result.now) (sym c.spawn_id.ensures.id) ∙ sym c.is_spawn_out.ensures ∙ c.if-is_spawn_out.true in
     let own = out_read records s k c.index_mut.result.now c.requires.numbered number out c.index_mut.ensures.value in
     c.requires.apart.good k c.index_mut.result.now own.there own.out
 
@@ -31,9 +31,9 @@ put_in-requires-clause-fits c =
     let records = c.args.records.now.items in
     let s = c.args.part.spawn_id in
     let k = c.place_of-place.result in
-    let number : suc k ≡ s = c.place_of-place.ensures ∙ c.spawn_id-then-is_spawn_out.ensures in
+    let number : suc k ≡ s = c.place_of-place.ensures ∙ c.spawn_id-then-is_spawn_out.ensures.id in
     let out : is_spawn_out records s ≡ true =
-    ap (λ rs. is_spawn_out rs s) (sym c.as_slice.ensures.value) ∙ ap (is_spawn_out c.as_slice.result.now) (sym c.spawn_id.ensures) ∙ sym c.is_spawn_out.ensures ∙ c.if-is_spawn_out.true in
+    ap (λ rs. is_spawn_out rs s) (sym c.as_slice.ensures.value) ∙ ap (is_spawn_out c.as_slice.result.now) (sym c.spawn_id.ensures.id) ∙ sym c.is_spawn_out.ensures ∙ c.if-is_spawn_out.true in
     let own = out_read records s k c.index_mut.result.now c.requires.numbered number out c.index_mut.ensures.value in
     c.requires.fits c.index_mut.result.now own.found own.out
 
@@ -42,9 +42,9 @@ returns-then-is_spawn_out-clause-ok c name workers =
     let records = c.args.records.now.items in
     let s = c.args.part.spawn_id in
     let k = c.place_of-place.result in
-    let number : suc k ≡ s = c.place_of-place.ensures ∙ c.spawn_id-then-is_spawn_out.ensures in
+    let number : suc k ≡ s = c.place_of-place.ensures ∙ c.spawn_id-then-is_spawn_out.ensures.id in
     let out : is_spawn_out records s ≡ true =
-    ap (λ rs. is_spawn_out rs s) (sym c.as_slice.ensures.value) ∙ ap (is_spawn_out c.as_slice.result.now) (sym c.spawn_id.ensures) ∙ sym c.is_spawn_out.ensures ∙ c.if-is_spawn_out.true in
+    ap (λ rs. is_spawn_out rs s) (sym c.as_slice.ensures.value) ∙ ap (is_spawn_out c.as_slice.result.now) (sym c.spawn_id.ensures.id) ∙ sym c.is_spawn_out.ensures ∙ c.if-is_spawn_out.true in
     let own = out_read records s k c.index_mut.result.now c.requires.numbered number out c.index_mut.ensures.value in
     on_both c.put_in.result c.put_in.ensures.merged c.put_in.ensures.phase (put_there (known name workers c.args.ticket.now records) c.args.part c.args.at k c.index_mut.result.now c.put_in.new.ticket c.put_in.new.spawn c.requires.numbered own)
 
@@ -54,9 +54,9 @@ returns-then-is_spawn_out-clause-table c =
     let records = c.args.records.now.items in
     let s = c.args.part.spawn_id in
     let k = c.place_of-place.result in
-    let number : suc k ≡ s = c.place_of-place.ensures ∙ c.spawn_id-then-is_spawn_out.ensures in
+    let number : suc k ≡ s = c.place_of-place.ensures ∙ c.spawn_id-then-is_spawn_out.ensures.id in
     let out : is_spawn_out records s ≡ true =
-    ap (λ rs. is_spawn_out rs s) (sym c.as_slice.ensures.value) ∙ ap (is_spawn_out c.as_slice.result.now) (sym c.spawn_id.ensures) ∙ sym c.is_spawn_out.ensures ∙ c.if-is_spawn_out.true in
+    ap (λ rs. is_spawn_out rs s) (sym c.as_slice.ensures.value) ∙ ap (is_spawn_out c.as_slice.result.now) (sym c.spawn_id.ensures.id) ∙ sym c.is_spawn_out.ensures ∙ c.if-is_spawn_out.true in
     let r = c.index_mut.result.now in
     let own = out_read records s k r c.requires.numbered number out c.index_mut.ensures.value in
-    put_keeps_table c.put_in.result t c.put_in.new.ticket records s k r c.put_in.new.spawn c.args.part c.args.at c.args.holders.now c.put_in.new.holders c.put_in.ensures.merged c.put_in.ensures.phase c.put_in.ensures.holders c.requires.valid c.requires.apart own (c.requires.fits r own.found own.out) c.rows-rows.ensures.valid c.requires.table
+    put_keeps_table c.put_in.result t c.put_in.new.ticket records s k r c.put_in.new.spawn c.args.part c.args.at c.args.holders.now c.put_in.new.holders c.put_in.ensures.merged c.put_in.ensures.phase c.put_in.ensures.holders c.requires.valid c.requires.apart own (c.requires.fits r own.found own.out) c.spawn_id.ensures.valid c.requires.table

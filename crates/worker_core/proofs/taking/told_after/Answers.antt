@@ -12,7 +12,7 @@ returns-in-Submit c at =
     let entries = c.args.entries.now in
     let p = c.in-Submit.part in
     c.told_in.ensures
-    ∙ ap (told_in entries) c.spawn_id.ensures
+    ∙ ap (told_in entries) c.spawn_id.ensures.id
     ∙ sym (ap (λ (body : Body). told_in (taken_entries body at entries) (spawn_in body)) c.in-Submit.is ∙ told_pushed (entry_of entries p.spawn_id) p at entries refl)
 
 pub returns-in-None : goal.returns-in-None

@@ -2,7 +2,7 @@ use Rattle.std.proofs.Common.{◌≡◌, ◌∙◌, false, cond, IfOk, is_some, 
 use Rattle.controller.specs.Reply.{answer_to, is_freed, refused_or, told_of}
 use Rattle.controller.specs.Step.{outcome_step}
 use Rattle.master_core.proofs.HoldersKept.{table_done}
-use Rattle.master_core.proofs.Kept.{kept_told}
+use Rattle.master_core.proofs.Kept.{kept_told, stays}
 use Rattle.master_core.proofs.Merging.{fit_of}
 use Rattle.master_core.proofs.Passing.{no_refusal, of_both, ok_of_both, replied_free}
 use Rattle.master_core.specs.Master.{known}
@@ -21,9 +21,11 @@ invariant_of-self c =
     let w = known c.self.inside.name c.self.inside.workers c.self.inside.ticket c.self.inside.records.items in
     let m = c.args.message in
     let told : c.is_some-refused.result ≡ is_some (take_refusal m w) = c.is_some-refused.ensures ∙ ap is_some (c.refusal_of-refusal.ensures ∙ sym (ap (take_refusal m) c.self.view_is)) in
+    let new = known w.name w.workers c.take_unless.new.ticket c.take_unless.new.records.items in
+    let still = stays c.take_unless.result w new.ticket new.records c.take_unless.ensures.ticket_stays c.take_unless.ensures.records_stay in
     record {
-      kept = kept_told c.take_unless.result c.is_some-refused.result m c.args.at w c.take_unless.new.ticket c.take_unless.new.records.items told (c.take_unless.ensures.ok c.self.inside.name c.self.inside.workers) c.take_unless.ensures.ticket_stays c.take_unless.ensures.records_stay c.take_unless.ensures.valid c.self.invariant.kept;
-      table = table_done c.take_unless.result w c.take_unless.new.ticket c.take_unless.new.records.items c.self.inside.holders c.take_unless.new.holders c.take_unless.ensures.table c.take_unless.ensures.ticket_stays c.take_unless.ensures.records_stay c.take_unless.ensures.holders_stay c.self.invariant.table;
+      kept = kept_told c.take_unless.result c.is_some-refused.result m c.args.at w new told (c.take_unless.ensures.ok w.name w.workers) still c.take_unless.ensures.valid c.self.invariant.kept;
+      table = table_done c.take_unless.result w new c.self.inside.holders c.take_unless.new.holders c.take_unless.ensures.table still c.take_unless.ensures.holders_stay c.self.invariant.table;
     }
 
 pub returns-in-Ok-clause-ok : goal.returns-in-Ok-clause-ok

@@ -1,4 +1,4 @@
-use Rattle.std.proofs.Common.{◌≡◌, List, [], map, ap, ◌∙◌, subst, sym, rules}
+use Rattle.std.proofs.Common.{◌≡◌, List, [], map, ap, ◌∙◌, subst, sym}
 use Rattle.controller.specs.declared.message.Message.{Message}
 use Rattle.master_core.specs.Master as master
 use Rattle.master_core.specs.Master.{Known, known}

@@ -1,7 +1,7 @@
 use Rattle.std.proofs.Common.{◌≡◌, None, IfSome, sym, subst}
 use Rattle.ticket_tree.specs.Part.{refusal_of_part}
 use Rattle.worker_core.proofs.Refusals.{edit_free, of_open}
-use Rattle.worker_core.proofs.ordering.edit_entry.Goals as goal
+use Rattle.worker_core.proofs.ordering.do_edit.Goals as goal
 
 pub edit_held-requires-clause-plain : goal.edit_held-requires-clause-plain
 edit_held-requires-clause-plain c = (edit_free c.args.edit c.args.entry.now c.requires).plain
