@@ -15,7 +15,7 @@ use Rattle.json_items.specs.Again.{list_again, text_again}
 use Rattle.json_items.specs.Judged.{sound}
 use Rattle.json_items.specs.Listed.{list_form, texts_data}
 use Rattle.json_source.specs.Read.{◌>>=◌}
-use Rattle.json_writer.specs.Written.{ticket_data}
+use Rattle.json_text.specs.Written.{ticket_data}
 use Rattle.master_core.proofs.KeptStored.{a_kept_master_is_stored}
 use Rattle.master_core.specs.Master.{Known, known}
 use Rattle.master_core.specs.Stored.{is_master}

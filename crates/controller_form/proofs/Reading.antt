@@ -1,5 +1,5 @@
 -- What was read without a fault.
-use Rattle.std.proofs.Common.{◌≡◌, Bool, true, false, [], ◌∷◌, Option, Some, None, Result, Ok, Err, IfOk, OnOk, refl}
+use Rattle.std.proofs.Common.{◌≡◌, Bool, true, false, [], ◌∷◌, Option, Some, None, Result, Ok, Err, OnOk, refl}
 use Rattle.std.specs.Option.{option_map_or}
 use Rattle.ticket_items.specs.declared.refusal.Refusal.{Refusal}
 use Rattle.ticket_items.specs.declared.refusal.Refusal.TheVariants.{BadId, BadText, NotProfile}
@@ -39,11 +39,6 @@ nothing_wrong true true None p q r = refl
 nothing_wrong true true (Some e) p q r = cc
 nothing_wrong true false f p q r = cc
 nothing_wrong false b f p q r = cc
-
--- what follows of a value follows of the one that there is
-pub if_ok : {A E : Type 0} (P Q : A → Type 0) (r : Result A E) → IfOk r P → ((a : A) → P a → Q a) → IfOk r Q
-if_ok P Q (Ok a) p f = f a p
-if_ok P Q (Err e) p f = tt
 
 -- what always holds does so where there is a value
 pub on_any : {A E P : Type 0} (r : Result A E) → P → OnOk r P

@@ -47,3 +47,10 @@ pub refused_part : {A : Type 0} (r : Result A Refusal) (e : Refusal) (part fault
 refused_part (Ok a) e part fault same why told = absurd same
 refused_part (Err f) e part fault same (inl memory) told = inl (same ∙ memory)
 refused_part (Err f) e part fault same (inr is) told = inr (told is ∙ ap (λ g. Some g) (sym same))
+
+-- ---- a refusal that is handed on
+
+pub refused_so : {X Y : Type 0} (r : Result X Refusal) (e : Refusal) (read seen : Result Y Refusal) → IsErrAnd r (λ f. f ≡ e) → read ≡ seen → (e ≡ Memory) ⊎ (seen ≡ Err e) → IfErr r (λ f. (f ≡ Memory) ⊎ (read ≡ Err f))
+refused_so (Ok x) e read seen same is why = tt
+refused_so (Err f) e read seen same is (inl memory) = inl (same ∙ memory)
+refused_so (Err f) e read seen same is (inr form) = inr (is ∙ form ∙ ap Err (sym same))

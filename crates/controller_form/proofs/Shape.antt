@@ -11,7 +11,7 @@ use Rattle.json_items.specs.Listed.{data_items}
 use Rattle.json_items.specs.Resources.{all_showing}
 use Rattle.json_items.specs.Shown.{nothing_shown}
 use Rattle.json_profile.proofs.PoolShape.{items_low, pool_low}
-use Rattle.json_writer.proofs.Plain.{items_plain, pool_plain}
+use Rattle.json_text.proofs.Plain.{items_plain, pool_plain}
 use Rattle.master_core.specs.Master as master
 use Rattle.worker_core.specs.Worker as worker
 use Rattle.worker_core.specs.declared.entry.Entry.{Entry}

@@ -19,7 +19,7 @@ use Rattle.json_shapes.specs.PartForm.{copied}
 use Rattle.json_items.specs.Judged.{sound}
 use Rattle.json_items.specs.Listed.{data_items, each}
 use Rattle.json_source.specs.Read.{◌>>=◌}
-use Rattle.json_writer.specs.PartWritten.{part_data}
+use Rattle.json_text.specs.PartWritten.{part_data}
 use Rattle.worker_core.proofs.KeptStored.{a_kept_worker_is_stored}
 use Rattle.worker_core.specs.Stored.{is_worker}
 use Rattle.worker_core.specs.Worker.{IsKeptEntry, IsKeptPart, Known, end_word, keeps_part, known}

@@ -13,7 +13,7 @@ use Rattle.json_shapes.specs.Draft.{own_row, ticket_draft}
 use Rattle.json_shapes.specs.EditDraft.{edit_draft, adding_draft, setting_draft, set_status_draft}
 use Rattle.json_shapes.specs.EditDraft.{note_draft}
 use Rattle.json_shapes.specs.Form.{node_has_names, pools_have_names, row_has_texts}
-use Rattle.json_writer.specs.Written.{edit_data, ticket_data}
+use Rattle.json_text.specs.Written.{edit_data, ticket_data}
 use Rattle.jdf_commands.specs.EditCommand.Document.{Document, document_draft, document_read}
 use Rattle.jdf_commands.specs.EditCommand.Run.{output_of, status_of, ticket_text}
 

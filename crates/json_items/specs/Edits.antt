@@ -2,7 +2,7 @@
 use Rattle.std.specs.Prelude.{ℕ, ◌&&◌, Bool, true, false, List, [], ◌∷◌, codes, if◌then◌else◌}
 use Rattle.std.specs.Prelude.{Option, Some, None}
 use Rattle.std.specs.Str.{bytes_eq}
-use Rattle.serde_json.specs.Data.{Data, Members, no_members, member, string, object}
+use Rattle.serde_json.specs.Data.{Data, no_members, member, string, object}
 use Rattle.ticket_items.specs.Names.{is_name, is_text}
 use Rattle.ticket_items.specs.declared.edit.Edit.{Edit}
 use Rattle.ticket_items.specs.declared.edit.Edit.TheVariants.{SetStatus, SetAttr, SetResStatus}
@@ -12,7 +12,6 @@ use Rattle.json_items.specs.Attributes.{attrs_data}
 use Rattle.json_items.specs.Links.{usage_named, usage_data, link_has_names}
 use Rattle.json_source.specs.Read.{◌>>=◌, provided, has_only, text_under}
 use Rattle.json_items.specs.Resources.{own_resource, resource_has_names, resource_has_texts}
-use Rattle.json_items.specs.Resources.{own_members}
 
 -- ---- read
 
@@ -202,56 +201,3 @@ edit_data (AddLink node link) =
     (member (codes "Node") (string node)
     (member (codes "Usage") (usage_data link.usage)
     (member (codes "rRef") (string link.rref) no_members))))
-
--- ---- the parts of what is written
-
--- the kind, under `Edit`
-abbrev pub edit_kind : Edit → List ℕ
-edit_kind (SetStatus node status) = codes "SetStatus"
-edit_kind (SetAttr node name value) = codes "SetAttr"
-edit_kind (SetResStatus resource status) = codes "SetResStatus"
-edit_kind (SetResAttr resource name value) = codes "SetResAttr"
-edit_kind (Note node text) = codes "Note"
-edit_kind (AddNode node id kind job_part status) = codes "AddNode"
-edit_kind (AddResource node resource) = codes "AddResource"
-edit_kind (AddLink node link) = codes "AddLink"
-
--- the id of what the edit is about
-abbrev pub target_id : Edit → List ℕ
-target_id (SetStatus node status) = node
-target_id (SetAttr node name value) = node
-target_id (SetResStatus resource status) = resource
-target_id (SetResAttr resource name value) = resource
-target_id (Note node text) = node
-target_id (AddNode node id kind job_part status) = node
-target_id (AddResource node resource) = node
-target_id (AddLink node link) = node
-
--- the name that it stands under
-abbrev pub target_name : Edit → List ℕ
-target_name (SetStatus node status) = codes "Node"
-target_name (SetAttr node name value) = codes "Node"
-target_name (SetResStatus resource status) = codes "Resource"
-target_name (SetResAttr resource name value) = codes "Resource"
-target_name (Note node text) = codes "Node"
-target_name (AddNode node id kind job_part status) = codes "Node"
-target_name (AddResource node resource) = codes "Node"
-target_name (AddLink node link) = codes "Node"
-
--- the other members
-abbrev pub edit_rest : Edit → Members
-edit_rest (SetStatus node status) = member (codes "Status") (string status) no_members
-edit_rest (SetAttr node name value) =
-    member (codes "Name") (string name) (member (codes "Value") (string value) no_members)
-edit_rest (SetResStatus resource status) = member (codes "Status") (string status) no_members
-edit_rest (SetResAttr resource name value) =
-    member (codes "Name") (string name) (member (codes "Value") (string value) no_members)
-edit_rest (Note node text) = member (codes "Text") (string text) no_members
-edit_rest (AddNode node id kind job_part status) =
-    member (codes "ID") (string id)
-    (member (codes "JobPartID") (string job_part)
-    (member (codes "Status") (string status) (member (codes "Type") (string kind) no_members)))
-edit_rest (AddResource node resource) = own_members resource
-edit_rest (AddLink node link) =
-    member (codes "Usage") (usage_data link.usage)
-    (member (codes "rRef") (string link.rref) no_members)

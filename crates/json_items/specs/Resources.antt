@@ -55,15 +55,6 @@ marked_has_texts m = resource_has_texts m.resource
 
 -- ---- written
 
--- a resource by itself
-abbrev pub own_members : Resource → Members
-own_members r =
-    member (codes "Attr") (attrs_data r.attrs)
-    (member (codes "Class") (string r.class)
-    (member (codes "ID") (string r.id)
-    (member (codes "Name") (string r.name)
-    (member (codes "Status") (string r.status) no_members))))
-
 -- a resource that shows this of spawns
 abbrev pub resource_data : Shown → Resource → Data
 resource_data shown r =

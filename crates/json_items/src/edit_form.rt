@@ -1,22 +1,15 @@
-//! Edits: their drafts, and how they are written.
+//! Edits: their drafts.
 
-ghost use Rattle.std.specs.Prelude.{◌≡◌, true, IfOk, IfErr, OnOk};
-ghost use Rattle.serde_json.specs.Data.{no_members};
-ghost use Rattle.serde_json.specs.View.{members_view};
-ghost use Rattle.ticket_items.specs.Names.{is_name};
-ghost use Rattle.json_items.specs.Again.{edit_again};
+ghost use Rattle.std.specs.Prelude.{◌≡◌, true, IfOk, IfErr};
 ghost use Rattle.json_items.specs.DraftedEdits.{drafted_edit};
 ghost use Rattle.json_items.specs.Edits as edits;
 ghost use Rattle.json_source.specs.Read.{Gives};
 
-use crate::resources::resource_form::put_resource;
 use crate::{
-    Borrowed, Draft, Form, LinkDraft, Read, ResourceDraft, Written, build_two, only, put, put_text,
-    put_two, text_under, two, under,
+    Borrowed, Draft, Form, LinkDraft, Read, ResourceDraft, build_two, only, text_under, two, under,
 };
 use json_source::Source;
-use serde_json::{Map, Value};
-use std::alloc::{AllocError, Global};
+use std::alloc::Global;
 use ticket_items::{Edit, Id, Name, Refusal, Text};
 
 /// An edit by its members and their kinds alone: its ids, names and texts may be any.
@@ -304,88 +297,4 @@ impl<'a> Draft<'a> for EditDraft<'a> {
             _ => build_setting(alloc, self),
         }
     }
-}
-
-/// The word for the kind of an edit.
-fn kind_word(edit: &Edit) -> &'static str
-    ensures { result.now ≡ edits.edit_kind edit.now }
-{
-    match edit {
-        Edit::SetStatus { .. } => "SetStatus",
-        Edit::SetAttr { .. } => "SetAttr",
-        Edit::SetResStatus { .. } => "SetResStatus",
-        Edit::SetResAttr { .. } => "SetResAttr",
-        Edit::Note { .. } => "Note",
-        Edit::AddNode { .. } => "AddNode",
-        Edit::AddResource { .. } => "AddResource",
-        Edit::AddLink { .. } => "AddLink",
-    }
-}
-
-/// What an edit is about, under the name of its member: a node or a resource.
-fn target(edit: &Edit) -> (&'static str, &Id)
-    ensures name { result.0.now ≡ edits.target_name edit.now }
-    ensures id { result.1.now ≡ edits.target_id edit.now }
-{
-    match edit {
-        Edit::SetStatus { node, .. }
-        | Edit::SetAttr { node, .. }
-        | Edit::Note { node, .. }
-        | Edit::AddNode { node, .. }
-        | Edit::AddResource { node, .. }
-        | Edit::AddLink { node, .. } => ("Node", node),
-        Edit::SetResStatus { resource, .. } | Edit::SetResAttr { resource, .. } => {
-            ("Resource", resource)
-        }
-    }
-}
-
-/// Puts the members of an edit besides its kind and what it is about into an empty object. Their
-/// names and texts are valid.
-fn put_rest(alloc: Global, members: &mut Map<String, Value>, edit: &Edit) -> Result<(), AllocError>
-    requires { members_view members.old.entries ≡ no_members }
-    ensures members { OnOk result (members_view members.new.entries ≡ edits.edit_rest edit.now) }
-    ensures names { OnOk result
-        (is_name (edits.target_id edit.now) ≡ true → edits.edit_has_names edit.now ≡ true) }
-    ensures texts { OnOk result (edits.edit_has_texts edit.now ≡ true) }
-{
-    match edit {
-        Edit::SetStatus { status, .. } | Edit::SetResStatus { status, .. } => {
-            put(alloc, members, "Status", status)
-        }
-        Edit::SetAttr { name, value, .. } | Edit::SetResAttr { name, value, .. } => {
-            put_two(alloc, members, "Name", name, "Value", value)
-        }
-        Edit::Note { text, .. } => put(alloc, members, "Text", text),
-        Edit::AddNode {
-            id,
-            kind,
-            job_part,
-            status,
-            ..
-        } => {
-            put_two(alloc, members, "ID", id, "JobPartID", job_part)?;
-            put_two(alloc, members, "Status", status, "Type", kind)
-        }
-        Edit::AddResource { resource, .. } => put_resource(alloc, members, resource),
-        Edit::AddLink { link, .. } => {
-            put_two(alloc, members, "Usage", &link.usage, "rRef", &link.rref)
-        }
-    }
-}
-
-impl Written for Edit {
-    ghost written = { edits.edit_data };
-
-    #[tactic(auto, using(crate::proofs::EditParts::edit_of_parts))]
-    fn value(&self, alloc: Global) -> Result<Value, AllocError> {
-        let (name, id) = target(self);
-        let mut members = Map::new(alloc);
-        put_rest(alloc, &mut members, self)?;
-        put_text(alloc, &mut members, "Edit", kind_word(self))?;
-        put(alloc, &mut members, name, id)?;
-        Ok(Value::Object(members))
-    }
-
-    ghost again = { edit_again };
 }

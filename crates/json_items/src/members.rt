@@ -1,3 +1,2 @@
 pub mod member;
-pub mod object;
 pub mod one_member;

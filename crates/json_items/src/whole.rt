@@ -1,13 +1,11 @@
-//! Reading and writing a value as a whole, and building wholes.
+//! Reading a value as a whole, and building wholes.
 
-ghost use Rattle.std.specs.Prelude.{◌≡◌, ◌&&◌, true, Some, Ok, IfOk, IfErr, OnOk};
-ghost use Rattle.serde_json.specs.View.{view};
-ghost use Rattle.json_items.specs.Judged.{Answers, first_fault, judged, sound};
+ghost use Rattle.std.specs.Prelude.{◌≡◌, ◌&&◌, true, IfOk, IfErr};
+ghost use Rattle.json_items.specs.Judged.{Answers, first_fault, judged};
 
-use crate::{Draft, Written};
+use crate::Draft;
 use json_source::Source;
-use serde_json::Value;
-use std::alloc::{AllocError, Global};
+use std::alloc::Global;
 use ticket_items::Refusal;
 
 /// The whole that a value is. Refuses the first of `NotProfile`, `BadId` and `BadText` that stands
@@ -27,19 +25,6 @@ pub fn whole_of<'a, D: Draft<'a>, S: Source>(
         return Err(Refusal::BadText);
     }
     draft.build(alloc)
-}
-
-/// It as a value, which is read again.
-pub fn written_value<T: Written>(alloc: Global, item: &T) -> Result<Value, AllocError>
-    ensures value { IfOk result (λ v. view v ≡ T.written item.now) }
-    ensures again { IfOk result (λ v. T.form (view v) ≡ Some item.now) }
-    ensures whole { IfOk result (λ v.
-        judged (first_fault T.has_names T.has_texts) (T.form (view v)) ≡ Ok item.now) }
-    ensures names { OnOk result (T.has_names item.now ≡ true) }
-    ensures texts { OnOk result (T.has_texts item.now ≡ true) }
-{
-    let value = item.value(alloc)?;
-    Ok(value)
 }
 
 /// The wholes of two drafts whose names and texts are valid. Refuses `Memory` alone.

@@ -20,9 +20,9 @@ use Rattle.json_shapes.specs.PartDraft.{part_members}
 use Rattle.json_shapes.specs.PoolDraft.{Marked, resource_draft, link_draft}
 use Rattle.json_shapes.specs.PoolWritten.{attr_members, link_data, audit_data}
 use Rattle.json_shapes.specs.Read.{◌>>=◌, text_pairs}
-use Rattle.json_writer.specs.Marked.{no_marks, marked_pool, marked_row, marked_rows}
-use Rattle.json_writer.specs.PartWritten.{part_root_data}
-use Rattle.json_writer.specs.Written.{pool_data, node_data, root_data, Tree, children, others, trees, job_data}
+use Rattle.json_text.specs.Marked.{no_marks, marked_pool, marked_row, marked_rows}
+use Rattle.json_text.specs.PartWritten.{part_root_data}
+use Rattle.json_text.specs.Written.{pool_data, node_data, root_data, Tree, children, others, trees, job_data}
 use Rattle.json_items.specs.Again.{attrs_again}
 use Rattle.json_profile.proofs.PoolAgain.{raw_resources-again, links-again, audits-again}
 

@@ -5,7 +5,6 @@ pub mod PartOutlines
 pub mod PoolAgain
 pub mod PoolShape
 pub mod Printing
-pub mod ResourceAgain
 pub mod RoundTrip
 pub mod Shape
 mod Worked

@@ -25,9 +25,9 @@ use Rattle.json_shapes.specs.PoolForm.{nothing_shown}
 use Rattle.json_shapes.specs.PoolWritten.{all_showing}
 use Rattle.json_shapes.specs.Read.{◌>>=◌, provided}
 use Rattle.json_reader.proofs.Faults.{no_fault}
-use Rattle.json_writer.specs.Marked.{no_marks, marked_rows}
-use Rattle.json_writer.specs.PartWritten.{ancestor_data, copies_pool, root_pool, part_root_data, copied_root, rows_data, part_data}
-use Rattle.json_writer.specs.Written.{children, trees}
+use Rattle.json_text.specs.Marked.{no_marks, marked_rows}
+use Rattle.json_text.specs.PartWritten.{ancestor_data, copies_pool, root_pool, part_root_data, copied_root, rows_data, part_data}
+use Rattle.json_text.specs.Written.{children, trees}
 use Rattle.json_profile.proofs.Again.{node_rows-part_root_data, item_rows-marked, unmarked_rows, unmarked_bare}
 use Rattle.json_profile.proofs.PoolAgain.{resources_of-all_showing}
 use Rattle.json_profile.proofs.RoundTrip.{three}

@@ -11,8 +11,8 @@ use Rattle.json_shapes.specs.Listed.{data_items}
 use Rattle.json_shapes.specs.PoolDraft.{Marked}
 use Rattle.json_shapes.specs.PoolWritten.{attr_members, resource_data, raw_data, link_data, audit_data}
 use Rattle.json_items.specs.declared.resources.shown_form.Shown.{Shown}
-use Rattle.json_writer.specs.PartWritten.{ancestor_data}
-use Rattle.json_writer.specs.Written.{pool_data}
+use Rattle.json_text.specs.PartWritten.{ancestor_data}
+use Rattle.json_text.specs.Written.{pool_data}
 
 pub attrs_flat : (pairs : Pairs) → members_depth (attr_members pairs) ≡ 0
 attrs_flat [] = refl

@@ -11,9 +11,9 @@ use Rattle.ticket_items.specs.declared.refusal.Refusal.{Refusal}
 use Rattle.ticket_items.specs.declared.refusal.Refusal.TheVariants.{NotProfile, ReservedStatus, BadId, BadText}
 use Rattle.json_shapes.specs.Form.{job_has_names, job_has_texts, ticket_fault, ticket_read, sound}
 use Rattle.json_reader.proofs.Faults.{no_fault}
-use Rattle.json_writer.specs.Written.{ticket_data, edit_data}
+use Rattle.json_text.specs.Written.{ticket_data, edit_data}
 use Rattle.json_profile.proofs.Again.{ticket_draft-ticket_data}
-use Rattle.json_writer.proofs.Plain.{attrs_plain}
+use Rattle.json_text.proofs.Plain.{attrs_plain}
 use Rattle.json_profile.proofs.PoolShape.{attrs_flat}
 
 no_built_fault : (bare : Bool) (o : Option Refusal) → bare ≡ true → o ≡ None → first_of (unless bare ReservedStatus ∷ o ∷ []) ≡ None

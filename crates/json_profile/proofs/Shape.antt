@@ -12,11 +12,11 @@ use Rattle.ticket_items.specs.declared.marks.Marks.{Marks}
 use Rattle.ticket_items.specs.declared.node_row.NodeRow.{NodeRow}
 use Rattle.ticket_items.specs.declared.resource.Resource.{Resource}
 use Rattle.json_shapes.specs.Draft.{RawRow}
-use Rattle.json_writer.specs.Marked.{no_marks, marked_rows}
-use Rattle.json_writer.specs.PartWritten.{part_root_data, copied_root, rows_data, part_data}
-use Rattle.json_writer.specs.Written.{node_data, root_data, Tree, children, others, trees, job_data, shown_data}
+use Rattle.json_text.specs.Marked.{no_marks, marked_rows}
+use Rattle.json_text.specs.PartWritten.{part_root_data, copied_root, rows_data, part_data}
+use Rattle.json_text.specs.Written.{node_data, root_data, Tree, children, others, trees, job_data, shown_data}
 use Rattle.json_profile.proofs.Again.{raws_are_shallow, shallow-marked}
-use Rattle.json_writer.proofs.Plain.{attrs_plain, audits_plain, links_plain, pool_plain, ancestors_plain}
+use Rattle.json_text.proofs.Plain.{attrs_plain, audits_plain, links_plain, pool_plain, ancestors_plain}
 use Rattle.json_profile.proofs.PoolShape.{attrs_flat, audits_low, links_low, pool_low, ancestors_low}
 
 -- ---- no float

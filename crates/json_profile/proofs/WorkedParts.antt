@@ -17,8 +17,8 @@ use Rattle.json_shapes.specs.PartForm.{ancestor_has_names, part_read}
 use Rattle.json_shapes.specs.PoolDraft.{own_resource, resource_draft, shown_draft, link_draft}
 use Rattle.json_shapes.specs.PoolForm.{resource_has_names, resource_has_texts, nothing_shown}
 use Rattle.json_shapes.specs.PoolWritten.{resource_data}
-use Rattle.json_writer.specs.Marked.{marked_rows, shown_of, no_marks}
-use Rattle.json_writer.specs.PartWritten.{part_data}
+use Rattle.json_text.specs.Marked.{marked_rows, shown_of, no_marks}
+use Rattle.json_text.specs.PartWritten.{part_data}
 
 -- ---- the part of n1, with r2 to change and r1 to read
 

@@ -19,7 +19,7 @@ use Rattle.json_shapes.specs.Form.{ticket_read, edit_read, node_has_names, pools
 use Rattle.json_shapes.specs.Form.{row_has_texts}
 use Rattle.json_shapes.specs.PoolDraft.{own_resource, shown_draft, resource_draft, link_draft}
 use Rattle.json_shapes.specs.PoolForm.{resource_has_names, resource_has_texts}
-use Rattle.json_writer.specs.Written.{ticket_data, edit_data}
+use Rattle.json_text.specs.Written.{ticket_data, edit_data}
 
 -- ---- a shop's ticket
 

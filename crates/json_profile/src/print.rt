@@ -5,13 +5,12 @@ ghost use Rattle.serde_json.specs.Data.{depth};
 ghost use Rattle.serde_json.specs.Written.{compact_text, has_float};
 ghost use Rattle.json_shapes.specs.Form.{ticket_read};
 ghost use Rattle.json_shapes.specs.PartForm.{part_read};
-ghost use Rattle.json_writer.specs.PartWritten.{part_data};
-ghost use Rattle.json_writer.specs.Written.{shown_data, ticket_data};
+ghost use Rattle.json_text.specs.PartWritten.{part_data};
+ghost use Rattle.json_text.specs.Written.{shown_data, ticket_data};
 ghost use Rattle.json_text.specs.Printed.{IsPrinted};
 
 use json::Writer;
-use json_text::finished;
-use json_writer::no_marks;
+use json_text::{finished, no_marks};
 use std::alloc::{AllocError, Global};
 use std::mem;
 use ticket_tree::{Marks, Part, Ticket};
@@ -66,4 +65,16 @@ pub fn push_ticket_text(
         ≡ text.old.items ++ compact_text (ticket_data ticket.now)) }
 {
     push_shown_text(alloc, text, ticket, &no_marks(alloc))
+}
+
+/// Appends the text of a part: the one that `text_of` gives of its `part_value`. After an error
+/// nothing of the text is left.
+pub fn push_part_text(alloc: Global, text: &mut Vec<u8>, part: &Part) -> Result<(), AllocError>
+    ensures { OnOk result (text.new.items
+        ≡ text.old.items ++ compact_text (part_data part.now)) }
+{
+    let mut out = Writer::new(mem::replace(text, Vec::new(alloc)));
+    json_text::print_part(alloc, &mut out, part)?;
+    *text = finished(out);
+    Ok(())
 }

@@ -1,17 +1,15 @@
-//! Tickets, parts, resources and edits from JSON.
+//! Tickets, parts and edits from JSON.
 
 ghost use Rattle.std.specs.Prelude.{◌≡◌, IfErr};
 ghost use Rattle.serde_json.specs.View.{view};
 ghost use Rattle.json_shapes.specs.Form.{Answers, edit_read, ticket_read};
 ghost use Rattle.json_shapes.specs.PartForm.{part_read};
-ghost use Rattle.json_shapes.specs.ResourceForm.{resource_read};
 
-use crate::bare_draft::BareDraft;
 use json_items::{Checked, EditDraft, whole_of};
 use json_reader::{PartDraft, TicketDraft};
 use serde_json::Value;
 use std::alloc::Global;
-use ticket_tree::{Edit, Part, Refusal, Resource, Ticket};
+use ticket_tree::{Edit, Part, Refusal, Ticket};
 
 /// The ticket that a value is. Refuses the first of `NotProfile`, `BadId`, `BadText`,
 /// `ReservedStatus` (a node's Status, or what a resource shows of spawns), `DuplicateId`, `TooDeep`
@@ -34,15 +32,6 @@ pub fn part_of(alloc: Global, value: &Value) -> Result<Part, Refusal>
     ensures tree { IfErr result (λ e. e ≡ Refusal.NotATree → ⊥) }
 {
     let draft = PartDraft::of(alloc, value)?;
-    draft.build(alloc)
-}
-
-/// The resource that a value is by itself. Refuses the first of `NotProfile`, `BadId`, `BadText` and
-/// `ReservedStatus` (it shows something of spawns) that stands in it, and `Memory`.
-pub fn resource_of(alloc: Global, value: &Value) -> Result<Resource, Refusal>
-    ensures { Answers result (resource_read (view value.now)) }
-{
-    let draft = BareDraft::of(alloc, value)?;
     draft.build(alloc)
 }
 

@@ -1,10 +1,13 @@
-ghost use Rattle.std.specs.Prelude.{◌≡◌, ◌⊎◌, ◌≤◌, None, Some, false, IfOk, IfErr, IsErrOf};
+ghost use Rattle.std.specs.Prelude.{◌≡◌, ◌⊎◌, ◌≤◌, [], None, Some, false, IfOk, IfErr, IsErrOf};
 ghost use Rattle.std.specs.Str.{IsUtf8};
-ghost use Rattle.serde_json.specs.Data.{depth};
+ghost use Rattle.serde_json.specs.Data.{Data, depth};
 ghost use Rattle.serde_json.specs.Read.{max_depth, read};
 ghost use Rattle.serde_json.specs.View.{view};
 ghost use Rattle.serde_json.specs.Written.{compact_text, has_float};
+ghost use Rattle.json_text.specs.Printed.{data_tokens, IsReadAgain};
 
+use json::Writer;
+use json_text::finished;
 use serde_json::Value;
 use std::alloc::{AllocError, Global};
 use ticket_tree::Refusal;
@@ -21,6 +24,18 @@ pub fn value_of(alloc: Global, bytes: &[u8]) -> Result<Value, Refusal>
         Ok(value) => Ok(value),
         Err(error) if error.is_memory() => Err(Refusal::Memory),
         Err(_) => Err(Refusal::NotJson),
+    }
+}
+
+/// The value of what was printed, which is what its text is read as.
+pub fn value_printed(alloc: Global, out: Writer) -> Result<Value, AllocError>
+    ensures { (d : Data) → out.before ≡ [] → out.tokens ≡ data_tokens d → IsReadAgain d
+        → depth d ≤ max_depth → IfOk result (λ v. view v ≡ d) }
+{
+    let text = finished(out);
+    match value_of(alloc, text.as_slice()) {
+        Ok(value) => Ok(value),
+        Err(_) => Err(AllocError),
     }
 }
 

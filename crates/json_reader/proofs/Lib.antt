@@ -1,7 +1,7 @@
 pub mod Depths
 pub mod Faults
 pub mod FoundTickets
-pub mod Finding
+pub mod Gathering
 pub mod Nodes
 pub mod PartFaults
 pub mod PartPools

@@ -65,12 +65,6 @@ pub record IsFound (raws : List RawRow) (found : FoundNodes) : Type 0 where
   pub checks : found.checks ≡ node_checks raws
   pub rows : all_hold found.checks ≡ true → found.rows.items ≡ map (λ r. r.row) raws
 
--- what is read was added to what was found; or there is nothing to read, unless memory ran out
-abbrev pub AddsFound : FoundNodes → FoundNodes → Result ⊤ Refusal → Option (List RawRow) → Type 0
-AddsFound old new (Ok u) read = (added : List RawRow) × (read ≡ Some added)
-    × ((before : List RawRow) → IsFound before old → IsFound (before ++ added) new)
-AddsFound old new (Err e) read = Fails e read
-
 -- ---- tickets
 
 -- the name that a text is, if it is valid

@@ -3,3 +3,4 @@ pub mod DraftedPool
 pub mod DraftedTicket
 pub mod DraftedPart
 pub mod Found
+pub mod Gathered

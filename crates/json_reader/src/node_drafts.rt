@@ -2,7 +2,6 @@
 
 ghost use Rattle.std.specs.Prelude.{◌≡◌, true, map, IfOk, IfErr};
 ghost use Rattle.std.specs.List.{list_all};
-ghost use Rattle.serde_json.specs.View.{view};
 ghost use Rattle.json_shapes.specs.Draft.{are_bare, node_rows, root_members};
 ghost use Rattle.json_shapes.specs.PartDraft.{part_members};
 ghost use Rattle.json_shapes.specs.Form.{row_has_names, row_has_texts};
@@ -11,19 +10,19 @@ ghost use Rattle.json_reader.specs.Drafted.{drafted_raw, drafted_row, drafted_ro
 
 use crate::node_draft::NodeDraft;
 use crate::node_reader::{PART_MEMBERS, ROOT_MEMBERS, push_node};
-use serde_json::Value;
+use json_source::Source;
 use std::alloc::Global;
 use ticket_tree::{NodeRow, Refusal};
 
 /// The nodes of a ticket or a part, in preorder. The root's object has no other members than
 /// `names`.
-fn node_drafts<'a>(
+fn node_drafts<'a, S: Source>(
     alloc: Global,
-    value: &'a Value,
+    value: &'a S,
     names: &[&str],
 ) -> Result<Vec<NodeDraft<'a>>, Refusal>
     ensures { Gives (λ v. drafted_rows v.items) result
-        (node_rows (map (λ n. n.now) names.now) 1 (view value.now)) }
+        (node_rows (map (λ n. n.now) names.now) 1 (S.content value.now)) }
 {
     let mut rows = Vec::new(alloc);
     match push_node(alloc, &mut rows, names, 1, value) {
@@ -33,15 +32,20 @@ fn node_drafts<'a>(
 }
 
 /// The nodes of a ticket, in preorder.
-pub fn ticket_nodes<'a>(alloc: Global, value: &'a Value) -> Result<Vec<NodeDraft<'a>>, Refusal>
-    ensures { Gives (λ v. drafted_rows v.items) result (node_rows root_members 1 (view value.now)) }
+pub fn ticket_nodes<'a, S: Source>(
+    alloc: Global,
+    value: &'a S,
+) -> Result<Vec<NodeDraft<'a>>, Refusal>
+    ensures { Gives (λ v. drafted_rows v.items) result
+        (node_rows root_members 1 (S.content value.now)) }
 {
     node_drafts(alloc, value, ROOT_MEMBERS)
 }
 
 /// The nodes of a part, in preorder.
-pub fn part_nodes<'a>(alloc: Global, value: &'a Value) -> Result<Vec<NodeDraft<'a>>, Refusal>
-    ensures { Gives (λ v. drafted_rows v.items) result (node_rows part_members 1 (view value.now)) }
+pub fn part_nodes<'a, S: Source>(alloc: Global, value: &'a S) -> Result<Vec<NodeDraft<'a>>, Refusal>
+    ensures { Gives (λ v. drafted_rows v.items) result
+        (node_rows part_members 1 (S.content value.now)) }
 {
     node_drafts(alloc, value, PART_MEMBERS)
 }

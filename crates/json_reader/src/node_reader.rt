@@ -1,16 +1,16 @@
-//! Reading nodes: from a JSON value to drafts in preorder.
+//! Reading nodes: drafts in preorder.
 
-ghost use Rattle.std.specs.Prelude.{◌≡◌, map};
+ghost use Rattle.std.specs.Prelude.{◌≡◌, ◌∷◌, [], map};
+ghost use Rattle.std.specs.Option.{option_map};
 ghost use Rattle.serde_json.specs.Data.{depth};
-ghost use Rattle.serde_json.specs.View.{view};
 ghost use Rattle.json_shapes.specs.Draft as form;
-ghost use Rattle.json_shapes.specs.Read.{Adds, Gives};
-ghost use Rattle.json_reader.specs.Drafted.{drafted_raw, drafted_rows};
+ghost use Rattle.json_shapes.specs.Read.{Gives};
+ghost use Rattle.json_reader.specs.Drafted.{drafted_raw};
+ghost use Rattle.json_reader.specs.Gathered.{AreDrafted, Gathers};
 
 use crate::node_draft::NodeDraft;
 use json_items::{AttrsDraft, Drafts, only, two, under_or};
 use json_source::Source;
-use serde_json::Value;
 use std::alloc::Global;
 use ticket_tree::Refusal;
 
@@ -98,47 +98,54 @@ pub fn next_depth(depth: u32) -> u32
     depth.saturating_add(1).min(DEEPEST_READ)
 }
 
-/// Appends a node and those below it, in preorder. The node's object has no other members than
-/// `names`.
-#[cycle(nodes)]
-pub fn push_node<'a>(
+/// Appends a node without its children, of an object with no other members than `names`.
+fn push_own<'a, S: Source>(
     alloc: Global,
     rows: &mut Vec<NodeDraft<'a>>,
     names: &[&str],
     depth: u32,
-    value: &'a Value,
+    value: &'a S,
 ) -> Result<(), Refusal>
-    ensures { Adds drafted_rows rows.old.items rows.new.items result
-        (form.node_rows (map (λ n. n.now) names.now) depth (view value.now)) }
+    ensures { Gathers AreDrafted rows.old.items rows.new.items result (option_map (λ r. r ∷ [])
+        (form.own_row (map (λ n. n.now) names.now) depth (S.content value.now))) }
 {
-    let Value::Object(members) = value else {
-        return Err(Refusal::NotProfile);
-    };
-    let row = own_row(alloc, names, depth, value)?;
-    rows.push(row)?;
-    match members.get("JDF") {
+    let draft = own_row(alloc, names, depth, value)?;
+    rows.push(draft)?;
+    Ok(())
+}
+
+/// Appends a node and those below it, in preorder. The node's object has no other members than
+/// `names`.
+#[cycle(nodes)]
+pub fn push_node<'a, S: Source>(
+    alloc: Global,
+    rows: &mut Vec<NodeDraft<'a>>,
+    names: &[&str],
+    depth: u32,
+    value: &'a S,
+) -> Result<(), Refusal>
+    ensures { Gathers AreDrafted rows.old.items rows.new.items result
+        (form.node_rows (map (λ n. n.now) names.now) depth (S.content value.now)) }
+{
+    push_own(alloc, rows, names, depth, value)?;
+    match value.member("JDF") {
         None => Ok(()),
-        Some(children) => {
-            if let Err(refusal) = push_children(alloc, rows, next_depth(depth), children) {
-                return Err(refusal);
-            }
-            Ok(())
-        }
+        Some(children) => push_children(alloc, rows, next_depth(depth), children),
     }
 }
 
 /// Appends the nodes of a list, each with those below it.
 #[cycle(nodes)]
-fn push_children<'a>(
+fn push_children<'a, S: Source>(
     alloc: Global,
     rows: &mut Vec<NodeDraft<'a>>,
     depth: u32,
-    value: &'a Value,
+    value: &'a S,
 ) -> Result<(), Refusal>
-    ensures { Adds drafted_rows rows.old.items rows.new.items result
-        (form.list_rows depth (view value.now)) }
+    ensures { Gathers AreDrafted rows.old.items rows.new.items result
+        (form.list_rows depth (S.content value.now)) }
 {
-    let Value::Array(children) = value else {
+    let Some(children) = value.items() else {
         return Err(Refusal::NotProfile);
     };
     for child in children {

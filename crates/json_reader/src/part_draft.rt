@@ -6,7 +6,7 @@ use crate::taken_nodes::TakenNodes;
 use json_items::{
     AncestorDraft, AnyText, Borrowed, Checked, Draft, Drafts, MarkedDraft, two, under,
 };
-use serde_json::Value;
+use json_source::Source;
 use std::alloc::Global;
 use ticket_tree::{Name, Part, Refusal, SpawnId};
 
@@ -25,7 +25,6 @@ pub struct PartDraft<'a> {
 
 impl<'a> PartDraft<'a> {
     ghost use Rattle.std.specs.Prelude.{◌≡◌, is_some};
-    ghost use Rattle.serde_json.specs.View.{view};
     ghost use Rattle.ticket_items.specs.SpawnId.{spawn_of};
     ghost use Rattle.json_shapes.specs.PartDraft.{part_draft};
     ghost use Rattle.json_shapes.specs.PartForm as form;
@@ -34,8 +33,8 @@ impl<'a> PartDraft<'a> {
 
     /// The draft that a value is. Refuses `NotProfile`, and `Memory`.
     #[tactic(auto, unfolding(json_shapes::specs::PartDraft::part_draft))]
-    pub fn of(alloc: Global, value: &'a Value) -> Result<PartDraft<'a>, Refusal>
-        ensures { Gives drafted_part result (part_draft (view value.now)) }
+    pub fn of<S: Source>(alloc: Global, value: &'a S) -> Result<PartDraft<'a>, Refusal>
+        ensures { Gives drafted_part result (part_draft (S.content value.now)) }
     {
         let (job, spawn): (_, Borrowed<'a, AnyText>) = two(alloc, value, "JobID", "SpawnID")?;
         let ancestors = under(alloc, value, "AncestorPool")?;

@@ -1,7 +1,7 @@
 use crate::node_draft::NodeDraft;
 use crate::node_drafts::{are_bare, build_rows, have_names, have_texts, ticket_nodes};
 use json_items::{Borrowed, Checked, Draft, under};
-use serde_json::Value;
+use json_source::Source;
 use std::alloc::Global;
 use ticket_tree::{Name, Refusal, Ticket};
 
@@ -16,15 +16,14 @@ pub struct TicketDraft<'a> {
 
 impl<'a> TicketDraft<'a> {
     ghost use Rattle.std.specs.Prelude.{◌≡◌};
-    ghost use Rattle.serde_json.specs.View.{view};
     ghost use Rattle.json_shapes.specs.Draft.{ticket_draft};
     ghost use Rattle.json_shapes.specs.Read.{Gives};
     ghost use Rattle.json_reader.specs.DraftedTicket.{drafted_ticket};
 
     /// The draft that a value is. Refuses `NotProfile`, and `Memory`.
     #[tactic(auto, unfolding(json_shapes::specs::Draft::ticket_draft))]
-    pub fn of(alloc: Global, value: &'a Value) -> Result<TicketDraft<'a>, Refusal>
-        ensures { Gives drafted_ticket result (ticket_draft (view value.now)) }
+    pub fn of<S: Source>(alloc: Global, value: &'a S) -> Result<TicketDraft<'a>, Refusal>
+        ensures { Gives drafted_ticket result (ticket_draft (S.content value.now)) }
     {
         let job = under(alloc, value, "JobID")?;
         let rows = ticket_nodes(alloc, value)?;

@@ -1,12 +1,12 @@
 //! Looking through the nodes of a ticket, and building their rows as long as all is valid. The draft
 //! of each node is given back before the next node is read.
 
-ghost use Rattle.std.specs.Prelude.{◌≡◌, ◌∷◌, [], List, codes, map, IfErr, IfOk, Some};
+ghost use Rattle.std.specs.Prelude.{◌≡◌, ◌∷◌, [], List, map, IfErr, IfOk, Some};
 ghost use Rattle.std.specs.Option.{option_map};
-ghost use Rattle.serde_json.specs.Find.{get};
 ghost use Rattle.json_shapes.specs.Draft as form;
 ghost use Rattle.json_shapes.specs.Read.{Fails};
-ghost use Rattle.json_reader.specs.Found.{AddsFound, IsFound};
+ghost use Rattle.json_reader.specs.Found.{IsFound};
+ghost use Rattle.json_reader.specs.Gathered.{Gathers};
 
 use crate::found_nodes::FoundNodes;
 use crate::node_reader::{NODE_MEMBERS, ROOT_MEMBERS, next_depth, own_row};
@@ -22,7 +22,7 @@ fn push_own<S: Source>(
     depth: u32,
     value: &S,
 ) -> Result<(), Refusal>
-    ensures { AddsFound found.old found.new result (option_map (λ r. r ∷ [])
+    ensures { Gathers IsFound found.old found.new result (option_map (λ r. r ∷ [])
         (form.own_row (map (λ n. n.now) names.now) depth (S.content value.now))) }
 {
     let draft = own_row(alloc, names, depth, value)?;
@@ -39,7 +39,7 @@ fn find_node<S: Source>(
     depth: u32,
     value: &S,
 ) -> Result<(), Refusal>
-    ensures { AddsFound found.old found.new result
+    ensures { Gathers IsFound found.old found.new result
         (form.node_rows (map (λ n. n.now) names.now) depth (S.content value.now)) }
 {
     push_own(alloc, found, names, depth, value)?;
@@ -57,7 +57,8 @@ fn find_children<S: Source>(
     depth: u32,
     value: &S,
 ) -> Result<(), Refusal>
-    ensures { AddsFound found.old found.new result (form.list_rows depth (S.content value.now)) }
+    ensures { Gathers IsFound found.old found.new result
+        (form.list_rows depth (S.content value.now)) }
 {
     let Some(children) = value.items() else {
         return Err(Refusal::NotProfile);

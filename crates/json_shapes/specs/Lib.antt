@@ -9,4 +9,3 @@ pub mod PoolForm
 pub mod PoolWritten
 pub mod PartDraft
 pub mod PartForm
-pub mod ResourceForm

@@ -2,4 +2,4 @@
 pub use Rattle.json_items.specs.Attributes.{attr_members, attrs_data}
 pub use Rattle.json_items.specs.Audits.{audit_data}
 pub use Rattle.json_items.specs.Links.{usage_word, link_data}
-pub use Rattle.json_items.specs.Resources.{own_members, resource_data, raw_data, all_showing}
+pub use Rattle.json_items.specs.Resources.{resource_data, raw_data, all_showing}

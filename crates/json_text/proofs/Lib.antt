@@ -1,6 +1,7 @@
 pub mod ItemLaws
 pub mod Known
 pub mod MemberLaws
+pub mod Plain
 pub mod Tokens
 pub mod Walks
 pub mod PrintedAttributes

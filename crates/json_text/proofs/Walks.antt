@@ -15,13 +15,17 @@ use Rattle.ticket_rows.specs.Outline.{goes_on, is_outline}
 use Rattle.ticket_rows.specs.Ticket.{depths}
 use Rattle.json_shapes.specs.Form.{row_has_names, row_has_texts}
 use Rattle.json_text.specs.TicketText.{is_front_deeper, shown_trees, shown_children, shown_node, IsDeeperAt, IsBehindDeeper}
-use Rattle.json_writer.specs.Written.{Tree, children, others, has_deeper_front}
-use Rattle.json_writer.proofs.Taken.{none_deeper}
+use Rattle.json_text.specs.Written.{Tree, children, others, has_deeper_front}
 use Rattle.json_text.specs.Nodes.{IsWalked}
 use Rattle.json_text.specs.Printed.{data_tokens, IsAppended, IsPrinted, IsReadAgain}
 use Rattle.json_text.proofs.MemberLaws.{appended_more}
 
 -- ---- trees
+
+-- no tree in front stands deeper
+none_deeper : (depth : ℕ) (ts : List Tree) → has_deeper_front depth ts ≡ false → (children depth ts ≡ no_items) × (others depth ts ≡ ts)
+none_deeper depth [] h = (refl, refl)
+none_deeper depth (t ∷ ts) h = (ap (λ b. cond b (item t.value (children depth ts)) no_items) h, ap (λ b. cond b (others depth ts) (t ∷ ts)) h)
 
 front_tree : (marks : Marks) (depth : ℕ) (rows : List NodeRow) → has_deeper_front depth (shown_trees marks rows) ≡ is_front_deeper depth rows
 front_tree marks depth [] = refl

@@ -7,7 +7,7 @@ use Rattle.ticket_items.specs.declared.node_row.NodeRow.{NodeRow}
 use Rattle.json_shapes.specs.Form.{row_has_names, row_has_texts}
 use Rattle.json_shapes.specs.Listed.{data_items}
 use Rattle.json_shapes.specs.PoolWritten.{attrs_data, audit_data, link_data}
-use Rattle.json_writer.specs.Marked.{shown_status}
+use Rattle.json_text.specs.Marked.{shown_status}
 use Rattle.json_text.specs.TicketText.{IsBehindDeeper}
 
 -- ---- a node's members

@@ -4,9 +4,9 @@ use Rattle.std.specs.Prelude.{nat_lt}
 use Rattle.serde_json.specs.Data.{Data, Items, Members}
 use Rattle.ticket_items.specs.declared.marks.Marks.{Marks}
 use Rattle.ticket_items.specs.declared.node_row.NodeRow.{NodeRow}
-use Rattle.json_writer.specs.Marked.{marked_node, marked_pool, marked_row, marked_rows}
-use Rattle.json_writer.specs.Written.{Tree, children, last_members, node_data, others, pool_data}
-use Rattle.json_writer.specs.Written.{trees}
+use Rattle.json_text.specs.Marked.{marked_node, marked_pool, marked_row, marked_rows}
+use Rattle.json_text.specs.Written.{Tree, children, last_members, node_data, others, pool_data}
+use Rattle.json_text.specs.Written.{trees}
 
 -- whether the row in front stands deeper
 abbrev pub is_front_deeper : ℕ → List NodeRow → Bool

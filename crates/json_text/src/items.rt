@@ -3,5 +3,6 @@
 pub mod ancestors;
 pub mod attributes;
 pub mod audits;
+pub mod edits;
 pub mod links;
 pub mod resources;

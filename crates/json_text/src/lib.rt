@@ -3,6 +3,7 @@
 
 mod items;
 mod lists;
+mod marked;
 mod members;
 mod nodes;
 mod parts;
@@ -14,6 +15,7 @@ mod words;
 
 pub use items::resources::print_marked;
 pub use lists::print_list;
+pub use marked::no_marks;
 pub use members::{print_items, print_member, print_text};
 pub use parts::print_part;
 pub use pools::print_showing;

@@ -15,10 +15,10 @@ ghost use Rattle.json_text.specs.Nodes.{IsWalked};
 ghost use Rattle.json_text.specs.Printed.{AreMembersPrinted};
 ghost use Rattle.json_text.specs.Printed.{data_tokens, IsAppended, IsPrinted, IsReadAgain};
 
+use crate::marked::shown_status;
 use crate::members::{print_member, print_text};
 use crate::pools::print_pool;
 use json::Writer;
-use json_writer::shown_status;
 use std::alloc::{AllocError, Global};
 use ticket_items::{Marks, NodeRow};
 

@@ -15,17 +15,17 @@ ghost use Rattle.json_shapes.specs.PartForm.{copies_have_texts};
 ghost use Rattle.json_shapes.specs.PoolForm.{link_has_names, resource_has_names};
 ghost use Rattle.json_shapes.specs.PoolForm.{resource_has_texts};
 ghost use Rattle.json_items.specs.Resources.{raw_data};
-ghost use Rattle.json_writer.specs.PartWritten.{part_data, part_last_members, root_pool, rows_data};
-ghost use Rattle.json_writer.specs.Written.{pool_data};
+ghost use Rattle.json_text.specs.PartWritten.{part_data, part_last_members, root_pool, rows_data};
+ghost use Rattle.json_text.specs.Written.{pool_data};
 ghost use Rattle.json_text.specs.Printed.{data_tokens, AreItemsPrinted, AreMembersPrinted};
 ghost use Rattle.json_text.specs.Printed.{IsAppended, IsPrinted, IsReadAgain};
 
+use crate::marked::no_marks;
 use crate::members::{print_items, print_member, print_text};
 use crate::nodes::{print_children, print_front, print_kind, print_links};
 use crate::pools::print_each_showing;
 use json::Writer;
 use json_items::Shown;
-use json_writer::no_marks;
 use std::alloc::{AllocError, Global};
 use ticket_tree::{NodeRow, Part};
 

@@ -7,14 +7,14 @@ ghost use Rattle.serde_json.specs.Data.{array};
 ghost use Rattle.json_items.specs.Listed.{data_items};
 ghost use Rattle.json_items.specs.Resources.{all_showing, raw_data, resource_has_names};
 ghost use Rattle.json_items.specs.Resources.{resource_has_texts};
-ghost use Rattle.json_writer.specs.Marked.{marked_pool};
-ghost use Rattle.json_writer.specs.Written.{pool_data};
+ghost use Rattle.json_text.specs.Marked.{marked_pool};
+ghost use Rattle.json_text.specs.Written.{pool_data};
 ghost use Rattle.json_text.specs.Printed.{data_tokens, AreItemsPrinted, IsAppended, IsReadAgain};
 
 use crate::items::resources::print_marked;
+use crate::marked::shown_of;
 use json::Writer;
 use json_items::Shown;
-use json_writer::shown_of;
 use std::alloc::{AllocError, Global};
 use ticket_items::{Marks, Resource};
 

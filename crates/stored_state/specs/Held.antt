@@ -1,14 +1,12 @@
 -- A controller beside the keeper of its state: what is shown, what is held, and what a call that
 -- gives nothing out leaves.
-use Rattle.std.specs.Prelude.{◌≡◌, ◌⊎◌, ℕ, Bool, true, List, Some, None, Result}
+use Rattle.std.specs.Prelude.{◌≡◌, ◌⊎◌, ℕ, Bool, true, List, Result}
 use Rattle.std.specs.Prelude.{⊤}
-use Rattle.std.specs.Str.{IsUtf8}
 use Rattle.serde_json.specs.Data.{Data}
-use Rattle.serde_json.specs.Read.{read}
 use Rattle.keepers.specs.Keeper.{CountRose}
 pub use Rattle.json_profile.specs.ReadAs.{IsReadAs, IsRefusalOf}
 use Rattle.ticket_items.specs.declared.refusal.Refusal.{Refusal}
-use Rattle.ticket_items.specs.declared.refusal.Refusal.TheVariants.{Memory, NotJson}
+use Rattle.ticket_items.specs.declared.refusal.Refusal.TheVariants.{Memory}
 use Rattle.streams.specs.declared.refused.Refused.{Refused}
 use Rattle.streams.specs.declared.refused.Refused.TheVariants.{Core, LoadFailed, SaveFailed}
 use Rattle.streams.specs.declared.refused.Refused.TheVariants.{Stale}
@@ -20,19 +18,6 @@ pub record Held (C K : Type 0) : Type 0 where
   pub stale : Bool
 
 -- ---- what bytes are read as
-
--- the bytes are the JSON text of a value
-pub record IsTextOf (bytes : List ℕ) (value : Data) : Type 0 where
-  pub utf8 : IsUtf8 bytes
-  pub json : read bytes ≡ Some value
-
--- why no value was loaded of a keeper that is honest or not and holds these bytes: a load failed,
--- or, if it is honest, they are no JSON or memory ran out
-abbrev pub IsNoValue : Bool → List ℕ → Refused → Type 0
-IsNoValue honest held (Core e) =
-    honest ≡ true → ((e ≡ NotJson) × (IsUtf8 held → read held ≡ None)) ⊎ (e ≡ Memory)
-IsNoValue honest held LoadFailed = ⊤
-IsNoValue honest held other = ⊥
 
 -- why nothing was loaded of a keeper that is honest or not and holds these bytes: a load failed,
 -- or a refusal, which is one of the bytes if it is honest

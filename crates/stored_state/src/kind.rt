@@ -1,8 +1,7 @@
 ghost use Rattle.std.specs.Prelude.{◌≡◌};
-ghost use Rattle.serde_json.specs.View.{view};
 ghost use Rattle.stored_state.specs.Kind.{kind_in};
 
-use serde_json::Value;
+use json_source::Source;
 use ticket_tree::Refusal;
 
 /// What a controller is (our own).
@@ -16,11 +15,11 @@ pub enum Kind {
 
 /// What the controller is whose state a value is, by the member `Master` or `Worker`. Refuses
 /// `NotProfile` where not exactly one of these is there (our own). Needs no memory.
-pub fn kind_of(value: &Value) -> Result<Kind, Refusal>
-    ensures { result ≡ kind_in (view value.now) }
+pub fn kind_of<S: Source>(value: &S) -> Result<Kind, Refusal>
+    ensures { result ≡ kind_in (S.content value.now) }
 {
-    let is_master = value.get("Master").is_some();
-    let is_worker = value.get("Worker").is_some();
+    let is_master = value.member("Master").is_some();
+    let is_worker = value.member("Worker").is_some();
     match (is_master, is_worker) {
         (true, false) => Ok(Kind::Master),
         (false, true) => Ok(Kind::Worker),

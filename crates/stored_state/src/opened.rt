@@ -7,7 +7,8 @@ ghost use Rattle.stored_state.specs.Opened.{any_state_read, controller_in, is_st
 use crate::kept::Kept;
 use crate::kind::{Kind, kind_of};
 use crate::stored::Stored;
-use crate::storing::load_value;
+use crate::storing::load_bytes;
+use json_source::{Scratch, tree_of};
 use keepers::Keep;
 use master_core::Master;
 use std::alloc::Global;
@@ -39,9 +40,11 @@ pub fn open_any<K: Keep>(alloc: Global, mut keep: K) -> Result<Opened<K>, Refuse
     ensures failures { IsErrOf result LoadFailed → (after : K)
         × K.load_fails keep after × CountRose (K.count keep) (K.count after) }
 {
-    let value = load_value(alloc, &mut keep)?;
-    match kind_of(&value)? {
-        Kind::Master => Ok(Opened::Master(Kept::fresh(Master::state_of(alloc, &value)?, keep))),
-        Kind::Worker => Ok(Opened::Worker(Kept::fresh(Worker::state_of(alloc, &value)?, keep))),
+    let bytes = load_bytes(&mut keep)?;
+    let mut scratch = Scratch::new(alloc);
+    let tree = tree_of(alloc, bytes.as_slice(), &mut scratch)?;
+    match kind_of(&tree)? {
+        Kind::Master => Ok(Opened::Master(Kept::fresh(Master::state_of(alloc, &tree)?, keep))),
+        Kind::Worker => Ok(Opened::Worker(Kept::fresh(Worker::state_of(alloc, &tree)?, keep))),
     }
 }

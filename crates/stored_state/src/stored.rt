@@ -1,6 +1,5 @@
-ghost use Rattle.std.specs.Prelude.{◌≡◌, ℕ, Result, Ok, true, IfOk};
+ghost use Rattle.std.specs.Prelude.{◌≡◌, ◌⊎◌, ℕ, Result, Err, Ok, true, IfErr, IfOk};
 ghost use Rattle.serde_json.specs.Data.{Data};
-ghost use Rattle.serde_json.specs.View.{view};
 ghost use Rattle.serde_json.specs.Written.{compact_text};
 ghost use Rattle.json_items.specs.Judged.{Answers};
 ghost use Rattle.json_profile.specs.ReadAs.{IsReadAs};
@@ -9,7 +8,7 @@ ghost use Rattle.stored_state.specs.Resting.{rests, rests_on};
 ghost use Rattle.ticket_items.specs.declared.refusal.Refusal.{Refusal as RefusalSeen};
 
 use controller::Controller;
-use serde_json::Value;
+use json_source::Source;
 use std::alloc::{AllocError, Global};
 use ticket_tree::Refusal;
 
@@ -27,8 +26,15 @@ pub trait Stored: Controller {
         ensures again { IfOk result (λ b. IsReadAs state_read b.items (Ok self.now)) };
 
     /// The controller whose state a value is. Refuses the first refusal of it, and `Memory`.
-    fn state_of(alloc: Global, value: &Value) -> Result<Self, Refusal>
-        ensures { Answers result (state_read (view value.now)) };
+    fn state_of<S: Source>(alloc: Global, value: &S) -> Result<Self, Refusal>
+        ensures { Answers result (state_read (S.content value.now)) };
+
+    /// The same controller twice.
+    fn pair_of<S: Source>(alloc: Global, value: &S) -> Result<(Self, Self), Refusal>
+        ensures first { IfOk result (λ pair. state_read (S.content value.now) ≡ Ok pair.0) }
+        ensures second { IfOk result (λ pair. state_read (S.content value.now) ≡ Ok pair.1) }
+        ensures refused { IfErr result (λ e. (e ≡ Refusal.Memory)
+            ⊎ (state_read (S.content value.now) ≡ Err e)) };
 
     ghost order_rests: { (order : Self.Order) (at : ℕ) (c : Self)
         → rests (Self.Controller.order_step order at c).reply ≡ true

@@ -1,7 +1,7 @@
 use crate::stored::Stored;
-use controller_form::{master_state_of, master_state_text};
+use controller_form::{master_pair_from, master_state_from, master_state_text};
+use json_source::Source;
 use master_core::Master;
-use serde_json::Value;
 use std::alloc::{AllocError, Global};
 use ticket_tree::Refusal;
 
@@ -17,8 +17,12 @@ impl Stored for Master {
         master_state_text(alloc, self)
     }
 
-    fn state_of(alloc: Global, value: &Value) -> Result<Master, Refusal> {
-        master_state_of(alloc, value)
+    fn state_of<S: Source>(alloc: Global, value: &S) -> Result<Master, Refusal> {
+        master_state_from(alloc, value)
+    }
+
+    fn pair_of<S: Source>(alloc: Global, value: &S) -> Result<(Master, Master), Refusal> {
+        master_pair_from(alloc, value)
     }
 
     ghost order_rests = { master_rests };

@@ -1,6 +1,6 @@
 use crate::stored::Stored;
-use controller_form::{worker_state_of, worker_state_text};
-use serde_json::Value;
+use controller_form::{worker_pair_from, worker_state_from, worker_state_text};
+use json_source::Source;
 use std::alloc::{AllocError, Global};
 use ticket_tree::Refusal;
 use worker_core::Worker;
@@ -17,8 +17,12 @@ impl Stored for Worker {
         worker_state_text(alloc, self)
     }
 
-    fn state_of(alloc: Global, value: &Value) -> Result<Worker, Refusal> {
-        worker_state_of(alloc, value)
+    fn state_of<S: Source>(alloc: Global, value: &S) -> Result<Worker, Refusal> {
+        worker_state_from(alloc, value)
+    }
+
+    fn pair_of<S: Source>(alloc: Global, value: &S) -> Result<(Worker, Worker), Refusal> {
+        worker_pair_from(alloc, value)
     }
 
     ghost order_rests = { worker_rests };

@@ -2,23 +2,21 @@
 
 ghost use Rattle.std.specs.Prelude.{◌≡◌, ◌≤◌, ◌⊎◌, Ok, true, IfOk, IfErr, IfSome, IsErrOf, OnOk};
 ghost use Rattle.std.specs.Option.{option_map};
-ghost use Rattle.serde_json.specs.View.{view};
 ghost use Rattle.serde_json.specs.Written.{compact_text};
 ghost use Rattle.ticket_items.specs.declared.refusal.Refusal.TheVariants.{Memory};
 ghost use Rattle.jmf_message.specs.Decoded.{IsDecodedAs};
 ghost use Rattle.controller.specs.Words.{may_be_sent};
 ghost use Rattle.keepers.specs.Keeper.{CountRose};
-ghost use Rattle.stored_state.specs.Held.{HoldsSame, IsNoValue, IsNotLoaded, IsNotSaved};
-ghost use Rattle.stored_state.specs.Held.{IsReadAs, IsRefusalOf, IsTextOf};
+ghost use Rattle.stored_state.specs.Held.{HoldsSame, IsNotLoaded, IsNotSaved};
+ghost use Rattle.stored_state.specs.Held.{IsReadAs, IsRefusalOf};
 ghost use Rattle.stored_state.specs.Kept.{message_text as text_sent};
 ghost use Rattle.streams.specs.declared.refused.Refused.TheVariants.{LoadFailed};
 
 use crate::stored::Stored;
 use controller::Message;
 use jmf_message::encode;
-use json_profile::value_of;
+use json_source::{Scratch, tree_of};
 use keepers::{Keep, KeepFault};
-use serde_json::Value;
 use std::alloc::{AllocError, Global};
 use streams::Refused;
 use ticket_tree::Refusal;
@@ -80,7 +78,7 @@ pub(crate) fn save<K: Keep>(keep: &mut K, text: &[u8]) -> Result<(), Refused>
 }
 
 /// The bytes that a keeper holds.
-fn load_bytes<K: Keep>(keep: &mut K) -> Result<Vec<u8>, Refused>
+pub(crate) fn load_bytes<K: Keep>(keep: &mut K) -> Result<Vec<u8>, Refused>
     ensures ok { IfOk result (λ b. K.is_honest keep.old ≡ true → b.items ≡ K.held keep.old) }
     ensures held { HoldsSame K.is_honest K.held keep.old keep.new }
     ensures honest { K.is_honest keep.new ≡ K.is_honest keep.old }
@@ -96,21 +94,6 @@ fn load_bytes<K: Keep>(keep: &mut K) -> Result<Vec<u8>, Refused>
     }
 }
 
-/// The JSON value whose text a keeper holds.
-pub(crate) fn load_value<K: Keep>(alloc: Global, keep: &mut K) -> Result<Value, Refused>
-    ensures ok { IfOk result (λ v. K.is_honest keep.old ≡ true →
-        IsTextOf (K.held keep.old) (view v)) }
-    ensures held { HoldsSame K.is_honest K.held keep.old keep.new }
-    ensures honest { K.is_honest keep.new ≡ K.is_honest keep.old }
-    ensures counted { K.count keep.old ≤ K.count keep.new }
-    ensures fails { IsErrOf result LoadFailed → K.load_fails keep.old keep.new }
-    ensures failures { IsErrOf result LoadFailed → CountRose (K.count keep.old) (K.count keep.new) }
-    ensures refused { IfErr result (IsNoValue (K.is_honest keep.old) (K.held keep.old)) }
-{
-    let bytes = load_bytes(keep)?;
-    Ok(value_of(alloc, bytes.as_slice())?)
-}
-
 /// The controller whose state bytes are the text of, twice. Refuses what they are refused for, and
 /// `Memory`.
 pub(crate) fn controllers_of<C: Stored>(alloc: Global, bytes: &[u8]) -> Result<(C, C), Refusal>
@@ -118,10 +101,9 @@ pub(crate) fn controllers_of<C: Stored>(alloc: Global, bytes: &[u8]) -> Result<(
     ensures second { IfOk result (λ c. IsReadAs C.state_read bytes.now (Ok c.1)) }
     ensures refused { IfErr result (IsRefusalOf C.state_read bytes.now) }
 {
-    let value = value_of(alloc, bytes)?;
-    let first = C::state_of(alloc, &value)?;
-    let second = C::state_of(alloc, &value)?;
-    Ok((first, second))
+    let mut scratch = Scratch::new(alloc);
+    let tree = tree_of(alloc, bytes, &mut scratch)?;
+    C::pair_of(alloc, &tree)
 }
 
 /// The controller whose state a keeper holds.
@@ -136,6 +118,8 @@ pub(crate) fn load<C: Stored, K: Keep>(alloc: Global, keep: &mut K) -> Result<C,
     ensures refused { IfErr result
         (IsNotLoaded C.state_read (K.is_honest keep.old) (K.held keep.old)) }
 {
-    let value = load_value(alloc, keep)?;
-    Ok(C::state_of(alloc, &value)?)
+    let bytes = load_bytes(keep)?;
+    let mut scratch = Scratch::new(alloc);
+    let tree = tree_of(alloc, bytes.as_slice(), &mut scratch)?;
+    Ok(C::state_of(alloc, &tree)?)
 }

@@ -1,7 +1,7 @@
 use crate::stop_word::stop_under;
 use crate::what_draft::WhatDraft;
 use json_items::number_under;
-use serde_json::Value;
+use json_source::Source;
 use std::alloc::Global;
 use ticket_tree::Refusal;
 use world_items::{Event, Stop};
@@ -17,7 +17,6 @@ pub struct EventDraft<'a> {
 
 impl<'a> EventDraft<'a> {
     ghost use Rattle.std.specs.Prelude.{◌≡◌, true, IfOk, IfErr};
-    ghost use Rattle.serde_json.specs.View.{view};
     ghost use Rattle.json_source.specs.Read.{Gives};
     ghost use Rattle.world_script.specs.DraftedEvent.{drafted_event};
     ghost use Rattle.world_script.specs.EventForm as form;
@@ -25,8 +24,12 @@ impl<'a> EventDraft<'a> {
     /// The draft that a value is, in a shop whose master has this name. Refuses `NotProfile`, and
     /// `Memory`.
     #[tactic(auto, unfolding(crate::specs::EventForm::event_form))]
-    pub fn of(alloc: Global, master: &str, value: &'a Value) -> Result<EventDraft<'a>, Refusal>
-        ensures { Gives drafted_event result (form.event_form master.now (view value.now)) }
+    pub fn of<S: Source>(
+        alloc: Global,
+        master: &str,
+        value: &'a S,
+    ) -> Result<EventDraft<'a>, Refusal>
+        ensures { Gives drafted_event result (form.event_form master.now (S.content value.now)) }
     {
         let at = number_under(value, "At").ok_or(Refusal::NotProfile)?;
         let stop = stop_under(value)?;

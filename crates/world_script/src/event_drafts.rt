@@ -1,8 +1,8 @@
 //! The events of a script, in turn.
 
-ghost use Rattle.std.specs.Prelude.{◌≡◌, true, IfOk, IfErr};
+ghost use Rattle.std.specs.Prelude.{◌≡◌, map, true, IfOk, IfErr};
 ghost use Rattle.std.specs.List.{list_all};
-ghost use Rattle.serde_json.specs.View.{items_view};
+ghost use Rattle.serde_json.specs.View.{items_of};
 ghost use Rattle.json_items.specs.Listed.{each};
 ghost use Rattle.json_source.specs.Read.{Gives};
 ghost use Rattle.world_script.specs.DraftedEvent.{drafted_event, drafted_events};
@@ -10,20 +10,20 @@ ghost use Rattle.world_script.specs.EventForm.{event_form, event_has_names, even
 ghost use Rattle.world_script.specs.EventForm.{event_runs};
 
 use crate::event_draft::EventDraft;
-use serde_json::Value;
+use json_source::Source;
 use std::alloc::Global;
 use ticket_tree::{Items, Refusal};
 use world_items::Event;
 
 /// The drafts that the items are, in a shop whose master has this name. Refuses `NotProfile`, and
 /// `Memory`.
-pub fn event_drafts<'a>(
+pub fn event_drafts<'a, S: Source>(
     alloc: Global,
     master: &str,
-    items: &'a [Value],
+    items: &'a [S],
 ) -> Result<Vec<EventDraft<'a>>, Refusal>
     ensures { Gives (λ v. drafted_events v.items) result
-        (each (event_form master.now) (items_view items.now)) }
+        (each (event_form master.now) (items_of (map S.content items.now))) }
 {
     let mut drafts = Vec::with_capacity(alloc, items.len())?;
     for item in items {

@@ -1,7 +1,6 @@
 //! From bytes to a script.
 
 ghost use Rattle.std.specs.Prelude.{Ok, IfOk, IfErr};
-ghost use Rattle.serde_json.specs.View.{view};
 ghost use Rattle.json_items.specs.Judged.{Answers};
 ghost use Rattle.world_script.specs.Script.{IsReadAs, IsReadAsRunning, IsRefusalOf};
 ghost use Rattle.world_script.specs.Script.{IsRefusalOfRunning, running_script_read, script_read};
@@ -9,14 +8,13 @@ ghost use Rattle.world_script.specs.Script.{IsRefusalOfRunning, running_script_r
 use crate::script::Script;
 use crate::script_draft::ScriptDraft;
 use json_items::Checked;
-use json_profile::value_of;
-use serde_json::Value;
+use json_source::{Scratch, Source, tree_of};
 use std::alloc::Global;
 use ticket_tree::Refusal;
 
 /// The script that a value is, or its first refusal.
-fn script_in(alloc: Global, value: &Value) -> Result<Script, Refusal>
-    ensures { Answers result (script_read (view value.now)) }
+fn script_in<S: Source>(alloc: Global, value: &S) -> Result<Script, Refusal>
+    ensures { Answers result (script_read (S.content value.now)) }
 {
     let draft = ScriptDraft::of(alloc, value)?;
     draft.build(alloc)
@@ -30,13 +28,14 @@ pub fn script_of(alloc: Global, bytes: &[u8]) -> Result<Script, Refusal>
     ensures ok { IfOk result (λ script. IsReadAs bytes.now (Ok script)) }
     ensures refused { IfErr result (IsRefusalOf bytes.now) }
 {
-    let value = value_of(alloc, bytes)?;
-    script_in(alloc, &value)
+    let mut scratch = Scratch::new(alloc);
+    let tree = tree_of(alloc, bytes, &mut scratch)?;
+    script_in(alloc, &tree)
 }
 
 /// The script that a value is, in which no controller stops, or its first refusal.
-fn running_script_in(alloc: Global, value: &Value) -> Result<Script, Refusal>
-    ensures { Answers result (running_script_read (view value.now)) }
+fn running_script_in<S: Source>(alloc: Global, value: &S) -> Result<Script, Refusal>
+    ensures { Answers result (running_script_read (S.content value.now)) }
 {
     let draft = ScriptDraft::of(alloc, value)?;
     if !draft.runs_on() {
@@ -51,6 +50,7 @@ pub fn running_script_of(alloc: Global, bytes: &[u8]) -> Result<Script, Refusal>
     ensures ok { IfOk result (λ script. IsReadAsRunning bytes.now (Ok script)) }
     ensures refused { IfErr result (IsRefusalOfRunning bytes.now) }
 {
-    let value = value_of(alloc, bytes)?;
-    running_script_in(alloc, &value)
+    let mut scratch = Scratch::new(alloc);
+    let tree = tree_of(alloc, bytes, &mut scratch)?;
+    running_script_in(alloc, &tree)
 }

@@ -3,7 +3,7 @@ use crate::event_drafts::{build_events, event_drafts, have_names, have_texts, ru
 use crate::script::Script;
 use controller_form::{Shop, ShopDraft};
 use json_items::{Checked, Drafts, only};
-use serde_json::Value;
+use json_source::Source;
 use std::alloc::Global;
 use ticket_tree::Refusal;
 
@@ -16,7 +16,6 @@ pub struct ScriptDraft<'a> {
 
 impl<'a> ScriptDraft<'a> {
     ghost use Rattle.std.specs.Prelude.{◌≡◌};
-    ghost use Rattle.serde_json.specs.View.{view};
     ghost use Rattle.json_shapes.specs.Read.{Gives};
     ghost use Rattle.world_script.specs.DraftedEvent.{drafted_events};
     ghost use Rattle.world_script.specs.DraftedScript.{drafted_script};
@@ -24,8 +23,8 @@ impl<'a> ScriptDraft<'a> {
 
     /// The draft that a value is. Refuses `NotProfile`, and `Memory`.
     #[tactic(auto, unfolding(crate::specs::Script::script_draft))]
-    pub fn of(alloc: Global, value: &'a Value) -> Result<ScriptDraft<'a>, Refusal>
-        ensures { Gives drafted_script result (form.script_draft (view value.now)) }
+    pub fn of<S: Source>(alloc: Global, value: &'a S) -> Result<ScriptDraft<'a>, Refusal>
+        ensures { Gives drafted_script result (form.script_draft (S.content value.now)) }
     {
         only(value, &["Events", "Master", "Ticket", "Workers"])?;
         let shop = ShopDraft::of(alloc, value)?;
@@ -34,16 +33,17 @@ impl<'a> ScriptDraft<'a> {
     }
 
     /// The drafts of the events under `Events`.
-    fn events(
+    fn events<S: Source>(
         alloc: Global,
         master: &str,
-        value: &'a Value,
+        value: &'a S,
     ) -> Result<Drafts<EventDraft<'a>>, Refusal>
-        ensures { Gives drafted_events result (form.events_under master.now (view value.now)) }
+        ensures { Gives drafted_events result
+            (form.events_under master.now (S.content value.now)) }
     {
-        let list = value.get("Events").ok_or(Refusal::NotProfile)?;
-        let items = list.as_array().ok_or(Refusal::NotProfile)?;
-        let drafts = event_drafts(alloc, master, items.as_slice())?;
+        let list = value.member("Events").ok_or(Refusal::NotProfile)?;
+        let items = list.items().ok_or(Refusal::NotProfile)?;
+        let drafts = event_drafts(alloc, master, items)?;
         Ok(Drafts::new(drafts))
     }
 

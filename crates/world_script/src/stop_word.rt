@@ -2,11 +2,10 @@
 
 ghost use Rattle.std.specs.Prelude.{◌≡◌, codes};
 ghost use Rattle.serde_json.specs.Find.{get};
-ghost use Rattle.serde_json.specs.View.{view};
 ghost use Rattle.json_source.specs.Read.{Gives};
 ghost use Rattle.world_script.specs.EventForm as form;
 
-use serde_json::Value;
+use json_source::Source;
 use ticket_tree::Refusal;
 use world_items::Stop;
 
@@ -27,12 +26,13 @@ fn stop_named(word: &str) -> Option<Stop>
 
 /// The stop under `Stop`; `Run` where nothing stands there. Refuses `NotProfile` where something
 /// else does.
-pub fn stop_under(value: &Value) -> Result<Stop, Refusal>
-    ensures { Gives (λ stop. stop) result (form.stop_of (get (codes "Stop") (view value.now))) }
+pub fn stop_under<S: Source>(value: &S) -> Result<Stop, Refusal>
+    ensures { Gives (λ stop. stop) result
+        (form.stop_of (get (codes "Stop") (S.content value.now))) }
 {
-    let Some(stop) = value.get("Stop") else {
+    let Some(stop) = value.member("Stop") else {
         return Ok(Stop::Run);
     };
-    let word = stop.as_str().ok_or(Refusal::NotProfile)?;
+    let word = stop.text().ok_or(Refusal::NotProfile)?;
     stop_named(word).ok_or(Refusal::NotProfile)
 }

@@ -1,7 +1,6 @@
 //! What happens at an event.
 
 ghost use Rattle.std.specs.Prelude.{◌≡◌, true, IfOk, IfErr};
-ghost use Rattle.serde_json.specs.View.{view};
 ghost use Rattle.json_source.specs.Read.{Gives};
 ghost use Rattle.world_script.specs.DraftedEvent.{drafted_what};
 ghost use Rattle.world_script.specs.EventForm as form;
@@ -9,7 +8,6 @@ ghost use Rattle.world_script.specs.EventForm as form;
 use controller_form::{MasterOrderDraft, WorkerOrderDraft};
 use json_items::{Borrowed, Checked, Draft, number_under, text_under};
 use json_source::Source;
-use serde_json::Value;
 use std::alloc::Global;
 use ticket_tree::{Id, Refusal};
 use world_items::What;
@@ -26,13 +24,14 @@ pub enum WhatDraft<'a> {
 
 /// The draft of an order to the controller of a name: to the master in its form, to any other in
 /// that of workers.
-fn order_to<'a>(
+fn order_to<'a, S: Source>(
     alloc: Global,
     master: &str,
     name: &'a str,
-    value: &'a Value,
+    value: &'a S,
 ) -> Result<WhatDraft<'a>, Refusal>
-    ensures { Gives drafted_what result (form.order_to master.now name.now (view value.now)) }
+    ensures { Gives drafted_what result
+        (form.order_to master.now name.now (S.content value.now)) }
 {
     if name == master {
         let order = MasterOrderDraft::of(alloc, value)?;
@@ -45,14 +44,14 @@ fn order_to<'a>(
 
 /// A controller is told to do something.
 #[tactic(auto, unfolding(crate::specs::EventForm::order_form))]
-fn order<'a>(alloc: Global, master: &str, value: &'a Value) -> Result<WhatDraft<'a>, Refusal>
-    ensures { Gives drafted_what result (form.order_form master.now (view value.now)) }
+fn order<'a, S: Source>(alloc: Global, master: &str, value: &'a S) -> Result<WhatDraft<'a>, Refusal>
+    ensures { Gives drafted_what result (form.order_form master.now (S.content value.now)) }
 {
     if !value.has_only(&["At", "Event", "Order", "Stop", "To"]) {
         return Err(Refusal::NotProfile);
     }
     let name = text_under(value, "To").ok_or(Refusal::NotProfile)?;
-    match value.get("Order") {
+    match value.member("Order") {
         Some(order) => order_to(alloc, master, name, order),
         None => Err(Refusal::NotProfile),
     }
@@ -60,8 +59,8 @@ fn order<'a>(alloc: Global, master: &str, value: &'a Value) -> Result<WhatDraft<
 
 /// A message is handed to its receiver.
 #[tactic(auto, unfolding(crate::specs::EventForm::deliver_form))]
-fn deliver<'a>(value: &'a Value) -> Result<WhatDraft<'a>, Refusal>
-    ensures { Gives drafted_what result (form.deliver_form (view value.now)) }
+fn deliver<'a, S: Source>(value: &'a S) -> Result<WhatDraft<'a>, Refusal>
+    ensures { Gives drafted_what result (form.deliver_form (S.content value.now)) }
 {
     if !value.has_only(&["At", "Deliver", "Event", "Stop"]) {
         return Err(Refusal::NotProfile);
@@ -72,8 +71,8 @@ fn deliver<'a>(value: &'a Value) -> Result<WhatDraft<'a>, Refusal>
 
 /// A controller stops, and is started again.
 #[tactic(auto, unfolding(crate::specs::EventForm::restart_form))]
-fn restart<'a>(value: &'a Value) -> Result<WhatDraft<'a>, Refusal>
-    ensures { Gives drafted_what result (form.restart_form (view value.now)) }
+fn restart<'a, S: Source>(value: &'a S) -> Result<WhatDraft<'a>, Refusal>
+    ensures { Gives drafted_what result (form.restart_form (S.content value.now)) }
 {
     if !value.has_only(&["At", "Event", "Stop", "To"]) {
         return Err(Refusal::NotProfile);
@@ -84,13 +83,14 @@ fn restart<'a>(value: &'a Value) -> Result<WhatDraft<'a>, Refusal>
 
 /// The draft of what happens, of a kind.
 #[tactic(auto, unfolding(crate::specs::EventForm::kind_form))]
-fn draft_of_kind<'a>(
+fn draft_of_kind<'a, S: Source>(
     alloc: Global,
     master: &str,
     kind: &str,
-    value: &'a Value,
+    value: &'a S,
 ) -> Result<WhatDraft<'a>, Refusal>
-    ensures { Gives drafted_what result (form.kind_form master.now kind.now (view value.now)) }
+    ensures { Gives drafted_what result
+        (form.kind_form master.now kind.now (S.content value.now)) }
 {
     if kind == "Order" {
         order(alloc, master, value)
@@ -107,8 +107,12 @@ impl<'a> WhatDraft<'a> {
     /// The draft of what happens at the event that a value is, in a shop whose master has this
     /// name. Refuses `NotProfile`, and `Memory`.
     #[tactic(auto, unfolding(crate::specs::EventForm::what_form))]
-    pub fn of(alloc: Global, master: &str, value: &'a Value) -> Result<WhatDraft<'a>, Refusal>
-        ensures { Gives drafted_what result (form.what_form master.now (view value.now)) }
+    pub fn of<S: Source>(
+        alloc: Global,
+        master: &str,
+        value: &'a S,
+    ) -> Result<WhatDraft<'a>, Refusal>
+        ensures { Gives drafted_what result (form.what_form master.now (S.content value.now)) }
     {
         let kind = text_under(value, "Event").ok_or(Refusal::NotProfile)?;
         draft_of_kind(alloc, master, kind, value)

@@ -12,7 +12,7 @@ use Rattle.ticket_tree.specs.Part.{Copied}
 use Rattle.json_shapes.specs.PartDraft.{RawPart, part_draft}
 use Rattle.json_shapes.specs.PartForm as part_form
 use Rattle.json_source.specs.Read.{◌>>=◌, provided, has_only, number_under, text_under}
-use Rattle.json_writer.specs.PartWritten.{part_data}
+use Rattle.json_text.specs.PartWritten.{part_data}
 use Rattle.worker_core.specs.Worker.{end_word}
 use Rattle.worker_core.specs.declared.end.End.{End}
 use Rattle.worker_core.specs.declared.entry.Entry.{Entry}

@@ -16,7 +16,7 @@ use Rattle.json_shapes.specs.Form as ticket_form
 use Rattle.json_items.specs.Judged.{checked_fault, sound}
 use Rattle.json_items.specs.Listed.{data_items, list_form, texts_data}
 use Rattle.json_source.specs.Read.{◌>>=◌, provided, has_only, text_under}
-use Rattle.json_writer.specs.Written.{ticket_data}
+use Rattle.json_text.specs.Written.{ticket_data}
 use Rattle.master_core.specs.Master.{Known, known}
 use Rattle.master_core.specs.Stored.{is_master}
 use Rattle.controller_form.specs.States.RecordForm.{are_told_in, record_data, record_form}

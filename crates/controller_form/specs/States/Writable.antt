@@ -9,8 +9,8 @@ use Rattle.ticket_items.specs.SpawnId.{is_spawn_number}
 use Rattle.ticket_tree.specs.Part.{Copied}
 use Rattle.json_shapes.specs.Form.{ticket_read}
 use Rattle.json_shapes.specs.PartForm.{part_read}
-use Rattle.json_writer.specs.PartWritten.{part_data}
-use Rattle.json_writer.specs.Written.{ticket_data}
+use Rattle.json_text.specs.PartWritten.{part_data}
+use Rattle.json_text.specs.Written.{ticket_data}
 use Rattle.master_core.specs.Master as master
 use Rattle.worker_core.specs.Worker as worker
 use Rattle.worker_core.specs.declared.entry.Entry.{Entry}

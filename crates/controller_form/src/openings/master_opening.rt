@@ -3,8 +3,8 @@
 use crate::openings::opening::Opening;
 use crate::openings::shop_draft::ShopDraft;
 use json_items::{Checked, build_two, only};
+use json_source::Source;
 use master_core::Master;
-use serde_json::Value;
 use std::alloc::Global;
 use ticket_tree::Refusal;
 
@@ -15,14 +15,13 @@ pub(crate) struct MasterOpening<'a> {
 }
 
 impl<'a> MasterOpening<'a> {
-    ghost use Rattle.serde_json.specs.View.{view};
     ghost use Rattle.json_shapes.specs.Read.{Gives};
     ghost use Rattle.controller_form.specs.Openings.DraftedOpening.{drafted_master};
     ghost use Rattle.controller_form.specs.Openings.OpeningForm as form;
 
     /// The draft that a value is. Refuses `NotProfile`, and `Memory`.
-    pub fn of(alloc: Global, value: &'a Value) -> Result<MasterOpening<'a>, Refusal>
-        ensures { Gives drafted_master result (form.master_draft (view value.now)) }
+    pub fn of<S: Source>(alloc: Global, value: &'a S) -> Result<MasterOpening<'a>, Refusal>
+        ensures { Gives drafted_master result (form.master_draft (S.content value.now)) }
     {
         only(value, &["Master", "Ticket", "Workers"])?;
         let shop = ShopDraft::of(alloc, value)?;

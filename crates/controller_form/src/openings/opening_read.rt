@@ -1,7 +1,6 @@
 //! From bytes to a controller in its beginning.
 
 ghost use Rattle.std.specs.Prelude.{Ok, IfOk, IfErr};
-ghost use Rattle.serde_json.specs.View.{view};
 ghost use Rattle.json_items.specs.Judged.{Answers};
 ghost use Rattle.json_profile.specs.ReadAs.{IsReadAs, IsRefusalOf};
 ghost use Rattle.controller_form.specs.Openings.OpeningForm as form;
@@ -10,31 +9,29 @@ use crate::openings::master_opening::MasterOpening;
 use crate::openings::opening::Opening;
 use crate::openings::worker_opening::WorkerOpening;
 use json_items::Checked;
-use json_profile::value_of;
-use json_source::Source;
-use serde_json::Value;
+use json_source::{Scratch, Source, tree_of};
 use std::alloc::Global;
 use ticket_tree::Refusal;
 
 /// The master that a value begins.
-fn master_opening(alloc: Global, value: &Value) -> Result<Opening, Refusal>
-    ensures { Answers result (form.master_read (view value.now)) }
+fn master_opening<S: Source>(alloc: Global, value: &S) -> Result<Opening, Refusal>
+    ensures { Answers result (form.master_read (S.content value.now)) }
 {
     let draft = MasterOpening::of(alloc, value)?;
     draft.build(alloc)
 }
 
 /// The worker that a value begins.
-fn worker_opening(alloc: Global, value: &Value) -> Result<Opening, Refusal>
-    ensures { Answers result (form.worker_read (view value.now)) }
+fn worker_opening<S: Source>(alloc: Global, value: &S) -> Result<Opening, Refusal>
+    ensures { Answers result (form.worker_read (S.content value.now)) }
 {
     let draft = WorkerOpening::of(alloc, value)?;
     draft.build(alloc)
 }
 
 /// The controller that a value begins.
-fn opening_in(alloc: Global, value: &Value) -> Result<Opening, Refusal>
-    ensures { Answers result (form.opening_read (view value.now)) }
+fn opening_in<S: Source>(alloc: Global, value: &S) -> Result<Opening, Refusal>
+    ensures { Answers result (form.opening_read (S.content value.now)) }
 {
     match value.member("Worker") {
         Some(_) => worker_opening(alloc, value),
@@ -50,6 +47,7 @@ pub fn opening_of(alloc: Global, bytes: &[u8]) -> Result<Opening, Refusal>
     ensures ok { IfOk result (λ o. IsReadAs form.opening_read bytes.now (Ok o)) }
     ensures refused { IfErr result (IsRefusalOf form.opening_read bytes.now) }
 {
-    let value = value_of(alloc, bytes)?;
-    opening_in(alloc, &value)
+    let mut scratch = Scratch::new(alloc);
+    let tree = tree_of(alloc, bytes, &mut scratch)?;
+    opening_in(alloc, &tree)
 }

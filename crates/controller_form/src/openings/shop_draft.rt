@@ -3,7 +3,6 @@ use json_items::{Borrowed, Checked, Draft, Drafts, build_two, two};
 use json_profile::TicketDraft;
 use json_source::Source;
 use master_core::are_apart;
-use serde_json::Value;
 use std::alloc::Global;
 use ticket_tree::{Id, Refusal};
 
@@ -16,7 +15,6 @@ pub struct ShopDraft<'a> {
 }
 
 impl<'a> ShopDraft<'a> {
-    ghost use Rattle.serde_json.specs.View.{view};
     ghost use Rattle.json_shapes.specs.Read.{Gives};
     ghost use Rattle.json_reader.specs.DraftedTicket.{drafted_ticket};
     ghost use Rattle.controller_form.specs.Openings.DraftedShop.{drafted_shop};
@@ -25,8 +23,8 @@ impl<'a> ShopDraft<'a> {
     /// The draft of the shop under the members `Master`, `Ticket` and `Workers` of a value, which
     /// may have others. Refuses `NotProfile`, and `Memory`.
     #[tactic(auto, unfolding(crate::specs::Openings::ShopForm::shop_draft))]
-    pub fn of(alloc: Global, value: &'a Value) -> Result<ShopDraft<'a>, Refusal>
-        ensures { Gives drafted_shop result (form.shop_draft (view value.now)) }
+    pub fn of<S: Source>(alloc: Global, value: &'a S) -> Result<ShopDraft<'a>, Refusal>
+        ensures { Gives drafted_shop result (form.shop_draft (S.content value.now)) }
     {
         let (master, workers) = two(alloc, value, "Master", "Workers")?;
         let ticket = ShopDraft::ticket(alloc, value)?;
@@ -38,8 +36,8 @@ impl<'a> ShopDraft<'a> {
     }
 
     /// The draft of the ticket under `Ticket`.
-    fn ticket(alloc: Global, value: &'a Value) -> Result<TicketDraft<'a>, Refusal>
-        ensures { Gives drafted_ticket result (form.ticket_under (view value.now)) }
+    fn ticket<S: Source>(alloc: Global, value: &'a S) -> Result<TicketDraft<'a>, Refusal>
+        ensures { Gives drafted_ticket result (form.ticket_under (S.content value.now)) }
     {
         match value.member("Ticket") {
             Some(ticket) => TicketDraft::of(alloc, ticket),

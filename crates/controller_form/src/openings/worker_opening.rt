@@ -2,7 +2,7 @@
 
 use crate::openings::opening::Opening;
 use json_items::{Borrowed, Checked, Draft, build_two, only, two};
-use serde_json::Value;
+use json_source::Source;
 use std::alloc::Global;
 use ticket_tree::{Id, Refusal};
 use worker_core::Worker;
@@ -15,15 +15,14 @@ pub(crate) struct WorkerOpening<'a> {
 }
 
 impl<'a> WorkerOpening<'a> {
-    ghost use Rattle.serde_json.specs.View.{view};
     ghost use Rattle.json_shapes.specs.Read.{Gives};
     ghost use Rattle.controller_form.specs.Openings.DraftedOpening.{drafted_worker};
     ghost use Rattle.controller_form.specs.Openings.OpeningForm as form;
 
     /// The draft that a value is. Refuses `NotProfile`, and `Memory`.
     #[tactic(auto, unfolding(crate::specs::Openings::OpeningForm::worker_draft))]
-    pub fn of(alloc: Global, value: &'a Value) -> Result<WorkerOpening<'a>, Refusal>
-        ensures { Gives drafted_worker result (form.worker_draft (view value.now)) }
+    pub fn of<S: Source>(alloc: Global, value: &'a S) -> Result<WorkerOpening<'a>, Refusal>
+        ensures { Gives drafted_worker result (form.worker_draft (S.content value.now)) }
     {
         only(value, &["Master", "Worker"])?;
         let (master, name) = two(alloc, value, "Master", "Worker")?;

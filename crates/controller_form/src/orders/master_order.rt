@@ -1,7 +1,6 @@
 //! The orders of masters.
 
 ghost use Rattle.std.specs.Prelude.{◌≡◌, true, IfOk, IfErr};
-ghost use Rattle.serde_json.specs.View.{view};
 ghost use Rattle.json_items.specs.Judged.{Answers};
 ghost use Rattle.json_source.specs.Read.{Gives};
 ghost use Rattle.controller_form.specs.Orders.DraftedMasterOrder.{drafted_master_order};
@@ -12,8 +11,8 @@ use crate::orders::spawn_named::names_spawn;
 use json_items::{
     AnyText, Borrowed, Checked, Draft, Drafts, EditDraft, build_two, only, text_under, two, under,
 };
+use json_source::Source;
 use master_core::Order;
-use serde_json::Value;
 use std::alloc::Global;
 use ticket_tree::{Id, Refusal, SpawnId};
 
@@ -38,8 +37,8 @@ pub enum MasterOrderDraft<'a> {
 
 /// An order to edit the ticket.
 #[tactic(auto, unfolding(crate::specs::Orders::MasterForm::edit_form))]
-fn edit<'a>(alloc: Global, value: &'a Value) -> Result<MasterOrderDraft<'a>, Refusal>
-    ensures { Gives drafted_master_order result (forms.edit_form (view value.now)) }
+fn edit<'a, S: Source>(alloc: Global, value: &'a S) -> Result<MasterOrderDraft<'a>, Refusal>
+    ensures { Gives drafted_master_order result (forms.edit_form (S.content value.now)) }
 {
     only(value, &["Edit", "Order"])?;
     let edit = under(alloc, value, "Edit")?;
@@ -48,8 +47,8 @@ fn edit<'a>(alloc: Global, value: &'a Value) -> Result<MasterOrderDraft<'a>, Ref
 
 /// An order to send a node to a worker.
 #[tactic(auto, unfolding(crate::specs::Orders::MasterForm::spawn_form))]
-fn spawn<'a>(alloc: Global, value: &'a Value) -> Result<MasterOrderDraft<'a>, Refusal>
-    ensures { Gives drafted_master_order result (forms.spawn_form (view value.now)) }
+fn spawn<'a, S: Source>(alloc: Global, value: &'a S) -> Result<MasterOrderDraft<'a>, Refusal>
+    ensures { Gives drafted_master_order result (forms.spawn_form (S.content value.now)) }
 {
     only(value, &["Node", "Order", "RW", "Worker"])?;
     let (node, rw) = two(alloc, value, "Node", "RW")?;
@@ -59,8 +58,8 @@ fn spawn<'a>(alloc: Global, value: &'a Value) -> Result<MasterOrderDraft<'a>, Re
 
 /// The text that names the spawn of an order about one that was made.
 #[tactic(auto, unfolding(crate::specs::Orders::MasterForm::known_form))]
-fn known<'a>(alloc: Global, value: &'a Value) -> Result<Borrowed<'a, AnyText>, Refusal>
-    ensures { Gives spawn_named result (forms.known_form (view value.now)) }
+fn known<'a, S: Source>(alloc: Global, value: &'a S) -> Result<Borrowed<'a, AnyText>, Refusal>
+    ensures { Gives spawn_named result (forms.known_form (S.content value.now)) }
 {
     only(value, &["Order", "SpawnID"])?;
     under(alloc, value, "SpawnID")
@@ -68,12 +67,12 @@ fn known<'a>(alloc: Global, value: &'a Value) -> Result<Borrowed<'a, AnyText>, R
 
 /// The draft of an order of a kind.
 #[tactic(auto, unfolding(crate::specs::Orders::MasterForm::kind_form))]
-fn draft_of_kind<'a>(
+fn draft_of_kind<'a, S: Source>(
     alloc: Global,
     kind: &str,
-    value: &'a Value,
+    value: &'a S,
 ) -> Result<MasterOrderDraft<'a>, Refusal>
-    ensures { Gives drafted_master_order result (forms.kind_form kind.now (view value.now)) }
+    ensures { Gives drafted_master_order result (forms.kind_form kind.now (S.content value.now)) }
 {
     if kind == "Edit" {
         edit(alloc, value)
@@ -91,8 +90,9 @@ fn draft_of_kind<'a>(
 impl<'a> MasterOrderDraft<'a> {
     /// The draft that a value is. Refuses `NotProfile`, and `Memory`.
     #[tactic(auto, unfolding(crate::specs::Orders::MasterForm::master_order_form))]
-    pub fn of(alloc: Global, value: &'a Value) -> Result<MasterOrderDraft<'a>, Refusal>
-        ensures { Gives drafted_master_order result (forms.master_order_form (view value.now)) }
+    pub fn of<S: Source>(alloc: Global, value: &'a S) -> Result<MasterOrderDraft<'a>, Refusal>
+        ensures { Gives drafted_master_order result
+            (forms.master_order_form (S.content value.now)) }
     {
         let kind = text_under(value, "Order").ok_or(Refusal::NotProfile)?;
         draft_of_kind(alloc, kind, value)
@@ -171,8 +171,8 @@ fn build_spawn(
 /// of these resources that may be changed, to send the part of a spawn once more, or to ask the
 /// worker of a spawn to give it up. Refuses the first of `NotProfile`, `BadId` (also where the
 /// SpawnID names no spawn) and `BadText` that stands in it, and `Memory`.
-pub fn master_order_of(alloc: Global, value: &Value) -> Result<Order, Refusal>
-    ensures { Answers result (forms.master_order_read (view value.now)) }
+pub fn master_order_of<S: Source>(alloc: Global, value: &S) -> Result<Order, Refusal>
+    ensures { Answers result (forms.master_order_read (S.content value.now)) }
 {
     let draft = MasterOrderDraft::of(alloc, value)?;
     draft.build(alloc)

@@ -1,6 +1,5 @@
 //! The orders of workers.
 
-ghost use Rattle.serde_json.specs.View.{view};
 ghost use Rattle.json_items.specs.Judged.{Answers};
 ghost use Rattle.json_source.specs.Read.{Gives};
 ghost use Rattle.controller_form.specs.Orders.DraftedWorkerOrder.{drafted_worker_order};
@@ -9,7 +8,7 @@ ghost use Rattle.controller_form.specs.Orders.WorkerForm as forms;
 use crate::orders::end_named::end_named;
 use crate::orders::spawn_named::names_spawn;
 use json_items::{AnyText, Borrowed, Checked, Draft, EditDraft, only, text_under, two, under};
-use serde_json::Value;
+use json_source::Source;
 use std::alloc::Global;
 use ticket_tree::{Refusal, SpawnId};
 use worker_core::{End, Order};
@@ -37,8 +36,8 @@ pub enum WorkerOrderDraft<'a> {
 
 /// An order to edit the part of a spawn.
 #[tactic(auto, unfolding(crate::specs::Orders::WorkerForm::edit_form))]
-fn edit<'a>(alloc: Global, value: &'a Value) -> Result<WorkerOrderDraft<'a>, Refusal>
-    ensures { Gives drafted_worker_order result (forms.edit_form (view value.now)) }
+fn edit<'a, S: Source>(alloc: Global, value: &'a S) -> Result<WorkerOrderDraft<'a>, Refusal>
+    ensures { Gives drafted_worker_order result (forms.edit_form (S.content value.now)) }
 {
     only(value, &["Edit", "Order", "SpawnID"])?;
     let (edit, spawn) = two(alloc, value, "Edit", "SpawnID")?;
@@ -47,8 +46,8 @@ fn edit<'a>(alloc: Global, value: &'a Value) -> Result<WorkerOrderDraft<'a>, Ref
 
 /// An order to end the work on it.
 #[tactic(auto, unfolding(crate::specs::Orders::WorkerForm::finish_form))]
-fn finish<'a>(alloc: Global, value: &'a Value) -> Result<WorkerOrderDraft<'a>, Refusal>
-    ensures { Gives drafted_worker_order result (forms.finish_form (view value.now)) }
+fn finish<'a, S: Source>(alloc: Global, value: &'a S) -> Result<WorkerOrderDraft<'a>, Refusal>
+    ensures { Gives drafted_worker_order result (forms.finish_form (S.content value.now)) }
 {
     only(value, &["Order", "SpawnID", "Status"])?;
     let spawn = under(alloc, value, "SpawnID")?;
@@ -59,8 +58,8 @@ fn finish<'a>(alloc: Global, value: &'a Value) -> Result<WorkerOrderDraft<'a>, R
 
 /// An order to give it back once more.
 #[tactic(auto, unfolding(crate::specs::Orders::WorkerForm::resend_form))]
-fn resend<'a>(alloc: Global, value: &'a Value) -> Result<WorkerOrderDraft<'a>, Refusal>
-    ensures { Gives drafted_worker_order result (forms.resend_form (view value.now)) }
+fn resend<'a, S: Source>(alloc: Global, value: &'a S) -> Result<WorkerOrderDraft<'a>, Refusal>
+    ensures { Gives drafted_worker_order result (forms.resend_form (S.content value.now)) }
 {
     only(value, &["Order", "SpawnID"])?;
     let spawn = under(alloc, value, "SpawnID")?;
@@ -69,12 +68,12 @@ fn resend<'a>(alloc: Global, value: &'a Value) -> Result<WorkerOrderDraft<'a>, R
 
 /// The draft of an order of a kind.
 #[tactic(auto, unfolding(crate::specs::Orders::WorkerForm::kind_form))]
-fn draft_of_kind<'a>(
+fn draft_of_kind<'a, S: Source>(
     alloc: Global,
     kind: &str,
-    value: &'a Value,
+    value: &'a S,
 ) -> Result<WorkerOrderDraft<'a>, Refusal>
-    ensures { Gives drafted_worker_order result (forms.kind_form kind.now (view value.now)) }
+    ensures { Gives drafted_worker_order result (forms.kind_form kind.now (S.content value.now)) }
 {
     if kind == "Edit" {
         edit(alloc, value)
@@ -90,8 +89,9 @@ fn draft_of_kind<'a>(
 impl<'a> WorkerOrderDraft<'a> {
     /// The draft that a value is. Refuses `NotProfile`, and `Memory`.
     #[tactic(auto, unfolding(crate::specs::Orders::WorkerForm::worker_order_form))]
-    pub fn of(alloc: Global, value: &'a Value) -> Result<WorkerOrderDraft<'a>, Refusal>
-        ensures { Gives drafted_worker_order result (forms.worker_order_form (view value.now)) }
+    pub fn of<S: Source>(alloc: Global, value: &'a S) -> Result<WorkerOrderDraft<'a>, Refusal>
+        ensures { Gives drafted_worker_order result
+            (forms.worker_order_form (S.content value.now)) }
     {
         let kind = text_under(value, "Order").ok_or(Refusal::NotProfile)?;
         draft_of_kind(alloc, kind, value)
@@ -152,8 +152,8 @@ impl<'a> Checked for WorkerOrderDraft<'a> {
 /// The worker's order that a value is: to edit the part of a spawn, to end the work on it, or to
 /// give it back once more. Refuses the first of `NotProfile`, `BadId` (also where the SpawnID names
 /// no spawn) and `BadText` that stands in it, and `Memory`.
-pub fn worker_order_of(alloc: Global, value: &Value) -> Result<Order, Refusal>
-    ensures { Answers result (forms.worker_order_read (view value.now)) }
+pub fn worker_order_of<S: Source>(alloc: Global, value: &S) -> Result<Order, Refusal>
+    ensures { Answers result (forms.worker_order_read (S.content value.now)) }
 {
     let draft = WorkerOrderDraft::of(alloc, value)?;
     draft.build(alloc)

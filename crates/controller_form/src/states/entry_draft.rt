@@ -3,7 +3,6 @@
 ghost use Rattle.std.specs.Prelude.{◌≡◌, codes};
 ghost use Rattle.std.specs.Option.{option_and_then};
 ghost use Rattle.serde_json.specs.Find.{get};
-ghost use Rattle.serde_json.specs.View.{view};
 ghost use Rattle.json_shapes.specs.PartDraft.{part_draft};
 ghost use Rattle.json_reader.specs.DraftedPart.{drafted_part};
 ghost use Rattle.json_source.specs.Read.{Gives, has_only, provided};
@@ -16,7 +15,6 @@ use crate::states::stage_word::stage_named;
 use json_items::{AnyText, Borrowed, Checked, number_under, only, text_under, two, under};
 use json_profile::PartDraft;
 use json_source::Source;
-use serde_json::Value;
 use std::alloc::Global;
 use ticket_tree::{Refusal, SpawnId};
 use worker_core::{End, Entry, Stage};
@@ -34,9 +32,9 @@ pub struct EntryDraft<'a> {
 }
 
 /// Refuses `NotProfile` where other members stand than those of an entry with its part.
-fn only_held(value: &Value, format: Format) -> Result<(), Refusal>
+fn only_held<S: Source>(value: &S, format: Format) -> Result<(), Refusal>
     ensures { Gives (λ u. u) result
-        (provided (has_only (form.held_members format) (view value.now))) }
+        (provided (has_only (form.held_members format) (S.content value.now))) }
 {
     match format {
         Format::First => only(value, &["At", "Part", "Phase"]),
@@ -45,25 +43,25 @@ fn only_held(value: &Value, format: Format) -> Result<(), Refusal>
 }
 
 /// The stage under `Phase` in which the worker has the part. Refuses `NotProfile`.
-fn stage_under(value: &Value) -> Result<Stage, Refusal>
-    ensures { Gives (λ stage. stage) result (form.stage_under (view value.now)) }
+fn stage_under<S: Source>(value: &S) -> Result<Stage, Refusal>
+    ensures { Gives (λ stage. stage) result (form.stage_under (S.content value.now)) }
 {
     let word = text_under(value, "Phase").ok_or(Refusal::NotProfile)?;
     stage_named(word).ok_or(Refusal::NotProfile)
 }
 
 /// The end under `End`. Refuses `NotProfile`.
-fn end_under(value: &Value) -> Result<End, Refusal>
-    ensures { Gives (λ end. end) result (form.end_under (view value.now)) }
+fn end_under<S: Source>(value: &S) -> Result<End, Refusal>
+    ensures { Gives (λ end. end) result (form.end_under (S.content value.now)) }
 {
     let word = text_under(value, "End").ok_or(Refusal::NotProfile)?;
     end_named(word).ok_or(Refusal::NotProfile)
 }
 
 /// The draft of the part under `Part`.
-fn part_under<'a>(alloc: Global, value: &'a Value) -> Result<PartDraft<'a>, Refusal>
+fn part_under<'a, S: Source>(alloc: Global, value: &'a S) -> Result<PartDraft<'a>, Refusal>
     ensures { Gives drafted_part result
-        (option_and_then part_draft (get (codes "Part") (view value.now))) }
+        (option_and_then part_draft (get (codes "Part") (S.content value.now))) }
 {
     match value.member("Part") {
         Some(part) => PartDraft::of(alloc, part),
@@ -72,14 +70,14 @@ fn part_under<'a>(alloc: Global, value: &'a Value) -> Result<PartDraft<'a>, Refu
 }
 
 /// The id of the spawn of an entry with this part. Refuses `NotProfile`, and `Memory`.
-fn spawn_told<'a>(
+fn spawn_told<'a, S: Source>(
     alloc: Global,
-    value: &'a Value,
+    value: &'a S,
     format: Format,
     part: &PartDraft<'a>,
 ) -> Result<Borrowed<'a, AnyText>, Refusal>
     ensures { Gives (λ text. text) result
-        (form.spawn_told format (drafted_part part.now) (view value.now)) }
+        (form.spawn_told format (drafted_part part.now) (S.content value.now)) }
 {
     match format {
         Format::First => Ok(Borrowed::new(part.spawn())),
@@ -88,8 +86,8 @@ fn spawn_told<'a>(
 }
 
 /// Whether a value tells of a phase.
-fn has_phase(value: &Value, word: &str) -> bool
-    ensures { result ≡ form.has_phase word.now (view value.now) }
+fn has_phase<S: Source>(value: &S, word: &str) -> bool
+    ensures { result ≡ form.has_phase word.now (S.content value.now) }
 {
     match text_under(value, "Phase") {
         Some(told) => word == told,
@@ -98,15 +96,18 @@ fn has_phase(value: &Value, word: &str) -> bool
 }
 
 impl<'a> EntryDraft<'a> {
-    ghost use Rattle.serde_json.specs.View.{view};
     ghost use Rattle.json_shapes.specs.Read.{Gives};
     ghost use Rattle.controller_form.specs.States.Drafted.{drafted_entry};
     ghost use Rattle.controller_form.specs.States.EntryForm as form;
 
     /// The draft of an entry with its part.
     #[tactic(auto, unfolding(crate::specs::States::EntryForm::held_draft))]
-    fn held(alloc: Global, value: &'a Value, format: Format) -> Result<EntryDraft<'a>, Refusal>
-        ensures { Gives drafted_entry result (form.held_draft format (view value.now)) }
+    fn held<S: Source>(
+        alloc: Global,
+        value: &'a S,
+        format: Format,
+    ) -> Result<EntryDraft<'a>, Refusal>
+        ensures { Gives drafted_entry result (form.held_draft format (S.content value.now)) }
     {
         only_held(value, format)?;
         let at = number_under(value, "At").ok_or(Refusal::NotProfile)?;
@@ -123,8 +124,8 @@ impl<'a> EntryDraft<'a> {
 
     /// The draft of an entry whose part was given up.
     #[tactic(auto, unfolding(crate::specs::States::EntryForm::closed_draft))]
-    fn closed(alloc: Global, value: &'a Value) -> Result<EntryDraft<'a>, Refusal>
-        ensures { Gives drafted_entry result (form.closed_draft (view value.now)) }
+    fn closed<S: Source>(alloc: Global, value: &'a S) -> Result<EntryDraft<'a>, Refusal>
+        ensures { Gives drafted_entry result (form.closed_draft (S.content value.now)) }
     {
         only(value, &["At", "End", "ID", "Phase"])?;
         let at = number_under(value, "At").ok_or(Refusal::NotProfile)?;
@@ -140,8 +141,8 @@ impl<'a> EntryDraft<'a> {
 
     /// The draft of an entry of a spawn that was declined.
     #[tactic(auto, unfolding(crate::specs::States::EntryForm::declined_draft))]
-    fn declined(alloc: Global, value: &'a Value) -> Result<EntryDraft<'a>, Refusal>
-        ensures { Gives drafted_entry result (form.declined_draft (view value.now)) }
+    fn declined<S: Source>(alloc: Global, value: &'a S) -> Result<EntryDraft<'a>, Refusal>
+        ensures { Gives drafted_entry result (form.declined_draft (S.content value.now)) }
     {
         only(value, &["At", "ID", "Phase"])?;
         let (at, spawn) = two(alloc, value, "At", "ID")?;
@@ -155,8 +156,12 @@ impl<'a> EntryDraft<'a> {
 
     /// The draft that a value is in a format. Refuses `NotProfile`, and `Memory`.
     #[tactic(auto, unfolding(crate::specs::States::EntryForm::entry_draft))]
-    pub fn of(alloc: Global, value: &'a Value, format: Format) -> Result<EntryDraft<'a>, Refusal>
-        ensures { Gives drafted_entry result (form.entry_draft format (view value.now)) }
+    pub fn of<S: Source>(
+        alloc: Global,
+        value: &'a S,
+        format: Format,
+    ) -> Result<EntryDraft<'a>, Refusal>
+        ensures { Gives drafted_entry result (form.entry_draft format (S.content value.now)) }
     {
         match format {
             Format::First => EntryDraft::held(alloc, value, format),

@@ -2,7 +2,7 @@
 
 ghost use Rattle.std.specs.Prelude.{◌≡◌, ◌⊎◌, None, Some, true, map, IfErr, IfOk, OnOk};
 ghost use Rattle.std.specs.List.{list_all};
-ghost use Rattle.serde_json.specs.View.{items_view};
+ghost use Rattle.serde_json.specs.View.{items_of};
 ghost use Rattle.json_items.specs.Listed.{each};
 ghost use Rattle.json_source.specs.Read.{Gives};
 ghost use Rattle.controller_form.specs.States.Drafted.{drafted_entries, drafted_entry};
@@ -14,19 +14,19 @@ ghost use Rattle.controller_form.specs.States.WorkerForm as form;
 use crate::states::entry_draft::EntryDraft;
 use crate::states::format::Format;
 use json_items::Checked;
-use serde_json::Value;
+use json_source::Source;
 use std::alloc::Global;
 use ticket_tree::Refusal;
 use worker_core::Entry;
 
 /// The drafts that the items are in a format. Refuses `NotProfile`, and `Memory`.
-pub fn entry_drafts<'a>(
+pub fn entry_drafts<'a, S: Source>(
     alloc: Global,
-    items: &'a [Value],
+    items: &'a [S],
     format: Format,
 ) -> Result<Vec<EntryDraft<'a>>, Refusal>
     ensures { Gives (λ v. drafted_entries v.items) result
-        (each (entry_draft format) (items_view items.now)) }
+        (each (entry_draft format) (items_of (map S.content items.now))) }
 {
     let mut drafts = Vec::with_capacity(alloc, items.len())?;
     for item in items {

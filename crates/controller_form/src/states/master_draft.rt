@@ -14,7 +14,6 @@ use json_items::{Borrowed, Checked, Draft, Drafts, build_two, only, two, under};
 use json_profile::TicketDraft;
 use json_source::Source;
 use master_core::Master;
-use serde_json::Value;
 use spawn::{Phase, SpawnRec};
 use std::alloc::Global;
 use ticket_tree::{Id, Refusal};
@@ -76,7 +75,6 @@ fn build_spawns(alloc: Global, records: &[RecordDraft<'_>]) -> Result<Vec<SpawnR
 
 impl<'a> MasterDraft<'a> {
     ghost use Rattle.std.specs.Prelude.{codes};
-    ghost use Rattle.serde_json.specs.View.{view};
     ghost use Rattle.serde_json.specs.Find.{get};
     ghost use Rattle.std.specs.Option.{option_and_then};
     ghost use Rattle.json_shapes.specs.Draft.{ticket_draft};
@@ -86,8 +84,12 @@ impl<'a> MasterDraft<'a> {
     ghost use Rattle.controller_form.specs.States.MasterForm as form;
 
     /// The draft that a value is in a format. Refuses `NotProfile`, and `Memory`.
-    pub fn of(alloc: Global, value: &'a Value, format: Format) -> Result<MasterDraft<'a>, Refusal>
-        ensures { Gives drafted_master result (form.master_draft format (view value.now)) }
+    pub fn of<S: Source>(
+        alloc: Global,
+        value: &'a S,
+        format: Format,
+    ) -> Result<MasterDraft<'a>, Refusal>
+        ensures { Gives drafted_master result (form.master_draft format (S.content value.now)) }
     {
         let draft = MasterDraft::of_any(alloc, value)?;
         if are_told(draft.records.as_slice(), format) {
@@ -99,8 +101,8 @@ impl<'a> MasterDraft<'a> {
 
     /// The draft that a value is in any format.
     #[tactic(auto, unfolding(crate::specs::States::MasterForm::any_master_draft))]
-    fn of_any(alloc: Global, value: &'a Value) -> Result<MasterDraft<'a>, Refusal>
-        ensures { Gives drafted_master result (form.any_master_draft (view value.now)) }
+    fn of_any<S: Source>(alloc: Global, value: &'a S) -> Result<MasterDraft<'a>, Refusal>
+        ensures { Gives drafted_master result (form.any_master_draft (S.content value.now)) }
     {
         only(value, &["Name", "Spawns", "Ticket", "Workers"])?;
         let (name, records) = two(alloc, value, "Name", "Spawns")?;
@@ -115,9 +117,9 @@ impl<'a> MasterDraft<'a> {
     }
 
     /// The draft of the ticket under `Ticket`.
-    fn ticket(alloc: Global, value: &'a Value) -> Result<TicketDraft<'a>, Refusal>
+    fn ticket<S: Source>(alloc: Global, value: &'a S) -> Result<TicketDraft<'a>, Refusal>
         ensures { Gives drafted_ticket result
-            (option_and_then ticket_draft (get (codes "Ticket") (view value.now))) }
+            (option_and_then ticket_draft (get (codes "Ticket") (S.content value.now))) }
     {
         match value.member("Ticket") {
             Some(ticket) => TicketDraft::of(alloc, ticket),

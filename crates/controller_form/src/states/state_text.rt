@@ -1,4 +1,4 @@
-//! The states of controllers as texts, with no value of them.
+//! The states of controllers as texts.
 
 ghost use Rattle.std.specs.Prelude.{◌≡◌, Ok, IfOk, OnOk};
 ghost use Rattle.serde_json.specs.Written.{compact_text};
@@ -37,7 +37,11 @@ fn print_master(alloc: Global, out: &mut Writer, master: &Master) -> Result<(), 
 }
 
 /// Prints a master's state.
-fn print_master_state(alloc: Global, out: &mut Writer, master: &Master) -> Result<(), AllocError>
+pub fn print_master_state(
+    alloc: Global,
+    out: &mut Writer,
+    master: &Master,
+) -> Result<(), AllocError>
     ensures printed { OnOk result
         (IsPrinted (master_form.master_state_data master.now) out.old out.new) }
     ensures known { OnOk result (IsWritableMaster master.now) }
@@ -49,8 +53,7 @@ fn print_master_state(alloc: Global, out: &mut Writer, master: &Master) -> Resul
     out.end_object()
 }
 
-/// The text of a master's `master_state_value`, which `master_state_of` reads as that master. No
-/// value is made for it.
+/// The text of a master's `master_state_value`, which `master_state_of` reads as that master.
 pub fn master_state_text(alloc: Global, master: &Master) -> Result<Vec<u8>, AllocError>
     ensures text { IfOk result
         (λ b. b.items ≡ compact_text (master_form.master_state_data master.now)) }
@@ -76,7 +79,11 @@ fn print_worker(alloc: Global, out: &mut Writer, worker: &Worker) -> Result<(), 
 }
 
 /// Prints a worker's state.
-fn print_worker_state(alloc: Global, out: &mut Writer, worker: &Worker) -> Result<(), AllocError>
+pub fn print_worker_state(
+    alloc: Global,
+    out: &mut Writer,
+    worker: &Worker,
+) -> Result<(), AllocError>
     ensures printed { OnOk result
         (IsPrinted (worker_form.worker_state_data worker.now) out.old out.new) }
     ensures known { OnOk result (IsWritableWorker worker.now) }
@@ -88,8 +95,7 @@ fn print_worker_state(alloc: Global, out: &mut Writer, worker: &Worker) -> Resul
     out.end_object()
 }
 
-/// The text of a worker's `worker_state_value`, which `worker_state_of` reads as that worker. No
-/// value is made for it.
+/// The text of a worker's `worker_state_value`, which `worker_state_of` reads as that worker.
 pub fn worker_state_text(alloc: Global, worker: &Worker) -> Result<Vec<u8>, AllocError>
     ensures text { IfOk result
         (λ b. b.items ≡ compact_text (worker_form.worker_state_data worker.now)) }

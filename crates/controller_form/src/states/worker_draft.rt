@@ -4,7 +4,7 @@ use crate::states::entry_draft::EntryDraft;
 use crate::states::entry_drafts::{build_entries, entry_drafts, have_names, have_texts};
 use crate::states::format::Format;
 use json_items::{Borrowed, Checked, Draft, Drafts, build_two, only, two};
-use serde_json::Value;
+use json_source::Source;
 use std::alloc::Global;
 use ticket_tree::{Id, Refusal};
 use worker_core::Worker;
@@ -21,7 +21,6 @@ impl<'a> WorkerDraft<'a> {
     ghost use Rattle.std.specs.Prelude.{codes};
     ghost use Rattle.std.specs.Option.{option_and_then};
     ghost use Rattle.serde_json.specs.Find.{get};
-    ghost use Rattle.serde_json.specs.View.{view};
     ghost use Rattle.json_shapes.specs.Read.{Gives};
     ghost use Rattle.json_items.specs.Listed.{list_form};
     ghost use Rattle.controller_form.specs.States.Drafted.{drafted_entries, drafted_worker};
@@ -30,8 +29,12 @@ impl<'a> WorkerDraft<'a> {
 
     /// The draft that a value is in a format. Refuses `NotProfile`, and `Memory`.
     #[tactic(auto, unfolding(crate::specs::States::WorkerForm::worker_draft))]
-    pub fn of(alloc: Global, value: &'a Value, format: Format) -> Result<WorkerDraft<'a>, Refusal>
-        ensures { Gives drafted_worker result (form.worker_draft format (view value.now)) }
+    pub fn of<S: Source>(
+        alloc: Global,
+        value: &'a S,
+        format: Format,
+    ) -> Result<WorkerDraft<'a>, Refusal>
+        ensures { Gives drafted_worker result (form.worker_draft format (S.content value.now)) }
     {
         only(value, &["Entries", "Master", "Name"])?;
         let entries = WorkerDraft::entries(alloc, value, format)?;
@@ -44,17 +47,17 @@ impl<'a> WorkerDraft<'a> {
     }
 
     /// The drafts of the entries under `Entries`.
-    fn entries(
+    fn entries<S: Source>(
         alloc: Global,
-        value: &'a Value,
+        value: &'a S,
         format: Format,
     ) -> Result<Drafts<EntryDraft<'a>>, Refusal>
         ensures { Gives drafted_entries result (option_and_then
-            (list_form (entry_draft format)) (get (codes "Entries") (view value.now))) }
+            (list_form (entry_draft format)) (get (codes "Entries") (S.content value.now))) }
     {
-        let list = value.get("Entries").ok_or(Refusal::NotProfile)?;
-        let items = list.as_array().ok_or(Refusal::NotProfile)?;
-        let drafts = entry_drafts(alloc, items.as_slice(), format)?;
+        let list = value.member("Entries").ok_or(Refusal::NotProfile)?;
+        let items = list.items().ok_or(Refusal::NotProfile)?;
+        let drafts = entry_drafts(alloc, items, format)?;
         Ok(Drafts::new(drafts))
     }
 }

@@ -8,7 +8,7 @@ use Rattle.ticket_rows.specs.Ticket.{Job}
 use Rattle.ticket_items.specs.declared.edit.Edit.{Edit}
 use Rattle.ticket_items.specs.declared.refusal.Refusal.{Refusal}
 use Rattle.ticket_items.specs.declared.refusal.Refusal.TheVariants.{Memory}
-use Rattle.json_writer.specs.Written.{ticket_data}
+use Rattle.json_text.specs.Written.{ticket_data}
 use Rattle.jdf_commands.specs.EditCommand.Document.{Document, IsReadAs}
 use Rattle.streams.specs.Fault.{refusal_line}
 use Rattle.streams.specs.Ends.{done_status}

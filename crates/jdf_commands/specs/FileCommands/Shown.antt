@@ -4,8 +4,8 @@ use Rattle.std.specs.List.{flat_map}
 use Rattle.serde_json.specs.Written.{compact_text}
 use Rattle.ticket_items.specs.SpawnId.{spawn_text}
 use Rattle.ticket_tree.specs.Part.{Copied}
-use Rattle.json_writer.specs.PartWritten.{part_data}
-use Rattle.json_writer.specs.Written.{shown_data}
+use Rattle.json_text.specs.PartWritten.{part_data}
+use Rattle.json_text.specs.Written.{shown_data}
 use Rattle.spawn.specs.Marking.{marks}
 use Rattle.master_core.specs.Master as master
 use Rattle.worker_core.specs.Worker as worker

@@ -2,7 +2,7 @@
 use Rattle.std.specs.Prelude.{◌≡◌, ℕ, Bool, false, List, [], ◌∷◌, ◌++◌, Ok}
 use Rattle.std.specs.List.{flat_map}
 use Rattle.serde_json.specs.Written.{compact_text}
-use Rattle.json_writer.specs.Written.{shown_data}
+use Rattle.json_text.specs.Written.{shown_data}
 use Rattle.world.specs.Replay.{Shown, after_all, answers_to, opening}
 use Rattle.world.specs.SeenTicket.{ticket_seen}
 use Rattle.world.specs.Shop.{Shop}

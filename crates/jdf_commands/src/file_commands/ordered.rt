@@ -2,15 +2,13 @@
 
 ghost use Rattle.std.specs.Prelude.{Result, Ok, IfOk, IfErr};
 ghost use Rattle.serde_json.specs.Data.{Data};
-ghost use Rattle.serde_json.specs.View.{view};
 ghost use Rattle.json_items.specs.Judged.{Answers};
 ghost use Rattle.json_profile.specs.ReadAs.{IsReadAs, IsRefusalOf};
 ghost use Rattle.ticket_items.specs.declared.refusal.Refusal.{Refusal as RefusalSeen};
 
 use controller_form::{master_order_of, worker_order_of};
-use json_profile::value_of;
+use json_source::{Scratch, Source, tree_of};
 use master_core::Master;
-use serde_json::Value;
 use std::alloc::Global;
 use stored_state::Stored;
 use ticket_tree::Refusal;
@@ -22,8 +20,8 @@ pub trait Ordered: Stored {
     ghost order_read: { Data → Result Self.Order RefusalSeen };
 
     /// The order that a value is. Refuses the first refusal of it, and `Memory`.
-    fn order_of(alloc: Global, value: &Value) -> Result<Self::Order, Refusal>
-        ensures { Answers result (order_read (view value.now)) };
+    fn order_of<S: Source>(alloc: Global, value: &S) -> Result<Self::Order, Refusal>
+        ensures { Answers result (order_read (S.content value.now)) };
 }
 
 impl Ordered for Master {
@@ -31,7 +29,7 @@ impl Ordered for Master {
 
     ghost order_read = { form.master_order_read };
 
-    fn order_of(alloc: Global, value: &Value) -> Result<master_core::Order, Refusal> {
+    fn order_of<S: Source>(alloc: Global, value: &S) -> Result<master_core::Order, Refusal> {
         master_order_of(alloc, value)
     }
 }
@@ -41,7 +39,7 @@ impl Ordered for Worker {
 
     ghost order_read = { form.worker_order_read };
 
-    fn order_of(alloc: Global, value: &Value) -> Result<worker_core::Order, Refusal> {
+    fn order_of<S: Source>(alloc: Global, value: &S) -> Result<worker_core::Order, Refusal> {
         worker_order_of(alloc, value)
     }
 }
@@ -51,6 +49,7 @@ pub(crate) fn order_in<C: Ordered>(alloc: Global, bytes: &[u8]) -> Result<C::Ord
     ensures ok { IfOk result (λ order. IsReadAs C.order_read bytes.now (Ok order)) }
     ensures refused { IfErr result (IsRefusalOf C.order_read bytes.now) }
 {
-    let value = value_of(alloc, bytes)?;
-    C::order_of(alloc, &value)
+    let mut scratch = Scratch::new(alloc);
+    let tree = tree_of(alloc, bytes, &mut scratch)?;
+    C::order_of(alloc, &tree)
 }

@@ -1,19 +1,17 @@
 //! What `show` writes of a controller.
 
 ghost use Rattle.std.specs.Prelude.{◌≡◌, ◌++◌, string_bytes, IfOk, IfErr, OnOk};
-ghost use Rattle.serde_json.specs.Written.{compact_text};
 ghost use Rattle.jdf_commands.specs.FileCommands.AnyStep.{held_in};
 ghost use Rattle.jdf_commands.specs.FileCommands.Commands.{Shows, ShowsNone, shown_as};
 ghost use Rattle.jdf_commands.specs.FileCommands.Commands.{shown_text};
 ghost use Rattle.jdf_commands.specs.FileCommands.Shown as shown;
-ghost use Rattle.json_writer.specs.PartWritten.{part_data};
 ghost use Rattle.ticket_items.specs.declared.refusal.Refusal.TheVariants.{Memory};
 
 use crate::file_commands::opening::opened;
 use crate::file_commands::pictured::controller_picture;
 use crate::file_commands::step::unrefused;
 use crate::shown_master::push_shown;
-use json_profile::{part_value, text_of};
+use json_profile::push_part_text;
 use keepers::Keep;
 use master_core::Master;
 use std::alloc::{AllocError, Global};
@@ -53,14 +51,6 @@ fn entry_head(alloc: Global, spawn: u32, words: &str) -> Result<String, AllocErr
     format!(in alloc; "S{spawn} {words}")
 }
 
-/// The text of a part.
-fn part_text(alloc: Global, part: &Part) -> Result<Vec<u8>, AllocError>
-    ensures { IfOk result (λ text. text.items ≡ compact_text (part_data part.now)) }
-{
-    let value = part_value(alloc, part)?;
-    text_of(alloc, &value)
-}
-
 /// Appends the text of a part, if there is one, with a space before it.
 fn push_part(alloc: Global, line: &mut Vec<u8>, part: &Option<Part>) -> Result<(), AllocError>
     ensures { OnOk result (line.new.items ≡ line.old.items ++ shown.part_tail part.now) }
@@ -68,9 +58,8 @@ fn push_part(alloc: Global, line: &mut Vec<u8>, part: &Option<Part>) -> Result<(
     match part {
         None => Ok(()),
         Some(part) => {
-            let text = part_text(alloc, part)?;
             line.push(b' ')?;
-            line.extend_from_slice(text.as_slice())
+            push_part_text(alloc, line, part)
         }
     }
 }

@@ -1,11 +1,9 @@
 ghost use Rattle.std.specs.Prelude.{true};
-ghost use Rattle.json_items.specs.Again.{ancestor_again};
 ghost use Rattle.json_items.specs.Ancestors as ancestors;
 
-use crate::{Borrowed, Draft, Form, Read, Written, build_two, only, put, two};
+use crate::{Borrowed, Draft, Form, Read, build_two, only, two};
 use json_source::Source;
-use serde_json::{Map, Value};
-use std::alloc::{AllocError, Global};
+use std::alloc::Global;
 use ticket_items::{Ancestor, Id, Name, Refusal};
 
 /// A node above the root of a part (JDF 1.5, 4.4) by its members and their kinds alone: any texts
@@ -52,18 +50,4 @@ impl<'a> Draft<'a> for AncestorDraft<'a> {
         let (node_id, job_part) = build_two(alloc, &self.node_id, &self.job_part)?;
         Ok(Ancestor { node_id, job_part })
     }
-}
-
-impl Written for Ancestor {
-    ghost written = { ancestors.ancestor_data };
-
-    #[tactic(auto, unfolding(crate::specs::Ancestors::ancestor_has_names))]
-    fn value(&self, alloc: Global) -> Result<Value, AllocError> {
-        let mut members = Map::new(alloc);
-        put(alloc, &mut members, "JobPartID", &self.job_part)?;
-        put(alloc, &mut members, "NodeID", &self.node_id)?;
-        Ok(Value::Object(members))
-    }
-
-    ghost again = { ancestor_again };
 }

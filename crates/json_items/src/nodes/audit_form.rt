@@ -1,18 +1,10 @@
-//! Audits: their drafts, and how they are written.
+//! Audits: their drafts.
 
-ghost use Rattle.std.specs.Prelude.{◌≡◌, true, OnOk};
-ghost use Rattle.serde_json.specs.Data.{no_members, object};
-ghost use Rattle.serde_json.specs.View.{members_view};
-ghost use Rattle.json_items.specs.Again.{audit_again};
 ghost use Rattle.json_items.specs.Audits as audits;
 
-use crate::{
-    Borrowed, Draft, Drafts, Form, Read, Written, build_two, only, put, put_text, put_two,
-    text_under, two, under,
-};
+use crate::{Borrowed, Draft, Drafts, Form, Read, build_two, only, text_under, two, under};
 use json_source::Source;
-use serde_json::{Map, Value};
-use std::alloc::{AllocError, Global};
+use std::alloc::Global;
 use ticket_items::{Audit, Id, Name, Refusal, Text};
 
 /// The members of an audit of a spawn.
@@ -206,61 +198,4 @@ impl<'a> Draft<'a> for AuditDraft<'a> {
             }
         }
     }
-}
-
-/// Puts the members of an audit into an empty object. Its names and texts are valid.
-#[tactic(auto, unfolding(crate::specs::Audits::audit_has_names, crate::specs::Audits::audit_has_texts))]
-fn put_audit(
-    alloc: Global,
-    members: &mut Map<String, Value>,
-    audit: &Audit,
-) -> Result<(), AllocError>
-    requires { members_view members.old.entries ≡ no_members }
-    ensures members { OnOk result
-        (object (members_view members.new.entries) ≡ audits.audit_data audit.now) }
-    ensures names { OnOk result (audits.audit_has_names audit.now ≡ true) }
-    ensures texts { OnOk result (audits.audit_has_texts audit.now ≡ true) }
-{
-    match audit {
-        Audit::Notification { at, text } => {
-            put_text(alloc, members, "Name", "Notification")?;
-            put_two(alloc, members, "Text", text, "TimeStamp", at)
-        }
-        Audit::Spawned {
-            at,
-            jref,
-            spawn_id,
-            ro,
-            rw,
-            status,
-        } => {
-            put_text(alloc, members, "Name", "Spawned")?;
-            put_two(alloc, members, "NewSpawnID", spawn_id, "Status", status)?;
-            put_two(alloc, members, "TimeStamp", at, "jRef", jref)?;
-            put_two(alloc, members, "rRefsROCopied", ro, "rRefsRWCopied", rw)
-        }
-        Audit::Merged {
-            at,
-            jref,
-            merge_id,
-            overwritten,
-        } => {
-            put_text(alloc, members, "Name", "Merged")?;
-            put_two(alloc, members, "MergeID", merge_id, "TimeStamp", at)?;
-            put(alloc, members, "jRef", jref)?;
-            put(alloc, members, "rRefsOverwritten", overwritten)
-        }
-    }
-}
-
-impl Written for Audit {
-    ghost written = { audits.audit_data };
-
-    fn value(&self, alloc: Global) -> Result<Value, AllocError> {
-        let mut members = Map::new(alloc);
-        put_audit(alloc, &mut members, self)?;
-        Ok(Value::Object(members))
-    }
-
-    ghost again = { audit_again };
 }

@@ -1,11 +1,9 @@
 ghost use Rattle.std.specs.Prelude.{true};
-ghost use Rattle.json_items.specs.Again.{link_again};
 ghost use Rattle.json_items.specs.Links as links;
 
-use crate::{Borrowed, Draft, Form, Read, Written, only, put, two};
+use crate::{Borrowed, Draft, Form, Read, only, two};
 use json_source::Source;
-use serde_json::{Map, Value};
-use std::alloc::{AllocError, Global};
+use std::alloc::Global;
 use ticket_items::{Id, Link, Refusal, Usage};
 
 /// A link to a resource (JDF 1.5, 3.9) by its members and their kinds alone: any text for the
@@ -52,17 +50,4 @@ impl<'a> Draft<'a> for LinkDraft<'a> {
             usage: self.usage,
         })
     }
-}
-
-impl Written for Link {
-    ghost written = { links.link_data };
-
-    fn value(&self, alloc: Global) -> Result<Value, AllocError> {
-        let mut members = Map::new(alloc);
-        put(alloc, &mut members, "Usage", &self.usage)?;
-        put(alloc, &mut members, "rRef", &self.rref)?;
-        Ok(Value::Object(members))
-    }
-
-    ghost again = { link_again };
 }

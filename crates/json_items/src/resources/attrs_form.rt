@@ -2,17 +2,14 @@
 
 ghost use Rattle.std.specs.Prelude.{◌≡◌, [], true, IfOk, IfErr, OnOk};
 ghost use Rattle.std.specs.List.{list_all};
-ghost use Rattle.serde_json.specs.View.{members_view};
 ghost use Rattle.ticket_items.specs.Attrs.{IsInOrder, with_attr};
 ghost use Rattle.ticket_items.specs.Names as names;
-ghost use Rattle.json_items.specs.Again.{attrs_again};
 ghost use Rattle.json_items.specs.Attributes as attributes;
 ghost use Rattle.json_source.specs.Read.{attrs_draft, lent_pairs};
 
-use crate::{Draft, Form, Read, Word, Written, put_text};
+use crate::{Draft, Form, Read, Word};
 use json_source::Source;
-use serde_json::{Map, Value};
-use std::alloc::{AllocError, Global};
+use std::alloc::Global;
 use std::marker::Model;
 use ticket_items::{Attrs, Name, Refusal, Text, is_name, is_text};
 
@@ -121,29 +118,4 @@ impl<'a> Draft<'a> for AttrsDraft<'a> {
     fn build(&self, alloc: Global) -> Result<Attrs, Refusal> {
         build_attrs(alloc, self.pairs.as_slice())
     }
-}
-
-/// Attributes as members of an object. Their names and texts are valid.
-fn attr_map(alloc: Global, attrs: &Attrs) -> Result<Map<String, Value>, AllocError>
-    ensures members { IfOk result (λ m. members_view m.entries
-        ≡ attributes.attr_members attrs.now) }
-    ensures names { OnOk result (attributes.attrs_have_names attrs.now ≡ true) }
-    ensures texts { OnOk result (attributes.attrs_have_texts attrs.now ≡ true) }
-{
-    let mut members = Map::new(alloc);
-    for (name, text) in attrs.iter() {
-        put_text(alloc, &mut members, name.as_str(), text.as_str())?;
-    }
-    Ok(members)
-}
-
-impl Written for Attrs {
-    ghost written = { attributes.attrs_data };
-
-    fn value(&self, alloc: Global) -> Result<Value, AllocError> {
-        let members = attr_map(alloc, self)?;
-        Ok(Value::Object(members))
-    }
-
-    ghost again = { attrs_again };
 }

@@ -1,16 +1,11 @@
 //! The resources of pools, which show what spawns copied them.
 
-ghost use Rattle.std.specs.Prelude.{◌≡◌, true, IfOk, OnOk};
-ghost use Rattle.serde_json.specs.View.{view};
-ghost use Rattle.json_items.specs.Again.{marked_again};
 ghost use Rattle.json_items.specs.DraftedResources.{drafted_marked};
 ghost use Rattle.json_items.specs.Resources as resources;
 
-use crate::resources::resource_form::put_resource;
-use crate::{Form, Read, ResourceDraft, Shown, ShownDraft, Written, only, put};
+use crate::{Form, Read, ResourceDraft, Shown, ShownDraft, only};
 use json_source::Source;
-use serde_json::{Map, Value};
-use std::alloc::{AllocError, Global};
+use std::alloc::Global;
 use ticket_items::{Refusal, Resource};
 
 /// The members of a resource.
@@ -59,28 +54,4 @@ impl<'a> Read<'a> for MarkedDraft<'a> {
         let shown = ShownDraft::of(alloc, value)?;
         Ok(MarkedDraft { resource, shown })
     }
-}
-
-/// A resource that shows this of spawns, as a value. Its names and texts are valid.
-pub fn marked_value(alloc: Global, resource: &Resource, shown: &Shown) -> Result<Value, AllocError>
-    ensures value { IfOk result (λ v. view v ≡ resources.resource_data shown.now resource.now) }
-    ensures names { OnOk result (resources.resource_has_names resource.now ≡ true) }
-    ensures texts { OnOk result (resources.resource_has_texts resource.now ≡ true) }
-{
-    let mut members = Map::new(alloc);
-    put_resource(alloc, &mut members, resource)?;
-    put(alloc, &mut members, "Locked", &shown.locked)?;
-    put(alloc, &mut members, "SpawnIDs", &shown.spawn_ids)?;
-    put(alloc, &mut members, "SpawnStatus", &shown.spawn_status)?;
-    Ok(Value::Object(members))
-}
-
-impl Written for Marked {
-    ghost written = { resources.raw_data };
-
-    fn value(&self, alloc: Global) -> Result<Value, AllocError> {
-        marked_value(alloc, &self.resource, &self.shown)
-    }
-
-    ghost again = { marked_again };
 }

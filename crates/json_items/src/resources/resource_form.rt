@@ -1,16 +1,12 @@
 //! Resources by themselves, without what they show of spawns: members of an object that may have
 //! more.
 
-ghost use Rattle.std.specs.Prelude.{◌≡◌, true, OnOk};
-ghost use Rattle.serde_json.specs.Data.{no_members};
-ghost use Rattle.serde_json.specs.View.{members_view};
 ghost use Rattle.json_items.specs.DraftedResources.{drafted_resource};
 ghost use Rattle.json_items.specs.Resources as resources;
 
-use crate::{AttrsDraft, Borrowed, Draft, Form, Read, build_two, put, two, under_or};
+use crate::{AttrsDraft, Borrowed, Draft, Form, Read, build_two, two, under_or};
 use json_source::Source;
-use serde_json::{Map, Value};
-use std::alloc::{AllocError, Global};
+use std::alloc::Global;
 use ticket_items::{Id, Name, Refusal, Resource};
 
 /// A resource (JDF 1.5, 3.8) by its members and their kinds alone: any texts for its id and its
@@ -80,25 +76,4 @@ impl<'a> Draft<'a> for ResourceDraft<'a> {
             attrs,
         })
     }
-}
-
-/// Puts the members of a resource, without what it shows of spawns, into an empty object. Its names
-/// and texts are valid.
-#[tactic(auto, unfolding(crate::specs::Resources::resource_has_names, crate::specs::Resources::resource_has_texts))]
-pub fn put_resource(
-    alloc: Global,
-    members: &mut Map<String, Value>,
-    resource: &Resource,
-) -> Result<(), AllocError>
-    requires { members_view members.old.entries ≡ no_members }
-    ensures members { OnOk result
-        (members_view members.new.entries ≡ resources.own_members resource.now) }
-    ensures names { OnOk result (resources.resource_has_names resource.now ≡ true) }
-    ensures texts { OnOk result (resources.resource_has_texts resource.now ≡ true) }
-{
-    put(alloc, members, "Attr", &resource.attrs)?;
-    put(alloc, members, "Class", &resource.class)?;
-    put(alloc, members, "ID", &resource.id)?;
-    put(alloc, members, "Name", &resource.name)?;
-    put(alloc, members, "Status", &resource.status)
 }

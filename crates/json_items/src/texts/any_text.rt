@@ -1,11 +1,9 @@
 ghost use Rattle.std.specs.Prelude.{◌≡◌, true, IfOk};
-ghost use Rattle.serde_json.specs.Data.{string};
 ghost use Rattle.serde_json.specs.Find.{as_str};
-ghost use Rattle.json_items.specs.Again.{text_again, text_itself};
+ghost use Rattle.json_items.specs.Again.{text_itself};
 
-use crate::{Form, Read, Word, Written, text_value};
+use crate::{Form, Read, Word};
 use json_source::Source;
-use serde_json::Value;
 use std::alloc::{AllocError, Global};
 use std::marker::Model;
 use ticket_items::Refusal;
@@ -86,14 +84,4 @@ impl<'a> Read<'a> for AnyText {
         let text = value.text().ok_or(Refusal::NotProfile)?;
         Ok(AnyText::new(alloc, text)?)
     }
-}
-
-impl Written for AnyText {
-    ghost written = { string };
-
-    fn value(&self, alloc: Global) -> Result<Value, AllocError> {
-        text_value(alloc, self.as_str())
-    }
-
-    ghost again = { text_again };
 }

@@ -1,12 +1,10 @@
 ghost use Rattle.std.specs.Prelude.{true};
-ghost use Rattle.serde_json.specs.Data.{string};
 ghost use Rattle.serde_json.specs.Find.{as_str};
 ghost use Rattle.ticket_items.specs.Names as names;
-ghost use Rattle.json_items.specs.Again.{text_again, text_itself};
+ghost use Rattle.json_items.specs.Again.{text_itself};
 
-use crate::{Form, Word, Written, text_value};
-use serde_json::Value;
-use std::alloc::{AllocError, Global};
+use crate::{Form, Word};
+use std::alloc::Global;
 use ticket_items::{Id, Refusal, is_name};
 
 impl Form for Id {
@@ -33,14 +31,4 @@ impl Word for Id {
     }
 
     ghost read = { text_itself };
-}
-
-impl Written for Id {
-    ghost written = { string };
-
-    fn value(&self, alloc: Global) -> Result<Value, AllocError> {
-        text_value(alloc, self.as_str())
-    }
-
-    ghost again = { text_again };
 }

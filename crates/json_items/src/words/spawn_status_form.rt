@@ -1,13 +1,10 @@
 //! The SpawnStatus of a resource (JDF 1.5, 3.8), by its word.
 
 ghost use Rattle.std.specs.Prelude.{◌≡◌, true};
-ghost use Rattle.json_items.specs.Again.{spawn_status_again};
 ghost use Rattle.json_items.specs.Shown as shown;
 
-use crate::{Form, Plain, Written, text_value};
+use crate::{Form, Plain};
 use json_source::Source;
-use serde_json::Value;
-use std::alloc::{AllocError, Global};
 use ticket_items::SpawnStatus;
 
 impl Form for SpawnStatus {
@@ -27,14 +24,4 @@ impl Plain for SpawnStatus {
             _ => None,
         }
     }
-}
-
-impl Written for SpawnStatus {
-    ghost written = { shown.spawn_status_data };
-
-    fn value(&self, alloc: Global) -> Result<Value, AllocError> {
-        text_value(alloc, self.word())
-    }
-
-    ghost again = { spawn_status_again };
 }

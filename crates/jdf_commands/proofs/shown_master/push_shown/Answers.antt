@@ -1,6 +1,6 @@
 use Rattle.std.proofs.Common.{◌≡◌, ◌∙◌, ◌∷◌, ◌++◌, [], ap, append_assoc}
 use Rattle.serde_json.specs.Written.{compact_text}
-use Rattle.json_writer.specs.Written.{shown_data}
+use Rattle.json_text.specs.Written.{shown_data}
 use Rattle.jdf_commands.proofs.shown_master.push_shown.Goals as goal
 
 pub returns-clause-ok : goal.returns-clause-ok

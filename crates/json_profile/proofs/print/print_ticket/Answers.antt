@@ -1,8 +1,8 @@
 use Rattle.std.proofs.Common.{◌≡◌, ◌∙◌, true, sym, ap, subst}
 use Rattle.std.proofs.lemmas.Bool.{and_from}
 use Rattle.json_shapes.specs.Form.{job_has_names}
-use Rattle.json_writer.specs.Marked.{no_marks, marked_rows}
-use Rattle.json_writer.specs.Written.{shown_data}
+use Rattle.json_text.specs.Marked.{no_marks, marked_rows}
+use Rattle.json_text.specs.Written.{shown_data}
 use Rattle.json_text.specs.Printed.{IsPrinted}
 use Rattle.json_text.proofs.MemberLaws.{on_ok}
 use Rattle.json_profile.proofs.Printing.{on_three}

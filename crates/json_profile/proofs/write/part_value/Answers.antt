@@ -1,36 +1,28 @@
-use Rattle.std.proofs.Common.{◌∙◌, ◌≤◌, map, sym, ap, subst}
-use Rattle.std.specs.List.{list_all}
+use Rattle.std.proofs.Common.{◌≡◌, ◌∙◌, ◌≤◌, Ok, false, ap, subst, sym}
+use Rattle.std.proofs.lemmas.Result.{IfOk-weaker}
+use Rattle.std.specs.Prelude.{IfOk}
 use Rattle.serde_json.specs.Data.{depth}
+use Rattle.serde_json.specs.View.{view}
 use Rattle.serde_json.specs.Written.{has_float}
-use Rattle.ticket_items.specs.SpawnId.{spawn_text}
-use Rattle.json_shapes.specs.Form.{row_has_names, row_has_texts}
 use Rattle.json_shapes.specs.PartForm.{part_read}
-use Rattle.json_writer.specs.PartWritten.{rows_data}
-use Rattle.json_profile.proofs.PartAgain.{IsKnown, part_again}
-use Rattle.json_profile.proofs.Shape.{part_data_plain, part_data_low, readable}
+use Rattle.json_text.specs.PartWritten.{part_data}
+use Rattle.json_profile.proofs.Shape.{readable}
+use Rattle.json_profile.proofs.Printing.{alone}
 use Rattle.json_profile.proofs.write.part_value.Goals as goal
 
 pub returns : goal.returns
 returns c =
     let p = c.args.part.now in
-    let rows = ap (map (λ r. r.now)) c.as_slice.ensures.value ∙ c.in_ok-rows.ensures ∙ c.rows.ensures.rows in
-    let written = c.in_ok-value.ensures in
-    let seen = written.value ∙ ap (λ s. rows_data p.job_id s p.ancestors (map (λ r. r.now) c.as_slice.result.now) p.rw p.ro) (c.as_str.ensures.value ∙ c.in_ok-spawn.ensures.id) ∙ ap (λ rs. rows_data p.job_id (spawn_text p.spawn_id) p.ancestors rs p.rw p.ro) rows in
-    let known : IsKnown p = record {
-      number = c.spawn_id.ensures.valid;
-      valid = c.rows.ensures.valid;
-      job = written.job;
-      ancestors = written.ancestors;
-      names = ap (list_all row_has_names) (sym rows) ∙ written.names;
-      texts = ap (list_all row_has_texts) (sym rows) ∙ written.texts;
-      copy_names = written.copy_names;
-      copy_texts = written.copy_texts;
-    } in
-    let low = part_data_low p c.rows.ensures.valid.shallow in
+    let d = part_data p in
+    let told = c.in_ok-print_part.ensures in
+    let printed = alone told.printed (c.new-out.ensures.before ∙ c.new.ensures.items) c.new-out.ensures.tokens in
+    let nests : depth d ≤ 127 = readable _ told.low in
+    let done = c.value_printed.result in
+    let value : IfOk done (λ v. view v ≡ d) = c.value_printed.ensures d printed.0 printed.1 told.printed.again nests in
     record {
-      value = seen;
-      again = ap part_read seen ∙ part_again p known;
-      plain = ap has_float seen ∙ part_data_plain p;
-      nests = subst (λ d. depth d ≤ 127) (sym seen) (readable _ low);
-      low = subst (λ d. depth d ≤ 68) (sym seen) low;
+      value = value;
+      again = IfOk-weaker done (λ v. view v ≡ d) (λ v. part_read (view v) ≡ Ok p) (λ v is. ap part_read is ∙ told.again) value;
+      plain = IfOk-weaker done (λ v. view v ≡ d) (λ v. has_float (view v) ≡ false) (λ v is. ap has_float is ∙ told.plain) value;
+      nests = IfOk-weaker done (λ v. view v ≡ d) (λ v. depth (view v) ≤ 127) (λ v is. subst (λ e. depth e ≤ 127) (sym is) nests) value;
+      low = IfOk-weaker done (λ v. view v ≡ d) (λ v. depth (view v) ≤ 68) (λ v is. subst (λ e. depth e ≤ 68) (sym is) told.low) value;
     }

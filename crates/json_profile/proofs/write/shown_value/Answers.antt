@@ -1,19 +1,27 @@
-use Rattle.std.proofs.Common.{◌∙◌, ◌≤◌, map, sym, ap, subst}
+use Rattle.std.proofs.Common.{◌≡◌, ◌∙◌, ◌≤◌, false, ap, subst, sym}
+use Rattle.std.proofs.lemmas.Result.{IfOk-weaker}
+use Rattle.std.specs.Prelude.{IfOk}
 use Rattle.serde_json.specs.Data.{depth}
+use Rattle.serde_json.specs.View.{view}
 use Rattle.serde_json.specs.Written.{has_float}
-use Rattle.json_writer.specs.Marked.{marked_rows}
-use Rattle.json_writer.specs.Written.{job_data}
+use Rattle.json_text.specs.Marked.{marked_rows}
+use Rattle.json_text.specs.Written.{shown_data}
 use Rattle.json_profile.proofs.Shape.{job_data_plain, shown_data_nests}
+use Rattle.json_profile.proofs.Printing.{alone}
 use Rattle.json_profile.proofs.write.shown_value.Goals as goal
 
 pub returns : goal.returns
 returns c =
     let t = c.args.ticket.now in
     let marks = c.args.marks.now in
-    let rows = ap (map (λ r. r.now)) c.as_slice.ensures.value ∙ c.in_ok-rows.ensures ∙ c.rows.ensures.rows in
-    let seen = c.in_ok-value.ensures.value ∙ ap (λ job. job_data job (marked_rows marks (map (λ r. r.now) c.as_slice.result.now))) c.job.ensures ∙ ap (λ rs. job_data t.job_id (marked_rows marks rs)) rows in
+    let d = shown_data marks t in
+    let told = c.in_ok-print_ticket.ensures in
+    let printed = alone told.printed (c.new-out.ensures.before ∙ c.new.ensures.items) c.new-out.ensures.tokens in
+    let nests : depth d ≤ 127 = shown_data_nests marks t told.valid.shallow in
+    let done = c.value_printed.result in
+    let value : IfOk done (λ v. view v ≡ d) = c.value_printed.ensures d printed.0 printed.1 told.printed.again nests in
     record {
-      value = seen;
-      plain = ap has_float seen ∙ job_data_plain t.job_id (marked_rows marks t.rows);
-      nests = subst (λ d. depth d ≤ 127) (sym seen) (shown_data_nests marks t c.rows.ensures.valid.shallow);
+      value = value;
+      plain = IfOk-weaker done (λ v. view v ≡ d) (λ v. has_float (view v) ≡ false) (λ v is. ap has_float is ∙ job_data_plain t.job_id (marked_rows marks t.rows)) value;
+      nests = IfOk-weaker done (λ v. view v ≡ d) (λ v. depth (view v) ≤ 127) (λ v is. subst (λ e. depth e ≤ 127) (sym is) nests) value;
     }

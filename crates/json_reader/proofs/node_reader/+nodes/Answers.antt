@@ -1,51 +1,45 @@
-use Rattle.std.proofs.Common.{◌∙◌, ◌∷◌, [], map, sym, ap, Some, None}
-use Rattle.std.specs.Option.{option_map}
-use Rattle.serde_json.specs.View.{view}
+use Rattle.std.proofs.Common.{map, sym, subst, codes, Some, None, Ok, arith}
 use Rattle.json_shapes.specs.Draft.{list_rows}
-use Rattle.json_items.proofs.ListLemmas.{Fails-weaker}
-use Rattle.json_reader.specs.Drafted.{drafted_raw}
-use Rattle.json_reader.proofs.Nodes.{so_far_more, so_far_none, so_far_all, list_rows-array, node_rows-object, found_children, drafted_rows-push, pushed_children}
+use Rattle.json_reader.specs.Gathered.{AreDrafted, Gathers}
+use Rattle.json_reader.proofs.Depths.{depth-child, depth-get}
+use Rattle.json_reader.proofs.Gathering.{finding_all, finding_failed, finding_more, list_added, list_failed, node_failed, node_found, nothing_found}
 use Rattle.json_reader.proofs.node_reader.+nodes.Goals as goal
 
+pub push_children-push_node-requires : goal.push_children-push_node-requires
+push_children-push_node-requires g t c =
+    let content = g.S.Source.content in
+    let less = depth-child content (content c.args.value.now) c.in-Some.children.now c.loop-child.child-index c.child-item.result (sym c.in-Some.ensures) c.loop-child-test.true c.child-item.is in
+    λ κs within. (omega (arith, less, c.decreases), within)
+
 pub push_children-returns-in-Err : goal.push_children-returns-in-Err
-push_children-returns-in-Err t c =
-    let vs = c.deref-child-items.result.now in
-    Fails-weaker c.in-Err.refusal _ _
-    (λ none. list_rows-array c.args.depth c.args.value.now c.in-Array.children vs c.in-Array.is c.deref-child-items.ensures.value ∙ so_far_none c.args.depth vs c.loop-child.child-index c.child-item.result _ _ c.loop-child-test.true c.child-item.is c.loop-child.invariant none)
-    c.in-Err.ensures
+push_children-returns-in-Err g t c =
+    list_failed AreDrafted g.S.Source.content c.in-Err.refusal c.args.depth (g.S.Source.content c.args.value.now) c.in-Some.children.now (sym c.in-Some.ensures)
+    (finding_failed AreDrafted g.S.Source.content c.args.depth c.in-Some.children.now c.loop-child.child-index c.child-item.result _ _ c.in-Err.refusal c.loop-child-test.true c.child-item.is c.loop-child.invariant c.in-Err.ensures)
 
 pub push_children-loop-child-preserved : goal.push_children-loop-child-preserved
-push_children-loop-child-preserved t c =
-    so_far_more c.args.depth c.deref-child-items.result.now c.loop-child.child-index c.child-item.result _ _ _ c.loop-child-test.true c.child-item.is c.loop-child.invariant c.in_default-push_node.ensures
+push_children-loop-child-preserved g t c =
+    finding_more AreDrafted g.S.Source.content c.args.depth c.in-Some.children.now c.loop-child.child-index c.child-item.result _ _ _ c.loop-child-test.true c.child-item.is c.loop-child.invariant c.in_default-push_node.ensures
 
 pub push_children-returns : goal.push_children-returns
-push_children-returns t c =
-    let vs = c.deref-child-items.result.now in
-    let all = so_far_all c.args.depth vs c.loop-child.child-index _ _ c.loop-child-test.false c.loop-child.invariant in
-    (all.0, list_rows-array c.args.depth c.args.value.now c.in-Array.children vs c.in-Array.is c.deref-child-items.ensures.value ∙ all.1, all.2)
+push_children-returns g t c =
+    list_added AreDrafted g.S.Source.content _ _ c.args.depth (g.S.Source.content c.args.value.now) c.in-Some.children.now (sym c.in-Some.ensures)
+    (finding_all AreDrafted g.S.Source.content c.args.depth c.in-Some.children.now c.loop-child.child-index _ _ c.loop-child-test.false c.loop-child.invariant)
 
-pub push_node-returns-in-Err : goal.push_node-returns-in-Err
-push_node-returns-in-Err t c =
-    let under = found_children c.in-Object.members (Some c.in-Some.children) c.in-Some.ensures.value in
-    Fails-weaker c.in-Err.refusal _ _
-    (λ none. node_rows-object (map (λ n. n.now) c.args.names.now) c.args.depth c.args.value.now c.in-Object.members _ _ c.in-Object.is c.in_ok-row.ensures under
-    ∙ ap (option_map (λ rows. drafted_raw c.in_ok-row.row ∷ rows)) (ap (λ d. list_rows d (view c.in-Some.children.now)) (sym c.next_depth.ensures) ∙ none))
-    c.in-Err.ensures
+pub push_node-push_children-requires : goal.push_node-push_children-requires
+push_node-push_children-requires g t c =
+    let less = depth-get (codes "JDF") (g.S.Source.content c.args.value.now) (g.S.Source.content c.in-Some.children.now) (sym c.in-Some.ensures) in
+    λ κs within. (omega (arith, less, c.decreases), within)
 
 pub push_node-returns-in-None : goal.push_node-returns-in-None
-push_node-returns-in-None t c =
-    let under = found_children c.in-Object.members None c.in-None.ensures.value in (
-      drafted_raw c.in_ok-row.row ∷ [],
-      node_rows-object (map (λ n. n.now) c.args.names.now) c.args.depth c.args.value.now c.in-Object.members _ _ c.in-Object.is c.in_ok-row.ensures under,
-      drafted_rows-push _ _ c.in_ok-row.row c.in_ok-push.ensures.items,
-    )
+push_node-returns-in-None g t c =
+    node_found AreDrafted c.args.rows.now.items c.push_own.new.rows.items c.push_own.new.rows.items (Ok tt) (map (λ n. n.now) c.args.names.now) c.args.depth (g.S.Source.content c.args.value.now) None (sym c.in-None.ensures) c.in_ok-push_own.ensures
+    (nothing_found AreDrafted c.push_own.new.rows.items)
 
-pub push_node-returns-in_default-push_children : goal.push_node-returns-in_default-push_children
-push_node-returns-in_default-push_children t c =
-    let under = found_children c.in-Object.members (Some c.in-Some.children) c.in-Some.ensures.value in
-    let below = c.in_default-push_children.ensures in (
-      drafted_raw c.in_ok-row.row ∷ below.0,
-      node_rows-object (map (λ n. n.now) c.args.names.now) c.args.depth c.args.value.now c.in-Object.members _ _ c.in-Object.is c.in_ok-row.ensures under
-          ∙ ap (option_map (λ rows. drafted_raw c.in_ok-row.row ∷ rows)) (ap (λ d. list_rows d (view c.in-Some.children.now)) (sym c.next_depth.ensures) ∙ below.1),
-      pushed_children _ _ _ c.in_ok-row.row below.0 c.in_ok-push.ensures.items below.2,
-    )
+pub push_node-returns-in-Some : goal.push_node-returns-in-Some
+push_node-returns-in-Some g t c =
+    node_found AreDrafted c.args.rows.now.items c.push_own.new.rows.items c.push_children.new.rows.items c.push_children.result (map (λ n. n.now) c.args.names.now) c.args.depth (g.S.Source.content c.args.value.now) (Some (g.S.Source.content c.in-Some.children.now)) (sym c.in-Some.ensures)
+    c.in_ok-push_own.ensures
+    (subst (λ n. Gathers AreDrafted c.push_own.new.rows.items c.push_children.new.rows.items c.push_children.result (list_rows n (g.S.Source.content c.in-Some.children.now))) c.next_depth.ensures c.push_children.ensures)
+
+pub push_node-returns-in_err-push_own : goal.push_node-returns-in_err-push_own
+push_node-returns-in_err-push_own g t c = node_failed AreDrafted _ _ c.from_residual.result c.in_err-push_own.field-0.0 _ c.args.depth (g.S.Source.content c.args.value.now) c.from_residual.ensures.1 c.in_err-push_own.ensures

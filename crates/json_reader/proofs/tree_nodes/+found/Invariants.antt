@@ -1,5 +1,6 @@
 use Rattle.serde_json.specs.Data.{depth}
-use Rattle.json_reader.proofs.Finding.{IsFinding}
+use Rattle.json_reader.proofs.Gathering.{IsFinding}
+use Rattle.json_reader.specs.Found.{IsFound}
 use Rattle.json_reader.proofs.tree_nodes.+found.Given as goal
 
 abbrev pub decreases-find_children : goal.decreases-find_children
@@ -10,4 +11,4 @@ decreases-find_node g l = depth (g.S.Source.content l.value.now)
 
 -- what is found of the children from here on is found of all
 abbrev pub invariant-find_children-loop-child : goal.invariant-find_children-loop-child
-invariant-find_children-loop-child g l = IsFinding g.S.Source.content l.depth l.children l.child-index l.fn.found l.found
+invariant-find_children-loop-child g l = IsFinding IsFound g.S.Source.content l.depth l.children l.child-index l.fn.found l.found

@@ -1,8 +1,8 @@
 use Rattle.std.proofs.Common.{◌∷◌, codes, subst}
 use Rattle.json.specs.Token.{key}
 use Rattle.serde_json.specs.Data.{array}
-use Rattle.json_writer.specs.Marked.{marked_pool}
-use Rattle.json_writer.specs.Written.{pool_data}
+use Rattle.json_text.specs.Marked.{marked_pool}
+use Rattle.json_text.specs.Written.{pool_data}
 use Rattle.json_text.specs.Printed.{data_tokens, IsAppended, IsReadAgain}
 use Rattle.json_text.proofs.MemberLaws.{on_ok, members_more, members_joined}
 use Rattle.json_text.proofs.nodes.print_last.Goals as goal

@@ -1,6 +1,6 @@
 use Rattle.std.proofs.Common.{codes}
 use Rattle.json_items.specs.Resources.{raw_data}
-use Rattle.json_writer.specs.PartWritten.{root_pool}
+use Rattle.json_text.specs.PartWritten.{root_pool}
 use Rattle.json_text.proofs.ItemLaws.{under_name}
 use Rattle.json_text.proofs.MemberLaws.{on_ok}
 use Rattle.json_text.proofs.PrintedLists.{list_printed}

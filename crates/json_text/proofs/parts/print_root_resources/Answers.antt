@@ -1,6 +1,6 @@
 use Rattle.json_items.specs.Resources.{all_showing, raw_data}
 use Rattle.json_items.specs.Shown.{nothing_shown, shown_rw, shown_ro}
-use Rattle.json_writer.specs.PartWritten.{copies_pool}
+use Rattle.json_text.specs.PartWritten.{copies_pool}
 use Rattle.json_text.proofs.ItemLaws.{items_joined, showing_as}
 use Rattle.json_text.proofs.MemberLaws.{on_ok}
 use Rattle.json_text.proofs.parts.print_root_resources.Goals as goal

@@ -3,7 +3,7 @@ use Rattle.json.specs.Token.{key}
 use Rattle.serde_json.specs.Data.{array}
 use Rattle.json_items.specs.Ancestors.{ancestor_data}
 use Rattle.json_items.specs.Listed.{data_items}
-use Rattle.json_writer.specs.PartWritten.{rows_data}
+use Rattle.json_text.specs.PartWritten.{rows_data}
 use Rattle.json_text.specs.TicketText.{shown_children}
 use Rattle.json_text.specs.Printed.{data_tokens, IsAppended, IsPrinted, IsReadAgain}
 use Rattle.json_text.proofs.Known.{row_names, row_texts}

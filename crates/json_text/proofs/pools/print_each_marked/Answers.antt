@@ -3,7 +3,7 @@ use Rattle.std.proofs.lemmas.List.{take_all}
 use Rattle.std.specs.List.{list_all}
 use Rattle.json_items.proofs.Tests.{list_all-more}
 use Rattle.json_items.specs.Resources.{raw_data, resource_data, resource_has_names, resource_has_texts}
-use Rattle.json_writer.specs.Marked.{marked_pool, shown_of}
+use Rattle.json_text.specs.Marked.{marked_pool, shown_of}
 use Rattle.json_text.specs.Printed.{IsPrinted}
 use Rattle.json_text.proofs.ItemLaws.{made_more, made_all}
 use Rattle.json_text.proofs.PrintedLists.{none_printed}

@@ -1,7 +1,7 @@
 use Rattle.std.proofs.Common.{◌≡◌, true, take}
 use Rattle.std.specs.List.{list_all}
 use Rattle.json_items.specs.Resources.{raw_data, resource_has_names, resource_has_texts}
-use Rattle.json_writer.specs.Marked.{marked_pool}
+use Rattle.json_text.specs.Marked.{marked_pool}
 use Rattle.json_text.proofs.PrintedLists.{IsSoFar}
 use Rattle.json_text.proofs.pools.print_each_marked.Given as goal
 

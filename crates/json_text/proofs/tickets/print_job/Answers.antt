@@ -1,8 +1,8 @@
 use Rattle.std.proofs.Common.{◌∷◌, OnOk, codes, refl, subst, sym}
 use Rattle.json.specs.Token.{key}
 use Rattle.serde_json.specs.Data.{string}
-use Rattle.json_writer.specs.Marked.{marked_rows}
-use Rattle.json_writer.specs.Written.{job_data}
+use Rattle.json_text.specs.Marked.{marked_rows}
+use Rattle.json_text.specs.Written.{job_data}
 use Rattle.json_text.specs.Printed.{data_tokens, IsAppended, IsPrinted}
 use Rattle.json_text.proofs.Known.{row_names, row_texts}
 use Rattle.json_text.proofs.MemberLaws.{open_more}

@@ -2,7 +2,7 @@ use Rattle.std.proofs.Common.{ap, codes, refl}
 use Rattle.serde_json.specs.Data.{array, string}
 use Rattle.json_items.specs.Listed.{data_items, texts_data}
 use Rattle.json_text.proofs.PrintedObjects.{opened, same_member, keyed, closed}
-use Rattle.json_writer.specs.Written.{ticket_data}
+use Rattle.json_text.specs.Written.{ticket_data}
 use Rattle.controller_form.specs.States.RecordForm.{record_data}
 use Rattle.controller_form.proofs.states.state_text.print_master.Goals as goal
 

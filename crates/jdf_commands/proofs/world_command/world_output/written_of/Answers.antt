@@ -1,6 +1,6 @@
 use Rattle.std.proofs.Common.{◌≡◌, ◌∙◌, ◌∷◌, ◌++◌, [], ap}
 use Rattle.serde_json.specs.Written.{compact_text}
-use Rattle.json_writer.specs.Written.{shown_data}
+use Rattle.json_text.specs.Written.{shown_data}
 use Rattle.world.specs.Replay.{Shown, answers_to}
 use Rattle.world.specs.Showing.{shows}
 use Rattle.jdf_commands.specs.WorldCommand.Run.{lines, shown_text}

@@ -21,13 +21,13 @@ told format ds seen b same is =
     ∙ sym is
 
 pub returns-then-are_told : goal.returns-then-are_told
-returns-then-are_told c =
+returns-then-are_told g c =
     let m = drafted_master c.in_ok-draft.draft in
     ap (option_and_then (in_format c.args.format)) c.in_ok-draft.ensures
     ∙ ap (λ b. cond b (Some m) None) (told c.args.format c.in_ok-draft.draft.records c.as_slice.result.now c.are_told.result c.as_slice.ensures c.are_told.ensures ∙ c.if-are_told.true)
 
 pub returns : goal.returns
-returns c =
+returns g c =
     let m = drafted_master c.in_ok-draft.draft in
     ap (option_and_then (in_format c.args.format)) c.in_ok-draft.ensures
     ∙ ap (λ b. cond b (Some m) None) (told c.args.format c.in_ok-draft.draft.records c.as_slice.result.now c.are_told.result c.as_slice.ensures c.are_told.ensures ∙ c.if-are_told.false)

@@ -1,6 +1,7 @@
 use Rattle.std.proofs.Common.{◌≡◌, ◌∙◌, inr, ℕ, List, true, map, refl, sym, ap}
 use Rattle.std.proofs.lemmas.Bool.{and_from, and_parts}
 use Rattle.std.specs.List.{list_all}
+use Rattle.std.proofs.lemmas.Result.{IfOk-weaker}
 use Rattle.ticket_items.specs.Names.{is_name}
 use Rattle.json_shapes.specs.Form.{built_fault}
 use Rattle.json_items.proofs.Tests.{all_mapped, all_true, themselves}
@@ -12,7 +13,6 @@ use Rattle.controller_form.specs.States.MasterForm.{master_built_fault, master_i
 use Rattle.controller_form.specs.States.RecordForm.{record_has_names, record_has_texts}
 use Rattle.controller_form.specs.declared.states.record_draft.StoredRecord.{StoredRecord}
 use Rattle.controller_form.proofs.Drafts.{spawns_drafted}
-use Rattle.controller_form.proofs.Reading.{if_ok}
 use Rattle.controller_form.proofs.Refusing.{in_state, in_ticket, not_bare, nothing, on_ok, refused_part, refused_parts}
 use Rattle.controller_form.proofs.states.master_draft.MasterDraftChecked.build_known.Goals as goal
 
@@ -49,7 +49,7 @@ bare : (c : goal.After-of_parts) → list_all (λ (r : StoredRecord). r.bare) (m
 bare c = all_mapped (λ (r : StoredRecord). r.bare) drafted_record c.args.self.now.records ∙ sym (ap (list_all (λ d. (drafted_record d).bare)) c.as_slice.ensures) ∙ sym c.are_bare.ensures ∙ c.if-not-are_bare.false
 
 pub returns-clause-ok : goal.returns-clause-ok
-returns-clause-ok c = if_ok _ _ c.of_parts.result c.of_parts.ensures.ok (λ m is. is ∙ parts c)
+returns-clause-ok c = IfOk-weaker c.of_parts.result _ _ (λ m is. is ∙ parts c) c.of_parts.ensures.ok
 
 pub returns-clause-sound : goal.returns-clause-sound
 returns-clause-sound c = on_ok c.of_parts.result _ _ c.of_parts.ensures.taken (λ taken. nothing _ _ _ (bare c) c.in_ok-ticket.ensures.sound (sym (ap is_master (parts c)) ∙ taken))

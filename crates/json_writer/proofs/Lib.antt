@@ -1,5 +1,0 @@
-pub mod Forests
-pub mod PartRoots
-pub mod Plain
-pub mod Pools
-pub mod Taken

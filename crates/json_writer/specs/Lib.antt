@@ -1,4 +1,0 @@
-pub mod Written
-pub mod Trees
-pub mod Marked
-pub mod PartWritten
