@@ -5,7 +5,6 @@ pub mod PartRead
 pub mod RoundTrip
 pub mod Saying
 pub mod Shape
-pub mod Tests
 mod Worked
 mod WorkedAborts
 mod WorkedCommands

@@ -1,137 +1,95 @@
--- The members of a command, of a response, of a JMF object and of a message, as they are printed
--- one after another.
-use Rattle.std.proofs.Common.{◌≡◌, ℕ, List, ◌∷◌, codes, Option, Some, None, Result, OnOk, refl, subst}
+-- The members of a response and of a JMF object, as they are printed one after another.
+use Rattle.std.proofs.Common.{◌≡◌, ℕ, ◌+◌, ◌<◌, ◌≤◌, List, [], ◌∷◌, codes, drop, drop-cons, add-one, get_or, length, Bor, Result, Ok, Err, OnOk, refl, sym, ap, subst, suc, ◌∙◌}
+use Rattle.std.proofs.lemmas.List.{drop_all}
 use Rattle.json.specs.Token.{end_object, key}
 use Rattle.json.specs.Written.{Written, Writes}
-use Rattle.serde_json.specs.Data.{Data, Members, no_members, member, number, unsigned, string, object}
-use Rattle.json_text.specs.Printed.{data_tokens, AreMembersPrinted, IsAppended, IsPrinted, IsReadAgain}
-use Rattle.json_text.proofs.MemberLaws.{on_both, members_more, members_none}
-use Rattle.json_text.proofs.PrintedObjects.{joined, IsOpen, closed}
+use Rattle.serde_json.specs.Data.{Data, Members, no_members, member, put, number, unsigned, string, object}
+use Rattle.json_text.specs.Printed.{data_tokens, AreMembersPrinted, IsAppended, IsPrinted}
+use Rattle.json_text.proofs.MemberLaws.{on_ok, members_joined, members_more, members_none}
+use Rattle.json_text.proofs.PrintedObjects.{joined, keyed, IsOpen, closed}
 use Rattle.json_text.proofs.Tokens.{put_all}
-use Rattle.jmf_message.specs.CommandForm.{put_params}
-use Rattle.jmf_message.specs.InOrder.{command_before_receiver, params_after_id, params_before_id, response_after_receiver}
-use Rattle.jmf_message.specs.JmfForm.{put_family}
-use Rattle.jmf_message.specs.ResponseForm.{put_entry}
-use Rattle.jmf_message.specs.Written.{put_part}
-use Rattle.controller.specs.declared.body.Body.{Body}
-use Rattle.controller.specs.declared.body.Body.TheVariants as bodies
-use Rattle.jmf_message.specs.declared.family.Family.{Family}
-use Rattle.jmf_message.specs.declared.family.Family.TheVariants as families
-use Rattle.jmf_message.specs.declared.params.Params.{Params}
-use Rattle.jmf_message.specs.declared.params.Params.TheVariants as params
-use Rattle.jmf_message.specs.declared.queue_entry.QueueEntry.{QueueEntry}
+use Rattle.json_items.specs.Attributes.{attr_members}
+use Rattle.ticket_items.specs.Attrs.{Pairs}
+use Rattle.controller.specs.declared.queue_status.QueueStatus.{QueueStatus}
+use Rattle.jmf_message.specs.Written.{named_texts, put_entry, put_said, put_texts}
+use Rattle.jmf_message.specs.declared.said.Said.{Said}
+use Rattle.jmf_message.specs.declared.said.Said.TheVariants as said
 
--- ---- one member
+-- ---- one member, or some behind others
 
--- the only one of these members is printed
-pub one_printed : {E : Type 0} (old new : Written) (ms : Members) (name : List ℕ) (d : Data) (r : Result (Unit {0}) E) → OnOk r (IsAppended (key name ∷ data_tokens d) old new) → OnOk r (IsReadAgain d) → member name d no_members ≡ ms → OnOk r (AreMembersPrinted ms old new)
-one_printed {E} old new ms name d r printed again same =
-    subst (λ all. OnOk r (AreMembersPrinted all old new)) same (on_both r printed again (λ appended reads. members_more name d old appended reads (members_none new)))
+-- a text, told of an equal one
+pub text_printed : (k s t : List ℕ) (old new : Written) → IsAppended (key k ∷ data_tokens (string s)) old new → s ≡ t → AreMembersPrinted (member k (string t) no_members) old new
+text_printed k s t old new printed same =
+    subst (λ x. AreMembersPrinted (member k (string x) no_members) old new) same (members_more k (string s) old printed refl (members_none new))
+
+-- data behind its name
+pub named : (d : Data) (k : List ℕ) (old mid new : Written) → IsAppended (key k ∷ []) old mid → IsPrinted d mid new → AreMembersPrinted (member k d no_members) old new
+named d k old mid new name printed = members_more k d old (keyed k old mid new name.tokens name.before printed) printed.again (members_none new)
+
+-- members behind others
+pub behind_others : {E : Type 0} (ms more all : Members) (r : Result (Unit {0}) E) (old mid new : Written) → AreMembersPrinted ms old mid → OnOk r (AreMembersPrinted more mid new) → joined ms more ≡ all → OnOk r (AreMembersPrinted all old new)
+behind_others ms more all r old mid new first second same =
+    subst (λ x. OnOk r (AreMembersPrinted x old new)) same (on_ok r second (λ p. members_joined old first p))
+
+-- ---- texts
+
+-- one more of them, in front of what is left
+pub texts_more : (texts : List (Bor (List ℕ) × List ℕ)) (i : ℕ) (x : Bor (List ℕ) × List ℕ) (t : List ℕ) (old mid new : Written) → i < length texts → x ≡ get_or texts i x → t ≡ x.1
+    → IsAppended (key x.0.now ∷ data_tokens (string t)) old mid
+    → AreMembersPrinted (attr_members (named_texts (drop (i + 1) texts))) mid new → AreMembersPrinted (attr_members (named_texts (drop i texts))) old new
+texts_more texts i x t old mid new within is same printed rest =
+    let more = rw add-one at rest in
+    let left = ap (λ y. y ∷ drop (suc i) texts) is ∙ sym (drop-cons texts i x within) in
+    subst (λ ts. AreMembersPrinted (attr_members (named_texts ts)) old new) left
+    (subst (λ y. AreMembersPrinted (member x.0.now (string y) (attr_members (named_texts (drop (suc i) texts)))) old new) same (members_more x.0.now (string t) old printed refl more))
+
+pub texts_none : (texts : List (Bor (List ℕ) × List ℕ)) (i : ℕ) (out : Written) → length texts ≤ i → AreMembersPrinted (attr_members (named_texts (drop i texts))) out out
+texts_none texts i out past = subst (λ ts. AreMembersPrinted (attr_members (named_texts ts)) out out) (sym (drop_all i texts past)) (members_none out)
+
+-- they are put at their places
+pub put_again : (texts : Pairs) (ms : Members) → put_all (attr_members texts) ms ≡ put_texts texts ms
+put_again [] ms = refl
+put_again (p ∷ texts) ms = put_again texts (put p.0 (string p.1) ms)
 
 -- ---- objects
 
--- the end of an object whose members are those of its form and stand in order
-pub closed_as : {E : Type 0} {ms : Members} {old mid : Written} (form : Members) (r : Result (Unit {0}) E) (new : Written) → IsOpen ms old mid → Writes r mid new end_object → put_all ms no_members ≡ ms → ms ≡ form → OnOk r (IsPrinted (object form) old new)
-closed_as {E} {ms} {old} {mid} form r new before writes order same =
-    subst (λ all. OnOk r (IsPrinted (object all) old new)) same (closed r new before writes order)
+-- members stand in order, and are those of a form
+pub record AreFormed (ms form : Members) : Type 0 where
+  pub ordered : put_all ms no_members ≡ ms
+  pub same : ms ≡ form
 
-abbrev text_member : List ℕ → List ℕ → Members
+-- the end of an object
+pub closed_as : {E : Type 0} {ms form : Members} {old mid : Written} (r : Result (Unit {0}) E) (new : Written) → IsOpen ms old mid → Writes r mid new end_object → AreFormed ms form → OnOk r (IsPrinted (object form) old new)
+closed_as {E} {ms} {form} {old} {mid} r new before writes formed =
+    subst (λ all. OnOk r (IsPrinted (object all) old new)) formed.same (closed r new before writes formed.ordered)
+
+abbrev pub text_member : List ℕ → List ℕ → Members
 text_member name text = member name (string text) no_members
 
-abbrev number_member : List ℕ → ℕ → Members
+abbrev pub number_member : List ℕ → ℕ → Members
 number_member name n = member name (number (unsigned n)) no_members
-
--- ---- a command
-
--- in their order
-abbrev shown_command : Params → List ℕ → List ℕ → Members
-shown_command p id kind =
-    joined (joined (joined (params_before_id p) (text_member (codes "ID") id)) (params_after_id p)) (text_member (codes "Type") kind)
-
--- those of the form
-abbrev pub formed_command : Params → List ℕ → List ℕ → Members
-formed_command p id kind = put_params p (member (codes "ID") (string id) (text_member (codes "Type") kind))
-
-pub same_command : (p : Params) (id kind : List ℕ) → shown_command p id kind ≡ formed_command p id kind
-same_command (params.Submission p) id kind = refl
-same_command (params.Return p) id kind = refl
-same_command (params.Abort p) id kind = refl
-
-pub command_ordered : (p : Params) (id kind : List ℕ) → put_all (shown_command p id kind) no_members ≡ shown_command p id kind
-command_ordered (params.Submission p) id kind = refl
-command_ordered (params.Return p) id kind = refl
-command_ordered (params.Abort p) id kind = refl
 
 -- ---- a response
 
--- in their order
-abbrev shown_response : List ℕ → Option QueueEntry → ℕ → ℕ → List ℕ → List ℕ → Members
-shown_response id entry reason code kind reference =
-    joined (joined (joined (joined (joined (text_member (codes "ID") id) (put_entry entry no_members)) (number_member (codes "Reason") reason)) (number_member (codes "ReturnCode") code)) (text_member (codes "Type") kind))
-    (text_member (codes "refID") reference)
-
--- those of the form
-abbrev pub formed_response : List ℕ → Option QueueEntry → ℕ → ℕ → List ℕ → List ℕ → Members
-formed_response id entry reason code kind reference =
-    put_entry entry
+pub response_formed : (spawn : ℕ) (told : Result QueueStatus ℕ) (id kind reference : List ℕ) (reason code : ℕ)
+    → AreFormed (joined (joined (joined (joined (joined (text_member (codes "ID") id) (put_entry spawn told no_members)) (number_member (codes "Reason") reason)) (number_member (codes "ReturnCode") code)) (text_member (codes "Type") kind)) (text_member (codes "refID") reference))
+    (put_entry spawn told
     (member (codes "ID") (string id)
     (member (codes "Reason") (number (unsigned reason))
     (member (codes "ReturnCode") (number (unsigned code))
     (member (codes "Type") (string kind)
-    (text_member (codes "refID") reference)))))
-
-pub same_response : (id : List ℕ) (entry : Option QueueEntry) (reason code : ℕ) (kind reference : List ℕ) → shown_response id entry reason code kind reference ≡ formed_response id entry reason code kind reference
-same_response id None reason code kind reference = refl
-same_response id (Some e) reason code kind reference = refl
-
-pub response_ordered : (id : List ℕ) (entry : Option QueueEntry) (reason code : ℕ) (kind reference : List ℕ)
-    → put_all (shown_response id entry reason code kind reference) no_members ≡ shown_response id entry reason code kind reference
-response_ordered id None reason code kind reference = refl
-response_ordered id (Some e) reason code kind reference = refl
+    (text_member (codes "refID") reference))))))
+response_formed spawn (Ok status) id kind reference reason code = record { ordered = refl; same = refl }
+response_formed spawn (Err e) id kind reference reason code = record { ordered = refl; same = refl }
 
 -- ---- a JMF object
 
--- in their order
-abbrev shown_jmf : Family → List ℕ → List ℕ → ℕ → List ℕ → Members
-shown_jmf f receiver sender at version =
-    joined (joined (joined (joined (joined (command_before_receiver f) (text_member (codes "ReceiverID") receiver)) (response_after_receiver f)) (text_member (codes "SenderID") sender)) (number_member (codes "TimeStamp") at))
-    (text_member (codes "Version") version)
-
--- those of the form
-abbrev pub formed_jmf : Family → List ℕ → List ℕ → ℕ → List ℕ → Members
-formed_jmf f receiver sender at version =
-    put_family f
+pub jmf_formed : (sender : List ℕ) (s : Said) (receiver : List ℕ) (at : ℕ) (version : List ℕ)
+    → AreFormed (joined (joined (joined (put_said sender s (text_member (codes "ReceiverID") receiver)) (text_member (codes "SenderID") sender)) (number_member (codes "TimeStamp") at)) (text_member (codes "Version") version))
+    (put_said sender s
     (member (codes "ReceiverID") (string receiver)
     (member (codes "SenderID") (string sender)
     (member (codes "TimeStamp") (number (unsigned at))
-    (text_member (codes "Version") version))))
-
-pub same_jmf : (f : Family) (receiver sender : List ℕ) (at : ℕ) (version : List ℕ) → shown_jmf f receiver sender at version ≡ formed_jmf f receiver sender at version
-same_jmf (families.Command c) receiver sender at version = refl
-same_jmf (families.Response r) receiver sender at version = refl
-
-pub jmf_ordered : (f : Family) (receiver sender : List ℕ) (at : ℕ) (version : List ℕ) → put_all (shown_jmf f receiver sender at version) no_members ≡ shown_jmf f receiver sender at version
-jmf_ordered (families.Command c) receiver sender at version = refl
-jmf_ordered (families.Response r) receiver sender at version = refl
-
--- ---- a message
-
--- in their order
-abbrev shown_message : Body → Data → Members
-shown_message b jmf = joined (put_part b no_members) (member (codes "JMF") jmf no_members)
-
--- those of the form
-abbrev pub formed_message : Body → Data → Members
-formed_message b jmf = put_part b (member (codes "JMF") jmf no_members)
-
-pub same_message : (b : Body) (jmf : Data) → shown_message b jmf ≡ formed_message b jmf
-same_message (bodies.Submit part) jmf = refl
-same_message (bodies.Return part) jmf = refl
-same_message (bodies.Abort spawn) jmf = refl
-same_message (bodies.Answer asked spawn result) jmf = refl
-
-pub message_ordered : (b : Body) (jmf : Data) → put_all (shown_message b jmf) no_members ≡ shown_message b jmf
-message_ordered (bodies.Submit part) jmf = refl
-message_ordered (bodies.Return part) jmf = refl
-message_ordered (bodies.Abort spawn) jmf = refl
-message_ordered (bodies.Answer asked spawn result) jmf = refl
+    (text_member (codes "Version") version)))))
+jmf_formed sender (said.Command asked spawn) receiver at version = record { ordered = refl; same = refl }
+jmf_formed sender (said.Answer asked spawn told) receiver at version = record { ordered = refl; same = refl }

@@ -1,72 +1,31 @@
 -- What is answered for a message, by what it says and what is wrong with it.
-use Rattle.std.proofs.Common.{◌≡◌, ◌⊎◌, inl, inr, ⊎_elim, ℕ, ◌&&◌, Bool, true, false, List, [], ◌∷◌, Option, Some, None, Result, Ok, Err, IfErr, IsErrAnd, is_some, refl, sym, ap, subst, ◌∙◌}
-use Rattle.std.specs.Option.{option_map_or}
-use Rattle.std.specs.Str.{bytes_eq}
+use Rattle.std.proofs.Common.{◌≡◌, ◌⊎◌, inl, inr, ⊎_elim, ℕ, ◌&&◌, Bool, true, false, List, [], ◌∷◌, Option, Some, None, Result, Ok, Err, IfErr, IsErrAnd, refl, sym, ap, subst, ◌∙◌}
 use Rattle.json_items.specs.Judged.{Answers, sound}
 use Rattle.json_source.specs.Read.{◌>>=◌, provided}
 use Rattle.json_shapes.specs.PartDraft.{RawPart}
 use Rattle.json_shapes.specs.PartForm.{has_names, has_texts, built_fault, part_fault, copied}
-use Rattle.ticket_items.specs.SpawnId.{spawn_of, spawn_text}
 use Rattle.ticket_items.specs.declared.refusal.Refusal.{Refusal}
-use Rattle.ticket_items.specs.declared.refusal.Refusal.TheVariants.{BadId, BadText, Memory, WrongMessage}
+use Rattle.ticket_items.specs.declared.refusal.Refusal.TheVariants.{BadId, BadText, Memory}
 use Rattle.ticket_rows.specs.Ticket.{unless, first_of}
 use Rattle.ticket_tree.specs.Part.{Copied}
-use Rattle.jmf_message.specs.Decoded.{are_ids, message_fault, message_saying, message_with}
-use Rattle.jmf_message.specs.DocumentForm.{RawMessage}
-use Rattle.jmf_message.specs.Said.{body_with, command_body, command_of, entry_of, same_command}
-use Rattle.jmf_message.specs.Written.{command_for}
 use Rattle.controller.specs.declared.body.Body.{Body}
-use Rattle.jmf_message.specs.declared.command_message.CommandMessage.{CommandMessage}
-use Rattle.jmf_message.specs.declared.jmf.Jmf.{Jmf}
 use Rattle.controller.specs.declared.message.Message.{Message}
+use Rattle.jmf_message.specs.Decoded.{are_ids, message_fault, message_saying, message_with}
+use Rattle.jmf_message.specs.Form.{RawMessage}
+use Rattle.jmf_message.specs.declared.jmf.Jmf.{Jmf}
 
--- ---- what says nothing
-
-nothing_at : (raw : RawMessage) (said : Option Body) → is_some said ≡ false → message_saying raw said ≡ Err WrongMessage
-nothing_at raw None h = refl
-nothing_at raw (Some b) h = cc
-
-pub says_nothing : (raw : RawMessage) (said : Option Body) (right : Bool) → right ≡ is_some said → right ≡ false → message_saying raw said ≡ Err WrongMessage
-says_nothing raw said right is wrong = nothing_at raw said (sym is ∙ wrong)
-
--- ---- commands
-
--- a value under two conditions, where it is there
-there_at : {X : Type 0} (b : Bool) (x : X) → is_some (provided b >>= λ _. Some x) ≡ true → (provided b >>= λ _. Some x) ≡ Some x
-there_at true x h = refl
-there_at false x h = cc
-
-there : {X : Type 0} (o : Option ℕ) (test : ℕ → Bool) (x : X) → is_some (o >>= λ n. provided (test n) >>= λ _. Some x) ≡ true → (o >>= λ n. provided (test n) >>= λ _. Some x) ≡ Some x
-there None test x h = cc
-there (Some n) test x h = there_at (test n) x h
-
-right_command_at : (sender : List ℕ) (c : CommandMessage) (p : RawPart) → is_some (command_body sender c p) ≡ true → command_body sender c p ≡ Some (body_with (command_of c.params) (copied p))
-unfolding command_body
-right_command_at sender c p h =
-    there (spawn_of (entry_of c.params)) (λ n. same_command c (command_for sender (command_of c.params) n) && bytes_eq p.spawn (spawn_text n)) (body_with (command_of c.params) (copied p)) h
-
-pub right_command : (sender : List ℕ) (c : CommandMessage) (p : RawPart) (right : Bool) → right ≡ is_some (command_body sender c p) → right ≡ true → command_body sender c p ≡ Some (body_with (command_of c.params) (copied p))
-right_command sender c p right is holds = right_command_at sender c p (sym is ∙ holds)
+-- one step of a test that is passed
+pub passed : {X : Type 0} (b : Bool) (x : X) → b ≡ true → (provided b >>= λ _. Some x) ≡ Some x
+passed b x h = ap (λ c. provided c >>= λ _. Some x) h
 
 -- ---- what is wrong
 
 abbrev with_part : Jmf → Option RawPart → RawMessage
 with_part j p = record { jmf = j; part = p }
 
--- names that aren't valid come first
-pub bad_ids : (j : Jmf) (p : Option RawPart) → are_ids j ≡ false → message_fault (with_part j p) ≡ Some BadId
-bad_ids j p bad = ap (λ b. first_of (unless (b && option_map_or has_names p true) BadId ∷ unless (option_map_or has_texts p true) BadText ∷ later p ∷ [])) bad
-  where
-    later : Option RawPart → Option Refusal
-    later None = None
-    later (Some q) = built_fault q
-
 -- else what is wrong with the part
 pub fault_of_part : (j : Jmf) (p : RawPart) → are_ids j ≡ true → message_fault (with_part j (Some p)) ≡ part_fault p
 fault_of_part j p good = ap (λ b. first_of (unless (b && has_names p) BadId ∷ unless (has_texts p) BadText ∷ built_fault p ∷ [])) good
-
-pub no_fault_of_answer : (j : Jmf) → are_ids j ≡ true → message_fault (with_part j None) ≡ None
-no_fault_of_answer j good = ap (λ b. first_of (unless (b && true) BadId ∷ None ∷ None ∷ [])) good
 
 -- ---- what is answered
 
@@ -90,14 +49,6 @@ part_refused j p said b e is good answers =
 pub part_good : (j : Jmf) (p : RawPart) (said : Option Body) (b : Body) (built : Copied) → said ≡ Some b → are_ids j ≡ true → sound (part_fault p) (copied p) ≡ Ok built
     → message_saying (with_part j (Some p)) said ≡ Ok (message_with (with_part j (Some p)) b)
 part_good j p said b built is good answers = says (with_part j (Some p)) said b (part_fault p) is (fault_of_part j p good) ∙ sound_good (part_fault p) (copied p) built (message_with (with_part j (Some p)) b) answers
-
--- a refusal of the sender or the receiver
-pub ids_refused : (j : Jmf) (p : Option RawPart) (said : Option Body) (b : Body) (e : Refusal) → said ≡ Some b → (e ≡ Memory) ⊎ ((e ≡ BadId) × (are_ids j ≡ false)) → (e ≡ Memory) ⊎ (message_saying (with_part j p) said ≡ Err e)
-ids_refused j p said b e is answers =
-    ⊎_elim (λ memory. inl memory) (λ refused. inr (says (with_part j p) said b (Some BadId) is (bad_ids j p refused.1) ∙ ap Err (sym refused.0))) answers
-
-pub answer_good : (j : Jmf) (said : Option Body) (b : Body) → said ≡ Some b → are_ids j ≡ true → message_saying (with_part j None) said ≡ Ok (message_with (with_part j None) b)
-answer_good j said b is good = says (with_part j None) said b None is (no_fault_of_answer j good)
 
 -- ---- what is handed on
 

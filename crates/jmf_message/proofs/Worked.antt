@@ -5,10 +5,7 @@ use Rattle.std.specs.Prelude.{codes}
 use Rattle.serde_json.specs.Data.{Data, Members, no_members, member, unsigned, number, string, object}
 use Rattle.ticket_items.specs.declared.refusal.Refusal.TheVariants.{NotProfile, WrongMessage}
 use Rattle.jmf_message.specs.Decoded.{message_read}
-use Rattle.jmf_message.specs.DocumentForm.{document_form}
-use Rattle.jmf_message.specs.JmfForm.{jmf_form}
-use Rattle.jmf_message.specs.ResponseForm.{entry_form, response_form}
-use Rattle.jmf_message.specs.Said.{response_body}
+use Rattle.jmf_message.specs.Form.{document_form, is_response, jmf_form}
 use Rattle.controller.specs.Words.{message_id}
 use Rattle.jmf_message.specs.Written.{message_data}
 use Rattle.controller.specs.declared.body.Body.TheVariants as bodies
@@ -52,47 +49,47 @@ unfolding digits
 taken_id = refl
 
 taken_read : message_read (answered running) ≡ Ok taken
-unfolding digits document_form jmf_form response_form entry_form response_body
+unfolding digits document_form jmf_form is_response
 taken_read = refl
 
 refusal_read : message_read (answered (refused 17 1)) ≡ Ok (record taken { body = bodies.Answer Submit 1 (Err 17) })
-unfolding digits document_form jmf_form response_form entry_form response_body
+unfolding digits document_form jmf_form is_response
 refusal_read = refl
 
 -- ---- answers that no message gives
 
 refusal_without_reason : message_read (answered (refused 0 1)) ≡ Err WrongMessage
-unfolding digits document_form jmf_form response_form entry_form response_body
+unfolding digits document_form jmf_form is_response
 refusal_without_reason = refl
 
 reason_of_four_digits : message_read (answered (refused 1000 1)) ≡ Err WrongMessage
-unfolding digits document_form jmf_form response_form entry_form response_body
+unfolding digits document_form jmf_form is_response
 reason_of_four_digits = refl
 
 refusal_with_code_of_success : message_read (answered (refused 17 0)) ≡ Err WrongMessage
-unfolding digits document_form jmf_form response_form entry_form response_body
+unfolding digits document_form jmf_form is_response
 refusal_with_code_of_success = refl
 
 success_with_reason : message_read (answered (success (codes "Q.S1") (codes "S1") 1 (codes "SubmitQueueEntry"))) ≡ Err WrongMessage
-unfolding digits document_form jmf_form response_form entry_form response_body
+unfolding digits document_form jmf_form is_response
 success_with_reason = refl
 
 entry_of_another_spawn : message_read (answered (success (codes "Q.S1") (codes "S2") 0 (codes "SubmitQueueEntry"))) ≡ Err WrongMessage
-unfolding digits document_form jmf_form response_form entry_form response_body
+unfolding digits document_form jmf_form is_response
 entry_of_another_spawn = refl
 
 reference_to_another_spawn : message_read (answered (success (codes "Q.S2") (codes "S1") 0 (codes "SubmitQueueEntry"))) ≡ Err WrongMessage
-unfolding digits document_form jmf_form response_form entry_form response_body
+unfolding digits document_form jmf_form is_response
 reference_to_another_spawn = refl
 
 reference_to_no_spawn : message_read (answered (success (codes "Q.S0") (codes "S0") 0 (codes "SubmitQueueEntry"))) ≡ Err WrongMessage
-unfolding digits document_form jmf_form response_form entry_form response_body
+unfolding digits document_form jmf_form is_response
 reference_to_no_spawn = refl
 
 reference_of_the_other_type : message_read (answered (success (codes "Q.S1") (codes "S1") 0 (codes "ReturnQueueEntry"))) ≡ Err WrongMessage
-unfolding digits document_form jmf_form response_form entry_form response_body
+unfolding digits document_form jmf_form is_response
 reference_of_the_other_type = refl
 
 response_that_is_no_object : message_read (answered (string (codes "Q.S1"))) ≡ Err NotProfile
-unfolding document_form jmf_form response_form
+unfolding document_form jmf_form is_response
 response_that_is_no_object = refl

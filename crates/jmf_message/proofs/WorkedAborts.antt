@@ -4,12 +4,8 @@ use Rattle.std.specs.Fmt.{digits}
 use Rattle.std.specs.Prelude.{codes}
 use Rattle.serde_json.specs.Data.{Data, Members, no_members, member, null, unsigned, number, string, object}
 use Rattle.ticket_items.specs.declared.refusal.Refusal.TheVariants.{NotProfile, WrongMessage}
-use Rattle.jmf_message.specs.CommandForm.{abort_form, command_form}
 use Rattle.jmf_message.specs.Decoded.{message_read}
-use Rattle.jmf_message.specs.DocumentForm.{document_form}
-use Rattle.jmf_message.specs.JmfForm.{jmf_form}
-use Rattle.jmf_message.specs.ResponseForm.{entry_form, response_form}
-use Rattle.jmf_message.specs.Said.{abort_body, response_body}
+use Rattle.jmf_message.specs.Form.{document_form, is_command, is_response, jmf_form}
 use Rattle.controller.specs.Words.{message_id}
 use Rattle.jmf_message.specs.Written.{message_data}
 use Rattle.controller.specs.declared.body.Body.TheVariants as bodies
@@ -49,21 +45,21 @@ unfolding digits
 asked_id = refl
 
 asked_read : message_read (message_data asked) ≡ Ok asked
-unfolding digits document_form jmf_form command_form abort_form abort_body
+unfolding digits document_form jmf_form is_command
 asked_read = refl
 
 id_of_another_spawn : message_read (alone (abort (codes "A.S2") (codes "S1"))) ≡ Err WrongMessage
-unfolding digits document_form jmf_form command_form abort_form abort_body
+unfolding digits document_form jmf_form is_command
 id_of_another_spawn = refl
 
 -- whatever stands as a part beside it
 beside_a_part : message_read (object (member (codes "JDF") null (member (codes "JMF") (jmf (abort (codes "A.S1") (codes "S1"))) no_members))) ≡ Err NotProfile
-unfolding document_form jmf_form command_form abort_form
+unfolding document_form jmf_form is_command
 beside_a_part = refl
 
 -- the params of two commands
 two_params : message_read (alone (object (member (codes "AbortQueueEntryParams") (named (codes "S1")) (member (codes "ID") (string (codes "A.S1")) (member (codes "ReturnQueueEntryParams") null (member (codes "Type") (string (codes "AbortQueueEntry")) no_members)))))) ≡ Err NotProfile
-unfolding document_form jmf_form command_form
+unfolding document_form jmf_form is_command
 two_params = refl
 
 -- ---- the answer of press, which declines
@@ -87,5 +83,5 @@ unfolding digits
 declined_written = refl
 
 declined_read : message_read (refused 38) ≡ Ok declined
-unfolding digits document_form jmf_form response_form entry_form response_body
+unfolding digits document_form jmf_form is_response
 declined_read = refl

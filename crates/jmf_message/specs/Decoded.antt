@@ -8,19 +8,54 @@ use Rattle.std.specs.Str.{IsUtf8, bytes_eq}
 use Rattle.serde_json.specs.Data.{Data}
 use Rattle.serde_json.specs.Read.{read}
 use Rattle.json_items.specs.Judged.{sound}
+use Rattle.json_shapes.specs.PartDraft.{RawPart}
 use Rattle.json_shapes.specs.PartForm as part
+use Rattle.json_source.specs.Read.{◌>>=◌, provided}
 use Rattle.ticket_items.specs.Names.{is_name}
+use Rattle.ticket_items.specs.SpawnId.{spawn_text}
 use Rattle.ticket_rows.specs.Ticket.{unless, first_of}
+use Rattle.ticket_tree.specs.Part.{Copied}
 use Rattle.ticket_items.specs.declared.refusal.Refusal.{Refusal}
 use Rattle.ticket_items.specs.declared.refusal.Refusal.TheVariants.{NotJson, NotProfile}
 use Rattle.ticket_items.specs.declared.refusal.Refusal.TheVariants.{WrongVersion, WrongMessage}
 use Rattle.ticket_items.specs.declared.refusal.Refusal.TheVariants.{BadId, BadText, Memory}
-use Rattle.jmf_message.specs.DocumentForm.{RawMessage, document_form}
-use Rattle.jmf_message.specs.Said.{body_of}
+use Rattle.jmf_message.specs.Form.{RawMessage, document_form}
 use Rattle.controller.specs.Words.{version}
 use Rattle.controller.specs.declared.body.Body.{Body}
-use Rattle.jmf_message.specs.declared.jmf.Jmf.{Jmf}
+use Rattle.controller.specs.declared.body.Body.TheVariants as bodies
+use Rattle.controller.specs.declared.command.Command.{Command}
+use Rattle.controller.specs.declared.command.Command.TheVariants.{Submit, Return, Abort}
 use Rattle.controller.specs.declared.message.Message.{Message}
+use Rattle.jmf_message.specs.declared.jmf.Jmf.{Jmf}
+use Rattle.jmf_message.specs.declared.said.Said.{Said}
+use Rattle.jmf_message.specs.declared.said.Said.TheVariants as said
+
+-- the body of a command of the spawn of a part
+abbrev pub body_with : Command → Copied → Body
+body_with Submit part = bodies.Submit part
+body_with Return part = bodies.Return part
+body_with Abort part = bodies.Abort part.spawn_id
+
+-- the body of what is said with a part, which has to be that of the spawn
+abbrev pub said_with : RawPart → Said → Option Body
+said_with p (said.Command asked spawn) = provided (bytes_eq p.spawn (spawn_text spawn)) >>=
+    λ _. Some (body_with asked (part.copied p))
+said_with p (said.Answer asked spawn result) = None
+
+-- and of what is said without one
+abbrev pub said_alone : Said → Option Body
+said_alone (said.Command Submit spawn) = None
+said_alone (said.Command Return spawn) = None
+said_alone (said.Command Abort spawn) = Some (bodies.Abort spawn)
+said_alone (said.Answer asked spawn result) = Some (bodies.Answer asked spawn result)
+
+abbrev pub said_beside : Option RawPart → Said → Option Body
+said_beside None s = said_alone s
+said_beside (Some p) s = said_with p s
+
+-- the body of a message that says what it may
+abbrev pub body_of : RawMessage → Option Body
+body_of m = option_and_then (said_beside m.part) m.jmf.said
 
 -- whether the sender and the receiver are ids
 abbrev pub are_ids : Jmf → Bool

@@ -2,7 +2,7 @@
 use Rattle.std.specs.Prelude.{◌≡◌, ◌≤◌, true, Ok}
 use Rattle.serde_json.specs.Data.{depth}
 use Rattle.json_shapes.specs.PartForm.{part_read}
-use Rattle.json_writer.specs.PartWritten.{part_data}
+use Rattle.json_text.specs.PartWritten.{part_data}
 use Rattle.ticket_items.specs.SpawnId.{is_spawn_number}
 use Rattle.ticket_tree.specs.Part.{Copied}
 use Rattle.controller.specs.declared.body.Body.{Body}

@@ -1,12 +1,6 @@
-pub mod CommandForm
-pub mod ResponseForm
-pub mod JmfForm
-pub mod InOrder
-pub mod DocumentForm
-pub mod Drafted
 pub mod Written
 pub mod Said
+pub mod Form
 pub mod Decoded
 pub mod Known
 pub mod Laws
-pub mod Again

@@ -1,93 +1,60 @@
 -- What a document says, if it says what a message may: exactly what is written for it.
-use Rattle.std.specs.Prelude.{ℕ, ◌&&◌, ◌==◌, Bool, true, false, List, [], ◌∷◌, if◌then◌else◌}
+use Rattle.std.specs.Prelude.{ℕ, ◌&&◌, ◌==◌, Bool, true, false, List, [], ◌∷◌, if◌then◌else◌, codes}
 use Rattle.std.specs.Prelude.{Option, Some, None, option_and_then, Result, Ok, Err}
-use Rattle.std.specs.Option.{option_map}
+use Rattle.std.specs.List.{list_all}
+use Rattle.std.specs.Option.{option_map, option_map_or}
 use Rattle.std.specs.Str.{bytes_eq}
-use Rattle.json_shapes.specs.PartDraft.{RawPart}
-use Rattle.json_shapes.specs.PartForm.{copied}
-use Rattle.json_source.specs.Read.{◌>>=◌, provided}
-use Rattle.ticket_items.specs.SpawnId.{spawn_of, spawn_text}
-use Rattle.ticket_tree.specs.Part.{Copied}
-use Rattle.jmf_message.specs.DocumentForm.{RawMessage}
-use Rattle.controller.specs.Words.{command_named, status_named}
-use Rattle.controller.specs.Words.{is_reason, mark_of}
-use Rattle.jmf_message.specs.Written.{command_for, response_for}
-use Rattle.controller.specs.declared.body.Body.{Body}
-use Rattle.controller.specs.declared.body.Body.TheVariants as bodies
+use Rattle.serde_json.specs.Data.{Data}
+use Rattle.serde_json.specs.Find.{get}
+use Rattle.json_source.specs.Read.{◌>>=◌, provided, number_under, text_under}
+use Rattle.ticket_items.specs.Attrs.{Pairs}
+use Rattle.ticket_items.specs.SpawnId.{spawn_of}
+use Rattle.controller.specs.Words.{answer_id, command_id, command_named, is_reason, is_told}
+use Rattle.controller.specs.Words.{mark_of, status_named, type_of}
 use Rattle.controller.specs.declared.command.Command.{Command}
-use Rattle.controller.specs.declared.command.Command.TheVariants as commands
-use Rattle.jmf_message.specs.declared.command_message.CommandMessage.{CommandMessage}
-use Rattle.jmf_message.specs.declared.family.Family.{Family}
-use Rattle.jmf_message.specs.declared.family.Family.TheVariants as families
-use Rattle.jmf_message.specs.declared.params.Params.{Params}
-use Rattle.jmf_message.specs.declared.params.Params.TheVariants.{Submission, Return, Abort}
-use Rattle.jmf_message.specs.declared.queue_entry.QueueEntry.{QueueEntry}
 use Rattle.controller.specs.declared.queue_status.QueueStatus.{QueueStatus}
-use Rattle.jmf_message.specs.declared.response_message.ResponseMessage.{ResponseMessage}
+use Rattle.jmf_message.specs.Written.{code_of, entry_texts, params_texts, params_name, reason_of}
+use Rattle.jmf_message.specs.declared.said.Said.{Said}
+use Rattle.jmf_message.specs.declared.said.Said.TheVariants as said
 
--- ---- the same
+-- ---- members
 
-abbrev pub same_params : Params → Params → Bool
-same_params (Submission p) (Submission q) = bytes_eq p.entry q.entry
-    && bytes_eq p.return_jmf q.return_jmf && bytes_eq p.return_url q.return_url
-    && bytes_eq p.url q.url
-same_params (Return p) (Return q) = bytes_eq p.entry q.entry && bytes_eq p.url q.url
-same_params (Abort p) (Abort q) = bytes_eq p.entry q.entry
-same_params (Submission p) (Return q) = false
-same_params (Submission p) (Abort q) = false
-same_params (Return p) (Submission q) = false
-same_params (Return p) (Abort q) = false
-same_params (Abort p) (Submission q) = false
-same_params (Abort p) (Return q) = false
+-- whether this text stands under a name
+abbrev pub says : List ℕ → List ℕ → Data → Bool
+says name text d = option_map_or (λ found. bytes_eq found text) (text_under name d) false
 
-abbrev pub same_command : CommandMessage → CommandMessage → Bool
-same_command c d = bytes_eq c.id d.id && bytes_eq c.kind d.kind && same_params c.params d.params
+-- whether this whole number does
+abbrev pub tells : List ℕ → ℕ → Data → Bool
+tells name n d = option_map_or (λ found. found == n) (number_under name d) false
 
-abbrev pub same_entry : Option QueueEntry → Option QueueEntry → Bool
-same_entry None None = true
-same_entry (Some e) (Some f) = bytes_eq e.id f.id && bytes_eq e.status f.status
-same_entry None (Some f) = false
-same_entry (Some e) None = false
+-- whether each of these texts stands under its name
+abbrev pub says_all : Pairs → Data → Bool
+says_all texts d = list_all (λ p. says p.0 p.1 d) texts
 
-abbrev pub same_response : ResponseMessage → ResponseMessage → Bool
-same_response r s = bytes_eq r.id s.id && same_entry r.entry s.entry && r.reason == s.reason
-    && r.code == s.code && bytes_eq r.kind s.kind && bytes_eq r.reference s.reference
+-- whether they do in the object under a name
+abbrev pub says_under : List ℕ → Pairs → Data → Bool
+says_under name texts d = option_map_or (says_all texts) (get name d) false
 
 -- ---- commands
 
--- the command that has such params, and the queue entry that they name
-abbrev pub command_of : Params → Command
-command_of (Submission p) = commands.Submit
-command_of (Return p) = commands.Return
-command_of (Abort p) = commands.Abort
+-- the spawn that the params of such a command name
+abbrev pub spawn_asked : Command → Data → Option ℕ
+spawn_asked asked d =
+    option_and_then spawn_of
+    (option_and_then (text_under (codes "QueueEntryID")) (get (params_name asked) d))
 
-abbrev pub entry_of : Params → List ℕ
-entry_of (Submission p) = p.entry
-entry_of (Return p) = p.entry
-entry_of (Abort p) = p.entry
+-- whether data is a sender's command of this spawn
+abbrev pub is_command_of : List ℕ → Command → ℕ → Data → Bool
+is_command_of sender asked spawn d = says (codes "ID") (command_id asked spawn) d
+    && says (codes "Type") (type_of asked) d
+    && says_under (params_name asked) (params_texts sender asked spawn) d
 
--- the body of a command of the spawn of a part
-abbrev pub body_with : Command → Copied → Body
-body_with commands.Submit part = bodies.Submit part
-body_with commands.Return part = bodies.Return part
-body_with commands.Abort part = bodies.Abort part.spawn_id
-
--- a sender's command with a part has to be the command of the spawn that its params name, and the
--- part this spawn's
-unfoldable pub command_body : List ℕ → CommandMessage → RawPart → Option Body
-command_body sender c p = do
-  spawn ← spawn_of (entry_of c.params)
-  _ ← provided
-      (same_command c (command_for sender (command_of c.params) spawn)
-      && bytes_eq p.spawn (spawn_text spawn))
-  Some (body_with (command_of c.params) (copied p))
-
--- a sender's command without a part has to be that to abort the spawn that its params name
-unfoldable pub abort_body : List ℕ → CommandMessage → Option Body
-abort_body sender c = do
-  spawn ← spawn_of (entry_of c.params)
-  _ ← provided (same_command c (command_for sender commands.Abort spawn))
-  Some (bodies.Abort spawn)
+-- a sender's command has to be that of the spawn that its params name
+abbrev pub command_said : List ℕ → Command → Data → Option Said
+command_said sender asked d = do
+  spawn ← spawn_asked asked d
+  _ ← provided (is_command_of sender asked spawn d)
+  Some (said.Command asked spawn)
 
 -- ---- responses
 
@@ -101,29 +68,50 @@ behind (c ∷ front) (d ∷ text) = if d == c then behind front text else None
 abbrev pub spawn_behind : Command → List ℕ → Option ℕ
 spawn_behind asked id = option_and_then spawn_of (behind (mark_of asked) id)
 
+-- the command that a response's Type names, and the spawn that its refID does
+abbrev pub answered_in : Data → Option (Command × ℕ)
+answered_in d = do
+  asked ← option_and_then command_named (text_under (codes "Type") d)
+  spawn ← option_and_then (spawn_behind asked) (text_under (codes "refID") d)
+  Some (asked, spawn)
+
+-- the reason of a refusal
+abbrev pub refusal_in : ℕ → Option (Result QueueStatus ℕ)
+refusal_in n = provided (is_reason n) >>= λ _. Some (Err n)
+
 -- the Status of the queue entry, or where there is none the reason of a refusal
-abbrev pub result_in : ℕ → Option QueueEntry → Option (Result QueueStatus ℕ)
-result_in reason (Some e) = option_map Ok (status_named e.status)
-result_in reason None = provided (is_reason reason) >>= λ _. Some (Err reason)
+abbrev pub told_at : Option Data → Data → Option (Result QueueStatus ℕ)
+told_at (Some entry) d =
+    option_map Ok (option_and_then status_named (text_under (codes "Status") entry))
+told_at None d = option_and_then refusal_in (number_under (codes "Reason") d)
+
+abbrev pub told_by : Data → Option (Result QueueStatus ℕ)
+told_by d = told_at (get (codes "QueueEntry") d) d
+
+-- whether the queue entry is that of a spawn with this result
+abbrev pub is_entry_of : ℕ → Result QueueStatus ℕ → Data → Bool
+is_entry_of spawn (Ok status) d = says_under (codes "QueueEntry") (entry_texts spawn status) d
+is_entry_of spawn (Err reason) d = true
+
+-- whether data, whose Type and refID name the command of a spawn, is the response to it with this
+-- result
+abbrev pub is_response_of : Command → ℕ → Result QueueStatus ℕ → Data → Bool
+is_response_of asked spawn result d = says (codes "ID") (answer_id asked spawn) d
+    && is_entry_of spawn result d && tells (codes "Reason") (reason_of result) d
+    && tells (codes "ReturnCode") (code_of result) d
 
 -- a response has to be that to the command that its Type and its refID name, with the result that
 -- it tells
-unfoldable pub response_body : ResponseMessage → Option Body
-response_body r = do
-  asked ← command_named r.kind
-  spawn ← spawn_behind asked r.reference
-  result ← result_in r.reason r.entry
-  _ ← provided (same_response r (response_for asked spawn result))
-  Some (bodies.Answer asked spawn result)
+abbrev pub response_said : Data → Option Said
+response_said d = do
+  answered ← answered_in d
+  told ← told_by d
+  _ ← provided (is_response_of answered.0 answered.1 told d)
+  Some (said.Answer answered.0 answered.1 told)
 
--- ---- messages
+-- ---- what may be said
 
-abbrev pub said_by : List ℕ → Family → Option RawPart → Option Body
-said_by sender (families.Command c) (Some p) = command_body sender c p
-said_by sender (families.Response r) None = response_body r
-said_by sender (families.Command c) None = abort_body sender c
-said_by sender (families.Response r) (Some p) = None
-
--- the body of a message that says what it may
-abbrev pub body_of : RawMessage → Option Body
-body_of m = said_by m.jmf.sender m.jmf.family m.part
+-- whether what is said may be sent: the number of a refusal in it is one
+abbrev pub may_be_said : Said → Bool
+may_be_said (said.Command asked spawn) = true
+may_be_said (said.Answer asked spawn result) = is_told result

@@ -1,96 +1,126 @@
 -- What a message is in JMF (JMF; JDF 1.5, 5): the one table by which messages are written, and by
 -- which they are read.
-use Rattle.std.specs.Prelude.{ℕ, List, codes, Option, Some, None, Result, Ok, Err}
-use Rattle.serde_json.specs.Data.{Data, Members, no_members, member, put, object}
-use Rattle.json_writer.specs.PartWritten.{part_data}
+use Rattle.std.specs.Borrow.{Bor}
+use Rattle.std.specs.Prelude.{◌≡◌, ℕ, List, [], ◌∷◌, codes, map, Result, Ok, Err}
+use Rattle.serde_json.specs.Data.{Data, Members, no_members, member, put, unsigned, number, string}
+use Rattle.serde_json.specs.Data.{object}
+use Rattle.json_items.specs.Attributes.{attr_members, attrs_data}
+use Rattle.json_text.specs.PartWritten.{part_data}
+use Rattle.ticket_items.specs.Attrs.{Pairs}
 use Rattle.ticket_items.specs.SpawnId.{spawn_text}
-use Rattle.jmf_message.specs.JmfForm.{jmf_data}
 use Rattle.controller.specs.Words.{answer_id, command_id, no_place, place_of, status_word}
 use Rattle.controller.specs.Words.{type_of, version}
 use Rattle.controller.specs.declared.body.Body.{Body}
-use Rattle.controller.specs.declared.body.Body.TheVariants.{Submit, Return, Abort, Answer}
+use Rattle.controller.specs.declared.body.Body.TheVariants as bodies
 use Rattle.controller.specs.declared.command.Command.{Command}
-use Rattle.controller.specs.declared.command.Command.TheVariants as commands
-use Rattle.jmf_message.specs.declared.command_message.CommandMessage.{CommandMessage}
-use Rattle.jmf_message.specs.declared.family.Family.{Family}
-use Rattle.jmf_message.specs.declared.family.Family.TheVariants as families
-use Rattle.jmf_message.specs.declared.jmf.Jmf.{Jmf}
+use Rattle.controller.specs.declared.command.Command.TheVariants.{Submit, Return, Abort}
 use Rattle.controller.specs.declared.message.Message.{Message}
-use Rattle.jmf_message.specs.declared.params.Params.{Params}
-use Rattle.jmf_message.specs.declared.params.Params.TheVariants as params
-use Rattle.jmf_message.specs.declared.queue_entry.QueueEntry.{QueueEntry}
 use Rattle.controller.specs.declared.queue_status.QueueStatus.{QueueStatus}
-use Rattle.jmf_message.specs.declared.response_message.ResponseMessage.{ResponseMessage}
+use Rattle.jmf_message.specs.declared.said.Said.{Said}
+use Rattle.jmf_message.specs.declared.said.Said.TheVariants as said
 
--- the params of a sender's command of a spawn
-abbrev pub params_for : List ℕ → Command → ℕ → Params
-params_for sender commands.Submit spawn =
-    params.Submission
-    (record {
-      entry = spawn_text spawn;
-      return_jmf = place_of sender;
-      return_url = no_place;
-      url = no_place;
-    })
-params_for sender commands.Return spawn =
-    params.Return (record { entry = spawn_text spawn; url = no_place })
-params_for sender commands.Abort spawn = params.Abort (record { entry = spawn_text spawn })
+-- ---- texts
 
--- a sender's command of a spawn
-abbrev pub command_for : List ℕ → Command → ℕ → CommandMessage
-command_for sender asked spawn =
-    record {
-      id = command_id asked spawn;
-      kind = type_of asked;
-      params = params_for sender asked spawn;
-    }
+-- texts put one after another, each at its place in the byte order of the names
+abbrev pub put_texts : Pairs → Members → Members
+put_texts [] ms = ms
+put_texts (p ∷ texts) ms = put_texts texts (put p.0 (string p.1) ms)
 
-abbrev pub entry_for : ℕ → QueueStatus → QueueEntry
-entry_for spawn status = record { id = spawn_text spawn; status = status_word status }
+-- they stand in that order
+abbrev pub AreInOrder : Pairs → Type 0
+AreInOrder texts = put_texts texts no_members ≡ attr_members texts
 
--- a response to the command of a spawn, with these numbers
-abbrev pub response_with : Command → ℕ → Option QueueEntry → ℕ → ℕ → ResponseMessage
-response_with asked spawn entry reason code =
-    record {
-      id = answer_id asked spawn;
-      entry = entry;
-      reason = reason;
-      code = code;
-      kind = type_of asked;
-      reference = command_id asked spawn;
-    }
+-- texts under names that are lent
+abbrev pub named_texts : List (Bor (List ℕ) × List ℕ) → Pairs
+named_texts texts = map (λ p. (p.0.now, p.1)) texts
 
--- the response to the command of a spawn: its queue entry, with codes of success, or the reason
--- why it was refused, with that of a failure
-abbrev pub response_for : Command → ℕ → Result QueueStatus ℕ → ResponseMessage
-response_for asked spawn (Ok status) = response_with asked spawn (Some (entry_for spawn status)) 0 0
-response_for asked spawn (Err reason) = response_with asked spawn None reason 1
+-- ---- commands
 
--- what a sender says by a body
-abbrev pub family_for : List ℕ → Body → Family
-family_for sender (Submit part) =
-    families.Command (command_for sender commands.Submit part.spawn_id)
-family_for sender (Return part) =
-    families.Command (command_for sender commands.Return part.spawn_id)
-family_for sender (Abort spawn) = families.Command (command_for sender commands.Abort spawn)
-family_for sender (Answer asked spawn result) = families.Response (response_for asked spawn result)
+-- the name under which the params of a command stand
+abbrev pub params_name : Command → List ℕ
+params_name Submit = codes "QueueSubmissionParams"
+params_name Return = codes "ReturnQueueEntryParams"
+params_name Abort = codes "AbortQueueEntryParams"
 
-abbrev pub jmf_for : Message → Jmf
-jmf_for m = record {
-  receiver = m.receiver;
-  sender = m.sender;
-  at = m.at;
-  version = version;
-  family = family_for m.sender m.body;
-}
+-- the params of a sender's command of a spawn (that of an abort is our own)
+abbrev pub params_texts : List ℕ → Command → ℕ → Pairs
+params_texts sender Submit spawn = (codes "QueueEntryID", spawn_text spawn)
+    ∷ (codes "ReturnJMF", place_of sender) ∷ (codes "ReturnURL", no_place)
+    ∷ (codes "URL", no_place) ∷ []
+params_texts sender Return spawn = (codes "QueueEntryID", spawn_text spawn)
+    ∷ (codes "URL", no_place) ∷ []
+params_texts sender Abort spawn = (codes "QueueEntryID", spawn_text spawn) ∷ []
+
+-- a sender's command of a spawn; its params stand in the byte order of the names
+abbrev pub command_data : List ℕ → Command → ℕ → Data
+command_data sender asked spawn =
+    object (put (params_name asked) (attrs_data (params_texts sender asked spawn))
+    (member (codes "ID") (string (command_id asked spawn))
+    (member (codes "Type") (string (type_of asked)) no_members)))
+
+-- ---- responses
+
+-- the queue entry of a spawn
+abbrev pub entry_texts : ℕ → QueueStatus → Pairs
+entry_texts spawn status = (codes "QueueEntryID", spawn_text spawn)
+    ∷ (codes "Status", status_word status) ∷ []
+
+-- it stands in the response to a command that was taken
+abbrev pub put_entry : ℕ → Result QueueStatus ℕ → Members → Members
+put_entry spawn (Ok status) ms =
+    put (codes "QueueEntry") (attrs_data (entry_texts spawn status)) ms
+put_entry spawn (Err reason) ms = ms
+
+-- the Reason why the command was refused, and the ReturnCode
+abbrev pub reason_of : Result QueueStatus ℕ → ℕ
+reason_of (Ok status) = 0
+reason_of (Err reason) = reason
+
+abbrev pub code_of : Result QueueStatus ℕ → ℕ
+code_of (Ok status) = 0
+code_of (Err reason) = 1
+
+-- the response to the command of a spawn
+abbrev pub response_data : Command → ℕ → Result QueueStatus ℕ → Data
+response_data asked spawn result =
+    object (put_entry spawn result
+    (member (codes "ID") (string (answer_id asked spawn))
+    (member (codes "Reason") (number (unsigned (reason_of result)))
+    (member (codes "ReturnCode") (number (unsigned (code_of result)))
+    (member (codes "Type") (string (type_of asked))
+    (member (codes "refID") (string (command_id asked spawn)) no_members))))))
+
+-- ---- messages
+
+-- what is said by a body, without its part
+abbrev pub said_by : Body → Said
+said_by (bodies.Submit part) = said.Command Submit part.spawn_id
+said_by (bodies.Return part) = said.Command Return part.spawn_id
+said_by (bodies.Abort spawn) = said.Command Abort spawn
+said_by (bodies.Answer asked spawn result) = said.Answer asked spawn result
+
+-- the command or the response stands in the byte order of the names
+abbrev pub put_said : List ℕ → Said → Members → Members
+put_said sender (said.Command asked spawn) ms =
+    put (codes "Command") (command_data sender asked spawn) ms
+put_said sender (said.Answer asked spawn result) ms =
+    put (codes "Response") (response_data asked spawn result) ms
+
+abbrev pub jmf_data : Message → Data
+jmf_data m =
+    object (put_said m.sender (said_by m.body)
+    (member (codes "ReceiverID") (string m.receiver)
+    (member (codes "SenderID") (string m.sender)
+    (member (codes "TimeStamp") (number (unsigned m.at))
+    (member (codes "Version") (string version) no_members)))))
 
 -- the part stands beside a command that has one
 abbrev pub put_part : Body → Members → Members
-put_part (Submit part) ms = put (codes "JDF") (part_data part) ms
-put_part (Return part) ms = put (codes "JDF") (part_data part) ms
-put_part (Abort spawn) ms = ms
-put_part (Answer asked spawn result) ms = ms
+put_part (bodies.Submit part) ms = put (codes "JDF") (part_data part) ms
+put_part (bodies.Return part) ms = put (codes "JDF") (part_data part) ms
+put_part (bodies.Abort spawn) ms = ms
+put_part (bodies.Answer asked spawn result) ms = ms
 
 -- the data of a message
 abbrev pub message_data : Message → Data
-message_data m = object (put_part m.body (member (codes "JMF") (jmf_data (jmf_for m)) no_members))
+message_data m = object (put_part m.body (member (codes "JMF") (jmf_data m) no_members))

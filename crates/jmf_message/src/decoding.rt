@@ -1,27 +1,67 @@
 //! Reading messages.
 
-ghost use Rattle.std.specs.Prelude.{◌≡◌, ◌⊎◌, None, Ok, Some, false, true, IfOk, IfErr, OnOk};
-ghost use Rattle.serde_json.specs.View.{view};
+ghost use Rattle.std.specs.Prelude.{◌≡◌, ◌⊎◌, None, Ok, Some, codes, false, true, IfOk, IfErr};
+ghost use Rattle.std.specs.Prelude.{IfSome, OnOk};
+ghost use Rattle.std.specs.Option.{option_map};
+ghost use Rattle.std.specs.Str.{bytes_eq};
+ghost use Rattle.serde_json.specs.Find.{get};
 ghost use Rattle.json_items.specs.Judged.{Answers};
 ghost use Rattle.json_reader.specs.DraftedPart.{drafted_part};
+ghost use Rattle.json_source.specs.Read.{Gives};
 ghost use Rattle.jmf_message.specs.Decoded as decoded;
-ghost use Rattle.jmf_message.specs.Drafted.{drafted_document};
-ghost use Rattle.jmf_message.specs.Said as said;
+ghost use Rattle.jmf_message.specs.Form as forms;
+ghost use Rattle.jmf_message.specs.Said.{may_be_said};
+ghost use Rattle.ticket_items.specs.SpawnId.{spawn_text};
 ghost use Rattle.controller.specs.Words.{may_be_sent};
 
-use crate::command_message::CommandMessage;
-use crate::document_draft::DocumentDraft;
-use crate::family::Family;
-use crate::jmf::Jmf;
-use crate::response_message::ResponseMessage;
-use crate::said::{abort_body, body_with, is_right_command, response_body};
-use crate::table::VERSION;
-use controller::Message;
-use json_items::Checked;
-use json_profile::{PartDraft, value_of};
-use serde_json::Value;
-use std::alloc::Global;
-use ticket_tree::{Id, Refusal};
+use crate::jmf::{Jmf, VERSION};
+use crate::said::Said;
+use controller::{Body, Command, Message};
+use json_items::{Checked, only};
+use json_profile::PartDraft;
+use json_source::{Scratch, Source, tree_of};
+use std::alloc::{AllocError, Global};
+use ticket_tree::{Id, Part, Refusal, SpawnId};
+
+/// The draft of the part beside a JMF object with which one goes.
+fn part_beside<'a, S: Source>(
+    alloc: Global,
+    has_part: bool,
+    document: &'a S,
+) -> Result<Option<PartDraft<'a>>, Refusal>
+    ensures { Gives (option_map drafted_part) result
+        (forms.part_beside has_part (get (codes "JDF") (S.content document.now))) }
+{
+    match (document.member("JDF"), has_part) {
+        (Some(part), true) => Ok(Some(PartDraft::of(alloc, part)?)),
+        (None, false) => Ok(None),
+        (Some(_), false) => Err(Refusal::NotProfile),
+        (None, true) => Err(Refusal::NotProfile),
+    }
+}
+
+/// A message by its members and their kinds alone.
+#[derive(Drop)]
+struct DocumentDraft<'a> {
+    jmf: Jmf<'a>,
+    part: Option<PartDraft<'a>>,
+}
+
+/// The draft that a value is. Refuses `NotProfile`, and `Memory`. What it says may be sent.
+#[tactic(auto, unfolding(crate::specs::Form::document_form))]
+fn draft_of<'a, S: Source>(alloc: Global, value: &'a S) -> Result<DocumentDraft<'a>, Refusal>
+    ensures value { Gives (λ draft. record {
+      jmf = draft.jmf;
+      part = option_map drafted_part draft.part;
+    }) result
+        (forms.document_form (S.content value.now)) }
+    ensures sent { IfOk result (λ draft. IfSome draft.jmf.said (λ s. may_be_said s ≡ true)) }
+{
+    only(value, &["JDF", "JMF"])?;
+    let jmf = Jmf::of(alloc, value.member("JMF").ok_or(Refusal::NotProfile)?)?;
+    let part = part_beside(alloc, jmf.has_part, value)?;
+    Ok(DocumentDraft { jmf, part })
+}
 
 /// Who sends a message, and to whom.
 #[derive(Drop)]
@@ -31,7 +71,7 @@ struct Parties {
 }
 
 /// The sender and the receiver of a message. Refuses `BadId` where one is no id, and `Memory`.
-fn parties_of(alloc: Global, jmf: &Jmf) -> Result<Parties, Refusal>
+fn parties_of(alloc: Global, jmf: &Jmf<'_>) -> Result<Parties, Refusal>
     ensures sender { IfOk result (λ p. p.sender ≡ jmf.now.sender) }
     ensures receiver { IfOk result (λ p. p.receiver ≡ jmf.now.receiver) }
     ensures ids { OnOk result (decoded.are_ids jmf.now ≡ true) }
@@ -43,13 +83,32 @@ fn parties_of(alloc: Global, jmf: &Jmf) -> Result<Parties, Refusal>
     Ok(Parties { sender, receiver })
 }
 
-/// The message of a JMF object with a response.
-fn answer(alloc: Global, jmf: &Jmf, response: &ResponseMessage) -> Result<Message, Refusal>
+/// The body of what is said without a part.
+fn body_alone(said: Said) -> Option<Body>
+    ensures { result ≡ decoded.said_alone said }
+{
+    match said {
+        Said::Command(asked, spawn_id) => match asked {
+            Command::Submit => None,
+            Command::Return => None,
+            Command::Abort => Some(Body::Abort(spawn_id)),
+        },
+        Said::Answer(of, spawn_id, result) => Some(Body::Answer {
+            of,
+            spawn_id,
+            result,
+        }),
+    }
+}
+
+/// The message of a JMF object without a part.
+fn message_alone(alloc: Global, jmf: &Jmf<'_>, said: Said) -> Result<Message, Refusal>
+    requires { may_be_said said ≡ true }
     ensures answers { Answers result (decoded.message_saying
-        (record { jmf = jmf.now; part = None }) (said.response_body response.now)) }
+        (record { jmf = jmf.now; part = None }) (decoded.said_alone said)) }
     ensures sent { IfOk result (λ message. may_be_sent message.body ≡ true) }
 {
-    let body = response_body(alloc, response)?;
+    let body = body_alone(said).ok_or(Refusal::WrongMessage)?;
     let Parties { sender, receiver } = parties_of(alloc, jmf)?;
     Ok(Message {
         sender,
@@ -59,36 +118,43 @@ fn answer(alloc: Global, jmf: &Jmf, response: &ResponseMessage) -> Result<Messag
     })
 }
 
-/// The message of a JMF object with a command that has no part.
-fn abort(alloc: Global, jmf: &Jmf, command: &CommandMessage) -> Result<Message, Refusal>
-    ensures answers { Answers result (decoded.message_saying
-        (record { jmf = jmf.now; part = None })
-        (said.abort_body jmf.now.sender command.now)) }
-    ensures sent { IfOk result (λ message. may_be_sent message.body ≡ true) }
+/// Whether a part is that of a spawn.
+fn is_of_spawn(alloc: Global, part: &PartDraft<'_>, spawn: SpawnId) -> Result<bool, AllocError>
+    ensures { IfOk result (λ is. is
+        ≡ bytes_eq (drafted_part part.now).spawn (spawn_text spawn)) }
 {
-    let body = abort_body(alloc, jmf.sender.as_str(), command)?;
-    let Parties { sender, receiver } = parties_of(alloc, jmf)?;
-    Ok(Message {
-        sender,
-        receiver,
-        at: jmf.at,
-        body,
-    })
+    let entry = spawn.to_id(alloc)?;
+    Ok(part.spawn() == entry.as_str())
 }
 
-/// The message of a JMF object with a command, and of the part beside it.
-fn command(
+/// The body of a command of the spawn of a part.
+fn body_with(asked: Command, part: Part) -> Body
+    ensures body { result ≡ decoded.body_with asked part }
+    ensures sent { may_be_sent result ≡ true }
+{
+    match asked {
+        Command::Submit => Body::Submit(part),
+        Command::Return => Body::Return(part),
+        Command::Abort => Body::Abort(part.spawn_id()),
+    }
+}
+
+/// The message of a JMF object, and of the part beside it.
+fn message_with(
     alloc: Global,
-    jmf: &Jmf,
-    command: &CommandMessage,
+    jmf: &Jmf<'_>,
+    said: Said,
     part: &PartDraft<'_>,
 ) -> Result<Message, Refusal>
     ensures answers { Answers result (decoded.message_saying
         (record { jmf = jmf.now; part = Some (drafted_part part.now) })
-        (said.command_body jmf.now.sender command.now (drafted_part part.now))) }
+        (decoded.said_with (drafted_part part.now) said)) }
     ensures sent { IfOk result (λ message. may_be_sent message.body ≡ true) }
 {
-    if !is_right_command(alloc, jmf.sender.as_str(), command, part)? {
+    let Said::Command(asked, spawn) = said else {
+        return Err(Refusal::WrongMessage);
+    };
+    if !is_of_spawn(alloc, part, spawn)? {
         return Err(Refusal::WrongMessage);
     }
     let Parties { sender, receiver } = parties_of(alloc, jmf)?;
@@ -97,32 +163,35 @@ fn command(
         sender,
         receiver,
         at: jmf.at,
-        body: body_with(command.params.command(), part),
+        body: body_with(asked, part),
     })
 }
 
-/// The message of a draft.
+/// The message of a draft. What it says may be sent.
 fn message_of(alloc: Global, draft: &DocumentDraft<'_>) -> Result<Message, Refusal>
-    ensures answers { Answers result (decoded.draft_read (drafted_document draft.now)) }
+    requires { IfSome draft.now.jmf.said (λ s. may_be_said s ≡ true) }
+    ensures answers { Answers result (decoded.draft_read (record {
+      jmf = draft.now.jmf;
+      part = option_map drafted_part draft.now.part;
+    })) }
     ensures sent { IfOk result (λ message. may_be_sent message.body ≡ true) }
 {
     if draft.jmf.version.as_str() != VERSION {
         return Err(Refusal::WrongVersion);
     }
-    match (&draft.jmf.family, &draft.part) {
-        (Family::Command(asked), Some(part)) => command(alloc, &draft.jmf, asked, part),
-        (Family::Response(response), None) => answer(alloc, &draft.jmf, response),
-        (Family::Command(asked), None) => abort(alloc, &draft.jmf, asked),
-        (Family::Response(_), Some(_)) => Err(Refusal::WrongMessage),
+    let said = draft.jmf.said.ok_or(Refusal::WrongMessage)?;
+    match &draft.part {
+        Some(part) => message_with(alloc, &draft.jmf, said, part),
+        None => message_alone(alloc, &draft.jmf, said),
     }
 }
 
 /// The message that a value is.
-fn message_in(alloc: Global, value: &Value) -> Result<Message, Refusal>
-    ensures answers { Answers result (decoded.message_read (view value.now)) }
+fn message_in<S: Source>(alloc: Global, value: &S) -> Result<Message, Refusal>
+    ensures answers { Answers result (decoded.message_read (S.content value.now)) }
     ensures sent { IfOk result (λ message. may_be_sent message.body ≡ true) }
 {
-    let draft = DocumentDraft::of(alloc, value)?;
+    let draft = draft_of(alloc, value)?;
     message_of(alloc, &draft)
 }
 
@@ -136,6 +205,7 @@ pub fn decode(alloc: Global, bytes: &[u8]) -> Result<Message, Refusal>
     ensures sent { IfOk result (λ message. may_be_sent message.body ≡ true) }
     ensures refused { IfErr result (decoded.IsRefusalOf bytes.now) }
 {
-    let value = value_of(alloc, bytes)?;
-    message_in(alloc, &value)
+    let mut scratch = Scratch::new(alloc);
+    let tree = tree_of(alloc, bytes, &mut scratch)?;
+    message_in(alloc, &tree)
 }

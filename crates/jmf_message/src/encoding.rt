@@ -4,42 +4,23 @@ ghost use Rattle.std.specs.Prelude.{◌≡◌, Ok, codes, true, IfOk, OnOk};
 ghost use Rattle.serde_json.specs.Data.{no_members, member};
 ghost use Rattle.serde_json.specs.Written.{compact_text};
 ghost use Rattle.json_text.specs.Printed.{AreMembersPrinted, IsPrinted};
-ghost use Rattle.json_writer.specs.PartWritten.{part_data};
+ghost use Rattle.json_text.specs.PartWritten.{part_data};
 ghost use Rattle.ticket_items.specs.Names.{is_name};
 ghost use Rattle.jmf_message.specs.Decoded.{IsDecodedAs};
 ghost use Rattle.jmf_message.specs.Known.{IsKnown, IsWritten};
 ghost use Rattle.controller.specs.Words.{may_be_sent};
 ghost use Rattle.jmf_message.specs.Written as written;
 
-use crate::jmf::Jmf;
-use crate::table::{VERSION, family_for};
+use crate::jmf::print_jmf;
 use controller::{Body, Message};
 use json::Writer;
-use json_items::AnyText;
 use json_profile::print_part;
-use json_text::{finished, print_member};
+use json_text::finished;
 use std::alloc::{AllocError, Global};
 use ticket_tree::Part;
 
 /// How many bytes a text has room for in the beginning.
 const ROOM: usize = 1024;
-
-/// The JMF object of a message. Its sender and its receiver are ids.
-fn jmf_for(alloc: Global, message: &Message) -> Result<Jmf, AllocError>
-    ensures jmf { IfOk result (λ j. j ≡ written.jmf_for message.now) }
-    ensures sender { is_name message.now.sender ≡ true }
-    ensures receiver { is_name message.now.receiver ≡ true }
-{
-    let sender = message.sender.as_str();
-    let receiver = message.receiver.as_str();
-    Ok(Jmf {
-        receiver: AnyText::new(alloc, receiver)?,
-        sender: AnyText::new(alloc, sender)?,
-        at: message.at,
-        version: AnyText::new(alloc, VERSION)?,
-        family: family_for(alloc, sender, &message.body)?,
-    })
-}
 
 /// Prints a part under its name. It is read again.
 fn print_named_part(alloc: Global, out: &mut Writer, part: &Part) -> Result<(), AllocError>
@@ -61,11 +42,7 @@ fn print_part_of(alloc: Global, out: &mut Writer, body: &Body) -> Result<(), All
     match body {
         Body::Submit(part) => print_named_part(alloc, out, part),
         Body::Return(part) => print_named_part(alloc, out, part),
-        Body::Abort(spawn_id) => {
-            let _number = spawn_id.number();
-            Ok(())
-        }
-        Body::Answer { spawn_id, .. } => {
+        Body::Abort(spawn_id) | Body::Answer { spawn_id, .. } => {
             let _number = spawn_id.number();
             Ok(())
         }
@@ -77,14 +54,14 @@ fn print_part_of(alloc: Global, out: &mut Writer, body: &Body) -> Result<(), All
 fn print_document(alloc: Global, out: &mut Writer, message: &Message) -> Result<(), AllocError>
     ensures printed { OnOk result
         (IsPrinted (written.message_data message.now) out.old out.new) }
-    ensures sender { is_name message.now.sender ≡ true }
-    ensures receiver { is_name message.now.receiver ≡ true }
+    ensures sender { OnOk result (is_name message.now.sender ≡ true) }
+    ensures receiver { OnOk result (is_name message.now.receiver ≡ true) }
     ensures known { OnOk result (IsKnown message.now.body) }
 {
-    let jmf = jmf_for(alloc, message)?;
     out.begin_object()?;
     print_part_of(alloc, out, &message.body)?;
-    print_member(out, "JMF", &jmf)?;
+    out.key("JMF")?;
+    print_jmf(alloc, out, message)?;
     out.end_object()
 }
 

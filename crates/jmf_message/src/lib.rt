@@ -2,22 +2,15 @@
 //! up, and the answers to each, as JMF in JSON.
 #![tactic(auto)]
 
-mod abort_params;
-mod command_message;
+mod commands;
 mod decoding;
-mod document_draft;
 mod encoding;
-mod family;
 mod ids;
 mod jmf;
 pub mod laws;
-mod params;
-mod queue_entry;
-mod response_message;
-mod return_params;
+mod responses;
 mod said;
-mod submission_params;
-mod table;
+mod texts;
 
 pub use controller::{Body, Command, Done, Message, Outcome, QueueStatus, Reply};
 pub use decoding::decode;
