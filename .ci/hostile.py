@@ -4,9 +4,8 @@
 Each case has a number, and is the same in each run. It is a text that fits, as a rule damaged: cut,
 doubled, swapped. The program must end by itself, with a status that is documented, and tell what
 is documented; leave a file as it was where it refuses the form of what it reads; and need at most
-as many times the memory of its input as --times says (0: any), or six times that where it isn't
-`edit`; four large inputs may need more. The last line says how many cases passed. --first and
---cases run one again by its number.
+as many times the memory of its input as --times says (0: any); lists of two shapes may need more.
+The last line says how many cases passed. --first and --cases run one again by its number.
 """
 import argparse
 import json
@@ -34,11 +33,9 @@ REPLIES = "Edited|(?:Spawned|Sent|Finished|Merged|Already|Noted|Taken|Again|Acke
 LINE = re.compile(f"(?:{REFUSED}|{REPLIES}|Stopped|Restarted|NoMessage)(?: #[1-9][0-9]*)?")
 # The most that a run needs beside its input.
 ROOM = 4 << 20
-# What is read as values of `serde_json`, not as a tree, needs so many times more: some 800
-# bytes for `{"a":1}`.
-AS_VALUES = 6
-# Large inputs that need more than they should, and how many times their size.
-NEED_MORE = {"members for edit": 35, "pairs for edit": 35, "notes": 35, "links": 40}
+# Large inputs that need more than they should, lists of `{"a":1}` and of `[1,1]`, and how many
+# times their size.
+NEED_MORE = {"members": 35, "pairs": 35}
 SECONDS = 120
 # A child's memory counts that of the process that starts it, so a small one does: it leaves the
 # program's status and memory in a file.
@@ -148,13 +145,13 @@ def ends_well(ran, times=None):
         told = TOLD.fullmatch(ran.told)
         wants(told and NAMES.get(told[1]) == told[2], "told", ran.told)
         wants(ran.status == 4 or ran.out == "", "printed beside status 3:", ran.out[:200])
-    needs_little(ran.words, ran.memory, len(ran.given), times)
+    needs_little(ran.memory, len(ran.given), times)
 
 
-def needs_little(words, memory, size, times=None):
+def needs_little(memory, size, times=None):
     """Memory by the size of the input: at most so many times that, or what the arguments say."""
-    times = times or ARGS.times * (1 if words in ([], ["edit"]) else AS_VALUES)
-    wants(not ARGS.times or memory <= times * size + ARGS.base, memory, "bytes of memory for", size)
+    most = (times or ARGS.times) * size + ARGS.base
+    wants(not ARGS.times or memory <= most, memory, "bytes of memory for", size)
 
 
 def reads_json(ran):
@@ -267,7 +264,7 @@ def run_served(chance, folder):
         status, memory = ended(served, measured)
         served.stdout.close()
     wants(status == 0, "status", status)
-    needs_little(words, memory, size)
+    needs_little(memory, size)
     wants(Ran(["show", "state.json"], b"").status == 0, "what was saved isn't read")
     os.remove("log")
 
@@ -365,7 +362,7 @@ def large(name, words, given):
     def call(chance, folder):
         put(state(chance, "master"))
         ran = Ran(words, given)
-        ends_well(ran, NEED_MORE.get(name))
+        ends_well(ran, NEED_MORE.get(name.split()[0]))
         reads_json(ran)
         times = (ran.memory - ARGS.base + ROOM) / len(given)
         print(f"  {name}: {len(given)} bytes, status {ran.status}, memory {times:.1f} times that")
