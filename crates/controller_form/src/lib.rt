@@ -9,6 +9,6 @@ mod states;
 pub use openings::{Opening, Shop, ShopDraft, opening_of};
 pub use orders::{MasterOrderDraft, WorkerOrderDraft, master_order_of, worker_order_of};
 pub use states::{
-    master_pair_from, master_state_from, master_state_of, master_state_text, master_state_value,
-    worker_pair_from, worker_state_from, worker_state_of, worker_state_text, worker_state_value,
+    master_pair_of, master_state_of, master_state_text, master_state_value, worker_pair_of,
+    worker_state_of, worker_state_text, worker_state_value,
 };

@@ -15,6 +15,6 @@ mod state_text;
 mod worker_draft;
 mod worker_state;
 
-pub use master_state::{master_pair_from, master_state_from, master_state_of, master_state_value};
+pub use master_state::{master_pair_of, master_state_of, master_state_value};
 pub use state_text::{master_state_text, worker_state_text};
-pub use worker_state::{worker_pair_from, worker_state_from, worker_state_of, worker_state_value};
+pub use worker_state::{worker_pair_of, worker_state_of, worker_state_value};

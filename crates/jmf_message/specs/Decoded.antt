@@ -49,6 +49,7 @@ said_alone (said.Command Return spawn) = None
 said_alone (said.Command Abort spawn) = Some (bodies.Abort spawn)
 said_alone (said.Answer asked spawn result) = Some (bodies.Answer asked spawn result)
 
+-- the body of what is said with the part that stands beside it, or with none
 abbrev pub said_beside : Option RawPart → Said → Option Body
 said_beside None s = said_alone s
 said_beside (Some p) s = said_with p s
@@ -75,6 +76,7 @@ message_fault m =
     first_of (unless (has_names m) BadId ∷ unless (has_texts m) BadText
     ∷ option_and_then part.built_fault m.part ∷ [])
 
+-- the message of a body
 abbrev pub message_with : RawMessage → Body → Message
 message_with m b =
     record { sender = m.jmf.sender; receiver = m.jmf.receiver; at = m.jmf.at; body = b }

@@ -53,6 +53,7 @@ has_part Abort = false
 
 -- ---- responses
 
+-- the members of a response, and those of its queue entry
 abbrev pub response_members : List (List ℕ)
 response_members = codes "ID" ∷ codes "QueueEntry" ∷ codes "Reason" ∷ codes "ReturnCode"
     ∷ codes "Type" ∷ codes "refID" ∷ []
@@ -78,9 +79,11 @@ one_family sender None (Some d) = if is_response d then Some (false, response_sa
 one_family sender None None = None
 one_family sender (Some d) (Some e) = None
 
+-- the same of the members of a JMF object
 abbrev pub family_form : List ℕ → Data → Option (Bool × Option Said)
 family_form sender d = one_family sender (get (codes "Command") d) (get (codes "Response") d)
 
+-- the members of a JMF object
 abbrev pub jmf_members : List (List ℕ)
 jmf_members = codes "Command" ∷ codes "ReceiverID" ∷ codes "Response" ∷ codes "SenderID"
     ∷ codes "TimeStamp" ∷ codes "Version" ∷ []
@@ -115,6 +118,7 @@ abbrev pub part_beside : Bool → Option Data → Option (Option RawPart)
 part_beside goes (Some d) = if goes then option_map Some (part_draft d) else None
 part_beside goes None = if goes then None else Some None
 
+-- a message's members, and the message that data is by these
 abbrev pub document_members : List (List ℕ)
 document_members = codes "JDF" ∷ codes "JMF" ∷ []
 

@@ -85,6 +85,7 @@ told_at (Some entry) d =
     option_map Ok (option_and_then status_named (text_under (codes "Status") entry))
 told_at None d = option_and_then refusal_in (number_under (codes "Reason") d)
 
+-- what a response tells of its command
 abbrev pub told_by : Data → Option (Result QueueStatus ℕ)
 told_by d = told_at (get (codes "QueueEntry") d) d
 

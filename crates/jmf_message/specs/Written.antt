@@ -106,6 +106,7 @@ put_said sender (said.Command asked spawn) ms =
 put_said sender (said.Answer asked spawn result) ms =
     put (codes "Response") (response_data asked spawn result) ms
 
+-- the JMF object of a message
 abbrev pub jmf_data : Message → Data
 jmf_data m =
     object (put_said m.sender (said_by m.body)

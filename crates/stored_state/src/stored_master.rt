@@ -1,5 +1,5 @@
 use crate::stored::Stored;
-use controller_form::{master_pair_from, master_state_from, master_state_text};
+use controller_form::{master_pair_of, master_state_of, master_state_text};
 use json_source::Source;
 use master_core::Master;
 use std::alloc::{AllocError, Global};
@@ -18,11 +18,11 @@ impl Stored for Master {
     }
 
     fn state_of<S: Source>(alloc: Global, value: &S) -> Result<Master, Refusal> {
-        master_state_from(alloc, value)
+        master_state_of(alloc, value)
     }
 
     fn pair_of<S: Source>(alloc: Global, value: &S) -> Result<(Master, Master), Refusal> {
-        master_pair_from(alloc, value)
+        master_pair_of(alloc, value)
     }
 
     ghost order_rests = { master_rests };

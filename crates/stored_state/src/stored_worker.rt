@@ -1,5 +1,5 @@
 use crate::stored::Stored;
-use controller_form::{worker_pair_from, worker_state_from, worker_state_text};
+use controller_form::{worker_pair_of, worker_state_of, worker_state_text};
 use json_source::Source;
 use std::alloc::{AllocError, Global};
 use ticket_tree::Refusal;
@@ -18,11 +18,11 @@ impl Stored for Worker {
     }
 
     fn state_of<S: Source>(alloc: Global, value: &S) -> Result<Worker, Refusal> {
-        worker_state_from(alloc, value)
+        worker_state_of(alloc, value)
     }
 
     fn pair_of<S: Source>(alloc: Global, value: &S) -> Result<(Worker, Worker), Refusal> {
-        worker_pair_from(alloc, value)
+        worker_pair_of(alloc, value)
     }
 
     ghost order_rests = { worker_rests };

@@ -41,7 +41,7 @@ fn draft_from<'a, S: Source>(alloc: Global, value: &'a S) -> Result<MasterDraft<
 /// `DuplicateId`, `TooDeep`, `UnresolvedLink` and `BadState` that stands in it (our own: what
 /// `Master::of_parts` refuses), each looked for in all of it before the next one is; `Memory` may
 /// come before any but the first two.
-pub fn master_state_from<S: Source>(alloc: Global, value: &S) -> Result<Master, Refusal>
+pub fn master_state_of<S: Source>(alloc: Global, value: &S) -> Result<Master, Refusal>
     ensures { Answers result (form.master_state_read (S.content value.now)) }
 {
     let draft = draft_from(alloc, value)?;
@@ -49,7 +49,7 @@ pub fn master_state_from<S: Source>(alloc: Global, value: &S) -> Result<Master, 
 }
 
 /// The same master twice, built of one draft.
-pub fn master_pair_from<S: Source>(alloc: Global, value: &S) -> Result<(Master, Master), Refusal>
+pub fn master_pair_of<S: Source>(alloc: Global, value: &S) -> Result<(Master, Master), Refusal>
     ensures first { IfOk result (λ pair. form.master_state_read (S.content value.now) ≡ Ok pair.0) }
     ensures second { IfOk result (λ pair. form.master_state_read (S.content value.now) ≡ Ok pair.1) }
     ensures refused { IfErr result (λ e. (e ≡ Refusal.Memory)
@@ -59,13 +59,6 @@ pub fn master_pair_from<S: Source>(alloc: Global, value: &S) -> Result<(Master, 
     let first = draft.build(alloc)?;
     let second = draft.build(alloc)?;
     Ok((first, second))
-}
-
-/// The master whose state a value is, as of any source.
-pub fn master_state_of(alloc: Global, value: &Value) -> Result<Master, Refusal>
-    ensures { Answers result (form.master_state_read (view value.now)) }
-{
-    master_state_from(alloc, value)
 }
 
 /// A master's state as a value, which `master_state_of` reads as that master; as it does what the

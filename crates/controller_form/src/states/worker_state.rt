@@ -42,7 +42,7 @@ fn draft_from<'a, S: Source>(alloc: Global, value: &'a S) -> Result<WorkerDraft<
 /// `DuplicateId`, `TooDeep`, `UnresolvedLink` and `BadState` that stands in it (our own: what
 /// `Worker::of_parts` refuses), each looked for in all of it before the next one is; `Memory` may
 /// come before any but the first two.
-pub fn worker_state_from<S: Source>(alloc: Global, value: &S) -> Result<Worker, Refusal>
+pub fn worker_state_of<S: Source>(alloc: Global, value: &S) -> Result<Worker, Refusal>
     ensures { Answers result (form.worker_state_read (S.content value.now)) }
 {
     let draft = draft_from(alloc, value)?;
@@ -50,7 +50,7 @@ pub fn worker_state_from<S: Source>(alloc: Global, value: &S) -> Result<Worker, 
 }
 
 /// The same worker twice, built of one draft.
-pub fn worker_pair_from<S: Source>(alloc: Global, value: &S) -> Result<(Worker, Worker), Refusal>
+pub fn worker_pair_of<S: Source>(alloc: Global, value: &S) -> Result<(Worker, Worker), Refusal>
     ensures first { IfOk result (λ pair. form.worker_state_read (S.content value.now) ≡ Ok pair.0) }
     ensures second { IfOk result (λ pair. form.worker_state_read (S.content value.now) ≡ Ok pair.1) }
     ensures refused { IfErr result (λ e. (e ≡ Refusal.Memory)
@@ -60,13 +60,6 @@ pub fn worker_pair_from<S: Source>(alloc: Global, value: &S) -> Result<(Worker, 
     let first = draft.build(alloc)?;
     let second = draft.build(alloc)?;
     Ok((first, second))
-}
-
-/// The worker whose state a value is, as of any source.
-pub fn worker_state_of(alloc: Global, value: &Value) -> Result<Worker, Refusal>
-    ensures { Answers result (form.worker_state_read (view value.now)) }
-{
-    worker_state_from(alloc, value)
 }
 
 /// A worker's state as a value, which `worker_state_of` reads as that worker; as it does what the
