@@ -1,7 +1,7 @@
 //! The commands of the program and their arguments, as `clap` is told of them.
 
-ghost use Rattle.std.specs.Prelude.{◌≡◌, [], ◌∷◌, IfOk, codes, false};
-ghost use Rattle.clap.specs.Words.{app_of, rule_of};
+ghost use Rattle.std.specs.Prelude.{◌≡◌, [], ◌∷◌, IfOk, codes, false, true};
+ghost use Rattle.clap.specs.Words.{App, Shape, app_of, rule_of, with_subcommand};
 ghost use Rattle.jdf_words.specs.Commands.{alone, at_rule, bare, command, file_rule, jdf};
 ghost use Rattle.jdf_words.specs.Commands.{limit_rule, listen_rule, message_rule, requests_rule};
 ghost use Rattle.jdf_words.specs.Commands.{order_rules, picture_rule, send_rule, send_rules};
@@ -180,18 +180,30 @@ fn bare<'a>(alloc: Global) -> Result<Command<'a>, AllocError>
         .bin_name("jdf_cli")
 }
 
+/// The program with one more command, where both could be made.
+fn with_command<'a>(
+    program: Result<Command<'a>, AllocError>,
+    command: Result<Command<'a>, AllocError>,
+) -> Result<Command<'a>, AllocError>
+    ensures { (before : App) (added : Shape) → added.is_plain ≡ true
+        → IfOk program.entry (λ p. app_of p ≡ before)
+        → IfOk command.entry (λ c. app_of c ≡ alone added)
+        → IfOk result (λ made. app_of made ≡ with_subcommand before added) }
+{
+    program?.subcommand(command?)
+}
+
 /// The program, its commands and their arguments.
 pub(crate) fn jdf<'a>(alloc: Global) -> Result<Command<'a>, AllocError>
     ensures { IfOk result (λ made. app_of made ≡ jdf) }
 {
-    bare(alloc)?
-        .subcommand(plain_command(alloc, "edit", help::EDIT))?
-        .subcommand(plain_command(alloc, "world", help::WORLD))?
-        .subcommand(plain_command(alloc, "loop", help::LOOP))?
-        .subcommand(file_command(alloc, "new", help::NEW)?)?
-        .subcommand(order_command(alloc)?)?
-        .subcommand(timed_command(alloc, "take", help::TAKE)?)?
-        .subcommand(show_command(alloc)?)?
-        .subcommand(serve_command(alloc)?)?
-        .subcommand(send_command(alloc)?)
+    let program = with_command(bare(alloc), Ok(plain_command(alloc, "edit", help::EDIT)));
+    let program = with_command(program, Ok(plain_command(alloc, "world", help::WORLD)));
+    let program = with_command(program, Ok(plain_command(alloc, "loop", help::LOOP)));
+    let program = with_command(program, file_command(alloc, "new", help::NEW));
+    let program = with_command(program, order_command(alloc));
+    let program = with_command(program, timed_command(alloc, "take", help::TAKE));
+    let program = with_command(program, show_command(alloc));
+    let program = with_command(program, serve_command(alloc));
+    with_command(program, send_command(alloc))
 }

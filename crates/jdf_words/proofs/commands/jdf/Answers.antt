@@ -1,18 +1,16 @@
-use Rattle.std.proofs.Common.{refl}
-use Rattle.std.proofs.lemmas.Result.{IfOk-weaker}
-use Rattle.jdf_words.specs.Commands.{jdf}
-use Rattle.jdf_words.proofs.Adding.{added}
+use Rattle.std.proofs.Common.{[], ◌∷◌, codes, refl}
+use Rattle.jdf_words.specs.Commands.{at_rule, bare, command, file_rule, jdf, order_rules, send_rules, serve_rules, show_rules}
 use Rattle.jdf_words.proofs.commands.jdf.Goals as goal
 
 pub returns : goal.returns
 unfolding jdf
 returns c =
-    let edit = added _ _ _ _ _ c.in_ok-subcommand.ensures c.in_ok-bare.ensures c.plain_command.ensures refl in
-    let world = added _ _ _ _ _ c.in_ok-subcommand-2.ensures edit c.plain_command-2.ensures refl in
-    let by_loop = added _ _ _ _ _ c.in_ok-subcommand-3.ensures world c.plain_command-3.ensures refl in
-    let new = added _ _ _ _ _ c.in_ok-subcommand-4.ensures by_loop c.in_ok-file_command.ensures refl in
-    let order = added _ _ _ _ _ c.in_ok-subcommand-5.ensures new c.in_ok-order_command.ensures refl in
-    let take = added _ _ _ _ _ c.in_ok-subcommand-6.ensures order c.in_ok-timed_command.ensures refl in
-    let show = added _ _ _ _ _ c.in_ok-subcommand-7.ensures take c.in_ok-show_command.ensures refl in
-    let serve = added _ _ _ _ _ c.in_ok-subcommand-8.ensures show c.in_ok-serve_command.ensures refl in
-    IfOk-weaker c.subcommand-9.result _ _ (λ made send. added _ _ _ _ _ send serve c.in_ok-send_command.ensures refl) c.subcommand-9.ensures
+    let edit = c.with_command-program.ensures bare (command (codes "edit") []) refl c.bare.ensures c.plain_command.ensures in
+    let world = c.with_command-program-2.ensures _ (command (codes "world") []) refl edit c.plain_command-2.ensures in
+    let by_loop = c.with_command-program-3.ensures _ (command (codes "loop") []) refl world c.plain_command-3.ensures in
+    let new = c.with_command-program-4.ensures _ (command (codes "new") (file_rule ∷ [])) refl by_loop c.file_command.ensures in
+    let order = c.with_command-program-5.ensures _ (command (codes "order") order_rules) refl new c.order_command.ensures in
+    let take = c.with_command-program-6.ensures _ (command (codes "take") (file_rule ∷ at_rule ∷ [])) refl order c.timed_command.ensures in
+    let show = c.with_command-program-7.ensures _ (command (codes "show") show_rules) refl take c.show_command.ensures in
+    let serve = c.with_command-program-8.ensures _ (command (codes "serve") serve_rules) refl show c.serve_command.ensures in
+    c.with_command.ensures _ (command (codes "send") send_rules) refl serve c.send_command.ensures
