@@ -1,5 +1,5 @@
 /// What the words of the command line call for (our own commands).
-#[derive(Clone, Copy, PartialEq, Eq)]
+#[derive(Clone, Copy)]
 pub enum Call<'a> {
     /// Edits of one ticket, which come on standard input.
     Edit,

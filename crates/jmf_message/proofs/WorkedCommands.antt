@@ -7,8 +7,10 @@ use Rattle.json_shapes.specs.Draft.{own_row}
 use Rattle.json_shapes.specs.Form.{node_has_names, pools_have_names, row_has_texts}
 use Rattle.json_shapes.specs.PartDraft.{ancestor_draft, part_draft}
 use Rattle.json_shapes.specs.PartForm.{ancestor_has_names}
-use Rattle.json_shapes.specs.PoolDraft.{link_draft, own_resource, resource_draft, shown_draft}
-use Rattle.json_shapes.specs.PoolForm.{resource_has_names, resource_has_texts}
+use Rattle.json_items.specs.Links.{link_draft}
+use Rattle.json_items.specs.Resources.{own_resource, resource_draft}
+use Rattle.json_items.specs.Shown.{shown_draft}
+use Rattle.json_items.specs.Resources.{resource_has_names, resource_has_texts}
 use Rattle.json_text.specs.PartWritten.{part_data}
 use Rattle.ticket_items.specs.declared.node_row.NodeRow.{NodeRow}
 use Rattle.ticket_items.specs.declared.refusal.Refusal.TheVariants.{BadId, NotProfile, ReservedStatus, WrongMessage, WrongVersion}

@@ -13,13 +13,17 @@ use Rattle.ticket_items.specs.declared.link.Link.{Link}
 use Rattle.ticket_items.specs.declared.marks.Marks.{Marks}
 use Rattle.ticket_items.specs.declared.node_row.NodeRow.{NodeRow}
 use Rattle.ticket_items.specs.declared.resource.Resource.{Resource}
-use Rattle.json_shapes.specs.AuditDraft.{audit_draft}
+use Rattle.json_items.specs.Audits.{audit_draft}
 use Rattle.json_shapes.specs.Draft.{RawRow, RawTicket, resources_of, are_bare, raw_ticket, own_row, node_rows, item_rows, next_depth, node_members, root_members, ticket_draft}
-use Rattle.json_shapes.specs.Listed.{pool_draft, data_items}
+use Rattle.json_items.specs.Listed.{pool_draft, data_items}
 use Rattle.json_shapes.specs.PartDraft.{part_members}
-use Rattle.json_shapes.specs.PoolDraft.{Marked, resource_draft, link_draft}
-use Rattle.json_shapes.specs.PoolWritten.{attr_members, link_data, audit_data}
-use Rattle.json_shapes.specs.Read.{◌>>=◌, text_pairs}
+use Rattle.json_items.specs.declared.resources.marked_form.Marked.{Marked}
+use Rattle.json_items.specs.Resources.{resource_draft}
+use Rattle.json_items.specs.Links.{link_draft}
+use Rattle.json_items.specs.Attributes.{attr_members}
+use Rattle.json_items.specs.Links.{link_data}
+use Rattle.json_items.specs.Audits.{audit_data}
+use Rattle.json_source.specs.Read.{◌>>=◌, text_pairs}
 use Rattle.json_text.specs.Marked.{no_marks, marked_pool, marked_row, marked_rows}
 use Rattle.json_text.specs.PartWritten.{part_root_data}
 use Rattle.json_text.specs.Written.{pool_data, node_data, root_data, Tree, children, others, trees, job_data}

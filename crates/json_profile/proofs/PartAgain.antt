@@ -20,10 +20,10 @@ use Rattle.json_shapes.specs.Form.{row_has_names, row_has_texts, sound}
 use Rattle.json_shapes.specs.PartDraft.{shown_rw, shown_ro, Groups, RawPart, Taken, behind, is_own, is_change, is_read, grouped, taken, taken_groups, ancestor_draft, part_members, part_draft, raw_part}
 use Rattle.json_items.specs.Again.{each_again, ancestor_again}
 use Rattle.json_shapes.specs.PartForm.{ancestor_has_names, copies_have_names, copies_have_texts, has_names, part_fault, copied, part_read}
-use Rattle.json_shapes.specs.PoolDraft.{Marked}
-use Rattle.json_shapes.specs.PoolForm.{nothing_shown}
-use Rattle.json_shapes.specs.PoolWritten.{all_showing}
-use Rattle.json_shapes.specs.Read.{◌>>=◌, provided}
+use Rattle.json_items.specs.declared.resources.marked_form.Marked.{Marked}
+use Rattle.json_items.specs.Shown.{nothing_shown}
+use Rattle.json_items.specs.Resources.{all_showing}
+use Rattle.json_source.specs.Read.{◌>>=◌, provided}
 use Rattle.json_reader.proofs.Faults.{no_fault}
 use Rattle.json_text.specs.Marked.{no_marks, marked_rows}
 use Rattle.json_text.specs.PartWritten.{ancestor_data, copies_pool, root_pool, part_root_data, copied_root, rows_data, part_data}

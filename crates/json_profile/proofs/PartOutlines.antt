@@ -15,7 +15,7 @@ use Rattle.json_shapes.specs.Draft.{RawRow, are_bare, node_rows}
 use Rattle.json_shapes.specs.Form.{Answers, sound}
 use Rattle.json_shapes.specs.PartDraft.{Groups, RawPart, Taken, grouped, taken, taken_groups, ancestors_under, part_members, part_draft, raw_part}
 use Rattle.json_shapes.specs.PartForm.{has_names, has_texts, built_fault, part_fault, copied}
-use Rattle.json_shapes.specs.Read.{◌>>=◌, provided, text_under}
+use Rattle.json_source.specs.Read.{◌>>=◌, provided, text_under}
 use Rattle.json_profile.proofs.Again.{raw_depths}
 use Rattle.json_profile.proofs.Outlines.{root_is_tree, depths-raw, IsOther, fault_of-outline, draft_fault, judged_other, memory_or}
 

@@ -6,11 +6,15 @@ use Rattle.ticket_items.specs.declared.link.Link.{Link}
 use Rattle.ticket_items.specs.declared.resource.Resource.{Resource}
 use Rattle.json_items.specs.Again.{pool_again, marked_again, link_again, audit_again}
 use Rattle.json_items.specs.declared.resources.shown_form.Shown.{Shown}
-use Rattle.json_shapes.specs.AuditDraft.{audit_draft}
+use Rattle.json_items.specs.Audits.{audit_draft}
 use Rattle.json_shapes.specs.Draft.{resources_of}
-use Rattle.json_shapes.specs.Listed.{pool_draft, data_items}
-use Rattle.json_shapes.specs.PoolDraft.{Marked, resource_draft, link_draft}
-use Rattle.json_shapes.specs.PoolWritten.{raw_data, all_showing, link_data, audit_data}
+use Rattle.json_items.specs.Listed.{pool_draft, data_items}
+use Rattle.json_items.specs.declared.resources.marked_form.Marked.{Marked}
+use Rattle.json_items.specs.Resources.{resource_draft}
+use Rattle.json_items.specs.Links.{link_draft}
+use Rattle.json_items.specs.Resources.{raw_data, all_showing}
+use Rattle.json_items.specs.Links.{link_data}
+use Rattle.json_items.specs.Audits.{audit_data}
 
 -- a pool whose resources show something each
 pub raw_resources-again : (raws : List Marked) → pool_draft resource_draft (Some (array (data_items raw_data raws))) ≡ Some raws

@@ -8,13 +8,17 @@ use Rattle.ticket_items.specs.declared.refusal.Refusal.TheVariants.{NotATree, Re
 use Rattle.ticket_items.specs.declared.resource.Resource.{Resource}
 use Rattle.ticket_items.specs.declared.spawn_status.SpawnStatus.TheVariants.{NotSpawned, SpawnedRO, SpawnedRW}
 use Rattle.ticket_items.specs.declared.usage.Usage.TheVariants.{Input, Output}
-use Rattle.json_shapes.specs.AuditDraft.{notification_draft, spawned_draft, merged_draft, audit_draft}
+use Rattle.json_items.specs.Audits.{notification_draft, spawned_draft, merged_draft, audit_draft}
 use Rattle.json_shapes.specs.Draft.{node_members, own_row}
 use Rattle.json_shapes.specs.Form.{built_fault}
-use Rattle.json_shapes.specs.Listed.{pool_draft}
-use Rattle.json_shapes.specs.PoolDraft.{own_resource, shown_draft, resource_draft, link_draft}
-use Rattle.json_shapes.specs.PoolForm.{resource_has_names, audit_has_names, nothing_shown, shows_nothing}
-use Rattle.json_shapes.specs.PoolWritten.{link_data}
+use Rattle.json_items.specs.Listed.{pool_draft}
+use Rattle.json_items.specs.Resources.{own_resource, resource_draft}
+use Rattle.json_items.specs.Shown.{shown_draft}
+use Rattle.json_items.specs.Links.{link_draft}
+use Rattle.json_items.specs.Resources.{resource_has_names}
+use Rattle.json_items.specs.Audits.{audit_has_names}
+use Rattle.json_items.specs.Shown.{nothing_shown, shows_nothing}
+use Rattle.json_items.specs.Links.{link_data}
 
 -- ---- resources
 

@@ -14,9 +14,12 @@ use Rattle.json_shapes.specs.Draft.{own_row}
 use Rattle.json_shapes.specs.Form.{node_has_names, pools_have_names, row_has_texts}
 use Rattle.json_shapes.specs.PartDraft.{ancestor_draft, part_draft, shows_change, shows_read, shown_rw, shown_ro}
 use Rattle.json_shapes.specs.PartForm.{ancestor_has_names, part_read}
-use Rattle.json_shapes.specs.PoolDraft.{own_resource, resource_draft, shown_draft, link_draft}
-use Rattle.json_shapes.specs.PoolForm.{resource_has_names, resource_has_texts, nothing_shown}
-use Rattle.json_shapes.specs.PoolWritten.{resource_data}
+use Rattle.json_items.specs.Resources.{own_resource, resource_draft}
+use Rattle.json_items.specs.Shown.{shown_draft}
+use Rattle.json_items.specs.Links.{link_draft}
+use Rattle.json_items.specs.Resources.{resource_has_names, resource_has_texts}
+use Rattle.json_items.specs.Shown.{nothing_shown}
+use Rattle.json_items.specs.Resources.{resource_data}
 use Rattle.json_text.specs.Marked.{marked_rows, shown_of, no_marks}
 use Rattle.json_text.specs.PartWritten.{part_data}
 

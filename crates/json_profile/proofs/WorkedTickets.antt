@@ -13,12 +13,14 @@ use Rattle.ticket_items.specs.declared.refusal.Refusal.TheVariants.{NotProfile, 
 use Rattle.ticket_items.specs.declared.resource.Resource.{Resource}
 use Rattle.ticket_items.specs.declared.usage.Usage.TheVariants.{Input, Output}
 use Rattle.json_shapes.specs.Draft.{own_row, ticket_draft}
-use Rattle.json_shapes.specs.EditDraft.{edit_draft, adding_draft, setting_draft, set_status_draft}
-use Rattle.json_shapes.specs.EditDraft.{note_draft, add_link_draft}
+use Rattle.json_items.specs.Edits.{edit_draft, adding_draft, setting_draft, set_status_draft}
+use Rattle.json_items.specs.Edits.{note_draft, add_link_draft}
 use Rattle.json_shapes.specs.Form.{ticket_read, edit_read, node_has_names, pools_have_names}
 use Rattle.json_shapes.specs.Form.{row_has_texts}
-use Rattle.json_shapes.specs.PoolDraft.{own_resource, shown_draft, resource_draft, link_draft}
-use Rattle.json_shapes.specs.PoolForm.{resource_has_names, resource_has_texts}
+use Rattle.json_items.specs.Resources.{own_resource, resource_draft}
+use Rattle.json_items.specs.Shown.{shown_draft}
+use Rattle.json_items.specs.Links.{link_draft}
+use Rattle.json_items.specs.Resources.{resource_has_names, resource_has_texts}
 use Rattle.json_text.specs.Written.{ticket_data, edit_data}
 
 -- ---- a shop's ticket

@@ -10,7 +10,10 @@ use Rattle.ticket_items.specs.declared.node_row.NodeRow.{NodeRow}
 use Rattle.ticket_items.specs.declared.resource.Resource.{Resource}
 use Rattle.json_shapes.specs.Draft.{RawTicket, resources_of, are_bare}
 use Rattle.json_shapes.specs.Form.{built_fault, pools_have_names, row_has_names, row_has_texts}
-use Rattle.json_shapes.specs.PoolForm.{resource_has_names, resource_has_texts, link_has_names, audit_has_names, audit_has_texts, shows_nothing}
+use Rattle.json_items.specs.Resources.{resource_has_names, resource_has_texts}
+use Rattle.json_items.specs.Links.{link_has_names}
+use Rattle.json_items.specs.Audits.{audit_has_names, audit_has_texts}
+use Rattle.json_items.specs.Shown.{shows_nothing}
 use Rattle.json_reader.specs.Drafted.{drafted_raw, drafted_resources, drafted_row, drafted_rows}
 use Rattle.json_reader.specs.DraftedPool.{drafted_resource, drafted_shown}
 use Rattle.json_reader.specs.declared.node_draft.NodeDraft.{NodeDraft}

@@ -2,7 +2,7 @@
 use Rattle.std.specs.Prelude.{List, map}
 use Rattle.ticket_items.specs.declared.node_row.NodeRow.{NodeRow}
 use Rattle.json_shapes.specs.Draft.{RawRow, resources_of}
-use Rattle.json_shapes.specs.PoolDraft.{Marked}
+use Rattle.json_items.specs.declared.resources.marked_form.Marked.{Marked}
 use Rattle.json_items.specs.declared.resources.marked_form.MarkedDraft.{MarkedDraft}
 use Rattle.json_reader.specs.DraftedPool.{drafted_marked, drafted_link, drafted_audit}
 use Rattle.json_reader.specs.declared.node_draft.NodeDraft.{NodeDraft}

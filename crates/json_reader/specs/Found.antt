@@ -11,7 +11,7 @@ use Rattle.ticket_items.specs.declared.refusal.Refusal.TheVariants.{ReservedStat
 use Rattle.ticket_rows.specs.Ticket.{IsValid, Job, first_of, unless}
 use Rattle.json_shapes.specs.Draft.{RawRow, RawTicket, are_bare}
 use Rattle.json_shapes.specs.Form.{built_fault, has_names, has_texts, row_has_names, row_has_texts}
-use Rattle.json_shapes.specs.Read.{Fails}
+use Rattle.json_source.specs.Read.{Fails}
 use Rattle.json_reader.specs.declared.checks.Checks.{Checks}
 use Rattle.json_reader.specs.declared.found_nodes.FoundNodes.{FoundNodes}
 use Rattle.json_reader.specs.declared.found_ticket.FoundTicket.{FoundTicket}

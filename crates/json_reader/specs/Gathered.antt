@@ -2,7 +2,7 @@
 use Rattle.std.specs.Prelude.{◌≡◌, List, ◌++◌, Option, Some, Result, Ok, Err, ⊤}
 use Rattle.ticket_items.specs.declared.refusal.Refusal.{Refusal}
 use Rattle.json_shapes.specs.Draft.{RawRow}
-use Rattle.json_shapes.specs.Read.{Fails}
+use Rattle.json_source.specs.Read.{Fails}
 use Rattle.json_reader.specs.Drafted.{drafted_rows}
 use Rattle.json_reader.specs.declared.node_draft.NodeDraft.{NodeDraft}
 

@@ -1,6 +1,6 @@
 ghost use Rattle.std.specs.Prelude.{◌≡◌, codes, IfErr, IfOk};
-ghost use Rattle.json_shapes.specs.Read as read;
-ghost use Rattle.json_shapes.specs.Read.{Gives};
+ghost use Rattle.json_source.specs.Read as read;
+ghost use Rattle.json_source.specs.Read.{Gives};
 ghost use Rattle.json_reader.specs.Found.{name_in};
 
 use crate::checks::Checks;
@@ -41,7 +41,7 @@ fn name_in(alloc: Global, text: &str) -> Result<Option<Name>, Refusal>
 impl FoundTicket {
     ghost use Rattle.std.specs.Prelude.{◌≡◌, true, Some, IfErr, IfOk};
     ghost use Rattle.json_shapes.specs.Draft.{RawTicket, ticket_draft};
-    ghost use Rattle.json_shapes.specs.Read.{Fails};
+    ghost use Rattle.json_source.specs.Read.{Fails};
     ghost use Rattle.json_reader.specs.Found.{Builds, IsFoundTicket, all_hold, found_ticket};
 
     /// What is found of the ticket that a value is. Refuses `NotProfile`, and `Memory`.

@@ -4,7 +4,7 @@ ghost use Rattle.std.specs.Prelude.{◌≡◌, ◌∷◌, [], map};
 ghost use Rattle.std.specs.Option.{option_map};
 ghost use Rattle.serde_json.specs.Data.{depth};
 ghost use Rattle.json_shapes.specs.Draft as form;
-ghost use Rattle.json_shapes.specs.Read.{Gives};
+ghost use Rattle.json_source.specs.Read.{Gives};
 ghost use Rattle.json_reader.specs.Drafted.{drafted_raw};
 ghost use Rattle.json_reader.specs.Gathered.{AreDrafted, Gathers};
 

@@ -28,7 +28,7 @@ impl<'a> PartDraft<'a> {
     ghost use Rattle.ticket_items.specs.SpawnId.{spawn_of};
     ghost use Rattle.json_shapes.specs.PartDraft.{part_draft};
     ghost use Rattle.json_shapes.specs.PartForm as form;
-    ghost use Rattle.json_shapes.specs.Read.{Gives};
+    ghost use Rattle.json_source.specs.Read.{Gives};
     ghost use Rattle.json_reader.specs.DraftedPart.{drafted_part};
 
     /// The draft that a value is. Refuses `NotProfile`, and `Memory`.

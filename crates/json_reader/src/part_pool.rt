@@ -3,8 +3,8 @@
 ghost use Rattle.std.specs.Prelude.{◌≡◌, Some, IfOk, IfErr};
 ghost use Rattle.std.specs.List.{list_all, prefix_len};
 ghost use Rattle.json_shapes.specs.PartDraft as draft;
-ghost use Rattle.json_shapes.specs.PoolForm as form;
-ghost use Rattle.json_shapes.specs.Read.{Fails, Gives};
+ghost use Rattle.json_items.specs.Shown as shown;
+ghost use Rattle.json_source.specs.Read.{Fails, Gives};
 ghost use Rattle.json_reader.specs.Drafted.{drafted_resources, drafted_rows};
 ghost use Rattle.json_reader.specs.DraftedPart.{drafted_groups, drafted_taken};
 ghost use Rattle.json_reader.specs.DraftedPool.{drafted_shown};
@@ -20,7 +20,7 @@ type Copies<'a> = (Drafts<MarkedDraft<'a>>, Drafts<MarkedDraft<'a>>);
 
 /// How many resources in front show nothing of spawns.
 fn own_len(pool: &[MarkedDraft<'_>]) -> usize
-    ensures { result ≡ prefix_len (λ d. form.shows_nothing (drafted_shown d.shown)) pool.now }
+    ensures { result ≡ prefix_len (λ d. shown.shows_nothing (drafted_shown d.shown)) pool.now }
 {
     pool.iter()
         .take_while(|draft| draft.shown.shows_nothing())

@@ -3,7 +3,8 @@
 ghost use Rattle.std.specs.Prelude.{◌≡◌, true, IfOk, IfErr};
 ghost use Rattle.std.specs.List.{list_all};
 ghost use Rattle.json_shapes.specs.Draft.{resources_of};
-ghost use Rattle.json_shapes.specs.PoolForm as form;
+ghost use Rattle.json_items.specs.Resources as form;
+ghost use Rattle.json_items.specs.Shown as shown;
 ghost use Rattle.json_reader.specs.Drafted.{drafted_resources};
 ghost use Rattle.json_reader.specs.DraftedPool.{drafted_resource, drafted_shown};
 
@@ -29,7 +30,7 @@ pub fn resources_have_texts(drafts: &[MarkedDraft<'_>]) -> bool
 
 /// Whether all show nothing of spawns.
 pub fn show_nothing(drafts: &[MarkedDraft<'_>]) -> bool
-    ensures { result ≡ list_all (λ d. form.shows_nothing (drafted_shown d.shown)) drafts.now }
+    ensures { result ≡ list_all (λ d. shown.shows_nothing (drafted_shown d.shown)) drafts.now }
 {
     drafts.iter().all(|draft| draft.shown.shows_nothing())
 }

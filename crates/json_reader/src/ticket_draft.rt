@@ -17,7 +17,7 @@ pub struct TicketDraft<'a> {
 impl<'a> TicketDraft<'a> {
     ghost use Rattle.std.specs.Prelude.{◌≡◌};
     ghost use Rattle.json_shapes.specs.Draft.{ticket_draft};
-    ghost use Rattle.json_shapes.specs.Read.{Gives};
+    ghost use Rattle.json_source.specs.Read.{Gives};
     ghost use Rattle.json_reader.specs.DraftedTicket.{drafted_ticket};
 
     /// The draft that a value is. Refuses `NotProfile`, and `Memory`.

@@ -4,7 +4,7 @@
 ghost use Rattle.std.specs.Prelude.{◌≡◌, ◌∷◌, [], List, map, IfErr, IfOk, Some};
 ghost use Rattle.std.specs.Option.{option_map};
 ghost use Rattle.json_shapes.specs.Draft as form;
-ghost use Rattle.json_shapes.specs.Read.{Fails};
+ghost use Rattle.json_source.specs.Read.{Fails};
 ghost use Rattle.json_reader.specs.Found.{IsFound};
 ghost use Rattle.json_reader.specs.Gathered.{Gathers};
 

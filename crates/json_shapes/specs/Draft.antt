@@ -13,11 +13,13 @@ use Rattle.serde_json.specs.Find.{get}
 use Rattle.ticket_rows.specs.Ticket.{Job}
 use Rattle.ticket_items.specs.declared.resource.Resource.{Resource}
 use Rattle.ticket_items.specs.declared.node_row.NodeRow.{NodeRow}
-use Rattle.json_shapes.specs.AuditDraft.{audit_draft}
-use Rattle.json_shapes.specs.Listed.{pool_draft}
-use Rattle.json_shapes.specs.PoolDraft.{Marked, resource_draft, link_draft}
-use Rattle.json_shapes.specs.PoolForm.{shows_nothing}
-use Rattle.json_shapes.specs.Read.{◌>>=◌, provided, has_only, text_under, attrs_of}
+use Rattle.json_items.specs.Audits.{audit_draft}
+use Rattle.json_items.specs.Listed.{pool_draft}
+use Rattle.json_items.specs.declared.resources.marked_form.Marked.{Marked}
+use Rattle.json_items.specs.Resources.{resource_draft}
+use Rattle.json_items.specs.Links.{link_draft}
+use Rattle.json_items.specs.Shown.{shows_nothing}
+use Rattle.json_source.specs.Read.{◌>>=◌, provided, has_only, text_under, attrs_of}
 
 -- ---- nodes
 

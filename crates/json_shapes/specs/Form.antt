@@ -14,9 +14,10 @@ use Rattle.ticket_items.specs.declared.refusal.Refusal.TheVariants.{ReservedStat
 pub use Rattle.json_items.specs.Edits.{edit_has_names, edit_has_texts}
 pub use Rattle.json_items.specs.Judged.{sound, judged, checked_fault, first_fault, Answers}
 use Rattle.json_shapes.specs.Draft.{RawTicket, ticket_draft}
-use Rattle.json_shapes.specs.EditDraft.{edit_draft}
-use Rattle.json_shapes.specs.PoolForm.{resource_has_names, resource_has_texts, link_has_names}
-use Rattle.json_shapes.specs.PoolForm.{audit_has_names, audit_has_texts}
+use Rattle.json_items.specs.Edits.{edit_draft}
+use Rattle.json_items.specs.Resources.{resource_has_names, resource_has_texts}
+use Rattle.json_items.specs.Links.{link_has_names}
+use Rattle.json_items.specs.Audits.{audit_has_names, audit_has_texts}
 
 -- ---- names and texts
 

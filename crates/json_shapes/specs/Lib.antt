@@ -1,11 +1,4 @@
-pub mod Read
 pub mod Draft
-pub mod EditDraft
 pub mod Form
-pub mod Listed
-pub mod PoolDraft
-pub mod AuditDraft
-pub mod PoolForm
-pub mod PoolWritten
 pub mod PartDraft
 pub mod PartForm

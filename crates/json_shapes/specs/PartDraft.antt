@@ -9,10 +9,10 @@ use Rattle.ticket_items.specs.declared.ancestor.Ancestor.{Ancestor}
 use Rattle.ticket_items.specs.declared.node_row.NodeRow.{NodeRow}
 use Rattle.ticket_items.specs.declared.resource.Resource.{Resource}
 use Rattle.json_shapes.specs.Draft.{RawRow, root_members, node_rows, resources_of, are_bare}
-use Rattle.json_shapes.specs.Listed.{each, items_under}
-use Rattle.json_shapes.specs.PoolDraft.{Marked}
-use Rattle.json_shapes.specs.PoolForm.{shows_nothing}
-use Rattle.json_shapes.specs.Read.{◌>>=◌, provided, has_only, text_under}
+use Rattle.json_items.specs.Listed.{each, items_under}
+use Rattle.json_items.specs.declared.resources.marked_form.Marked.{Marked}
+use Rattle.json_items.specs.Shown.{shows_nothing}
+use Rattle.json_source.specs.Read.{◌>>=◌, provided, has_only, text_under}
 unfoldable pub use Rattle.json_items.specs.Ancestors.{ancestor_draft}
 pub use Rattle.json_items.specs.Shown.{shown_rw, shown_ro, shows_change, shows_read}
 

@@ -16,7 +16,7 @@ use Rattle.ticket_items.specs.declared.refusal.Refusal.TheVariants.{NotProfile}
 use Rattle.ticket_items.specs.declared.resource.Resource.{Resource}
 use Rattle.json_shapes.specs.Form.{checked_fault, row_has_names, row_has_texts, sound}
 use Rattle.json_shapes.specs.PartDraft.{RawPart, part_draft}
-use Rattle.json_shapes.specs.PoolForm.{resource_has_names, resource_has_texts}
+use Rattle.json_items.specs.Resources.{resource_has_names, resource_has_texts}
 unfoldable pub use Rattle.json_items.specs.Ancestors.{ancestor_has_names}
 
 -- whether all ids and names of copies are such

@@ -1,5 +1,5 @@
 -- Reading JSON data: one member, and what a reader answers.
-use Rattle.std.specs.Prelude.{◌≡◌, ℕ, ◌&&◌, Bool, true, false, List, [], ◌∷◌, ◌++◌, Option, Some}
+use Rattle.std.specs.Prelude.{◌≡◌, ℕ, ◌&&◌, Bool, true, false, List, [], ◌∷◌, Option, Some}
 use Rattle.std.specs.Prelude.{None, Result, Ok, Err, ⊤, map}
 use Rattle.std.specs.Borrow.{Bor}
 use Rattle.std.specs.Option.{option_map, option_and_then, option_map_or}
@@ -69,14 +69,6 @@ Fails e read = ⊥
 abbrev pub Gives : {X Y : Type 0} → (X → Y) → Result X Refusal → Option Y → Type 0
 Gives view (Ok x) read = read ≡ Some (view x)
 Gives view (Err e) read = Fails e read
-
--- the list has grown by what is read, seen by view; or there is nothing to read, unless memory ran
--- out
-abbrev pub Adds : {X Y : Type 0} → (List X → List Y) → List X → List X → Result ⊤ Refusal
-    → Option (List Y) → Type 0
-Adds {X} {Y} view old new (Ok u) read = (added : List Y) × (read ≡ Some added)
-    × (view new ≡ view old ++ added)
-Adds view old new (Err e) read = Fails e read
 
 -- ---- texts that are lent
 

@@ -5,7 +5,9 @@ use Rattle.std.specs.List.{list_all}
 use Rattle.ticket_items.specs.Names.{is_name, is_text}
 use Rattle.ticket_items.specs.declared.node_row.NodeRow.{NodeRow}
 use Rattle.json_shapes.specs.Form.{node_has_names, pools_have_names, row_has_names, row_has_texts}
-use Rattle.json_shapes.specs.PoolForm.{audit_has_names, audit_has_texts, link_has_names, resource_has_names, resource_has_texts}
+use Rattle.json_items.specs.Audits.{audit_has_names, audit_has_texts}
+use Rattle.json_items.specs.Links.{link_has_names}
+use Rattle.json_items.specs.Resources.{resource_has_names, resource_has_texts}
 
 pub row_names : (r : NodeRow) → is_name r.id ≡ true → is_name r.kind ≡ true → is_name r.job_part ≡ true → is_name r.status ≡ true → list_all (λ p. is_name p.0) r.attrs ≡ true
     → list_all resource_has_names r.resources ≡ true → list_all link_has_names r.links ≡ true → list_all audit_has_names r.audits ≡ true → row_has_names r ≡ true

@@ -9,9 +9,12 @@ use Rattle.ticket_items.specs.declared.audit.Audit.{Audit}
 use Rattle.ticket_items.specs.declared.audit.Audit.TheVariants.{Notification, Spawned, Merged}
 use Rattle.ticket_items.specs.declared.link.Link.{Link}
 use Rattle.ticket_items.specs.declared.resource.Resource.{Resource}
-use Rattle.json_shapes.specs.Listed.{data_items}
-use Rattle.json_shapes.specs.PoolDraft.{Marked}
-use Rattle.json_shapes.specs.PoolWritten.{attr_members, resource_data, raw_data, link_data, audit_data}
+use Rattle.json_items.specs.Listed.{data_items}
+use Rattle.json_items.specs.declared.resources.marked_form.Marked.{Marked}
+use Rattle.json_items.specs.Attributes.{attr_members}
+use Rattle.json_items.specs.Resources.{resource_data, raw_data}
+use Rattle.json_items.specs.Links.{link_data}
+use Rattle.json_items.specs.Audits.{audit_data}
 use Rattle.json_items.specs.declared.resources.shown_form.Shown.{Shown}
 use Rattle.json_text.specs.PartWritten.{ancestor_data}
 use Rattle.json_text.specs.Written.{pool_data}

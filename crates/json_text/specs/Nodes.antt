@@ -5,8 +5,10 @@ use Rattle.serde_json.specs.Data.{Members, no_members, member, string, array}
 use Rattle.ticket_items.specs.declared.marks.Marks.{Marks}
 use Rattle.ticket_items.specs.declared.node_row.NodeRow.{NodeRow}
 use Rattle.json_shapes.specs.Form.{row_has_names, row_has_texts}
-use Rattle.json_shapes.specs.Listed.{data_items}
-use Rattle.json_shapes.specs.PoolWritten.{attrs_data, audit_data, link_data}
+use Rattle.json_items.specs.Listed.{data_items}
+use Rattle.json_items.specs.Attributes.{attrs_data}
+use Rattle.json_items.specs.Audits.{audit_data}
+use Rattle.json_items.specs.Links.{link_data}
 use Rattle.json_text.specs.Marked.{shown_status}
 use Rattle.json_text.specs.TicketText.{IsBehindDeeper}
 

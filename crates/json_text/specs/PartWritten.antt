@@ -8,11 +8,12 @@ use Rattle.ticket_items.specs.declared.ancestor.Ancestor.{Ancestor}
 use Rattle.ticket_items.specs.declared.node_row.NodeRow.{NodeRow}
 use Rattle.ticket_items.specs.declared.resource.Resource.{Resource}
 use Rattle.json_shapes.specs.Draft.{RawRow}
-use Rattle.json_shapes.specs.Listed.{data_items}
+use Rattle.json_items.specs.Listed.{data_items}
 use Rattle.json_shapes.specs.PartDraft.{shown_rw, shown_ro}
-use Rattle.json_shapes.specs.PoolDraft.{Marked}
-use Rattle.json_shapes.specs.PoolForm.{nothing_shown}
-use Rattle.json_shapes.specs.PoolWritten.{all_showing, link_data}
+use Rattle.json_items.specs.declared.resources.marked_form.Marked.{Marked}
+use Rattle.json_items.specs.Shown.{nothing_shown}
+use Rattle.json_items.specs.Resources.{all_showing}
+use Rattle.json_items.specs.Links.{link_data}
 pub use Rattle.json_items.specs.Ancestors.{ancestor_data}
 use Rattle.json_text.specs.Marked.{no_marks, marked_rows}
 use Rattle.json_text.specs.Written.{first_members, pool_data, children, trees}

@@ -6,9 +6,12 @@ use Rattle.ticket_rows.specs.Ticket.{Job}
 use Rattle.ticket_items.specs.declared.node_row.NodeRow.{NodeRow}
 use Rattle.ticket_items.specs.declared.marks.Marks.{Marks}
 use Rattle.json_shapes.specs.Draft.{RawRow}
-use Rattle.json_shapes.specs.Listed.{data_items}
-use Rattle.json_shapes.specs.PoolDraft.{Marked}
-use Rattle.json_shapes.specs.PoolWritten.{attr_members, raw_data, link_data, audit_data}
+use Rattle.json_items.specs.Listed.{data_items}
+use Rattle.json_items.specs.declared.resources.marked_form.Marked.{Marked}
+use Rattle.json_items.specs.Attributes.{attr_members}
+use Rattle.json_items.specs.Resources.{raw_data}
+use Rattle.json_items.specs.Links.{link_data}
+use Rattle.json_items.specs.Audits.{audit_data}
 use Rattle.json_text.specs.Marked.{no_marks, marked_rows}
 pub use Rattle.json_items.specs.Edits.{edit_data}
 

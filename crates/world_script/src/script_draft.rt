@@ -16,7 +16,7 @@ pub struct ScriptDraft<'a> {
 
 impl<'a> ScriptDraft<'a> {
     ghost use Rattle.std.specs.Prelude.{◌≡◌};
-    ghost use Rattle.json_shapes.specs.Read.{Gives};
+    ghost use Rattle.json_source.specs.Read.{Gives};
     ghost use Rattle.world_script.specs.DraftedEvent.{drafted_events};
     ghost use Rattle.world_script.specs.DraftedScript.{drafted_script};
     ghost use Rattle.world_script.specs.Script as form;

@@ -15,7 +15,7 @@ pub(crate) struct MasterOpening<'a> {
 }
 
 impl<'a> MasterOpening<'a> {
-    ghost use Rattle.json_shapes.specs.Read.{Gives};
+    ghost use Rattle.json_source.specs.Read.{Gives};
     ghost use Rattle.controller_form.specs.Openings.DraftedOpening.{drafted_master};
     ghost use Rattle.controller_form.specs.Openings.OpeningForm as form;
 

@@ -96,7 +96,7 @@ fn has_phase<S: Source>(value: &S, word: &str) -> bool
 }
 
 impl<'a> EntryDraft<'a> {
-    ghost use Rattle.json_shapes.specs.Read.{Gives};
+    ghost use Rattle.json_source.specs.Read.{Gives};
     ghost use Rattle.controller_form.specs.States.Drafted.{drafted_entry};
     ghost use Rattle.controller_form.specs.States.EntryForm as form;
 

@@ -78,7 +78,7 @@ impl<'a> MasterDraft<'a> {
     ghost use Rattle.serde_json.specs.Find.{get};
     ghost use Rattle.std.specs.Option.{option_and_then};
     ghost use Rattle.json_shapes.specs.Draft.{ticket_draft};
-    ghost use Rattle.json_shapes.specs.Read.{Gives};
+    ghost use Rattle.json_source.specs.Read.{Gives};
     ghost use Rattle.json_reader.specs.DraftedTicket.{drafted_ticket};
     ghost use Rattle.controller_form.specs.States.Drafted.{drafted_master};
     ghost use Rattle.controller_form.specs.States.MasterForm as form;

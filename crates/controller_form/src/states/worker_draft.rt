@@ -21,7 +21,7 @@ impl<'a> WorkerDraft<'a> {
     ghost use Rattle.std.specs.Prelude.{codes};
     ghost use Rattle.std.specs.Option.{option_and_then};
     ghost use Rattle.serde_json.specs.Find.{get};
-    ghost use Rattle.json_shapes.specs.Read.{Gives};
+    ghost use Rattle.json_source.specs.Read.{Gives};
     ghost use Rattle.json_items.specs.Listed.{list_form};
     ghost use Rattle.controller_form.specs.States.Drafted.{drafted_entries, drafted_worker};
     ghost use Rattle.controller_form.specs.States.EntryForm.{entry_draft};

@@ -13,11 +13,11 @@ use Rattle.ticket_items.specs.declared.refusal.Refusal.{Refusal}
 use Rattle.ticket_items.specs.declared.refusal.Refusal.TheVariants.{BadId, BadText, NotJson}
 use Rattle.ticket_items.specs.declared.refusal.Refusal.TheVariants.{NotProfile, Memory}
 use Rattle.json_shapes.specs.Draft.{RawTicket, ticket_draft}
-use Rattle.json_shapes.specs.EditDraft.{edit_draft}
+use Rattle.json_items.specs.Edits.{edit_draft}
 use Rattle.json_items.specs.Listed.{list_form}
 use Rattle.json_shapes.specs.Form.{has_names, has_texts, edit_has_names, edit_has_texts, built_fault}
 use Rattle.json_shapes.specs.Form.{sound}
-use Rattle.json_shapes.specs.Read.{◌>>=◌, provided, has_only, number_under}
+use Rattle.json_source.specs.Read.{◌>>=◌, provided, has_only, number_under}
 
 -- edits to be done at a time, in seconds since 1970, to a ticket
 pub record Document : Type 0 where

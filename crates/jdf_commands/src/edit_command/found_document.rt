@@ -1,7 +1,7 @@
 ghost use Rattle.std.specs.Prelude.{◌≡◌, codes, Some, IfErr, IfOk};
 ghost use Rattle.json_shapes.specs.Draft.{RawTicket};
-ghost use Rattle.json_shapes.specs.Read as read;
-ghost use Rattle.json_shapes.specs.Read.{Fails, Gives};
+ghost use Rattle.json_source.specs.Read as read;
+ghost use Rattle.json_source.specs.Read.{Fails, Gives};
 ghost use Rattle.json_reader.specs.Found.{IsFoundTicket};
 ghost use Rattle.json_source.specs.Tree.{tree_data};
 ghost use Rattle.jdf_commands.specs.EditCommand.Document.{ticket_under};
@@ -46,7 +46,7 @@ fn ticket_in(alloc: Global, tree: &Tree<'_>) -> Result<FoundTicket, Refusal>
 
 impl FoundDocument {
     ghost use Rattle.std.specs.Prelude.{◌≡◌, Some, IfErr, IfOk};
-    ghost use Rattle.json_shapes.specs.Read.{Fails};
+    ghost use Rattle.json_source.specs.Read.{Fails};
     ghost use Rattle.json_source.specs.Tree.{tree_data};
     ghost use Rattle.jdf_commands.specs.EditCommand.Document.{RawDocument, document_draft};
     ghost use Rattle.jdf_commands.specs.EditCommand.Found.{IsFoundDocument, found_document};

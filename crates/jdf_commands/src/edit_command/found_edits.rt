@@ -3,7 +3,7 @@
 
 ghost use Rattle.std.specs.Prelude.{◌≡◌, ◌∷◌, [], codes, map, true};
 ghost use Rattle.std.specs.Option.{option_map};
-ghost use Rattle.json_shapes.specs.EditDraft.{edit_draft};
+ghost use Rattle.json_items.specs.Edits.{edit_draft};
 ghost use Rattle.json_shapes.specs.Form.{edit_has_names, edit_has_texts};
 ghost use Rattle.json_items.specs.DraftedEdits.{drafted_edit};
 ghost use Rattle.json_items.specs.Listed.{each, items_under};
@@ -72,7 +72,7 @@ fn edit_trees<'t, 'a>(tree: &'t Tree<'a>) -> Option<&'t [Tree<'a>]>
 impl FoundEdits {
     ghost use Rattle.std.specs.Prelude.{◌≡◌, List, [], ◌∷◌, ◌++◌, Some, IfErr, IfOk, OnOk};
     ghost use Rattle.ticket_items.specs.declared.edit.Edit.{Edit};
-    ghost use Rattle.json_shapes.specs.Read.{Fails};
+    ghost use Rattle.json_source.specs.Read.{Fails};
     ghost use Rattle.json_items.specs.DraftedEdits.{drafted_edit};
     ghost use Rattle.json_source.specs.Tree.{tree_data};
     ghost use Rattle.jdf_commands.specs.EditCommand.Document.{edits_under};

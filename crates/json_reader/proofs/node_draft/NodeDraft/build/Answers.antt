@@ -1,7 +1,7 @@
 use Rattle.std.proofs.Common.{◌∙◌, map, refl, ap}
 use Rattle.std.proofs.lemmas.Bool.{and_parts}
 use Rattle.std.specs.List.{list_all}
-use Rattle.json_shapes.specs.PoolForm.{resource_has_names, resource_has_texts}
+use Rattle.json_items.specs.Resources.{resource_has_names, resource_has_texts}
 use Rattle.ticket_items.specs.declared.link.Link.{Link}
 use Rattle.json_items.proofs.Tests.{all_true}
 use Rattle.json_reader.specs.DraftedPool.{drafted_resource, drafted_link}

@@ -9,7 +9,7 @@ use Rattle.ticket_rows.specs.Ticket.{IsValid, fault_of}
 use Rattle.json_shapes.specs.Draft.{resources_of}
 use Rattle.json_shapes.specs.Form.{row_has_names, row_has_texts}
 use Rattle.json_shapes.specs.PartForm.{all_rows}
-use Rattle.json_shapes.specs.PoolForm.{resource_has_names, resource_has_texts}
+use Rattle.json_items.specs.Resources.{resource_has_names, resource_has_texts}
 use Rattle.json_items.proofs.Tests.{all_true}
 use Rattle.json_reader.specs.Drafted.{drafted_resources, drafted_row, drafted_rows}
 use Rattle.json_reader.specs.DraftedPart.{drafted_ancestor, drafted_part}
