@@ -1,4 +1,5 @@
 -- Copies of the resources of some ids, row by row.
+use Rattle.std.specs.Cmp.Lexicographic.{pointwise}
 use Rattle.std.proofs.Common.{◌≡◌, ◌∙◌, ℕ, ◌+◌, ◌<◌, ◌&&◌, Bool, true, false, cond, List, [], ◌∷◌}
 use Rattle.std.proofs.Common.{◌++◌, length, map, drop, get_or, None, refl, ap}
 use Rattle.std.proofs.lemmas.List.{map-append, drop_more}
@@ -10,20 +11,20 @@ use Rattle.ticket_items.specs.declared.node_row.NodeRow.{NodeRow}
 use Rattle.ticket_items.specs.declared.resource.Resource.{Resource}
 use Rattle.spawn.proofs.RowsBelow.{filter-append}
 use Rattle.spawn.specs.Parts.{resources, resources_among}
-use Rattle.merge.specs.Alike.{are_pairs, is_fixed, behind}
+use Rattle.merge.specs.Alike.{is_fixed, behind}
 
 -- copies told behind some of them
 behind_at : (b : Bool) (x y : Resource) (xs zs copies : List Resource)
-    → are_pairs is_fixed (xs ++ zs) copies
-    ≡ option_map_or (are_pairs is_fixed zs) (behind xs copies) false
-    → (b && are_pairs is_fixed (xs ++ zs) copies)
-    ≡ option_map_or (are_pairs is_fixed zs) (cond b (behind xs copies) None) false
+    → pointwise is_fixed (xs ++ zs) copies
+    ≡ option_map_or (pointwise is_fixed zs) (behind xs copies) false
+    → (b && pointwise is_fixed (xs ++ zs) copies)
+    ≡ option_map_or (pointwise is_fixed zs) (cond b (behind xs copies) None) false
 behind_at true x y xs zs copies go = go
 behind_at false x y xs zs copies go = refl
 
 pub pairs_behind : (xs zs copies : List Resource)
-    → are_pairs is_fixed (xs ++ zs) copies
-    ≡ option_map_or (are_pairs is_fixed zs) (behind xs copies) false
+    → pointwise is_fixed (xs ++ zs) copies
+    ≡ option_map_or (pointwise is_fixed zs) (behind xs copies) false
 pairs_behind [] zs copies = refl
 pairs_behind (x ∷ xs) zs [] = refl
 pairs_behind (x ∷ xs) zs (y ∷ copies) = behind_at (is_fixed x y) x y xs zs copies (pairs_behind xs zs copies)
@@ -46,10 +47,10 @@ among-cons ids r rows = ap (filter (λ x. mem x.id ids)) (resources-cons r rows)
 pub copies_more : (ids : List (List ℕ)) (rows : List NodeRow) (i : ℕ) (d : NodeRow)
     (copies : List Resource)
     → i < length rows
-    → are_pairs is_fixed (resources_among ids (drop i rows)) copies
-    ≡ option_map_or (are_pairs is_fixed (resources_among ids (drop (i + 1) rows)))
+    → pointwise is_fixed (resources_among ids (drop i rows)) copies
+    ≡ option_map_or (pointwise is_fixed (resources_among ids (drop (i + 1) rows)))
     (behind (filter (λ x. mem x.id ids) (get_or rows i d).resources) copies) false
 copies_more ids rows i d copies within =
-    ap (λ rs. are_pairs is_fixed (resources_among ids rs) copies) (drop_more rows i d within)
-    ∙ ap (λ xs. are_pairs is_fixed xs copies) (among-cons ids (get_or rows i d) (drop (i + 1) rows))
+    ap (λ rs. pointwise is_fixed (resources_among ids rs) copies) (drop_more rows i d within)
+    ∙ ap (λ xs. pointwise is_fixed xs copies) (among-cons ids (get_or rows i d) (drop (i + 1) rows))
     ∙ pairs_behind (filter (λ x. mem x.id ids) (get_or rows i d).resources) (resources_among ids (drop (i + 1) rows)) copies

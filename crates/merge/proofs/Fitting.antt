@@ -1,4 +1,5 @@
 -- The tests of a part tell whether it fits.
+use Rattle.std.specs.Cmp.Lexicographic.{pointwise}
 use Rattle.std.proofs.Common.{◌≡◌, ◌∙◌, ◌-◌, ◌&&◌, ◌==◌, true, false, List, [], ◌∷◌, length, map}
 use Rattle.std.proofs.Common.{sym, ap, eq-eqb}
 use Rattle.std.proofs.lemmas.Bool.{true≢false, and_parts, and_from, eqb-true}
@@ -17,7 +18,7 @@ use Rattle.ticket_tree.specs.declared.at.At.{At}
 use Rattle.spawn.specs.declared.records.spawn_rec.SpawnRec.{SpawnRec}
 use Rattle.merge.proofs.Told.{same_bytes, bytes_from, rows_same, rows_from_shape, pairs_map}
 use Rattle.merge.proofs.Told.{pairs_from, fixed_same, fixed_from}
-use Rattle.merge.specs.Alike.{are_pairs, is_fit, is_row, is_fixed, is_part}
+use Rattle.merge.specs.Alike.{is_fit, is_row, is_fixed, is_part}
 use Rattle.merge.specs.Shape.{Fits, shape}
 
 -- ---- the tests
@@ -28,8 +29,8 @@ part_fits t r p h =
     let below = rows_below t.rows r.node in
     let levels = length (above t.rows r.node) in
     let among = resources_among r.rw t.rows in
-    let p3 = and_parts (bytes_eq p.job_id t.job_id && p.spawn_id == r.id && are_pairs (is_row levels) below p.rows) (are_pairs is_fixed among p.rw) h in
-    let p2 = and_parts (bytes_eq p.job_id t.job_id && p.spawn_id == r.id) (are_pairs (is_row levels) below p.rows) p3.0 in
+    let p3 = and_parts (bytes_eq p.job_id t.job_id && p.spawn_id == r.id && pointwise (is_row levels) below p.rows) (pointwise is_fixed among p.rw) h in
+    let p2 = and_parts (bytes_eq p.job_id t.job_id && p.spawn_id == r.id) (pointwise (is_row levels) below p.rows) p3.0 in
     let p1 = and_parts (bytes_eq p.job_id t.job_id) (p.spawn_id == r.id) p2.0 in
     let rows = rows_same levels below p.rows p2.1 in
     record { job = same_bytes p.job_id t.job_id p1.0; spawn = eqb-true p.spawn_id r.id p1.1; rows = rows.0; rw = pairs_map is_fixed fixed fixed among p.rw fixed_same p3.1; audits = rows.1 }

@@ -1,4 +1,5 @@
 -- Copies of the resources of some ids, where the ids stand in ticket order.
+use Rattle.std.specs.Cmp.Lexicographic.{pointwise}
 use Rattle.std.proofs.Common.{◌≡◌, ◌∙◌, ℕ, ◌+◌, ◌<◌, ◌&&◌, ◌||◌, Bool, true, false, not, cond, List}
 use Rattle.std.proofs.Common.{[], ◌∷◌, ◌++◌, length, drop, get_or, refl, sym, ap}
 use Rattle.std.proofs.lemmas.Bool.{true≢false, and_parts, and_right, or_parts, not-true}
@@ -15,7 +16,7 @@ use Rattle.ticket_items.specs.declared.resource.Resource.{Resource}
 use Rattle.spawn.proofs.GoodCopies.{resources_apart}
 use Rattle.spawn.specs.Parts.{resources, resources_among}
 use Rattle.merge.proofs.CopiesToChange.{resources-cons}
-use Rattle.merge.specs.Alike.{are_pairs, is_fixed}
+use Rattle.merge.specs.Alike.{is_fixed}
 use Rattle.merge.specs.InOrder.{has_id, past, left_behind, are_met}
 
 -- ---- row by row
@@ -112,24 +113,24 @@ taken : (x : Resource) (xs : List Resource) (i : List ℕ) (ids : List (List ℕ
     (copies : List Resource)
     → x.id ≡ i → mem x.id (resource_ids xs) ≡ false
     → ((ys : List Resource)
-    → are_pairs is_fixed (filter (λ x. mem x.id ids) xs) ys ≡ (are_pairs has_id ys ids
+    → pointwise is_fixed (filter (λ x. mem x.id ids) xs) ys ≡ (pointwise has_id ys ids
     && are_met is_fixed xs ys))
-    → are_pairs is_fixed (x ∷ filter (λ x. mem x.id ids) xs) copies
-    ≡ (are_pairs has_id copies (i ∷ ids) && are_met is_fixed (x ∷ xs) copies)
+    → pointwise is_fixed (x ∷ filter (λ x. mem x.id ids) xs) copies
+    ≡ (pointwise has_id copies (i ∷ ids) && are_met is_fixed (x ∷ xs) copies)
 taken x xs i ids [] own out go = refl
-taken x xs i ids (y ∷ ys) own out go = ap (λ b. is_fixed x y && b) (go ys) ∙ taken_at (is_fixed x y) (bytes_eq y.id i) x y i (are_pairs has_id ys ids) xs ys refl refl own out
+taken x xs i ids (y ∷ ys) own out go = ap (λ b. is_fixed x y && b) (go ys) ∙ taken_at (is_fixed x y) (bytes_eq y.id i) x y i (pointwise has_id ys ids) xs ys refl refl own out
 
 passed : (x : Resource) (xs : List Resource) (i : List ℕ) (ids : List (List ℕ))
     (copies : List Resource)
     → bytes_eq x.id i ≡ false
-    → (are_pairs has_id copies (i ∷ ids) && are_met is_fixed xs copies)
-    ≡ (are_pairs has_id copies (i ∷ ids) && are_met is_fixed (x ∷ xs) copies)
+    → (pointwise has_id copies (i ∷ ids) && are_met is_fixed xs copies)
+    ≡ (pointwise has_id copies (i ∷ ids) && are_met is_fixed (x ∷ xs) copies)
 passed x xs i ids [] other = refl
-passed x xs i ids (y ∷ ys) other = passed_at (is_fixed x y) x y i (are_pairs has_id ys ids) xs ys refl other
+passed x xs i ids (y ∷ ys) other = passed_at (is_fixed x y) x y i (pointwise has_id ys ids) xs ys refl other
 
 none_left : (x : Resource) (xs copies : List Resource)
-    → (are_pairs has_id copies [] && are_met is_fixed xs copies)
-    ≡ (are_pairs has_id copies [] && are_met is_fixed (x ∷ xs) copies)
+    → (pointwise has_id copies [] && are_met is_fixed xs copies)
+    ≡ (pointwise has_id copies [] && are_met is_fixed (x ∷ xs) copies)
 none_left x xs [] = refl
 none_left x xs (y ∷ ys) = refl
 
@@ -138,27 +139,27 @@ told_at : (b : Bool) (x : Resource) (xs : List Resource) (i : List ℕ) (ids : L
     → bytes_eq x.id i ≡ b → mem x.id (resource_ids xs) ≡ false
     → are_met has_id xs (cond b ids (i ∷ ids)) ≡ true
     → ((js : List (List ℕ)) (ys : List Resource) → are_met has_id xs js ≡ true
-    → are_pairs is_fixed (filter (λ x. mem x.id js) xs) ys ≡ (are_pairs has_id ys js
+    → pointwise is_fixed (filter (λ x. mem x.id js) xs) ys ≡ (pointwise has_id ys js
     && are_met is_fixed xs ys))
-    → are_pairs is_fixed (filter (λ x. mem x.id (i ∷ ids)) (x ∷ xs)) copies
-    ≡ (are_pairs has_id copies (i ∷ ids) && are_met is_fixed (x ∷ xs) copies)
+    → pointwise is_fixed (filter (λ x. mem x.id (i ∷ ids)) (x ∷ xs)) copies
+    ≡ (pointwise has_id copies (i ∷ ids) && are_met is_fixed (x ∷ xs) copies)
 told_at true x xs i ids copies e out met go =
     let own : x.id ≡ i = (bytes_eq-Decides x.id i).0 e in
     let kept = filter (λ z. mem z.id (i ∷ ids)) xs in
-    ap (λ b. are_pairs is_fixed (cond (b || mem x.id ids) (x ∷ kept) kept) copies) (bytes_eq-symm i x.id ∙ e)
-    ∙ ap (λ zs. are_pairs is_fixed (x ∷ zs) copies) (fewer i ids xs (ap (λ j. mem j (resource_ids xs)) (sym own) ∙ out))
+    ap (λ b. pointwise is_fixed (cond (b || mem x.id ids) (x ∷ kept) kept) copies) (bytes_eq-symm i x.id ∙ e)
+    ∙ ap (λ zs. pointwise is_fixed (x ∷ zs) copies) (fewer i ids xs (ap (λ j. mem j (resource_ids xs)) (sym own) ∙ out))
     ∙ taken x xs i ids copies own out (λ ys. go ids ys met)
 told_at false x xs i ids copies e out met go =
     let kept = filter (λ z. mem z.id (i ∷ ids)) xs in
-    ap (λ b. are_pairs is_fixed (cond b (x ∷ kept) kept) copies) (out_at (mem x.id (i ∷ ids)) x.id xs (i ∷ ids) refl met out)
+    ap (λ b. pointwise is_fixed (cond b (x ∷ kept) kept) copies) (out_at (mem x.id (i ∷ ids)) x.id xs (i ∷ ids) refl met out)
     ∙ go (i ∷ ids) copies met
     ∙ passed x xs i ids copies e
 
 -- where the ids are met in order, the copies of their resources have these ids and are met in order
 told : (xs : List Resource) (ids : List (List ℕ)) (copies : List Resource)
     → are_distinct (resource_ids xs) ≡ true → are_met has_id xs ids ≡ true
-    → are_pairs is_fixed (filter (λ x. mem x.id ids) xs) copies
-    ≡ (are_pairs has_id copies ids && are_met is_fixed xs copies)
+    → pointwise is_fixed (filter (λ x. mem x.id ids) xs) copies
+    ≡ (pointwise has_id copies ids && are_met is_fixed xs copies)
 told [] [] [] apart met = refl
 told [] [] (y ∷ ys) apart met = refl
 told [] (i ∷ ids) copies apart met = absurd (true≢false (sym met))
@@ -171,6 +172,6 @@ told (x ∷ xs) (i ∷ ids) copies apart met =
 
 pub copies_told_in_order : (rows : List NodeRow) (ids : List (List ℕ)) (copies : List Resource)
     → IsValid rows → are_met has_id (resources rows) ids ≡ true
-    → are_pairs is_fixed (resources_among ids rows) copies
-    ≡ (are_pairs has_id copies ids && are_met is_fixed (resources rows) copies)
+    → pointwise is_fixed (resources_among ids rows) copies
+    ≡ (pointwise has_id copies ids && are_met is_fixed (resources rows) copies)
 copies_told_in_order rows ids copies valid met = told (resources rows) ids copies (resources_apart rows valid) met

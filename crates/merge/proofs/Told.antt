@@ -1,4 +1,5 @@
 -- What the tests tell: a test holds exactly where what it compares is the same.
+use Rattle.std.specs.Cmp.Lexicographic.{pointwise}
 use Rattle.std.proofs.Common.{◌≡◌, ◌∙◌, ℕ, ◌-◌, ◌&&◌, ◌==◌, Bool, true, List, [], ◌∷◌, length, map}
 use Rattle.std.proofs.Common.{take, nat_le, refl, sym, ap, arith, eq-eqb}
 use Rattle.std.proofs.lemmas.Bool.{and_parts, and_from, eqb-true, le-leb}
@@ -17,7 +18,7 @@ use Rattle.ticket_items.specs.declared.usage.Usage.{Usage}
 use Rattle.ticket_items.specs.declared.usage.Usage.TheVariants.{Input, Output}
 use Rattle.spawn.specs.Parts.{lifted}
 use Rattle.ticket_tree.proofs.PlainOneRow.{name_in, class_in}
-use Rattle.merge.specs.Alike.{are_pairs, begins, is_usage, is_link, is_fixed, are_ids}
+use Rattle.merge.specs.Alike.{begins, is_usage, is_link, is_fixed, are_ids}
 use Rattle.merge.specs.Alike.{is_notification, is_spawned, is_merged, is_audit, is_row}
 use Rattle.merge.specs.Shape.{Shape, shape, first_audits}
 
@@ -35,28 +36,28 @@ number_same n = eq-eqb n n refl
 -- ---- pairs
 
 pub pairs_same : {X : Type 0} (test : X → X → Bool) (xs ys : List X)
-    → ((x y : X) → test x y ≡ true → x ≡ y) → are_pairs test xs ys ≡ true → xs ≡ ys
+    → ((x y : X) → test x y ≡ true → x ≡ y) → pointwise test xs ys ≡ true → xs ≡ ys
 pairs_same test [] [] same h = refl
 pairs_same test [] (y ∷ ys) same h = cc
 pairs_same test (x ∷ xs) [] same h = cc
 pairs_same test (x ∷ xs) (y ∷ ys) same h =
-    let parts = and_parts (test x y) (are_pairs test xs ys) h in
+    let parts = and_parts (test x y) (pointwise test xs ys) h in
     ap (λ z. z ∷ xs) (same x y parts.0) ∙ ap (λ zs. y ∷ zs) (pairs_same test xs ys same parts.1)
 
 pub pairs_own : {X : Type 0} (test : X → X → Bool) (xs : List X) → ((x : X) → test x x ≡ true)
-    → are_pairs test xs xs ≡ true
+    → pointwise test xs xs ≡ true
 pairs_own test [] own = refl
 pairs_own test (x ∷ xs) own = and_from _ _ (own x) (pairs_own test xs own)
 
 pub pairs_map : {X Y Z : Type 0} (test : X → Y → Bool) (f : Y → Z) (g : X → Z) (xs : List X)
     (ys : List Y)
-    → ((x : X) (y : Y) → test x y ≡ true → f y ≡ g x) → are_pairs test xs ys ≡ true
+    → ((x : X) (y : Y) → test x y ≡ true → f y ≡ g x) → pointwise test xs ys ≡ true
     → map f ys ≡ map g xs
 pairs_map test f g [] [] to h = refl
 pairs_map test f g [] (y ∷ ys) to h = cc
 pairs_map test f g (x ∷ xs) [] to h = cc
 pairs_map test f g (x ∷ xs) (y ∷ ys) to h =
-    let parts = and_parts (test x y) (are_pairs test xs ys) h in
+    let parts = and_parts (test x y) (pointwise test xs ys) h in
     ap (λ z. z ∷ map f ys) (to x y parts.0) ∙ ap (λ zs. g x ∷ zs) (pairs_map test f g xs ys to parts.1)
 
 pub heads : {X : Type 0} (x y : X) (xs ys : List X) → x ∷ xs ≡ y ∷ ys → (x ≡ y) × (xs ≡ ys)
@@ -65,7 +66,7 @@ heads x y xs ys e = (cc, cc)
 pub pairs_from : {X Y Z : Type 0} (test : X → Y → Bool) (f : Y → Z) (g : X → Z) (xs : List X)
     (ys : List Y)
     → ((x : X) (y : Y) → f y ≡ g x → test x y ≡ true) → map f ys ≡ map g xs
-    → are_pairs test xs ys ≡ true
+    → pointwise test xs ys ≡ true
 pairs_from test f g [] [] from e = refl
 pairs_from test f g [] (y ∷ ys) from e = cc
 pairs_from test f g (x ∷ xs) [] from e = cc
@@ -176,14 +177,14 @@ audit_own (Merged at jref id changed) = and_from _ _ (and_from _ _ (and_from _ _
 pub begins_same : (olds news : List Audit) → begins is_audit olds news ≡ true
     → take (length olds) news ≡ olds
 begins_same olds news h =
-    let parts = and_parts (nat_le (length olds) (length news)) (are_pairs is_audit olds (take (length olds) news)) h in
+    let parts = and_parts (nat_le (length olds) (length news)) (pointwise is_audit olds (take (length olds) news)) h in
     sym (pairs_same is_audit olds (take (length olds) news) audit_same parts.1)
 
 pub begins_from : (olds news : List Audit) → take (length olds) news ≡ olds
     → begins is_audit olds news ≡ true
 begins_from olds news e =
     let long : length (take (length olds) news) ≡ length olds = ap length e in
-    and_from _ _ (le-leb (length olds) (length news) (omega (arith, long, length-take (length olds) news))) (ap (are_pairs is_audit olds) e ∙ pairs_own is_audit olds audit_own)
+    and_from _ _ (le-leb (length olds) (length news) (omega (arith, long, length-take (length olds) news))) (ap (pointwise is_audit olds) e ∙ pairs_own is_audit olds audit_own)
 
 -- ---- rows
 
@@ -206,8 +207,8 @@ row_same levels old new h =
     let b = (old.depth - levels) == new.depth in
     let c = bytes_eq old.kind new.kind in
     let d = bytes_eq old.job_part new.job_part in
-    let e = are_pairs is_link old.links new.links in
-    let f = are_pairs is_fixed old.resources new.resources in
+    let e = pointwise is_link old.links new.links in
+    let f = pointwise is_fixed old.resources new.resources in
     let p6 = and_parts (a && b && c && d && e && f) (begins is_audit old.audits new.audits) h in
     let p5 = and_parts (a && b && c && d && e) f p6.0 in
     let p4 = and_parts (a && b && c && d) e p5.0 in
@@ -222,7 +223,7 @@ row_same levels old new h =
 pub row_from : (levels : ℕ) (old new : NodeRow) → shape new ≡ shape (lifted levels old)
     → take (length old.audits) new.audits ≡ old.audits → is_row levels old new ≡ true
 row_from levels old new same first =
-    let links : are_pairs is_link old.links new.links ≡ true = ap (are_pairs is_link old.links) (ap (λ s. links_of s.thing) same) ∙ pairs_own is_link old.links link_own in
+    let links : pointwise is_link old.links new.links ≡ true = ap (pointwise is_link old.links) (ap (λ s. links_of s.thing) same) ∙ pairs_own is_link old.links link_own in
     and_from _ _
     (and_from _ _
     (and_from _ _
@@ -237,7 +238,7 @@ abbrev pub all_lifted : ℕ → List NodeRow → List NodeRow
 all_lifted levels rows = map (lifted levels) rows
 
 -- rows that pass have the shape of the ticket's, and begin with their audits
-pub rows_same : (levels : ℕ) (olds news : List NodeRow) → are_pairs (is_row levels) olds news ≡ true
+pub rows_same : (levels : ℕ) (olds news : List NodeRow) → pointwise (is_row levels) olds news ≡ true
     → (map shape news ≡ map shape (all_lifted levels olds))
     × (map first_audits (zip (all_lifted levels olds) news)
     ≡ map (λ o. o.audits) (all_lifted levels olds))
@@ -245,7 +246,7 @@ rows_same levels [] [] h = (refl, refl)
 rows_same levels [] (n ∷ news) h = cc
 rows_same levels (o ∷ olds) [] h = cc
 rows_same levels (o ∷ olds) (n ∷ news) h =
-    let parts = and_parts (is_row levels o n) (are_pairs (is_row levels) olds news) h in
+    let parts = and_parts (is_row levels o n) (pointwise (is_row levels) olds news) h in
     let here = row_same levels o n parts.0 in
     let later = rows_same levels olds news parts.1 in (
       ap (λ s. s ∷ map shape news) here.0 ∙ ap (λ ss. shape (lifted levels o) ∷ ss) later.0,
@@ -257,7 +258,7 @@ pub rows_from_shape : (levels : ℕ) (olds news : List NodeRow)
     → map shape news ≡ map shape (all_lifted levels olds)
     → map first_audits (zip (all_lifted levels olds) news)
     ≡ map (λ o. o.audits) (all_lifted levels olds)
-    → are_pairs (is_row levels) olds news ≡ true
+    → pointwise (is_row levels) olds news ≡ true
 rows_from_shape levels [] [] same first = refl
 rows_from_shape levels [] (n ∷ news) same first = cc
 rows_from_shape levels (o ∷ olds) [] same first = cc

@@ -1,4 +1,5 @@
 -- Tests of what a worker may not change: of links, resources and audits, and of whole rows.
+use Rattle.std.specs.Cmp.Lexicographic.{pointwise}
 use Rattle.std.specs.Prelude.{ℕ, ◌-◌, ◌&&◌, ◌==◌, Bool, true, false, List, [], ◌∷◌, length, take}
 use Rattle.std.specs.Prelude.{nat_le, if◌then◌else◌, Option, Some, None}
 use Rattle.std.specs.Str.{bytes_eq}
@@ -15,16 +16,9 @@ use Rattle.spawn.specs.Parts.{above, resources_among}
 use Rattle.ticket_tree.specs.At.{rows_below}
 use Rattle.spawn.specs.declared.records.spawn_rec.SpawnRec.{SpawnRec}
 
--- whether two lists are equally long, and each two at the same place pass a test
-abbrev pub are_pairs : {X Y : Type 0} → (X → Y → Bool) → List X → List Y → Bool
-are_pairs test [] [] = true
-are_pairs test [] (y ∷ ys) = false
-are_pairs test (x ∷ xs) [] = false
-are_pairs test (x ∷ xs) (y ∷ ys) = test x y && are_pairs test xs ys
-
 -- whether the second list begins with as many as the first has, each passing a test with its own
 abbrev pub begins : {X Y : Type 0} → (X → Y → Bool) → List X → List Y → Bool
-begins test xs ys = nat_le (length xs) (length ys) && are_pairs test xs (take (length xs) ys)
+begins test xs ys = nat_le (length xs) (length ys) && pointwise test xs (take (length xs) ys)
 
 -- whether a link uses its resource as another does
 abbrev pub is_usage : Usage → Usage → Bool
@@ -44,7 +38,7 @@ is_fixed old new =
 
 -- whether two lists of ids are the same
 abbrev pub are_ids : List (List ℕ) → List (List ℕ) → Bool
-are_ids old new = are_pairs bytes_eq old new
+are_ids old new = pointwise bytes_eq old new
 
 -- whether an audit is a note of this time and text
 abbrev pub is_notification : ℕ → List ℕ → Audit → Bool
@@ -78,8 +72,8 @@ is_audit (Merged at jref id changed) new = is_merged at jref id changed new
 abbrev pub is_row : ℕ → NodeRow → NodeRow → Bool
 is_row levels old new =
     bytes_eq old.id new.id && (old.depth - levels) == new.depth && bytes_eq old.kind new.kind
-    && bytes_eq old.job_part new.job_part && are_pairs is_link old.links new.links
-    && are_pairs is_fixed old.resources new.resources && begins is_audit old.audits new.audits
+    && bytes_eq old.job_part new.job_part && pointwise is_link old.links new.links
+    && pointwise is_fixed old.resources new.resources && begins is_audit old.audits new.audits
 
 -- what is left of the second list behind one that is the same as the first in its ids, names and
 -- Classes, if it begins so
@@ -92,8 +86,8 @@ behind (x ∷ xs) (y ∷ copies) = if is_fixed x y then behind xs copies else No
 -- rows, so many levels higher, and the resources of the record, but for what a worker may change
 abbrev pub is_part : Job → SpawnRec → List NodeRow → ℕ → Copied → Bool
 is_part t r below levels p =
-    bytes_eq p.job_id t.job_id && p.spawn_id == r.id && are_pairs (is_row levels) below p.rows
-    && are_pairs is_fixed (resources_among r.rw t.rows) p.rw
+    bytes_eq p.job_id t.job_id && p.spawn_id == r.id && pointwise (is_row levels) below p.rows
+    && pointwise is_fixed (resources_among r.rw t.rows) p.rw
 
 -- whether a part fits the claim of a spawn, as a test: it is one in the same cases in which `Fits`
 -- holds

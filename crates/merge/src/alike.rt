@@ -2,6 +2,7 @@
 //! change.
 
 ghost use Rattle.std.specs.Prelude.{◌≡◌, ◌-◌};
+ghost use Rattle.std.specs.Cmp.Lexicographic.{pointwise};
 ghost use Rattle.merge.specs.Alike as alike;
 
 use crate::audits::begin_audits;
@@ -30,7 +31,7 @@ fn is_link(old: &Link, new: &Link) -> bool
 
 /// Whether the links are the same, in order.
 fn are_links(old: &[Link], new: &[Link]) -> bool
-    ensures { result ≡ alike.are_pairs alike.is_link old.now new.now }
+    ensures { result ≡ pointwise alike.is_link old.now new.now }
 {
     if old.len() != new.len() {
         return false;
@@ -52,7 +53,7 @@ pub fn is_fixed(old: &Resource, new: &Resource) -> bool
 
 /// Whether the resources have the same ids, names and Classes, in order.
 fn are_fixed(old: &[Resource], new: &[Resource]) -> bool
-    ensures { result ≡ alike.are_pairs alike.is_fixed old.now new.now }
+    ensures { result ≡ pointwise alike.is_fixed old.now new.now }
 {
     if old.len() != new.len() {
         return false;
@@ -82,7 +83,7 @@ fn is_row(old: &NodeRow, new: &NodeRow, levels: u32) -> bool
 /// Whether the rows of a part are those of the ticket, so many levels higher, but for what a worker
 /// may change.
 pub fn are_rows(old: &[NodeRow], new: &[NodeRow], levels: u32) -> bool
-    ensures { result ≡ alike.are_pairs (alike.is_row levels) old.now new.now }
+    ensures { result ≡ pointwise (alike.is_row levels) old.now new.now }
 {
     if old.len() != new.len() {
         return false;

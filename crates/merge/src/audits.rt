@@ -2,6 +2,7 @@
 //! out.
 
 ghost use Rattle.std.specs.Prelude.{◌≡◌};
+ghost use Rattle.std.specs.Cmp.Lexicographic.{pointwise};
 ghost use Rattle.std.specs.Str.{bytes_eq};
 ghost use Rattle.merge.specs.Alike as alike;
 
@@ -111,7 +112,7 @@ fn is_audit(old: &Audit, new: &Audit) -> bool
 
 /// Whether the audits are the same, in order.
 fn are_audits(old: &[Audit], new: &[Audit]) -> bool
-    ensures { result ≡ alike.are_pairs alike.is_audit old.now new.now }
+    ensures { result ≡ pointwise alike.is_audit old.now new.now }
 {
     if old.len() != new.len() {
         return false;

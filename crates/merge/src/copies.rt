@@ -1,6 +1,7 @@
 //! Whether the copies of a part that may be changed are those of the ticket's resources.
 
 ghost use Rattle.std.specs.Prelude.{◌≡◌};
+ghost use Rattle.std.specs.Cmp.Lexicographic.{pointwise};
 ghost use Rattle.std.specs.List.{filter};
 ghost use Rattle.std.specs.Option.{option_copied};
 ghost use Rattle.ticket_items.specs.Ids.{mem};
@@ -35,7 +36,7 @@ fn behind_pool<'a>(pool: &[Resource], ids: &[Id], copies: &'a [Resource]) -> Opt
 /// Whether the copies have the ids, names and Classes of the resources whose ids are among these,
 /// in ticket order. Asks for each resource whether it is among them.
 fn are_copies_among(rows: &[NodeRow], ids: &[Id], copies: &[Resource]) -> bool
-    ensures { result ≡ alike.are_pairs alike.is_fixed
+    ensures { result ≡ pointwise alike.is_fixed
         (resources_among ids.now rows.now) copies.now }
 {
     let mut rest = copies;
@@ -53,7 +54,7 @@ fn are_copies_among(rows: &[NodeRow], ids: &[Id], copies: &[Resource]) -> bool
 /// of them, and one of the copies.
 pub fn are_copies(rows: &[NodeRow], ids: &[Id], copies: &[Resource]) -> bool
     requires { IsValid rows.now }
-    ensures { result ≡ alike.are_pairs alike.is_fixed
+    ensures { result ≡ pointwise alike.is_fixed
         (resources_among ids.now rows.now) copies.now }
 {
     if !are_in_order(rows, ids) {

@@ -2,6 +2,7 @@
 //! is met in its turn.
 
 ghost use Rattle.std.specs.Prelude.{◌≡◌};
+ghost use Rattle.std.specs.Cmp.Lexicographic.{pointwise};
 ghost use Rattle.spawn.specs.Parts.{resources};
 ghost use Rattle.merge.specs.Alike as alike;
 ghost use Rattle.merge.specs.InOrder as order;
@@ -81,7 +82,7 @@ pub fn are_copies_in_order(rows: &[NodeRow], copies: &[Resource]) -> bool
 
 /// Whether these are the ids of the copies, in order.
 pub fn have_ids(copies: &[Resource], ids: &[Id]) -> bool
-    ensures { result ≡ alike.are_pairs order.has_id copies.now ids.now }
+    ensures { result ≡ pointwise order.has_id copies.now ids.now }
 {
     if copies.len() != ids.len() {
         return false;
