@@ -28,7 +28,7 @@ use Rattle.jmf_message.specs.Decoded.{body_of, draft_read, message_fault, messag
 use Rattle.jmf_message.specs.Form.{RawMessage, document_form, has_part, is_command, is_response, jmf_form, part_beside}
 use Rattle.jmf_message.specs.Known.{IsKnown, IsWritten}
 use Rattle.jmf_message.specs.Said.{answered_in, command_said, is_command_of, is_response_of, may_be_said, response_said, told_by}
-use Rattle.jmf_message.specs.Written.{command_data, jmf_data, message_data, put_said, response_data, said_by}
+use Rattle.jmf_message.specs.Written.{command_data, jmf_data, message_data, put_said, response_data, said_by, spawn_said}
 use Rattle.jmf_message.specs.declared.jmf.Jmf.{Jmf}
 use Rattle.jmf_message.specs.declared.said.Said.{Said}
 use Rattle.jmf_message.specs.declared.said.Said.TheVariants as said
@@ -93,10 +93,6 @@ response_again asked n told valid may =
 abbrev takes_part : Said → Bool
 takes_part (said.Command asked spawn) = has_part asked
 takes_part (said.Answer asked spawn told) = false
-
-abbrev spawn_said : Said → ℕ
-spawn_said (said.Command asked spawn) = spawn
-spawn_said (said.Answer asked spawn told) = spawn
 
 abbrev jmf_with : Message → Bool → Option Said → Jmf
 jmf_with m goes found = record { receiver = m.receiver; sender = m.sender; at = m.at; version = version; has_part = goes; said = found }
@@ -169,32 +165,32 @@ no_fault_beside m p found sender receiver =
 beside : (p : Copied) (found : IsReadOf (part_data p) p) (b : Body) → (provided (bytes_eq found.raw.spawn (spawn_text p.spawn_id)) >>= λ _. Some b) ≡ Some b
 beside p found b = passed _ b (ap (λ s. bytes_eq s (spawn_text p.spawn_id)) (spawn_named found.raw p found.faultless.names found.same) ∙ bytes_eq-same (spawn_text p.spawn_id))
 
-submit_read : (m : Message) (p : Copied) → is_name m.sender ≡ true → is_name m.receiver ≡ true → IsWritten p
+submit_read : (m : Message) (p : Copied) → is_name m.sender ≡ true → is_name m.receiver ≡ true → is_spawn_number p.spawn_id ≡ true → IsWritten p
     → message_read (message_data (record m { body = bodies.Submit p })) ≡ Ok (record m { body = bodies.Submit p })
 unfolding document_form
-submit_read m p sender receiver written =
+submit_read m p sender receiver valid written =
     let found = read_of (part_data p) p written.again in
     let whole = record m { body = bodies.Submit p } in
     let b = bodies.Submit (copied found.raw) in
-    let document = ap (document_at (Some (part_data p))) (jmf_again whole written.number refl) ∙ ap (λ o. option_map Some o >>= λ part. Some (raw_for whole part)) found.drafted in
+    let document = ap (document_at (Some (part_data p))) (jmf_again whole valid refl) ∙ ap (λ o. option_map Some o >>= λ part. Some (raw_for whole part)) found.drafted in
     read_so whole (Some found.raw) b document (beside p found b) (no_fault_beside whole p found sender receiver) (ap (λ q. record m { body = bodies.Submit q }) found.same)
 
-return_read : (m : Message) (p : Copied) → is_name m.sender ≡ true → is_name m.receiver ≡ true → IsWritten p
+return_read : (m : Message) (p : Copied) → is_name m.sender ≡ true → is_name m.receiver ≡ true → is_spawn_number p.spawn_id ≡ true → IsWritten p
     → message_read (message_data (record m { body = bodies.Return p })) ≡ Ok (record m { body = bodies.Return p })
 unfolding document_form
-return_read m p sender receiver written =
+return_read m p sender receiver valid written =
     let found = read_of (part_data p) p written.again in
     let whole = record m { body = bodies.Return p } in
     let b = bodies.Return (copied found.raw) in
-    let document = ap (document_at (Some (part_data p))) (jmf_again whole written.number refl) ∙ ap (λ o. option_map Some o >>= λ part. Some (raw_for whole part)) found.drafted in
+    let document = ap (document_at (Some (part_data p))) (jmf_again whole valid refl) ∙ ap (λ o. option_map Some o >>= λ part. Some (raw_for whole part)) found.drafted in
     read_so whole (Some found.raw) b document (beside p found b) (no_fault_beside whole p found sender receiver) (ap (λ q. record m { body = bodies.Return q }) found.same)
 
-again_at : (m : Message) (b : Body) → is_name m.sender ≡ true → is_name m.receiver ≡ true → IsKnown b → may_be_sent b ≡ true
+again_at : (m : Message) (b : Body) → is_name m.sender ≡ true → is_name m.receiver ≡ true → is_spawn_number (spawn_said (said_by b)) ≡ true → IsKnown b → may_be_sent b ≡ true
     → message_read (message_data (record m { body = b })) ≡ Ok (record m { body = b })
-again_at m (bodies.Submit p) sender receiver known may = submit_read m p sender receiver known
-again_at m (bodies.Return p) sender receiver known may = return_read m p sender receiver known
-again_at m (bodies.Abort n) sender receiver known may = abort_read m n sender receiver known
-again_at m (bodies.Answer asked n told) sender receiver known may = answer_read m asked n told sender receiver known may
+again_at m (bodies.Submit p) sender receiver valid known may = submit_read m p sender receiver valid known
+again_at m (bodies.Return p) sender receiver valid known may = return_read m p sender receiver valid known
+again_at m (bodies.Abort n) sender receiver valid known may = abort_read m n sender receiver valid
+again_at m (bodies.Answer asked n told) sender receiver valid known may = answer_read m asked n told sender receiver valid may
 
-pub message_again : (m : Message) → is_name m.sender ≡ true → is_name m.receiver ≡ true → IsKnown m.body → may_be_sent m.body ≡ true → message_read (message_data m) ≡ Ok m
-message_again m sender receiver known may = again_at m m.body sender receiver known may
+pub message_again : (m : Message) → is_name m.sender ≡ true → is_name m.receiver ≡ true → is_spawn_number (spawn_said (said_by m.body)) ≡ true → IsKnown m.body → may_be_sent m.body ≡ true → message_read (message_data m) ≡ Ok m
+message_again m sender receiver valid known may = again_at m m.body sender receiver valid known may

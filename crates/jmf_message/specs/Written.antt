@@ -99,6 +99,11 @@ said_by (bodies.Return part) = said.Command Return part.spawn_id
 said_by (bodies.Abort spawn) = said.Command Abort spawn
 said_by (bodies.Answer asked spawn result) = said.Answer asked spawn result
 
+-- the spawn of what is said
+abbrev pub spawn_said : Said → ℕ
+spawn_said (said.Command asked spawn) = spawn
+spawn_said (said.Answer asked spawn result) = spawn
+
 -- the command or the response stands in the byte order of the names
 abbrev pub put_said : List ℕ → Said → Members → Members
 put_said sender (said.Command asked spawn) ms =

@@ -6,7 +6,7 @@ ghost use Rattle.std.specs.Option.{option_map_or};
 ghost use Rattle.serde_json.specs.Data.{member, no_members, put, string};
 ghost use Rattle.serde_json.specs.Find.{get};
 ghost use Rattle.controller.specs.Words.{command_id, place_of};
-ghost use Rattle.ticket_items.specs.SpawnId.{spawn_text};
+ghost use Rattle.ticket_items.specs.SpawnId.{is_spawn_number, spawn_text};
 ghost use Rattle.json_items.specs.Attributes.{attrs_data};
 ghost use Rattle.json_text.specs.Printed.{AreMembersPrinted, IsPrinted};
 ghost use Rattle.jmf_message.specs.Form as forms;
@@ -183,9 +183,10 @@ fn print_front(
     asked: Command,
     spawn: SpawnId,
 ) -> Result<(), AllocError>
-    ensures { OnOk result (AreMembersPrinted (put (written.params_name asked)
+    ensures printed { OnOk result (AreMembersPrinted (put (written.params_name asked)
         (attrs_data (written.params_texts sender.now asked spawn))
         (member (codes "ID") (string (command_id asked spawn)) no_members)) out.old out.new) }
+    ensures valid { is_spawn_number spawn ≡ true }
 {
     let id = command_id(alloc, asked, spawn)?;
     let texts = params_texts(alloc, sender, asked, spawn)?;
@@ -209,8 +210,9 @@ pub fn print_command(
     asked: Command,
     spawn: SpawnId,
 ) -> Result<(), AllocError>
-    ensures { OnOk result
+    ensures printed { OnOk result
         (IsPrinted (written.command_data sender.now asked spawn) out.old out.new) }
+    ensures valid { OnOk result (is_spawn_number spawn ≡ true) }
 {
     out.begin_object()?;
     print_front(alloc, out, sender, asked, spawn)?;

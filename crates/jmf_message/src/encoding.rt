@@ -6,6 +6,7 @@ ghost use Rattle.serde_json.specs.Written.{compact_text};
 ghost use Rattle.json_text.specs.Printed.{AreMembersPrinted, IsPrinted};
 ghost use Rattle.json_text.specs.PartWritten.{part_data};
 ghost use Rattle.ticket_items.specs.Names.{is_name};
+ghost use Rattle.ticket_items.specs.SpawnId.{is_spawn_number};
 ghost use Rattle.jmf_message.specs.Decoded.{IsDecodedAs};
 ghost use Rattle.jmf_message.specs.Known.{IsKnown, IsWritten};
 ghost use Rattle.controller.specs.Words.{may_be_sent};
@@ -28,7 +29,6 @@ fn print_named_part(alloc: Global, out: &mut Writer, part: &Part) -> Result<(), 
         (member (codes "JDF") (part_data part.now) no_members) out.old out.new) }
     ensures known { OnOk result (IsWritten part.now) }
 {
-    let _number = part.spawn_id().number();
     out.key("JDF")?;
     print_part(alloc, out, part)
 }
@@ -42,20 +42,19 @@ fn print_part_of(alloc: Global, out: &mut Writer, body: &Body) -> Result<(), All
     match body {
         Body::Submit(part) => print_named_part(alloc, out, part),
         Body::Return(part) => print_named_part(alloc, out, part),
-        Body::Abort(spawn_id) | Body::Answer { spawn_id, .. } => {
-            let _number = spawn_id.number();
-            Ok(())
-        }
+        Body::Abort(_) | Body::Answer { .. } => Ok(()),
     }
 }
 
-/// Prints the document of a message. Its sender and its receiver are ids, and its part is read
-/// again.
+/// Prints the document of a message. Its sender and its receiver are ids, its spawn has a number
+/// that one may have, and its part is read again.
 fn print_document(alloc: Global, out: &mut Writer, message: &Message) -> Result<(), AllocError>
     ensures printed { OnOk result
         (IsPrinted (written.message_data message.now) out.old out.new) }
     ensures sender { OnOk result (is_name message.now.sender ≡ true) }
     ensures receiver { OnOk result (is_name message.now.receiver ≡ true) }
+    ensures valid { OnOk result
+        (is_spawn_number (written.spawn_said (written.said_by message.now.body)) ≡ true) }
     ensures known { OnOk result (IsKnown message.now.body) }
 {
     out.begin_object()?;

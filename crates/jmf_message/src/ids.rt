@@ -1,6 +1,7 @@
 //! The IDs of messages.
 
-ghost use Rattle.std.specs.Prelude.{◌≡◌, string_bytes, IfOk};
+ghost use Rattle.std.specs.Prelude.{◌≡◌, true, string_bytes, IfOk};
+ghost use Rattle.ticket_items.specs.SpawnId.{is_spawn_number};
 ghost use Rattle.controller.specs.Words as words;
 
 use controller::{Body, Command, Message};
@@ -9,7 +10,8 @@ use ticket_tree::SpawnId;
 
 /// The ID of the command of a spawn.
 pub fn command_id(alloc: Global, asked: Command, spawn: SpawnId) -> Result<String, AllocError>
-    ensures { IfOk result (λ id. string_bytes id ≡ words.command_id asked spawn) }
+    ensures id { IfOk result (λ id. string_bytes id ≡ words.command_id asked spawn) }
+    ensures valid { is_spawn_number spawn ≡ true }
 {
     match asked {
         Command::Submit => format!(in alloc; "Q.S{}", spawn.number()),
@@ -20,7 +22,8 @@ pub fn command_id(alloc: Global, asked: Command, spawn: SpawnId) -> Result<Strin
 
 /// The ID of the answer to the command of a spawn.
 pub fn answer_id(alloc: Global, asked: Command, spawn: SpawnId) -> Result<String, AllocError>
-    ensures { IfOk result (λ id. string_bytes id ≡ words.answer_id asked spawn) }
+    ensures id { IfOk result (λ id. string_bytes id ≡ words.answer_id asked spawn) }
+    ensures valid { is_spawn_number spawn ≡ true }
 {
     match asked {
         Command::Submit => format!(in alloc; "Q.S{}.a", spawn.number()),

@@ -1,6 +1,7 @@
 ghost use Rattle.std.specs.Prelude.{◌≡◌, codes, true, IfOk, IfSome, OnOk};
 ghost use Rattle.serde_json.specs.Data.{member, no_members, string};
 ghost use Rattle.ticket_items.specs.Names.{is_name};
+ghost use Rattle.ticket_items.specs.SpawnId.{is_spawn_number};
 ghost use Rattle.json_source.specs.Read.{Gives};
 ghost use Rattle.json_text.specs.Printed.{AreMembersPrinted, IsPrinted};
 ghost use Rattle.jmf_message.specs.Form as forms;
@@ -119,8 +120,9 @@ fn print_said(
     said: Said,
     receiver: &str,
 ) -> Result<(), AllocError>
-    ensures { OnOk result (AreMembersPrinted (written.put_said sender.now said
+    ensures printed { OnOk result (AreMembersPrinted (written.put_said sender.now said
         (member (codes "ReceiverID") (string receiver.now) no_members)) out.old out.new) }
+    ensures valid { OnOk result (is_spawn_number (written.spawn_said said) ≡ true) }
 {
     match said {
         Said::Command(asked, spawn) => {
@@ -136,11 +138,14 @@ fn print_said(
     }
 }
 
-/// Prints the JMF object of a message. Its sender and its receiver are ids.
+/// Prints the JMF object of a message. Its sender and its receiver are ids, and its spawn has a
+/// number that one may have.
 pub fn print_jmf(alloc: Global, out: &mut Writer, message: &Message) -> Result<(), AllocError>
     ensures printed { OnOk result (IsPrinted (written.jmf_data message.now) out.old out.new) }
     ensures sender { is_name message.now.sender ≡ true }
     ensures receiver { is_name message.now.receiver ≡ true }
+    ensures valid { OnOk result
+        (is_spawn_number (written.spawn_said (written.said_by message.now.body)) ≡ true) }
 {
     let sender = message.sender.as_str();
     let receiver = message.receiver.as_str();

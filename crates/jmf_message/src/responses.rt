@@ -5,6 +5,7 @@ ghost use Rattle.std.specs.Option.{option_map, option_map_or};
 ghost use Rattle.serde_json.specs.Data.{no_members};
 ghost use Rattle.serde_json.specs.Find.{get};
 ghost use Rattle.controller.specs.Words.{is_told};
+ghost use Rattle.ticket_items.specs.SpawnId.{is_spawn_number};
 ghost use Rattle.json_text.specs.Printed.{AreMembersPrinted, IsPrinted};
 ghost use Rattle.jmf_message.specs.Form as forms;
 ghost use Rattle.jmf_message.specs.Said as said;
@@ -218,8 +219,9 @@ pub fn print_response(
     spawn: SpawnId,
     told: Result<QueueStatus, u16>,
 ) -> Result<(), AllocError>
-    ensures { OnOk result
+    ensures printed { OnOk result
         (IsPrinted (written.response_data asked spawn told) out.old out.new) }
+    ensures valid { is_spawn_number spawn ≡ true }
 {
     let id = answer_id(alloc, asked, spawn)?;
     let reference = command_id(alloc, asked, spawn)?;

@@ -106,10 +106,10 @@ a_kept_master_is_stored w kept =
     (and_from (stand && good) apart (and_from stand good (each_passes (stands_in w.ticket.rows) w.records kept.recorded) both.0) both.1)
 
 -- where the other tests pass, that of the records decides
-pub kept_by : {E : Type 0} (result : Result Bool E) (w : Known) → IsValid w.ticket.rows → are_distinct (w.name ∷ w.workers) ≡ true → are_numbered 1 w.records ≡ true → are_sent w.workers w.records ≡ true → IfOk result (λ b. b ≡ are_recorded w.ticket w.records) → IfOk result (λ b. b ≡ true → IsKept w)
+pub kept_by : {E : Type 0} (result : Result Bool E) (w : Known) → IfOk result (λ b. b ≡ true → IsValid w.ticket.rows) → are_distinct (w.name ∷ w.workers) ≡ true → are_numbered 1 w.records ≡ true → are_sent w.workers w.records ≡ true → IfOk result (λ b. b ≡ are_recorded w.ticket w.records) → IfOk result (λ b. b ≡ true → IsKept w)
 kept_by (Err e) w valid names numbered sent told = tt
 kept_by (Ok b) w valid names numbered sent told =
     let one = are_distinct (w.name ∷ w.workers) in
     let two = are_numbered 1 w.records in
     let three = are_sent w.workers w.records in
-    λ passes. kept_from w valid (and_from (one && two && three) (are_recorded w.ticket w.records) (and_from (one && two) three (and_from one two names numbered) sent) (sym told ∙ passes))
+    λ passes. kept_from w (valid passes) (and_from (one && two && three) (are_recorded w.ticket w.records) (and_from (one && two) three (and_from one two names numbered) sent) (sym told ∙ passes))

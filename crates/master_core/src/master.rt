@@ -59,8 +59,6 @@ impl Master {
             return Err(Refusal::SameName);
         }
         let holders = Holders::of(alloc, &ticket, &[])?;
-        // A ticket has valid rows.
-        let _rows = ticket.rows();
         Ok(Master {
             name,
             workers,

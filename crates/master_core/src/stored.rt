@@ -37,10 +37,8 @@ fn are_sent(workers: &[Id], records: &[SpawnRec]) -> bool
 /// Whether records are those of a ticket.
 fn are_recorded(alloc: Global, ticket: &Ticket, records: &[SpawnRec]) -> Result<bool, AllocError>
     ensures test { IfOk result (λ b. b ≡ stored.are_recorded ticket.now records.now) }
-    ensures valid { IsValid ticket.now.rows }
+    ensures valid { IfOk result (λ b. b ≡ true → IsValid ticket.now.rows) }
 {
-    // A ticket has valid rows.
-    let _rows = ticket.rows();
     if !are_good(ticket, records) || !stand_in(alloc, ticket, records)? {
         return Ok(false);
     }

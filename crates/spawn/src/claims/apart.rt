@@ -5,7 +5,7 @@ ghost use Rattle.std.specs.Prelude.{IfOk, OnOk};
 ghost use Rattle.std.specs.List.{list_any};
 ghost use Rattle.ticket_items.specs.Ids.{mem};
 ghost use Rattle.ticket_rows.specs.Place.{places};
-ghost use Rattle.ticket_rows.specs.Ticket.{ids, ids_of};
+ghost use Rattle.ticket_rows.specs.Ticket.{IsValid, ids, ids_of};
 ghost use Rattle.spawn.specs.IdSet.{IsSetOf, is_in};
 ghost use Rattle.spawn.specs.Stored as stored;
 ghost use Rattle.spawn.specs.Stored.{claimed_by};
@@ -70,8 +70,9 @@ fn claim<'a>(
 /// Whether no two spawns that are out claim one node or resource of a ticket (JDF 1.5, 4.4: what
 /// was spawned is changed in one place). Refuses for want of memory alone.
 pub fn are_apart(alloc: Global, ticket: &Ticket, records: &[SpawnRec]) -> Result<bool, AllocError>
-    ensures { IfOk result
+    ensures apart { IfOk result
         (λ apart. apart ≡ stored.are_apart (places ticket.now.rows) records.now) }
+    ensures valid { IsValid ticket.now.rows }
 {
     let rows = ticket.rows();
     let mut known = BTreeSet::new(alloc);

@@ -39,6 +39,7 @@ impl Holders {
         ensures table { IfOk result (λ h. h ≡ holdings.table ticket.now.rows records.now) }
         ensures same { IfOk result (λ h. IsTable ticket.now.rows records.now h) }
         ensures memory { IfErr result (λ e. e ≡ Refusal.Memory) }
+        ensures valid { IsValid ticket.now.rows }
     {
         let mut holders = Holders {
             holders: IndexMap::new(alloc),

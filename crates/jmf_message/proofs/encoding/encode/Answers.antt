@@ -20,6 +20,6 @@ returns c =
         value = d;
         utf8 = c.finished.ensures.utf8 before;
         json = c.finished.ensures.again d before tokens printed.again (message_nests m known.known);
-        form = message_again m known.sender known.receiver known.known c.requires;
+        form = message_again m known.sender known.receiver known.valid known.known c.requires;
       };
     }

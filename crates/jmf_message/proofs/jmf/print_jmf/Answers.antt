@@ -17,7 +17,7 @@ returns-clause-printed c =
     ∙ ap (λ s. put_said m.sender s (text_member (codes "ReceiverID") receiver)) c.said_by.ensures
     ∙ ap (λ r. put_said m.sender (said_by m.body) (text_member (codes "ReceiverID") r)) c.as_str-receiver.ensures.value in
     let o0 = opened c.begin_object.result c.args.out.now c.begin_object.new.self c.begin_object.ensures c.in_ok-begin_object.ensures.ok in
-    let o1 = open_more c.print_said.new.out o0 (subst (λ ms. AreMembersPrinted ms c.begin_object.new.self c.print_said.new.out) said c.in_ok-print_said.ensures) in
+    let o1 = open_more c.print_said.new.out o0 (subst (λ ms. AreMembersPrinted ms c.begin_object.new.self c.print_said.new.out) said c.in_ok-print_said.ensures.printed) in
     let o2 = same_member (codes "SenderID") _ (string m.sender) c.print_text.new.out o1 c.in_ok-print_text.ensures refl (ap string c.as_str-sender.ensures.value) in
     let o3 = one_member _ _ c.print_member.new.out o2 c.in_ok-print_member.ensures.printed c.in_ok-print_member.ensures.again in
     let o4 = one_member _ _ c.print_text-2.new.out o3 c.in_ok-print_text-2.ensures refl in

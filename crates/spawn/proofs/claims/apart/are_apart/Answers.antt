@@ -24,8 +24,8 @@ claim-requires c =
       known = same_set (λ x. mem x (ids c.as_slice.result.now)) (λ x. mem x (ids rows)) c.add_rows.new.set (λ x. ap (λ rs. mem x (ids rs)) (c.as_slice.ensures ∙ c.rows-rows.ensures.rows)) (c.in_ok-add_rows.ensures none empty);
     }
 
-pub returns-then-not-branch : goal.returns-then-not-branch
-returns-then-not-branch c =
+pub returns-then-not-branch-clause-apart : goal.returns-then-not-branch-clause-apart
+returns-then-not-branch-clause-apart c =
     let tree = places c.args.ticket.now.rows in
     let recs = c.args.records.now in
     let i = c.loop-spawn.spawn-index in
