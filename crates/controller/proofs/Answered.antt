@@ -1,11 +1,15 @@
--- The step of an order, from what the order was answered with and why it is refused, if it is.
-use Rattle.std.proofs.Common.{◌≡◌, Option, Some, None, Result, Ok, Err, IfOk, IfErr, IfNone, IfSome, OnErr, refl, sym, subst}
+-- The step of an order, from what the order was answered with and why it is refused, if it is; and
+-- that of a message.
+use Rattle.std.proofs.Common.{◌≡◌, ◌∙◌, ℕ, List, ap, cond, is_some, Option, Some, None, Result, Ok, Err, IfOk, IfErr, IfNone, IfSome, OnErr, refl, sym, subst}
+use Rattle.ticket_items.specs.Refusal.{number_of}
 use Rattle.ticket_items.specs.declared.refusal.Refusal.{Refusal}
 use Rattle.ticket_items.specs.declared.refusal.Refusal.TheVariants.{Memory}
 use Rattle.controller.specs.declared.done.Done.{Done}
 use Rattle.controller.specs.declared.message.Message.{Message}
+use Rattle.controller.specs.declared.queue_status.QueueStatus.{QueueStatus}
 use Rattle.controller.specs.declared.reply.Reply.{Reply}
-use Rattle.controller.specs.Step.{Makes, Step, done_step, refused, unless_refused}
+use Rattle.controller.specs.Reply.{answer_to}
+use Rattle.controller.specs.Step.{Makes, Step, Taking, answering, done_step, refused, unless_refused}
 
 -- ---- an order makes its step
 
@@ -54,3 +58,28 @@ pub sends_so : {S : Type 0} (why : Option Refusal) (old : S) (step : Step S Mess
     → IfSome step.sent P → IfSome (unless_refused why old step).sent P
 sends_so None old step P p = p
 sends_so (Some e) old step P p = tt
+
+-- ---- a message makes its step
+
+-- the state is as it was where there is a refusal, or else what comes of the message
+pub answering_leads : {S : Type 0} (name : List ℕ) (m : Message) (at' : ℕ) (why : Option Refusal) (w : S) (t : Taking S) → cond (is_some why) w t.next ≡ (answering name m at' why w t).next
+answering_leads name m at' None w t = refl
+answering_leads name m at' (Some e) w t = refl
+
+-- what isn't refused is answered with what comes of it
+pub free_answers : {S : Type 0} (name : List ℕ) (m : Message) (at' : ℕ) (why : Option Refusal) (w : S) (t u : Taking S) → why ≡ None → t ≡ u → answering name m at' why w t ≡ answering name m at' None w u
+free_answers name m at' why w t u none is = ap (λ o. answering name m at' o w t) none ∙ ap (answering name m at' None w) is
+
+-- where what comes of a message changes nothing, nothing is changed
+pub answering_stays : {S : Type 0} (name : List ℕ) (m : Message) (at' : ℕ) (why : Option Refusal) (w : S) (t : Taking S) → t.next ≡ w → (answering name m at' why w t).next ≡ w
+answering_stays name m at' None w t same = same
+answering_stays name m at' (Some e) w t same = refl
+
+-- what a command is told: the number of the refusal, if there is one, or else this
+abbrev pub told_by : Option Refusal → Result QueueStatus ℕ → Result QueueStatus ℕ
+told_by None told = told
+told_by (Some e) told = Err (number_of e)
+
+pub answering_tells : {S : Type 0} (name : List ℕ) (m : Message) (at' : ℕ) (why : Option Refusal) (w : S) (t : Taking S) → answer_to name m at' (told_by why t.told) ≡ (answering name m at' why w t).sent
+answering_tells name m at' None w t = refl
+answering_tells name m at' (Some e) w t = refl

@@ -1,11 +1,12 @@
 -- What a controller sends may be sent: a part, or an answer with the number of a refusal.
-use Rattle.std.proofs.Common.{◌≡◌, ℕ, List, true, Option, Some, None, Result, Ok, Err, IfOk, refl}
+use Rattle.std.proofs.Common.{◌≡◌, ℕ, List, true, Option, Some, None, Result, Err, refl}
 use Rattle.std.specs.Option.{option_map}
 use Rattle.std.specs.Prelude.{IfSome}
 use Rattle.ticket_items.specs.Refusal.{number_of}
 use Rattle.ticket_items.specs.declared.refusal.Refusal.{Refusal}
 use Rattle.ticket_items.specs.declared.refusal.Refusal.TheVariants as refusals
-use Rattle.controller.specs.Reply.{answer_message, answer_to, command_given, told_of}
+use Rattle.controller.specs.Reply.{answer_message, answer_to, command_given}
+use Rattle.controller.specs.Step.{Taking, answering}
 use Rattle.controller.specs.Words.{is_told, may_be_sent}
 use Rattle.controller.specs.declared.command.Command.{Command}
 use Rattle.controller.specs.declared.message.Message.{Message}
@@ -47,18 +48,15 @@ number_told refusals.WrongVersion = refl
 number_told refusals.BadState = refl
 number_told refusals.Memory = refl
 
-pub told : (e : Option Refusal) (status : QueueStatus) → is_told (told_of e status) ≡ true
-told None status = refl
-told (Some e) status = number_told e
-
 answer_sent : (name : List ℕ) (m : Message) (at' : ℕ) (result : Result QueueStatus ℕ) (c : Option Command) → is_told result ≡ true → IfSome (option_map (answer_message name m at' result) c) (λ a. may_be_sent a.body ≡ true)
 answer_sent name m at' result None is = tt
 answer_sent name m at' result (Some c) is = is
 
-pub answers_sent : (name : List ℕ) (m : Message) (at' : ℕ) (result : Result QueueStatus ℕ) → is_told result ≡ true → IfSome (answer_to name m at' result) (λ a. may_be_sent a.body ≡ true)
+answers_sent : (name : List ℕ) (m : Message) (at' : ℕ) (result : Result QueueStatus ℕ) → is_told result ≡ true → IfSome (answer_to name m at' result) (λ a. may_be_sent a.body ≡ true)
 answers_sent name m at' result is = answer_sent name m at' result (command_given m.body) is
 
--- what follows of a value follows of the one that there is
-pub if_ok : {A E : Type 0} (P Q : A → Type 0) (r : Result A E) → IfOk r P → ((a : A) → P a → Q a) → IfOk r Q
-if_ok P Q (Ok a) p f = f a p
-if_ok P Q (Err e) p f = tt
+-- and so may what a controller answers with, refused or not
+pub answering_sends : {S : Type 0} (name : List ℕ) (m : Message) (at' : ℕ) (why : Option Refusal) (w : S) (t : Taking S) → is_told t.told ≡ true
+    → IfSome (answering name m at' why w t).sent (λ a. may_be_sent a.body ≡ true)
+answering_sends name m at' None w t is = answers_sent name m at' t.told is
+answering_sends name m at' (Some e) w t is = answers_sent name m at' (Err (number_of e)) (number_told e)

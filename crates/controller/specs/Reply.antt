@@ -1,9 +1,6 @@
 -- What a controller replies, and the answer that a command gets.
-use Rattle.std.specs.Prelude.{ℕ, Bool, true, false, List, codes, Option, Some, None, Result, Ok}
-use Rattle.std.specs.Prelude.{Err}
+use Rattle.std.specs.Prelude.{ℕ, Bool, true, false, List, codes, Option, Some, None, Result}
 use Rattle.std.specs.Option.{option_map}
-use Rattle.ticket_items.specs.Refusal.{number_of}
-use Rattle.ticket_items.specs.declared.refusal.Refusal.{Refusal}
 pub use Rattle.controller.specs.Words.{is_answer, spawn_in}
 use Rattle.controller.specs.declared.body.Body.{Body}
 use Rattle.controller.specs.declared.body.Body.TheVariants.{Submit, Return, Abort, Answer}
@@ -20,16 +17,6 @@ command_given (Submit p) = Some command.Submit
 command_given (Return p) = Some command.Return
 command_given (Abort s) = Some command.Abort
 command_given (Answer c s told) = None
-
--- a reply, or the refusal in its place
-abbrev pub refused_or : Option Refusal → Reply → Result Reply Refusal
-refused_or None reply = Ok reply
-refused_or (Some e) reply = Err e
-
--- what a command is told: the Status of its queue entry, or the number of the refusal
-abbrev pub told_of : Option Refusal → QueueStatus → Result QueueStatus ℕ
-told_of None status = Ok status
-told_of (Some e) status = Err (number_of e)
 
 -- the message by which the controller of a name answers a command, at a time, to the command's
 -- sender

@@ -1,12 +1,16 @@
 -- One step, of a controller or of a shop.
-use Rattle.std.specs.Prelude.{◌≡◌, Option, None, Result, Ok, Err, IfOk, IfErr, OnErr}
+use Rattle.std.specs.Prelude.{◌≡◌, ℕ, List, Option, Some, None, Result, Ok, Err, IfOk, IfErr}
+use Rattle.std.specs.Prelude.{OnErr}
 use Rattle.std.specs.Option.{option_map, option_map_or}
+use Rattle.ticket_items.specs.Refusal.{number_of}
 use Rattle.ticket_items.specs.declared.refusal.Refusal.{Refusal}
 use Rattle.ticket_items.specs.declared.refusal.Refusal.TheVariants.{Memory}
 use Rattle.controller.specs.declared.done.Done.{Done}
 use Rattle.controller.specs.declared.message.Message.{Message}
 use Rattle.controller.specs.declared.outcome.Outcome.{Outcome}
+use Rattle.controller.specs.declared.queue_status.QueueStatus.{QueueStatus}
 use Rattle.controller.specs.declared.reply.Reply.{Reply}
+use Rattle.controller.specs.Reply.{answer_to}
 
 -- what is replied, what is sent, and the state that it leads to
 pub record Step (S M : Type 0) : Type 0 where
@@ -29,6 +33,24 @@ sending f step =
 
 abbrev pub leading : {S T M : Type 0} → (S → T) → Step S M → Step T M
 leading f step = record { reply = step.reply; sent = step.sent; next = f step.next }
+
+-- ---- a message
+
+-- what comes of a message that isn't refused: what it is taken as, what a command is told of its
+-- queue entry, and the state that it leads to
+pub record Taking (S : Type 0) : Type 0 where
+  pub reply : Reply
+  pub told : Result QueueStatus ℕ
+  pub next : S
+
+-- the step of a controller of a name on a message at a time: what comes of it, or the refusal,
+-- which changes nothing. A command is answered, refused or not, and an answer isn't
+abbrev pub answering : {S : Type 0} → List ℕ → Message → ℕ → Option Refusal → S → Taking S
+    → Step S Message
+answering name m at None w t =
+    record { reply = Ok t.reply; sent = answer_to name m at t.told; next = t.next }
+answering name m at (Some e) w t =
+    record { reply = Err e; sent = answer_to name m at (Err (number_of e)); next = w }
 
 -- ---- as code tells of it
 

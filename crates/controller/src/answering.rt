@@ -8,7 +8,7 @@ use crate::command::Command;
 use crate::message::Message;
 use crate::queue_status::QueueStatus;
 use std::alloc::{AllocError, Global};
-use ticket_tree::{Duplicate, Id, Refusal, SpawnId};
+use ticket_tree::{Duplicate, Id, SpawnId};
 
 /// The spawn that a message tells of.
 pub fn spawn_in(body: &Body) -> SpawnId
@@ -31,16 +31,6 @@ pub fn command_in(body: &Body) -> Option<Command>
         Body::Return(_) => Some(Command::Return),
         Body::Abort(_) => Some(Command::Abort),
         Body::Answer { .. } => None,
-    }
-}
-
-/// What a command is told: the Status of its queue entry, or the number of the refusal.
-pub fn told_of(refusal: Option<Refusal>, status: QueueStatus) -> Result<QueueStatus, u16>
-    ensures { result ≡ replies.told_of refusal status }
-{
-    match refusal {
-        None => Ok(status),
-        Some(refusal) => Err(refusal.number()),
     }
 }
 

@@ -11,6 +11,7 @@ mod message;
 mod outcome;
 mod queue_status;
 mod reply;
+mod taken;
 
 pub use body::Body;
 pub use command::Command;
@@ -20,3 +21,4 @@ pub use message::Message;
 pub use outcome::Outcome;
 pub use queue_status::QueueStatus;
 pub use reply::Reply;
+pub use taken::Taken;

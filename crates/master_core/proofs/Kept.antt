@@ -2,7 +2,7 @@
 use Rattle.std.proofs.Common.{◌≡◌, ◌∙◌, ℕ, Bool, true, false, List, None, Result, Ok, Err, OnOk, OnErr, cond, is_some, refl, sym, ap, subst}
 use Rattle.ticket_items.specs.declared.refusal.Refusal.{Refusal}
 use Rattle.ticket_rows.specs.Ticket.{Job}
-use Rattle.controller.specs.Step.{Step}
+use Rattle.controller.specs.Step.{Step, answering}
 use Rattle.controller.specs.declared.done.Done.{Done}
 use Rattle.controller.specs.declared.message.Message.{Message}
 use Rattle.spawn.specs.declared.records.spawn_rec.SpawnRec.{SpawnRec}
@@ -10,13 +10,13 @@ use Rattle.master_core.proofs.MessageKept.{message_is_kept}
 use Rattle.master_core.proofs.OrderKept.{order_is_kept}
 use Rattle.master_core.proofs.Passing.{no_refusal}
 use Rattle.master_core.specs.Master.{IsKept, Known, known}
-use Rattle.master_core.specs.Messages.{IsValidBody, after_taking, take_refusal, taken}
+use Rattle.master_core.specs.Messages.{IsValidBody, take_refusal, take_step, taken}
 use Rattle.master_core.specs.Orders.{Does}
 use Rattle.master_core.specs.declared.order.Order.{Order}
 
 -- what isn't refused is done
-pub done_taking : (m : Message) (at : ℕ) (w : Known) → take_refusal m w ≡ None → after_taking m at w ≡ taken m.body at w
-done_taking m at w free = ap (λ r. cond (is_some r) w (taken m.body at w)) free
+pub done_taking : (m : Message) (at : ℕ) (w : Known) → take_refusal m w ≡ None → (take_step m at w).next ≡ (taken m.body at w).next
+done_taking m at w free = ap (λ r. (answering w.name m at r w (taken m.body at w)).next) free
 
 -- a master whose ticket and records stay stays
 pub stays : {X E : Type 0} (result : Result X E) (w : Known) (ticket : Job) (records : List SpawnRec) → OnErr result (ticket ≡ w.ticket) → OnErr result (records ≡ w.records) → OnErr result (known w.name w.workers ticket records ≡ w)
@@ -30,7 +30,7 @@ kept_done (Err e) o at w new does kept = subst IsKept (sym does.err) kept
 
 -- a master of whom a message made this, or who had no memory for it, is kept
 pub kept_told : {X E : Type 0} (result : Result X E) (refused : Bool) (m : Message) (at : ℕ) (w new : Known)
-    → refused ≡ is_some (take_refusal m w) → OnOk result (new ≡ cond refused w (taken m.body at w)) → OnErr result (new ≡ w) → (refused ≡ false → IsValidBody m.body)
+    → refused ≡ is_some (take_refusal m w) → OnOk result (new ≡ cond refused w (taken m.body at w).next) → OnErr result (new ≡ w) → (refused ≡ false → IsValidBody m.body)
     → IsKept w → IsKept new
 kept_told (Ok x) true m at w new told made still valid kept = subst IsKept (sym made) kept
 kept_told (Ok x) false m at w new told made still valid kept =

@@ -1,6 +1,7 @@
 pub mod Refusals
 pub mod Recorded
 pub mod StandsIn
+pub mod WhileOut
 pub mod OrderKept
 pub mod MessageKept
 pub mod OrderLaws

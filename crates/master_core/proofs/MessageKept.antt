@@ -1,8 +1,7 @@
 -- What always holds of a master holds after a message.
-use Rattle.std.proofs.Common.{◌≡◌, ◌∙◌, ℕ, Bool, true, false, cond, List, [], ◌∷◌, Option, Some, None, Result, is_some, get_or, refl, sym, ap, subst}
+use Rattle.std.proofs.Common.{◌≡◌, ◌∙◌, ℕ, Bool, true, false, cond, List, [], ◌∷◌, Option, Some, None, get_or, refl, sym, ap, subst}
 use Rattle.std.proofs.lemmas.List.Elements.{All-map}
 use Rattle.std.specs.List.{All}
-use Rattle.std.specs.Option.{option_map_or}
 use Rattle.ticket_items.specs.Ids.{mem}
 use Rattle.ticket_items.specs.declared.node_row.NodeRow.{NodeRow}
 use Rattle.ticket_items.specs.declared.refusal.Refusal.{Refusal}
@@ -14,11 +13,10 @@ use Rattle.ticket_tree.proofs.PlainOneRow.{append_of_places}
 use Rattle.ticket_tree.proofs.StaysValid.{append_is_valid}
 use Rattle.ticket_tree.specs.Part.{Copied}
 use Rattle.controller.specs.Reply.{spawn_in}
+use Rattle.controller.specs.Step.{answering}
 use Rattle.controller.specs.declared.body.Body.{Body}
 use Rattle.controller.specs.declared.body.Body.TheVariants.{Submit, Return, Abort, Answer}
-use Rattle.controller.specs.declared.command.Command.{Command}
 use Rattle.controller.specs.declared.message.Message.{Message}
-use Rattle.controller.specs.declared.queue_status.QueueStatus.{QueueStatus}
 use Rattle.spawn.proofs.Ended.{end_keeps_apart}
 use Rattle.spawn.proofs.Lawful.{Placed, placed}
 use Rattle.spawn.specs.Laws.{StandApart}
@@ -40,7 +38,7 @@ use Rattle.master_core.proofs.Refusals.{part_free, take_free}
 use Rattle.master_core.proofs.StandsIn.{still_stands}
 use Rattle.master_core.specs.Laws.{MessageIsKept}
 use Rattle.master_core.specs.Master.{IsKept, Known, in_phase, is_of, record_of, with_phase}
-use Rattle.master_core.specs.Messages.{IsValidBody, body_refusal, freed, is_declined, made_if_out, merged, take_refusal, taken}
+use Rattle.master_core.specs.Messages.{IsValidBody, already, body_refusal, declined, freed, freeing, is_declined, merged, merging, noted, returned, take_refusal, taken, while_out}
 
 -- ---- what a valid part says
 
@@ -78,13 +76,13 @@ merged_kept p at w r valid kept place out fits =
       apart = subst (StandApart (put w.ticket r p at).rows) (sym (phase_at_place Merged w.records place.place r kept.numbered place.there)) (merge_keeps_apart w.ticket w.records place.place r p at kept.valid kept.apart place.there out fits);
     }
 
-out_kept : (out : Bool) (p : Copied) (at : ℕ) (w : Known) (r : SpawnRec) → is_out r ≡ out → IsValid (with_copies p.rows p.rw p.ro) → IsKept w → Placed w.records r → body_refusal (Return p) w r ≡ None → IsKept (cond out (merged p at w r) w)
+out_kept : (out : Bool) (p : Copied) (at : ℕ) (w : Known) (r : SpawnRec) → is_out r ≡ out → IsValid (with_copies p.rows p.rw p.ro) → IsKept w → Placed w.records r → body_refusal (Return p) w r ≡ None → IsKept (cond out (merging p at w r) (already p w)).next
 out_kept true p at w r out valid kept place none = merged_kept p at w r valid kept place out (part_fits w.ticket r p (part_free p w r none out))
 out_kept false p at w r out valid kept place none = kept
 
-taken_kept : (p : Copied) (at : ℕ) (w : Known) (r : SpawnRec) → IsValid (with_copies p.rows p.rw p.ro) → IsKept w → record_of w.records p.spawn_id ≡ Some r → body_refusal (Return p) w r ≡ None → IsKept (taken (Return p) at w)
+taken_kept : (p : Copied) (at : ℕ) (w : Known) (r : SpawnRec) → IsValid (with_copies p.rows p.rw p.ro) → IsKept w → record_of w.records p.spawn_id ≡ Some r → body_refusal (Return p) w r ≡ None → IsKept (returned p at w).next
 taken_kept p at w r valid kept found none =
-    subst IsKept (sym (ap (λ o. option_map_or (λ q. cond (is_out q) (merged p at w q) w) o w) found)) (out_kept (is_out r) p at w r refl valid kept (placed (is_of p.spawn_id) w.records r found) none)
+    subst (λ o. IsKept (while_out (merging p at w) (already p w) o).next) (sym found) (out_kept (is_out r) p at w r refl valid kept (placed (is_of p.spawn_id) w.records r found) none)
 
 -- ---- a spawn withdrawn
 
@@ -104,24 +102,24 @@ freed_kept at w r kept place out =
       apart = subst (StandApart later) (sym (phase_at_place Withdrawn w.records place.place r kept.numbered place.there)) (end_keeps_apart rows later w.records place.place r (in_phase Withdrawn r) still kept.apart place.there out refl);
     }
 
-free_if_out : (out : Bool) (at : ℕ) (w : Known) (r : SpawnRec) → is_out r ≡ out → IsKept w → Placed w.records r → IsKept (cond out (freed at w r) w)
-free_if_out true at w r out kept place = freed_kept at w r kept place out
-free_if_out false at w r out kept place = kept
+free_if_out : (out : Bool) (s at : ℕ) (w : Known) (r : SpawnRec) → is_out r ≡ out → IsKept w → Placed w.records r → IsKept (cond out (freeing s at w r) (noted s w)).next
+free_if_out true s at w r out kept place = freed_kept at w r kept place out
+free_if_out false s at w r out kept place = kept
 
-answered_kept : (declined : Bool) (c : Command) (s : ℕ) (told : Result QueueStatus ℕ) (at : ℕ) (w : Known) (r : SpawnRec) → is_declined c told ≡ declined → IsKept w → record_of w.records s ≡ Some r → IsKept (taken (Answer c s told) at w)
-answered_kept false c s told at w r declined kept found = subst IsKept (sym (ap (λ b. cond b (made_if_out (freed at w) s w) w) declined)) kept
-answered_kept true c s told at w r declined kept found =
-    subst IsKept (sym (ap (λ b. cond b (made_if_out (freed at w) s w) w) declined ∙ ap (λ o. option_map_or (λ q. cond (is_out q) (freed at w q) w) o w) found)) (free_if_out (is_out r) at w r refl kept (placed (is_of s) w.records r found))
+answered_kept : (says : Bool) (s at : ℕ) (w : Known) (r : SpawnRec) → IsKept w → record_of w.records s ≡ Some r → IsKept (cond says (declined s at w) (noted s w)).next
+answered_kept false s at w r kept found = kept
+answered_kept true s at w r kept found =
+    subst (λ o. IsKept (while_out (freeing s at w) (noted s w) o).next) (sym found) (free_if_out (is_out r) s at w r refl kept (placed (is_of s) w.records r found))
 
 -- ---- messages
 
-kept_at : (body : Body) (at : ℕ) (w : Known) → IsValidBody body → IsKept w → (r : SpawnRec) → record_of w.records (spawn_in body) ≡ Some r → body_refusal body w r ≡ None → IsKept (taken body at w)
+kept_at : (body : Body) (at : ℕ) (w : Known) → IsValidBody body → IsKept w → (r : SpawnRec) → record_of w.records (spawn_in body) ≡ Some r → body_refusal body w r ≡ None → IsKept (taken body at w).next
 kept_at (Submit p) at w valid kept r found none = kept
 kept_at (Return p) at w valid kept r found none = taken_kept p at w r valid kept found none
 kept_at (Abort s) at w valid kept r found none = kept
-kept_at (Answer c s told) at w valid kept r found none = answered_kept (is_declined c told) c s told at w r refl kept found
+kept_at (Answer c s told) at w valid kept r found none = answered_kept (is_declined c told) s at w r kept found
 
-kept_either : (refusal : Option Refusal) (m : Message) (at : ℕ) (w : Known) → take_refusal m w ≡ refusal → IsValidBody m.body → IsKept w → IsKept (cond (is_some refusal) w (taken m.body at w))
+kept_either : (refusal : Option Refusal) (m : Message) (at : ℕ) (w : Known) → take_refusal m w ≡ refusal → IsValidBody m.body → IsKept w → IsKept (answering w.name m at refusal w (taken m.body at w)).next
 kept_either (Some e) m at w refused valid kept = kept
 kept_either None m at w none valid kept =
     let there = take_free m w none in

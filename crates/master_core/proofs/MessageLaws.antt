@@ -1,5 +1,5 @@
 -- What a message changes, and that a spawn ends once.
-use Rattle.std.proofs.Common.{◌≡◌, ◌∙◌, ◌⊎◌, ℕ, ◌&&◌, Bool, true, false, Option, Some, None, Result, Ok, Err, IfOk, cond, is_some, inl, inr, refl, sym, ap, subst}
+use Rattle.std.proofs.Common.{◌≡◌, ◌∙◌, ◌⊎◌, ℕ, Bool, true, false, Option, Some, None, Result, Ok, Err, IfOk, cond, inl, inr, refl, sym, ap, subst}
 use Rattle.std.proofs.lemmas.Bool.{true≢false, eqb-true}
 use Rattle.std.specs.Option.{option_map, option_map_or}
 use Rattle.ticket_items.proofs.Places.{same_found}
@@ -7,7 +7,9 @@ use Rattle.ticket_items.specs.Refusal.{number_of}
 use Rattle.ticket_items.specs.declared.refusal.Refusal.{Refusal}
 use Rattle.ticket_items.specs.declared.refusal.Refusal.TheVariants.{Declined}
 use Rattle.ticket_tree.specs.Part.{Copied}
-use Rattle.controller.specs.Reply.{is_answer, is_freed, refused_or}
+use Rattle.controller.proofs.Answered.{free_answers}
+use Rattle.controller.specs.Reply.{is_answer, is_freed}
+use Rattle.controller.specs.Step.{Step, Taking, answering}
 use Rattle.controller.specs.declared.body.Body.{Body}
 use Rattle.controller.specs.declared.body.Body.TheVariants.{Submit, Return, Abort, Answer}
 use Rattle.controller.specs.declared.command.Command.{Command}
@@ -22,39 +24,26 @@ use Rattle.spawn.specs.declared.records.phase.Phase.TheVariants.{Merged, Withdra
 use Rattle.spawn.specs.declared.records.spawn_rec.SpawnRec.{SpawnRec}
 use Rattle.master_core.proofs.OrderLaws.{records_stay}
 use Rattle.master_core.proofs.Recorded.{found_phase, number_is, phase_if, phase_or, phase_own}
+use Rattle.master_core.proofs.WhileOut.{either_so, made_in, made_out, out_record, while_out_so}
 use Rattle.master_core.specs.Laws.{AnswerFreesAlone, Frees, InStaysIn, MergedIsIn, Merges, MessageEndsSpawns}
 use Rattle.master_core.specs.Master.{Known, is_spawn_out, record_of, with_phase}
-use Rattle.master_core.specs.Messages.{after_taking, freed, is_declined, made_if_out, merged, take_refusal, take_reply, taken, taken_reply}
-
--- ---- what becomes of a master by the record of a spawn that is out
-
--- the record of a spawn that is out
-out_record : (o : Option SpawnRec) → option_map_or is_out o false ≡ true → (r : SpawnRec) × (o ≡ Some r) × (is_out r ≡ true)
-out_record None out = absurd (true≢false (sym out))
-out_record (Some r) out = (r, refl, out)
-
-made_out : (made : SpawnRec → Known) (s : ℕ) (w : Known) (r : SpawnRec) → record_of w.records s ≡ Some r → is_out r ≡ true → made_if_out made s w ≡ made r
-made_out made s w r found out = ap (λ o. option_map_or (λ q. cond (is_out q) (made q) w) o w) found ∙ ap (λ b. cond b (made r) w) out
-
-made_in : (made : SpawnRec → Known) (w : Known) (o : Option SpawnRec) → option_map_or is_out o false ≡ false → option_map_or (λ q. cond (is_out q) (made q) w) o w ≡ w
-made_in made w None out = refl
-made_in made w (Some r) out = ap (λ b. cond b (made r) w) out
+use Rattle.master_core.specs.Messages.{already, declined, freeing, is_declined, merged, merging, noted, returned, take_refusal, take_step, taken, while_out}
 
 -- ---- what a message changes
 
--- a master after a message
-abbrev Changes : Message → ℕ → Known → Known → Type 0
-Changes m at w later = (later ≡ w) ⊎ (Merges m at w later ⊎ Frees m at w later)
+-- what comes of what a message says
+abbrev Comes : Body → ℕ → Known → Taking Known → Type 0
+Comes body at w t =
+    (t.next ≡ w)
+    ⊎ (((p : Copied) × (r : SpawnRec) × (body ≡ Return p) × (record_of w.records p.spawn_id ≡ Some r) × (is_out r ≡ true) × (t ≡ merging p at w r))
+    ⊎ ((s : ℕ) × (r : SpawnRec) × (body ≡ Answer command.Abort s (Err (number_of Declined))) × (record_of w.records s ≡ Some r) × (is_out r ≡ true) × (t ≡ freeing s at w r)))
 
-merge_told : (m : Message) (p : Copied) (w : Known) → m.body ≡ Return p → take_refusal m w ≡ None → is_spawn_out w.records p.spawn_id ≡ true → taken_reply m w ≡ Ok (reply.Merged p.spawn_id)
-merge_told m p w is none out =
-    ap (λ o. refused_or o (take_reply m.body w)) none ∙ ap (λ b. Ok (take_reply b w)) is ∙ ap (λ b. Ok (cond b (reply.Merged p.spawn_id) (reply.Already p.spawn_id))) out
-
-returned : (out : Bool) (m : Message) (p : Copied) (at : ℕ) (w : Known) → m.body ≡ Return p → take_refusal m w ≡ None → is_spawn_out w.records p.spawn_id ≡ out → Changes m at w (taken (Return p) at w)
-returned false m p at w is none out = inl (made_in (merged p at w) w (record_of w.records p.spawn_id) out)
-returned true m p at w is none out =
-    let there = out_record (record_of w.records p.spawn_id) out in
-    inr (inl (p, there.0, is, none, there.1, there.2, merge_told m p w is none out, made_out (merged p at w) p.spawn_id w there.0 there.1 there.2))
+part_comes : (out : Bool) (p : Copied) (at : ℕ) (w : Known) → is_spawn_out w.records p.spawn_id ≡ out → Comes (Return p) at w (returned p at w)
+part_comes false p at w out = inl (ap (λ (t : Taking Known). t.next) (made_in (merging p at w) (already p w) (record_of w.records p.spawn_id) out))
+part_comes true p at w out =
+    let o = record_of w.records p.spawn_id in
+    let there = out_record o out in
+    inr (inl (p, there.0, refl, there.1, there.2, made_out (merging p at w) (already p w) o there.0 there.1 there.2))
 
 -- the answer that tells that a spawn is declined
 declined_is : (c : Command) (s : ℕ) (told : Result QueueStatus ℕ) → is_declined c told ≡ true → Answer c s told ≡ Answer command.Abort s (Err (number_of Declined))
@@ -63,30 +52,39 @@ declined_is command.Return s told e = cc
 declined_is command.Abort s (Ok status) e = cc
 declined_is command.Abort s (Err reason) e = ap (λ n. Answer command.Abort s (Err n)) (eqb-true reason (number_of Declined) e)
 
-free_told : (m : Message) (c : Command) (s : ℕ) (told : Result QueueStatus ℕ) (w : Known) → m.body ≡ Answer c s told → take_refusal m w ≡ None → is_declined c told ≡ true → is_spawn_out w.records s ≡ true → taken_reply m w ≡ Ok (reply.Freed s)
-free_told m c s told w is none declined out =
-    ap (λ o. refused_or o (take_reply m.body w)) none
-    ∙ ap (λ b. Ok (take_reply b w)) is
-    ∙ ap (λ b. Ok (cond (b && is_spawn_out w.records s) (reply.Freed s) (reply.Noted s))) declined
-    ∙ ap (λ b. Ok (cond b (reply.Freed s) (reply.Noted s))) out
+answer_comes : (says out : Bool) (c : Command) (s : ℕ) (told : Result QueueStatus ℕ) (at : ℕ) (w : Known) → is_declined c told ≡ says → is_spawn_out w.records s ≡ out → Comes (Answer c s told) at w (cond says (declined s at w) (noted s w))
+answer_comes false out c s told at w d o = inl refl
+answer_comes true false c s told at w d o = inl (ap (λ (t : Taking Known). t.next) (made_in (freeing s at w) (noted s w) (record_of w.records s) o))
+answer_comes true true c s told at w d o =
+    let found = record_of w.records s in
+    let there = out_record found o in
+    inr (inr (s, there.0, declined_is c s told d, there.1, there.2, made_out (freeing s at w) (noted s w) found there.0 there.1 there.2))
 
-answered : (declined out : Bool) (m : Message) (c : Command) (s : ℕ) (told : Result QueueStatus ℕ) (at : ℕ) (w : Known) → m.body ≡ Answer c s told → take_refusal m w ≡ None → is_declined c told ≡ declined → is_spawn_out w.records s ≡ out → Changes m at w (taken (Answer c s told) at w)
-answered false out m c s told at w is none d o = inl (ap (λ b. cond b (made_if_out (freed at w) s w) w) d)
-answered true false m c s told at w is none d o =
-    inl (ap (λ b. cond b (made_if_out (freed at w) s w) w) d ∙ made_in (freed at w) w (record_of w.records s) o)
-answered true true m c s told at w is none d o =
-    let there = out_record (record_of w.records s) o in
-    inr (inr (s, there.0, is ∙ declined_is c s told d, none, there.1, there.2, free_told m c s told w is none d o, ap (λ b. cond b (made_if_out (freed at w) s w) w) d ∙ made_out (freed at w) s w there.0 there.1 there.2))
+comes : (body : Body) (at : ℕ) (w : Known) → Comes body at w (taken body at w)
+comes (Submit p) at w = inl refl
+comes (Return p) at w = part_comes (is_spawn_out w.records p.spawn_id) p at w refl
+comes (Abort s) at w = inl refl
+comes (Answer c s told) at w = answer_comes (is_declined c told) (is_spawn_out w.records s) c s told at w refl refl
 
-changed_by : (body : Body) (m : Message) (at : ℕ) (w : Known) → m.body ≡ body → take_refusal m w ≡ None → Changes m at w (taken body at w)
-changed_by (Submit p) m at w is none = inl refl
-changed_by (Return p) m at w is none = returned (is_spawn_out w.records p.spawn_id) m p at w is none refl
-changed_by (Abort s) m at w is none = inl refl
-changed_by (Answer c s told) m at w is none = answered (is_declined c told) (is_spawn_out w.records s) m c s told at w is none refl refl
+-- a master after a message
+abbrev Changes : Message → ℕ → Known → Known → Type 0
+Changes m at w later = (later ≡ w) ⊎ (Merges m at w later ⊎ Frees m at w later)
 
-changed_either : (refusal : Option Refusal) (m : Message) (at : ℕ) (w : Known) → take_refusal m w ≡ refusal → Changes m at w (cond (is_some refusal) w (taken m.body at w))
-changed_either None m at w none = changed_by m.body m at w refl none
+changed_either : (refusal : Option Refusal) (m : Message) (at : ℕ) (w : Known) → take_refusal m w ≡ refusal → Changes m at w (answering w.name m at refusal w (taken m.body at w)).next
 changed_either (Some e) m at w refused = inl refl
+changed_either None m at w none =
+    elim (comes m.body at w) [
+      | inl same ↦ inl same
+      | inr ends ↦
+          elim ends [
+            | inl put ↦
+                let step = free_answers w.name m at (take_refusal m w) w (taken m.body at w) (merging put.0 at w put.1) none put.5 in
+                inr (inl (put.0, put.1, put.2, none, put.3, put.4, ap (λ (s : Step Known Message). s.reply) step, ap (λ (t : Taking Known). t.next) put.5))
+            | inr free ↦
+                let step = free_answers w.name m at (take_refusal m w) w (taken m.body at w) (freeing free.0 at w free.1) none free.5 in
+                inr (inr (free.0, free.1, free.2, none, free.3, free.4, ap (λ (s : Step Known Message). s.reply) step, ap (λ (t : Taking Known). t.next) free.5))
+          ]
+    ]
 
 pub message_ends_spawns : MessageEndsSpawns
 message_ends_spawns m at w = changed_either (take_refusal m w) m at w refl
@@ -109,34 +107,42 @@ in_once : (p : Copied) (at : ℕ) (w : Known) (r : SpawnRec) → record_of w.rec
 in_once p at w r found =
     ap (λ o. option_map_or is_out o false) (found_phase Merged r.id w.records p.spawn_id ∙ ap (option_map (phase_if Merged r.id)) found) ∙ ap is_out (phase_own Merged r.id r refl)
 
-merged_reply : (b : Bool) (n s : ℕ) → cond b (reply.Merged n) (reply.Already n) ≡ reply.Merged s → (b ≡ true) × (n ≡ s)
-merged_reply true n s e = (refl, cc)
-merged_reply false n s e = cc
-
-no_merge : (b : Bool) (n s : ℕ) → cond b (reply.Freed n) (reply.Noted n) ≡ reply.Merged s → ⊥
-no_merge true n s e = cc
-no_merge false n s e = cc
-
 -- what is out before and not after
 abbrev ComesIn : Known → Known → ℕ → Type 0
 ComesIn w later s = (is_spawn_out w.records s ≡ true) × (is_spawn_out later.records s ≡ false)
 
-comes_in : (body : Body) (at : ℕ) (w : Known) (s : ℕ) → take_reply body w ≡ reply.Merged s → ComesIn w (taken body at w) s
+part_by : (out : Bool) (p : Copied) (at : ℕ) (w : Known) (r : SpawnRec) (s : ℕ) → record_of w.records p.spawn_id ≡ Some r → is_out r ≡ out → (cond out (merging p at w r) (already p w)).reply ≡ reply.Merged s
+    → ComesIn w (cond out (merging p at w r) (already p w)).next s
+part_by false p at w r s found out e = cc
+part_by true p at w r s found out e =
+    let same : p.spawn_id ≡ s = cc in (
+      ap (is_spawn_out w.records) (sym same) ∙ ap (λ o. option_map_or is_out o false) found ∙ out,
+      ap (is_spawn_out (merged p at w r).records) (sym same) ∙ in_once p at w r found,
+    )
+
+part_in : (o : Option SpawnRec) (p : Copied) (at : ℕ) (w : Known) (s : ℕ) → record_of w.records p.spawn_id ≡ o → (while_out (merging p at w) (already p w) o).reply ≡ reply.Merged s → ComesIn w (while_out (merging p at w) (already p w) o).next s
+part_in None p at w s found e = cc
+part_in (Some r) p at w s found e = part_by (is_out r) p at w r s found refl e
+
+-- an answer merges none
+abbrev MergesNone : ℕ → Taking Known → Type 0
+MergesNone s t = t.reply ≡ reply.Merged s → ⊥
+
+answer_merges_none : (says : Bool) (n at : ℕ) (w : Known) (s : ℕ) → MergesNone s (cond says (declined n at w) (noted n w))
+answer_merges_none says n at w s =
+    either_so (MergesNone s) says (declined n at w) (noted n w) (while_out_so (MergesNone s) (freeing n at w) (noted n w) (record_of w.records n) (λ r e. cc) (λ e. cc)) (λ e. cc)
+
+comes_in : (body : Body) (at : ℕ) (w : Known) (s : ℕ) → (taken body at w).reply ≡ reply.Merged s → ComesIn w (taken body at w).next s
 comes_in (Submit p) at w s e = cc
 comes_in (Abort n) at w s e = cc
-comes_in (Answer c n told) at w s e = absurd (no_merge (is_declined c told && is_spawn_out w.records n) n s e)
-comes_in (Return p) at w s e =
-    let parts = merged_reply (is_spawn_out w.records p.spawn_id) p.spawn_id s e in
-    let there = out_record (record_of w.records p.spawn_id) parts.0 in (
-      ap (is_spawn_out w.records) (sym parts.1) ∙ parts.0,
-      ap (is_spawn_out (taken (Return p) at w).records) (sym parts.1) ∙ ap (λ (v : Known). is_spawn_out v.records p.spawn_id) (made_out (merged p at w) p.spawn_id w there.0 there.1 there.2) ∙ in_once p at w there.0 there.1,
-    )
+comes_in (Answer c n told) at w s e = absurd (answer_merges_none (is_declined c told) n at w s e)
+comes_in (Return p) at w s e = part_in (record_of w.records p.spawn_id) p at w s refl e
 
 same_reply : (x y : Reply) → ◌≡◌ {A = Result Reply Refusal} (Ok x) (Ok y) → x ≡ y
 same_reply x y e = cc
 
-comes_either : (refusal : Option Refusal) (m : Message) (at : ℕ) (w : Known) (s : ℕ) → refused_or refusal (take_reply m.body w) ≡ Ok (reply.Merged s) → ComesIn w (cond (is_some refusal) w (taken m.body at w)) s
-comes_either None m at w s e = comes_in m.body at w s (same_reply (take_reply m.body w) (reply.Merged s) e)
+comes_either : (refusal : Option Refusal) (m : Message) (at : ℕ) (w : Known) (s : ℕ) → (answering w.name m at refusal w (taken m.body at w)).reply ≡ Ok (reply.Merged s) → ComesIn w (answering w.name m at refusal w (taken m.body at w)).next s
+comes_either None m at w s e = comes_in m.body at w s (same_reply (taken m.body at w).reply (reply.Merged s) e)
 comes_either (Some r) m at w s e = cc
 
 pub merged_is_in : MergedIsIn
@@ -152,7 +158,7 @@ in_still ph w s t r q found isn't there out =
       | inr other ↦ found_phase ph q.id w.records s ∙ ap (option_map (phase_if ph q.id)) found ∙ ap Some other.1
     ]
 
-in_after : (m : Message) (at : ℕ) (w : Known) (s : ℕ) (r : SpawnRec) → record_of w.records s ≡ Some r → is_out r ≡ false → record_of (after_taking m at w).records s ≡ Some r
+in_after : (m : Message) (at : ℕ) (w : Known) (s : ℕ) (r : SpawnRec) → record_of w.records s ≡ Some r → is_out r ≡ false → record_of (take_step m at w).next.records s ≡ Some r
 in_after m at w s r found isn't =
     elim (message_ends_spawns m at w) [
       | inl same ↦ ap (λ (v : Known). record_of v.records s) same ∙ found

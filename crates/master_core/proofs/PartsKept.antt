@@ -54,7 +54,7 @@ use Rattle.master_core.proofs.Recorded.{found_phase, get_front, get_last, number
 use Rattle.master_core.proofs.Refusals.{edit_free, part_free, spawn_free, take_free}
 use Rattle.master_core.specs.Laws.{MessageKeepsSpawns, OrderKeepsSpawns}
 use Rattle.master_core.specs.Master.{IsKept, Known, is_of, merged_record, next_number, record_of, withdrawn_record}
-use Rattle.master_core.specs.Messages.{IsValidBody, body_refusal, freed, merged, take_refusal, taken_reply}
+use Rattle.master_core.specs.Messages.{IsValidBody, body_refusal, freed, merged, take_refusal, take_step}
 use Rattle.master_core.specs.Orders.{next_record, order_refusal, ordered}
 use Rattle.master_core.specs.declared.order.Order.{Order}
 use Rattle.master_core.specs.declared.order.Order.TheVariants as order
@@ -157,18 +157,18 @@ order_keeps_spawns o at w s r kept found =
 other_place : (recs : List SpawnRec) (j k : ℕ) (q r : SpawnRec) → slice_get recs j ≡ Some q → slice_get recs k ≡ Some r → (r.id ≡ q.id → ⊥) → j ≡ k → ⊥
 other_place recs j k q r at_q at_r other same = other (ap (λ o. option_map_or (λ (s : SpawnRec). s.id) o r.id) (sym at_r ∙ ap (slice_get recs) (sym same) ∙ at_q))
 
-abbrev Stays : Message → Known → Known → ℕ → SpawnRec → Type 0
-Stays m w later s r =
-    ((is_out r ≡ true) × (taken_reply m w ≡ Ok (reply.Merged s)) × (record_of later.records s ≡ Some (merged_record r)))
-    ⊎ (((is_out r ≡ true) × (taken_reply m w ≡ Ok (reply.Freed s)) × (record_of later.records s ≡ Some (withdrawn_record r)))
+abbrev Stays : Message → ℕ → Known → Known → ℕ → SpawnRec → Type 0
+Stays m at w later s r =
+    ((is_out r ≡ true) × ((take_step m at w).reply ≡ Ok (reply.Merged s)) × (record_of later.records s ≡ Some (merged_record r)))
+    ⊎ (((is_out r ≡ true) × ((take_step m at w).reply ≡ Ok (reply.Freed s)) × (record_of later.records s ≡ Some (withdrawn_record r)))
     ⊎ ((record_of later.records s ≡ Some r) × (is_out r ≡ true → part_for later.ticket r ≡ part_for w.ticket r)))
 
 -- a record, and the part of its spawn, as a part that fits is put in
 put_keeps : (m : Message) (p : Copied) (at : ℕ) (w : Known) (q : SpawnRec) (s : ℕ) (r : SpawnRec)
     → IsKept w → are_unreserved p.rows ≡ true → Fits w.ticket q p
     → record_of w.records p.spawn_id ≡ Some q → is_out q ≡ true
-    → taken_reply m w ≡ Ok (reply.Merged p.spawn_id) → record_of w.records s ≡ Some r
-    → Stays m w (merged p at w q) s r
+    → (take_step m at w).reply ≡ Ok (reply.Merged p.spawn_id) → record_of w.records s ≡ Some r
+    → Stays m at w (merged p at w q) s r
 put_keeps m p at w q s r kept free fits found_q out_q told found =
     let place_q = placed (is_of p.spawn_id) w.records q found_q in
     let place = placed (is_of s) w.records r found in
@@ -187,7 +187,7 @@ put_keeps m p at w q s r kept free fits found_q out_q told found =
     ]
 
 -- and as a spawn is withdrawn
-free_keeps : (m : Message) (t at : ℕ) (w : Known) (q : SpawnRec) (s : ℕ) (r : SpawnRec) → IsKept w → record_of w.records t ≡ Some q → is_out q ≡ true → taken_reply m w ≡ Ok (reply.Freed t) → record_of w.records s ≡ Some r → Stays m w (freed at w q) s r
+free_keeps : (m : Message) (t at : ℕ) (w : Known) (q : SpawnRec) (s : ℕ) (r : SpawnRec) → IsKept w → record_of w.records t ≡ Some q → is_out q ≡ true → (take_step m at w).reply ≡ Ok (reply.Freed t) → record_of w.records s ≡ Some r → Stays m at w (freed at w q) s r
 free_keeps m t at w q s r kept found_q out_q told found =
     let place_q = placed (is_of t) w.records q found_q in
     let place = placed (is_of s) w.records r found in
@@ -221,7 +221,7 @@ message_keeps_spawns m at w s r valid kept found =
                 let body : IsValidBody (Return p) = subst IsValidBody put'.2 valid in
                 let free = unreserved_rows p.rows p.rw p.ro body.unreserved in
                 let fits = returned_fits m p w put'.1 put'.2 put'.3 put'.4 put'.5 in
-                subst (λ v. Stays m w v s r) (sym put'.7) (put_keeps m p at w put'.1 s r kept free fits put'.4 put'.5 put'.6 found)
-            | inr free ↦ subst (λ v. Stays m w v s r) (sym free.7) (free_keeps m free.0 at w free.1 s r kept free.4 free.5 free.6 found)
+                subst (λ v. Stays m at w v s r) (sym put'.7) (put_keeps m p at w put'.1 s r kept free fits put'.4 put'.5 put'.6 found)
+            | inr free ↦ subst (λ v. Stays m at w v s r) (sym free.7) (free_keeps m free.0 at w free.1 s r kept free.4 free.5 free.6 found)
           ]
     ]

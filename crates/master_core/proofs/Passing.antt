@@ -1,11 +1,16 @@
 -- What is told of a refusal, as it is passed on.
-use Rattle.std.proofs.Common.{◌≡◌, ◌∙◌, ℕ, ◌&&◌, Bool, true, false, cond, [], ◌∷◌, Option, Some, None, Result, Ok, Err, IfOk, IfSome, IsOk, OnOk, is_some, refl, sym, ap, subst}
+use Rattle.std.proofs.Common.{◌≡◌, ◌∙◌, ℕ, Bool, true, false, cond, [], ◌∷◌, Option, Some, None, Result, Ok, Err, IfOk, IfSome, IsOk, OnOk, is_some, refl, sym, ap, subst}
+use Rattle.std.specs.Option.{option_map_or}
 use Rattle.std.specs.Result.{IsErrAnd, result_and}
 use Rattle.ticket_items.specs.declared.refusal.Refusal.{Refusal}
 use Rattle.ticket_rows.specs.Ticket.{first_of, unless}
-use Rattle.controller.specs.Reply.{is_freed, refused_or}
-use Rattle.controller.specs.declared.reply.Reply.{Reply}
-use Rattle.controller.specs.declared.reply.Reply.TheVariants as reply
+use Rattle.controller.specs.Reply.{is_freed}
+use Rattle.controller.specs.Step.{Taking, answering}
+use Rattle.controller.specs.declared.message.Message.{Message}
+use Rattle.spawn.specs.Records.{is_out}
+use Rattle.spawn.specs.declared.records.spawn_rec.SpawnRec.{SpawnRec}
+use Rattle.master_core.specs.Master.{Known}
+use Rattle.master_core.specs.Messages.{freeing, noted, while_out}
 
 -- what was refused is refused where it is passed on
 pub refused_through : {X Y : Type 0} (o : Option Refusal) (inner : Result X Refusal) (outer : Result Y Refusal) (e : Refusal) → IfSome o (λ r. inner ≡ Err r) → inner ≡ Err e → IsErrAnd outer (λ r. r ≡ e) → IfSome o (λ r. outer ≡ Err r)
@@ -27,15 +32,18 @@ no_refusal None b told e = refl
 no_refusal (Some r) b told e = cc
 
 -- what is told as no refusal, and frees no spawn
-pub replied_free : (o : Option Refusal) (b : Bool) (r : Reply) → b ≡ is_some o → IfOk (refused_or o r) (λ q. is_freed q ≡ false) → b ≡ false → is_freed r ≡ false
-replied_free None b r told free passed = free
-replied_free (Some e) b r told free passed = cc
+pub replied_free : (o : Option Refusal) (b : Bool) (m : Message) (at : ℕ) (w : Known) (t : Taking Known) → b ≡ is_some o → IfOk (answering w.name m at o w t).reply (λ q. is_freed q ≡ false) → b ≡ false → is_freed t.reply ≡ false
+replied_free None b m at w t told free passed = free
+replied_free (Some e) b m at w t told free passed = cc
 
 -- a spawn that is declined and isn't freed isn't out
-pub not_freed : (declined out : Bool) (s : ℕ) → declined ≡ true → is_freed (cond (declined && out) (reply.Freed s) (reply.Noted s)) ≡ false → out ≡ false
-not_freed true true s d e = cc
-not_freed true false s d e = refl
-not_freed false out s d e = cc
+pub not_freed : (s at : ℕ) (w : Known) (o : Option SpawnRec) → is_freed (while_out (freeing s at w) (noted s w) o).reply ≡ false → option_map_or is_out o false ≡ false
+not_freed s at w None e = refl
+not_freed s at w (Some r) e = by (is_out r) e
+  where
+    by : (out : Bool) → is_freed (cond out (freeing s at w r) (noted s w)).reply ≡ false → out ≡ false
+    by true e = cc
+    by false e = refl
 
 -- where the first went well so did both
 pub ok_of_both : {X Y E : Type 0} (first : Result X E) (y : Y) (both : Result Y E) → both ≡ result_and first (Ok y) → IsOk first → IsOk both

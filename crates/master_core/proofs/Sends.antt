@@ -4,13 +4,16 @@ use Rattle.std.proofs.Common.{◌≡◌, ℕ, List, true, Option, Some, None, re
 use Rattle.std.specs.Option.{option_map}
 use Rattle.std.specs.Prelude.{IfSome}
 use Rattle.controller.proofs.Answered.{sends_so}
-use Rattle.controller.proofs.Sendable.{answers_sent, told}
-use Rattle.controller.specs.Words.{may_be_sent}
+use Rattle.controller.proofs.Sendable.{answering_sends}
+use Rattle.controller.specs.Words.{is_told, may_be_sent}
+use Rattle.controller.specs.declared.body.Body.{Body}
+use Rattle.controller.specs.declared.body.Body.TheVariants.{Submit, Return, Abort, Answer}
 use Rattle.controller.specs.declared.message.Message.{Message}
 use Rattle.ticket_rows.specs.Ticket.{Job}
 use Rattle.spawn.specs.declared.records.spawn_rec.SpawnRec.{SpawnRec}
-use Rattle.master_core.specs.Master.{Known}
-use Rattle.master_core.specs.Messages.{end_of, take_refusal, take_step, taken_result}
+use Rattle.master_core.proofs.WhileOut.{either_so, while_out_so}
+use Rattle.master_core.specs.Master.{Known, record_of}
+use Rattle.master_core.specs.Messages.{already, declined, freeing, is_declined, merging, noted, take_refusal, take_step, taken}
 use Rattle.master_core.specs.Orders.{abort_of, order_refusal, order_step, ordered, submit_of}
 use Rattle.master_core.specs.declared.order.Order.{Order}
 use Rattle.master_core.specs.declared.order.Order.TheVariants.{Edit, Spawn, Resend, Withdraw}
@@ -36,5 +39,13 @@ ordered_sends (Withdraw s) at' w = asked w.name _
 pub by_order : (o : Order) (at' : ℕ) (w : Known) → IsSendable (order_step o at' w).sent
 by_order o at' w = sends_so (order_refusal o w) w (ordered o at' w) (λ m. may_be_sent m.body ≡ true) (ordered_sends o at' w)
 
+-- what is told is no number of a refusal
+taken_told : (body : Body) (at' : ℕ) (w : Known) → is_told (taken body at' w).told ≡ true
+taken_told (Submit p) at' w = refl
+taken_told (Return p) at' w = while_out_so (λ t. is_told t.told ≡ true) (merging p at' w) (already p w) (record_of w.records p.spawn_id) (λ r. refl) refl
+taken_told (Abort s) at' w = refl
+taken_told (Answer c s told) at' w =
+    either_so (λ t. is_told t.told ≡ true) (is_declined c told) (declined s at' w) (noted s w) (while_out_so (λ t. is_told t.told ≡ true) (freeing s at' w) (noted s w) (record_of w.records s) (λ r. refl) refl) refl
+
 pub by_message : (m : Message) (at' : ℕ) (w : Known) → IsSendable (take_step m at' w).sent
-by_message m at' w = answers_sent w.name m at' (taken_result m w) (told (take_refusal m w) (end_of m.body))
+by_message m at' w = answering_sends w.name m at' (take_refusal m w) w (taken m.body at' w) (taken_told m.body at' w)

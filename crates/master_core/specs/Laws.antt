@@ -16,8 +16,7 @@ use Rattle.spawn.specs.declared.records.spawn_rec.SpawnRec.{SpawnRec}
 use Rattle.spawn.specs.declared.tables.holder.Holder.TheVariants as held_by
 use Rattle.master_core.specs.Master.{IsKept, Known, holder, is_spawn_out, may_change, merged_record}
 use Rattle.master_core.specs.Master.{record_of, withdrawn_record}
-use Rattle.master_core.specs.Messages.{IsValidBody, after_taking, freed, merged, take_refusal}
-use Rattle.master_core.specs.Messages.{taken_reply}
+use Rattle.master_core.specs.Messages.{IsValidBody, freed, merged, take_refusal, take_step}
 use Rattle.master_core.specs.Orders.{abort_of, order_refusal, order_step, spawn_asked, spawn_sent}
 use Rattle.master_core.specs.Orders.{submit_of}
 use Rattle.master_core.specs.declared.order.Order.{Order}
@@ -56,34 +55,34 @@ OrderKeepsSpawns =
 abbrev pub MessageIsKept : Type 0
 MessageIsKept =
     (m : Message) (at : ℕ) (w : Known) → IsValidBody m.body → IsKept w
-    → IsKept (after_taking m at w)
+    → IsKept (take_step m at w).next
 
 -- a part that comes back is put in, of a spawn that is out
 abbrev pub Merges : Message → ℕ → Known → Known → Type 0
 Merges m at w later =
     (p : Copied) × (r : SpawnRec) × (m.body ≡ Return p) × (take_refusal m w ≡ None)
     × (record_of w.records p.spawn_id ≡ Some r) × (is_out r ≡ true)
-    × (taken_reply m w ≡ Ok (reply.Merged p.spawn_id)) × (later ≡ merged p at w r)
+    × ((take_step m at w).reply ≡ Ok (reply.Merged p.spawn_id)) × (later ≡ merged p at w r)
 
 -- a spawn that is out is withdrawn, as its worker declines it
 abbrev pub Frees : Message → ℕ → Known → Known → Type 0
 Frees m at w later =
     (s : ℕ) × (r : SpawnRec) × (m.body ≡ Answer Abort s (Err (number_of Declined)))
     × (take_refusal m w ≡ None) × (record_of w.records s ≡ Some r) × (is_out r ≡ true)
-    × (taken_reply m w ≡ Ok (reply.Freed s)) × (later ≡ freed at w r)
+    × ((take_step m at w).reply ≡ Ok (reply.Freed s)) × (later ≡ freed at w r)
 
 -- a message changes nothing else
 abbrev pub MessageEndsSpawns : Type 0
 MessageEndsSpawns =
     (m : Message) (at : ℕ) (w : Known)
-    → (after_taking m at w ≡ w)
-    ⊎ (Merges m at w (after_taking m at w) ⊎ Frees m at w (after_taking m at w))
+    → ((take_step m at w).next ≡ w)
+    ⊎ (Merges m at w (take_step m at w).next ⊎ Frees m at w (take_step m at w).next)
 
 -- an answer changes nothing but as it frees a spawn
 abbrev pub AnswerFreesAlone : Type 0
 AnswerFreesAlone =
     (m : Message) (at : ℕ) (w : Known) → is_answer m.body ≡ true
-    → IfOk (taken_reply m w) (λ r. is_freed r ≡ false) → after_taking m at w ≡ w
+    → IfOk (take_step m at w).reply (λ r. is_freed r ≡ false) → (take_step m at w).next ≡ w
 
 -- a message changes the record of a spawn only as it merges or frees it, which was out, and no part
 -- of one that stays out
@@ -91,34 +90,34 @@ abbrev pub MessageKeepsSpawns : Type 0
 MessageKeepsSpawns =
     (m : Message) (at : ℕ) (w : Known) (s : ℕ) (r : SpawnRec) → IsValidBody m.body → IsKept w
     → record_of w.records s ≡ Some r
-    → ((is_out r ≡ true) × (taken_reply m w ≡ Ok (reply.Merged s))
-    × (record_of (after_taking m at w).records s ≡ Some (merged_record r)))
-    ⊎ (((is_out r ≡ true) × (taken_reply m w ≡ Ok (reply.Freed s))
-    × (record_of (after_taking m at w).records s ≡ Some (withdrawn_record r)))
-    ⊎ ((record_of (after_taking m at w).records s ≡ Some r)
-    × (is_out r ≡ true → part_for (after_taking m at w).ticket r ≡ part_for w.ticket r)))
+    → ((is_out r ≡ true) × ((take_step m at w).reply ≡ Ok (reply.Merged s))
+    × (record_of (take_step m at w).next.records s ≡ Some (merged_record r)))
+    ⊎ (((is_out r ≡ true) × ((take_step m at w).reply ≡ Ok (reply.Freed s))
+    × (record_of (take_step m at w).next.records s ≡ Some (withdrawn_record r)))
+    ⊎ ((record_of (take_step m at w).next.records s ≡ Some r)
+    × (is_out r ≡ true → part_for (take_step m at w).next.ticket r ≡ part_for w.ticket r)))
 
 -- ---- merged once
 
 -- once a part is put in its spawn isn't out
 abbrev pub MergedIsIn : Type 0
 MergedIsIn =
-    (m : Message) (at : ℕ) (w : Known) (s : ℕ) → taken_reply m w ≡ Ok (reply.Merged s)
-    → (is_spawn_out w.records s ≡ true) × (is_spawn_out (after_taking m at w).records s ≡ false)
+    (m : Message) (at : ℕ) (w : Known) (s : ℕ) → (take_step m at w).reply ≡ Ok (reply.Merged s)
+    → (is_spawn_out w.records s ≡ true) × (is_spawn_out (take_step m at w).next.records s ≡ false)
 
 -- what has come in stays so, whatever is ordered or comes
 abbrev pub InStaysIn : Type 0
 InStaysIn =
     (w : Known) (s : ℕ) (r : SpawnRec) → record_of w.records s ≡ Some r → is_out r ≡ false
     → ((o : Order) (at : ℕ) → record_of (order_step o at w).next.records s ≡ Some r)
-    × ((m : Message) (at : ℕ) → record_of (after_taking m at w).records s ≡ Some r)
+    × ((m : Message) (at : ℕ) → record_of (take_step m at w).next.records s ≡ Some r)
 
 -- a part that comes back once more, whatever it holds, changes nothing and was put in before
 abbrev pub ReturnIsAlready : Type 0
 ReturnIsAlready =
     (m : Message) (at : ℕ) (w : Known) (p : Copied) → m.body ≡ Return p → take_refusal m w ≡ None
     → is_spawn_out w.records p.spawn_id ≡ false
-    → (after_taking m at w ≡ w) × (taken_reply m w ≡ Ok (reply.Already p.spawn_id))
+    → ((take_step m at w).next ≡ w) × ((take_step m at w).reply ≡ Ok (reply.Already p.spawn_id))
 
 -- ---- what goes out
 

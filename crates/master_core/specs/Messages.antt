@@ -1,8 +1,7 @@
--- What a master does with a message, whoever sent it and whatever it says: why it is refused, what
--- becomes of the ticket and the records, what is replied and what is answered.
+-- What a master does with a message, whoever sent it and whatever it says: why it is refused, and
+-- else what comes of it.
 use Rattle.std.specs.Prelude.{ℕ, ◌&&◌, ◌==◌, Bool, true, false, [], ◌∷◌, codes, ⊤}
-use Rattle.std.specs.Prelude.{if◌then◌else◌, Option, Some, None, is_some, Result, Ok, Err}
-use Rattle.std.specs.Prelude.{slice_get}
+use Rattle.std.specs.Prelude.{if◌then◌else◌, Option, Some, None, Result, Ok, Err, slice_get}
 use Rattle.std.specs.Option.{option_map_or}
 use Rattle.std.specs.Str.{bytes_eq}
 use Rattle.ticket_items.specs.Refusal.{number_of}
@@ -13,8 +12,8 @@ use Rattle.ticket_items.specs.declared.refusal.Refusal.TheVariants.{WrongSender,
 use Rattle.ticket_rows.specs.Copies.{with_copies}
 use Rattle.ticket_rows.specs.Ticket.{IsValid, first_of, unless}
 use Rattle.ticket_tree.specs.Part.{Copied}
-use Rattle.controller.specs.Reply.{answer_to, refused_or, spawn_in, told_of}
-use Rattle.controller.specs.Step.{Step}
+use Rattle.controller.specs.Reply.{spawn_in}
+use Rattle.controller.specs.Step.{Step, Taking, answering}
 use Rattle.controller.specs.declared.body.Body.{Body}
 use Rattle.controller.specs.declared.body.Body.TheVariants.{Submit, Return, Abort, Answer}
 use Rattle.controller.specs.declared.command.Command.{Command}
@@ -22,7 +21,6 @@ use Rattle.controller.specs.declared.command.Command.TheVariants as command
 use Rattle.controller.specs.declared.message.Message.{Message}
 use Rattle.controller.specs.declared.queue_status.QueueStatus.{QueueStatus}
 use Rattle.controller.specs.declared.queue_status.QueueStatus.TheVariants as queue
-use Rattle.controller.specs.declared.reply.Reply.{Reply}
 use Rattle.controller.specs.declared.reply.Reply.TheVariants as reply
 use Rattle.spawn.specs.Records.{is_out}
 use Rattle.spawn.specs.declared.records.phase.Phase.{Phase}
@@ -31,7 +29,7 @@ use Rattle.spawn.specs.declared.records.spawn_rec.SpawnRec.{SpawnRec}
 use Rattle.merge.specs.Alike.{is_fit}
 use Rattle.merge.specs.Put.{put}
 use Rattle.merge.specs.Withdrawal.{withdrawn}
-use Rattle.master_core.specs.Master.{Known, is_spawn_out, record_of, with_merged, with_withdrawn}
+use Rattle.master_core.specs.Master.{Known, record_of, with_merged, with_withdrawn}
 
 -- ---- refusals
 
@@ -104,40 +102,6 @@ is_declined command.Return told = false
 is_declined command.Abort (Ok status) = false
 is_declined command.Abort (Err reason) = reason == number_of Declined
 
--- the master, or what it is made by the record of a spawn while that is out
-abbrev pub made_if_out : (SpawnRec → Known) → ℕ → Known → Known
-made_if_out made s w =
-    option_map_or (λ r. if is_out r then made r else w) (record_of w.records s) w
-
--- the master after a message at a time that isn't refused: while a spawn is out its part is put in
--- as that comes back, and it is withdrawn as its worker declines it
-abbrev pub taken : Body → ℕ → Known → Known
-taken (Submit p) at w = w
-taken (Return p) at w = made_if_out (merged p at w) p.spawn_id w
-taken (Abort s) at w = w
-taken (Answer c s told) at w =
-    if is_declined c told then made_if_out (freed at w) s w else w
-
--- the master after a message at a time. A refusal changes nothing
-abbrev pub after_taking : Message → ℕ → Known → Known
-after_taking m at w = if is_some (take_refusal m w) then w else taken m.body at w
-
--- ---- what is replied, and what is answered
-
--- what a message is taken as: a part that comes back is put in, or was before, and an answer frees
--- its spawn or is noted
-abbrev pub take_reply : Body → Known → Reply
-take_reply (Submit p) w = reply.Noted p.spawn_id
-take_reply (Return p) w =
-    if is_spawn_out w.records p.spawn_id then reply.Merged p.spawn_id else reply.Already p.spawn_id
-take_reply (Abort s) w = reply.Noted s
-take_reply (Answer c s told) w =
-    if is_declined c told && is_spawn_out w.records s then reply.Freed s else reply.Noted s
-
--- the reply to a message: what it was taken as, or why it was refused
-abbrev pub taken_reply : Message → Known → Result Reply Refusal
-taken_reply m w = refused_or (take_refusal m w) (take_reply m.body w)
-
 -- the Status of the queue entry of a part that came back: how the work on it ended, as the Status
 -- of its node says
 abbrev pub end_of_part : Copied → QueueStatus
@@ -145,28 +109,50 @@ end_of_part p =
     if option_map_or (λ r. bytes_eq r.status (codes "Aborted")) (slice_get p.rows 0) false
     then queue.Aborted else queue.Completed
 
-abbrev pub end_of : Body → QueueStatus
-end_of (Submit p) = end_of_part p
-end_of (Return p) = end_of_part p
-end_of (Abort s) = queue.Completed
-end_of (Answer c s told) = queue.Completed
+-- ---- what comes of a message that isn't refused
 
--- what a command is told: the Status of the queue entry of the part in hand, or the number of the
--- refusal
-abbrev pub taken_result : Message → Known → Result QueueStatus ℕ
-taken_result m w = told_of (take_refusal m w) (end_of m.body)
+-- a part of a spawn that is out comes back: it is put in
+abbrev pub merging : Copied → ℕ → Known → SpawnRec → Taking Known
+merging p at w r =
+    record {
+      reply = reply.Merged p.spawn_id;
+      told = Ok (end_of_part p);
+      next = merged p at w r;
+    }
 
--- the answer to a message: to a command from the master to its sender, and to an answer none
-abbrev pub taken_answer : Message → ℕ → Known → Option Message
-taken_answer m at w = answer_to w.name m at (taken_result m w)
+-- a part that was put in before comes back once more
+abbrev pub already : Copied → Known → Taking Known
+already p w =
+    record { reply = reply.Already p.spawn_id; told = Ok (end_of_part p); next = w }
 
--- ---- the step
+-- the worker of a spawn that is out declines it: it is withdrawn
+abbrev pub freeing : ℕ → ℕ → Known → SpawnRec → Taking Known
+freeing s at w r =
+    record { reply = reply.Freed s; told = Ok queue.Completed; next = freed at w r }
+
+-- what tells of a spawn is noted alone
+abbrev pub noted : ℕ → Known → Taking Known
+noted s w = record { reply = reply.Noted s; told = Ok queue.Completed; next = w }
+
+-- what comes of the record of a spawn, where it was found and is out, and what comes of it else
+abbrev pub while_out : (SpawnRec → Taking Known) → Taking Known → Option SpawnRec → Taking Known
+while_out made other found = option_map_or (λ r. if is_out r then made r else other) found other
+
+-- a part comes back
+abbrev pub returned : Copied → ℕ → Known → Taking Known
+returned p at w = while_out (merging p at w) (already p w) (record_of w.records p.spawn_id)
+
+-- the worker of a spawn declines it
+abbrev pub declined : ℕ → ℕ → Known → Taking Known
+declined s at w = while_out (freeing s at w) (noted s w) (record_of w.records s)
+
+-- what comes of a message at a time that isn't refused, by what it says
+abbrev pub taken : Body → ℕ → Known → Taking Known
+taken (Submit p) at w = noted p.spawn_id w
+taken (Return p) at w = returned p at w
+taken (Abort s) at w = noted s w
+taken (Answer c s told) at w = if is_declined c told then declined s at w else noted s w
 
 -- the master's step on a message at a time
 abbrev pub take_step : Message → ℕ → Known → Step Known Message
-take_step m at w =
-    record {
-      reply = taken_reply m w;
-      sent = taken_answer m at w;
-      next = after_taking m at w;
-    }
+take_step m at w = answering w.name m at (take_refusal m w) w (taken m.body at w)

@@ -57,9 +57,8 @@ pub fn free(
     requires table { IsTable ticket.old.rows records.old.items holders.old }
     ensures ok { (name : List ℕ) (workers : List (List ℕ)) → OnOk result
         (masters.known name workers ticket.new records.new.items
-        ≡ messages.made_if_out
-        (messages.freed at (masters.known name workers ticket.old records.old.items)) spawn
-        (masters.known name workers ticket.old records.old.items)) }
+        ≡ (messages.declined spawn at
+        (masters.known name workers ticket.old records.old.items)).next) }
     ensures table { OnOk result (IsTable ticket.new.rows records.new.items holders.new) }
     ensures ticket_stays { OnErr result (ticket.new ≡ ticket.old) }
     ensures records_stay { OnErr result (records.new.items ≡ records.old.items) }

@@ -4,7 +4,7 @@ use crate::ordering::do_order;
 use crate::stored::is_master;
 use crate::taking;
 use crate::taking::take_unless;
-use controller::{Done, Message, Outcome};
+use controller::{Body, Done, Message, Outcome, Taken};
 use spawn::{Holder, Holders, SpawnRec, marked};
 use std::alloc::{AllocError, Global};
 use std::marker::Model;
@@ -33,7 +33,7 @@ impl Model for Master {
 }
 
 impl Master {
-    ghost use Rattle.std.specs.Prelude.{◌≡◌, ◌⊎◌, ◌∷◌, true, false, [], Err, OnOk, OnErr};
+    ghost use Rattle.std.specs.Prelude.{◌≡◌, ◌⊎◌, ◌∷◌, ℕ, true, false, [], Err, OnOk, OnErr};
     ghost use Rattle.std.specs.Prelude.{IfOk, IfErr, IsErrOf, IsOk};
     ghost use Rattle.ticket_items.specs.Ids.{are_distinct};
     ghost use Rattle.controller.specs.Reply.{is_answer, is_freed};
@@ -201,6 +201,15 @@ impl Master {
         )
     }
 
+    /// What it takes a message as, and what a command is told, unless it refuses it. Needs no
+    /// memory.
+    pub fn taken_as(&self, body: &Body) -> Taken
+        ensures reply { (at : ℕ) → result.reply ≡ (messages.taken body.now at self.now).reply }
+        ensures told { (at : ℕ) → result.told ≡ (messages.taken body.now at self.now).told }
+    {
+        taking::taken_as(self, body)
+    }
+
     /// Takes a message, whoever sent it and whatever it says, at a time in seconds since 1970. The
     /// reply is what it was taken as, or the first refusal that holds: `WrongMessage` where it is
     /// for another, or is neither a part that comes back nor the answer to what a master sends;
@@ -215,7 +224,7 @@ impl Master {
             (λ outcome. outcome_step outcome self.new ≡ messages.take_step message at self.old) }
         ensures err { OnErr result (self.new ≡ self.old) }
         ensures answers { is_answer message.body ≡ true
-            → IfOk (messages.taken_reply message self.old) (λ r. is_freed r ≡ false)
+            → IfOk (messages.take_step message at self.old).reply (λ r. is_freed r ≡ false)
             → IsOk result }
     {
         let refusal = taking::refusal_of(self, &message);

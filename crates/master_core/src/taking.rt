@@ -1,11 +1,12 @@
 //! What a master does with a message.
 
 ghost use Rattle.std.specs.Prelude.{◌≡◌, ℕ, List, true, false, if◌then◌else◌, OnOk, OnErr};
-ghost use Rattle.std.specs.Prelude.{IfOk, IsOk};
+ghost use Rattle.std.specs.Prelude.{IfOk, IsOk, Ok};
 ghost use Rattle.ticket_rows.specs.Copies.{with_copies};
 ghost use Rattle.ticket_rows.specs.Ticket.{IsValid};
 ghost use Rattle.ticket_tree.specs.Part.{Copied};
 ghost use Rattle.controller.specs.Reply as replies;
+ghost use Rattle.controller.specs.Step as steps;
 ghost use Rattle.spawn.specs.Holdings.{IsTable, claim_given};
 ghost use Rattle.spawn.specs.Laws.{StandApart};
 ghost use Rattle.spawn.specs.Records.{IsGood, is_out};
@@ -18,8 +19,8 @@ ghost use Rattle.master_core.specs.Messages as messages;
 use crate::freeing::free;
 use crate::master::Master;
 use crate::records::{is_spawn_out, place_of, record_of};
-use controller::answering::{answer_to, spawn_in, told_of};
-use controller::{Body, Command, Message, Outcome, QueueStatus, Reply};
+use controller::answering::{answer_to, spawn_in};
+use controller::{Body, Command, Message, Outcome, QueueStatus, Reply, Taken};
 use merge::{fits, merge_fitting};
 use spawn::{Holder, Holders, Phase, SpawnRec};
 use std::alloc::{AllocError, Global};
@@ -101,44 +102,6 @@ fn is_declined(asked: Command, told: Result<QueueStatus, u16>) -> bool
     }
 }
 
-/// What a message is taken as.
-fn reply_to(master: &Master, body: &Body) -> Reply
-    ensures { result ≡ messages.take_reply body.now master.now }
-{
-    match body {
-        Body::Submit(part) => Reply::Noted(part.spawn_id()),
-        Body::Return(part) => {
-            if is_spawn_out(master.records(), part.spawn_id()) {
-                Reply::Merged(part.spawn_id())
-            } else {
-                Reply::Already(part.spawn_id())
-            }
-        }
-        Body::Abort(spawn_id) => Reply::Noted(*spawn_id),
-        Body::Answer {
-            of,
-            spawn_id,
-            result,
-        } => {
-            if is_declined(*of, *result) && is_spawn_out(master.records(), *spawn_id) {
-                Reply::Freed(*spawn_id)
-            } else {
-                Reply::Noted(*spawn_id)
-            }
-        }
-    }
-}
-
-/// The reply to a message: what it is taken as, or the refusal.
-fn reply_or(refusal: &Option<Refusal>, master: &Master, body: &Body) -> Result<Reply, Refusal>
-    ensures { result ≡ replies.refused_or refusal.now (messages.take_reply body.now master.now) }
-{
-    match refusal {
-        Some(refusal) => Err(*refusal),
-        None => Ok(reply_to(master, body)),
-    }
-}
-
 /// The Status of the queue entry of a part that came back.
 fn end_of_part(part: &Part) -> QueueStatus
     ensures { result ≡ messages.end_of_part part.now }
@@ -155,20 +118,75 @@ fn end_of_part(part: &Part) -> QueueStatus
     }
 }
 
-/// The Status of the queue entry of the part that a message carries.
-fn end_of(body: &Body) -> QueueStatus
-    ensures { result ≡ messages.end_of body.now }
+/// What a part that comes back is taken as: it is put in while its spawn is out, or was before.
+fn part_taken(master: &Master, part: &Part) -> Taken
+    ensures reply { (at : ℕ) → result.reply ≡ (messages.returned part.now at master.now).reply }
+    ensures told { (at : ℕ) → result.told ≡ (messages.returned part.now at master.now).told }
 {
-    match body {
-        Body::Submit(part) => end_of_part(part),
-        Body::Return(part) => end_of_part(part),
-        Body::Abort(_) => QueueStatus::Completed,
-        Body::Answer { .. } => QueueStatus::Completed,
+    if is_spawn_out(master.records(), part.spawn_id()) {
+        Taken {
+            reply: Reply::Merged(part.spawn_id()),
+            told: Ok(end_of_part(part)),
+        }
+    } else {
+        Taken {
+            reply: Reply::Already(part.spawn_id()),
+            told: Ok(end_of_part(part)),
+        }
     }
 }
 
-/// What comes of a message: the reply, and the answer to a command. To an answer there is none, and
-/// that takes no memory.
+/// What it is taken as that tells of a spawn and changes nothing.
+fn noted(spawn: SpawnId) -> Taken
+    ensures reply { result.reply ≡ Reply.Noted spawn }
+    ensures told { result.told ≡ Ok QueueStatus.Completed }
+{
+    Taken {
+        reply: Reply::Noted(spawn),
+        told: Ok(QueueStatus::Completed),
+    }
+}
+
+/// What it is taken as that the worker of a spawn declines it: the spawn is freed while it is out.
+fn declined(master: &Master, spawn: SpawnId) -> Taken
+    ensures reply { (at : ℕ) → result.reply ≡ (messages.declined spawn at master.now).reply }
+    ensures told { (at : ℕ) → result.told ≡ (messages.declined spawn at master.now).told }
+{
+    if is_spawn_out(master.records(), spawn) {
+        Taken {
+            reply: Reply::Freed(spawn),
+            told: Ok(QueueStatus::Completed),
+        }
+    } else {
+        noted(spawn)
+    }
+}
+
+/// What a message is taken as.
+pub fn taken_as(master: &Master, body: &Body) -> Taken
+    ensures reply { (at : ℕ) → result.reply ≡ (messages.taken body.now at master.now).reply }
+    ensures told { (at : ℕ) → result.told ≡ (messages.taken body.now at master.now).told }
+{
+    match body {
+        Body::Submit(part) => noted(part.spawn_id()),
+        Body::Return(part) => part_taken(master, part),
+        Body::Abort(spawn_id) => noted(*spawn_id),
+        Body::Answer {
+            of,
+            spawn_id,
+            result,
+        } => {
+            if is_declined(*of, *result) {
+                declined(master, *spawn_id)
+            } else {
+                noted(*spawn_id)
+            }
+        }
+    }
+}
+
+/// What comes of a message: what it is taken as, or the refusal, and the answer to a command. To an
+/// answer there is none, and that takes no memory.
 pub fn outcome_of(
     alloc: Global,
     master: &Master,
@@ -177,16 +195,31 @@ pub fn outcome_of(
     at: u64,
 ) -> Result<Outcome, AllocError>
     ensures reply { IfOk result (λ outcome. outcome.reply
-        ≡ replies.refused_or refusal (messages.take_reply message.now.body master.now)) }
+        ≡ (steps.answering master.now.name message.now at refusal master.now
+        (messages.taken message.now.body at master.now)).reply) }
     ensures answer { IfOk result (λ outcome. outcome.answer
-        ≡ replies.answer_to master.now.name message.now at
-        (replies.told_of refusal (messages.end_of message.now.body))) }
+        ≡ (steps.answering master.now.name message.now at refusal master.now
+        (messages.taken message.now.body at master.now)).sent) }
     ensures answers { replies.is_answer message.now.body ≡ true → IsOk result }
 {
-    let reply = reply_or(&refusal, master, &message.body);
-    let told = told_of(refusal, end_of(&message.body));
-    let answer = answer_to(alloc, master.name(), message, at, told)?;
-    Ok(Outcome { reply, answer })
+    match &refusal {
+        Some(refusal) => {
+            let told = Err(refusal.number());
+            let answer = answer_to(alloc, master.name(), message, at, told)?;
+            Ok(Outcome {
+                reply: Err(*refusal),
+                answer,
+            })
+        }
+        None => {
+            let taken = taken_as(master, &message.body);
+            let answer = answer_to(alloc, master.name(), message, at, taken.told)?;
+            Ok(Outcome {
+                reply: Ok(taken.reply),
+                answer,
+            })
+        }
+    }
 }
 
 /// Puts in a part that fits, of a spawn that is out. The master then holds what the spawn claimed.
@@ -234,8 +267,8 @@ fn take_part(
         → is_out r ≡ true → alike.is_fit ticket.old r part ≡ true }
     ensures ok { (name : List ℕ) (workers : List (List ℕ)) → OnOk result
         (masters.known name workers ticket.new records.new.items
-        ≡ messages.taken (Body.Return part) at
-        (masters.known name workers ticket.old records.old.items)) }
+        ≡ (messages.returned part at
+        (masters.known name workers ticket.old records.old.items)).next) }
     ensures table { OnOk result (IsTable ticket.new.rows records.new.items holders.new) }
     ensures ticket_stays { OnErr result (ticket.new ≡ ticket.old) }
     ensures records_stay { OnErr result (records.new.items ≡ records.old.items) }
@@ -268,15 +301,15 @@ fn take_answer(
     requires table { IsTable ticket.old.rows records.old.items holders.old }
     ensures ok { (name : List ℕ) (workers : List (List ℕ)) → OnOk result
         (masters.known name workers ticket.new records.new.items
-        ≡ messages.taken (Body.Answer asked spawn told) at
-        (masters.known name workers ticket.old records.old.items)) }
+        ≡ (messages.taken (Body.Answer asked spawn told) at
+        (masters.known name workers ticket.old records.old.items)).next) }
     ensures table { OnOk result (IsTable ticket.new.rows records.new.items holders.new) }
     ensures ticket_stays { OnErr result (ticket.new ≡ ticket.old) }
     ensures records_stay { OnErr result (records.new.items ≡ records.old.items) }
     ensures holders_stay { OnErr result (holders.new ≡ holders.old) }
     ensures noted { (name : List ℕ) (workers : List (List ℕ))
-        → replies.is_freed (messages.take_reply (Body.Answer asked spawn told)
-        (masters.known name workers ticket.old records.old.items)) ≡ false → IsOk result }
+        → replies.is_freed (messages.taken (Body.Answer asked spawn told) at
+        (masters.known name workers ticket.old records.old.items)).reply ≡ false → IsOk result }
 {
     if is_declined(asked, told) {
         free(alloc, ticket, records, holders, spawn, at)
@@ -303,15 +336,16 @@ fn take_body(
         → alike.is_fit ticket.old r p ≡ true }
     ensures ok { (name : List ℕ) (workers : List (List ℕ)) → OnOk result
         (masters.known name workers ticket.new records.new.items
-        ≡ messages.taken body at (masters.known name workers ticket.old records.old.items)) }
+        ≡ (messages.taken body at
+        (masters.known name workers ticket.old records.old.items)).next) }
     ensures table { OnOk result (IsTable ticket.new.rows records.new.items holders.new) }
     ensures ticket_stays { OnErr result (ticket.new ≡ ticket.old) }
     ensures records_stay { OnErr result (records.new.items ≡ records.old.items) }
     ensures holders_stay { OnErr result (holders.new ≡ holders.old) }
     ensures valid { messages.IsValidBody body }
     ensures answers { (name : List ℕ) (workers : List (List ℕ)) → replies.is_answer body ≡ true
-        → replies.is_freed (messages.take_reply body
-        (masters.known name workers ticket.old records.old.items)) ≡ false → IsOk result }
+        → replies.is_freed (messages.taken body at
+        (masters.known name workers ticket.old records.old.items)).reply ≡ false → IsOk result }
 {
     match body {
         Body::Submit(_) => Ok(()),
@@ -346,15 +380,17 @@ pub fn take_unless(
     ensures ok { (name : List ℕ) (workers : List (List ℕ)) → OnOk result
         (masters.known name workers ticket.new records.new.items
         ≡ if refused then masters.known name workers ticket.old records.old.items else
-        messages.taken body at (masters.known name workers ticket.old records.old.items)) }
+        (messages.taken body at
+        (masters.known name workers ticket.old records.old.items)).next) }
     ensures table { OnOk result (IsTable ticket.new.rows records.new.items holders.new) }
     ensures ticket_stays { OnErr result (ticket.new ≡ ticket.old) }
     ensures records_stay { OnErr result (records.new.items ≡ records.old.items) }
     ensures holders_stay { OnErr result (holders.new ≡ holders.old) }
     ensures valid { refused ≡ false → messages.IsValidBody body }
     ensures answers { (name : List ℕ) (workers : List (List ℕ)) → replies.is_answer body ≡ true
-        → (refused ≡ false → replies.is_freed (messages.take_reply body
-        (masters.known name workers ticket.old records.old.items)) ≡ false) → IsOk result }
+        → (refused ≡ false → replies.is_freed (messages.taken body at
+        (masters.known name workers ticket.old records.old.items)).reply ≡ false)
+        → IsOk result }
 {
     if refused {
         drop(body);

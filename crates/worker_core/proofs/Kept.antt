@@ -1,9 +1,9 @@
 -- What always holds of a worker holds after an order and after a message.
-use Rattle.std.proofs.Common.{◌≡◌, ℕ, ◌||◌, Bool, true, false, cond, List, [], ◌∷◌, ◌++◌, Option, Some, None, IfSome, Result, Ok, Err, OnOk, OnErr, is_ok, is_some, refl, sym, ap, ◌∙◌, subst}
+use Rattle.std.proofs.Common.{◌≡◌, ℕ, ◌||◌, Bool, true, false, cond, List, [], ◌∷◌, Option, Some, None, IfSome, Result, Ok, Err, OnOk, OnErr, is_some, refl, sym, ap, ◌∙◌, subst}
 use Rattle.std.proofs.lemmas.Bool.{true≢false}
 use Rattle.std.proofs.lemmas.List.{map-append}
 use Rattle.std.proofs.lemmas.List.Elements.{All-push}
-use Rattle.std.specs.Option.{option_map}
+use Rattle.std.specs.Option.{option_map, option_map_or}
 use Rattle.ticket_items.proofs.Places.{is_some-find}
 use Rattle.ticket_items.specs.declared.edit.Edit.{Edit}
 use Rattle.ticket_items.specs.declared.refusal.Refusal.{Refusal}
@@ -14,18 +14,19 @@ use Rattle.ticket_tree.proofs.PartEdits.{part_edit_is_valid}
 use Rattle.ticket_tree.specs.Part.{Copied, edited_part, is_sound}
 use Rattle.controller.specs.declared.body.Body.{Body}
 use Rattle.controller.specs.declared.body.Body.TheVariants.{Submit, Return, Abort, Answer}
-use Rattle.controller.specs.Step.{Step, unless_refused}
+use Rattle.controller.specs.Step.{Step, answering, unless_refused}
 use Rattle.controller.specs.declared.done.Done.{Done as Did}
 use Rattle.controller.specs.declared.message.Message.{Message}
+use Rattle.controller.specs.declared.queue_status.QueueStatus.{QueueStatus}
 use Rattle.worker_core.proofs.AtNumber.{All-at_number, All-each_at_number, any_number, distinct-push, found_holds, numbers_stay}
 use Rattle.worker_core.proofs.Closing.{aborted_number, aborted_shut, closed_kept, closed_number}
 use Rattle.worker_core.proofs.EditedPart.{edited_sound, ending_free, root_ended}
 use Rattle.worker_core.proofs.Refusals.{body_free, edit_free, of_open, open_free, ordered_on}
 use Rattle.worker_core.specs.Laws.{MessageIsKept, OrderIsKept}
-use Rattle.worker_core.specs.Messages.{IsValidBody, aborted_entry, after_taking, body_refusal, take_refusal, taken}
+use Rattle.worker_core.specs.Messages.{IsValidBody, aborted_entry, aborting, again, answered, body_refusal, declining, entering, take_refusal, take_step, taken}
 use Rattle.worker_core.specs.Numbers.{are_distinct_numbers, has_number}
 use Rattle.worker_core.specs.Orders.{Does, edit_refusal, edited_entry, ended_part, ending, finished_entry, order_refusal, ordered}
-use Rattle.worker_core.specs.Worker.{IsKept, IsKeptEntry, IsKeptPart, Known, closed_entry, entry_of, declined_entry, has_ended_so, is_of, is_open, is_open_stage, keeps_part, known, new_entry, numbers, open_part, with_entry}
+use Rattle.worker_core.specs.Worker.{IsKept, IsKeptEntry, IsKeptPart, Known, closed_entry, entry_of, declined_entry, has_ended_so, is_of, is_open, is_open_stage, keeps_part, known, new_entry, numbers, open_part}
 use Rattle.worker_core.specs.declared.end.End.TheVariants.{Aborted}
 use Rattle.worker_core.specs.declared.end.End.{End}
 use Rattle.worker_core.specs.declared.entry.Entry.{Entry}
@@ -133,7 +134,7 @@ sound_part true e = refl
 sound_part false e = cc
 
 submit_kept : (found : Option Entry) (p : Copied) (at : ℕ) (w : Known) → entry_of w.entries p.spawn_id ≡ found → IsValid (with_copies p.rows p.rw p.ro) → IsKept w → unless (is_some found || is_sound p) BadPart ≡ None
-    → IsKept (record w { entries = cond (is_some found) w.entries (w.entries ++ new_entry p at ∷ []) })
+    → IsKept (option_map_or (again p.spawn_id w) found (entering p at w)).next
 submit_kept (Some x) p at w e valid kept none = record { apart = kept.apart; once = kept.once; each = kept.each }
 submit_kept None p at w e valid kept none =
     record {
@@ -155,7 +156,7 @@ aborted_by false at x shut kept = subst IsKeptEntry (sym (aborted_shut at x shut
 pub aborted_kept : (at : ℕ) (x : Entry) → IsKeptEntry x → IsKeptEntry (aborted_entry at x)
 aborted_kept at x kept = aborted_by (is_open x) at x refl kept
 
-abort_kept : (found : Option Entry) (s at : ℕ) (w : Known) → entry_of w.entries s ≡ found → IsKept w → IsKept (record w { entries = cond (is_some found) (with_entry s (aborted_entry at) w.entries) (w.entries ++ declined_entry s at ∷ []) })
+abort_kept : (found : Option Entry) (s at : ℕ) (w : Known) → entry_of w.entries s ≡ found → IsKept w → IsKept (option_map_or (aborting s at w) found (declining s at w)).next
 abort_kept (Some x) s at w e kept =
     record {
       apart = kept.apart;
@@ -169,22 +170,22 @@ abort_kept None s at w e kept =
       each = All-push IsKeptEntry w.entries (declined_entry s at) kept.each (record { held = refl; part = tt });
     }
 
-answer_kept : (ok : Bool) (s : ℕ) (w : Known) → IsKept w → IsKept (record w { entries = cond ok (with_entry s closed_entry w.entries) w.entries })
-answer_kept false s w kept = record { apart = kept.apart; once = kept.once; each = kept.each }
-answer_kept true s w kept =
+answer_kept : (told : Result QueueStatus ℕ) (s : ℕ) (w : Known) → IsKept w → IsKept (answered s told w).next
+answer_kept (Err reason) s w kept = record { apart = kept.apart; once = kept.once; each = kept.each }
+answer_kept (Ok status) s w kept =
     record {
       apart = kept.apart;
       once = ap are_distinct_numbers (numbers_stay number_of s closed_entry w.entries closed_number) ∙ kept.once;
       each = All-each_at_number IsKeptEntry number_of s closed_entry w.entries (λ e own. closed_kept e) kept.each;
     }
 
-pub kept_taken : (body : Body) (at : ℕ) (w : Known) → IsValidBody body → IsKept w → body_refusal body w.entries ≡ None → IsKept (taken body at w)
+pub kept_taken : (body : Body) (at : ℕ) (w : Known) → IsValidBody body → IsKept w → body_refusal body w.entries ≡ None → IsKept (taken body at w).next
 kept_taken (Submit p) at w valid kept none = submit_kept (entry_of w.entries p.spawn_id) p at w refl valid kept none
 kept_taken (Return p) at w valid kept none = record { apart = kept.apart; once = kept.once; each = kept.each }
 kept_taken (Abort s) at w valid kept none = abort_kept (entry_of w.entries s) s at w refl kept
-kept_taken (Answer c s told) at w valid kept none = answer_kept (is_ok told) s w kept
+kept_taken (Answer c s told) at w valid kept none = answer_kept told s w kept
 
-message_either : (refusal : Option Refusal) (m : Message) (at : ℕ) (w : Known) → take_refusal m w ≡ refusal → (refusal ≡ None → IsValidBody m.body) → IsKept w → IsKept (cond (is_some refusal) w (taken m.body at w))
+message_either : (refusal : Option Refusal) (m : Message) (at : ℕ) (w : Known) → take_refusal m w ≡ refusal → (refusal ≡ None → IsValidBody m.body) → IsKept w → IsKept (answering w.name m at refusal w (taken m.body at w)).next
 message_either None m at w e valid kept = kept_taken m.body at w (valid refl) kept (body_free m w e)
 message_either (Some r) m at w e valid kept = kept
 
@@ -192,7 +193,7 @@ pub message_is_kept : MessageIsKept
 message_is_kept m at w valid kept = message_either (take_refusal m w) m at w refl (λ _. valid) kept
 
 -- a worker whose entries are what a message makes of them, or that had no memory for it, is kept
-pub kept_told : {X E : Type 0} (result : Result X E) (m : Message) (at : ℕ) (w : Known) (entries : List Entry) → OnOk result (known w.name w.master entries ≡ after_taking m at w) → OnErr result (entries ≡ w.entries) → OnOk result (take_refusal m w ≡ None → IsValidBody m.body) → IsKept w
+pub kept_told : {X E : Type 0} (result : Result X E) (m : Message) (at : ℕ) (w : Known) (entries : List Entry) → OnOk result (known w.name w.master entries ≡ (take_step m at w).next) → OnErr result (entries ≡ w.entries) → OnOk result (take_refusal m w ≡ None → IsValidBody m.body) → IsKept w
     → IsKept (known w.name w.master entries)
 kept_told (Ok x) m at w entries made stays valid kept = subst IsKept (sym made) (message_either (take_refusal m w) m at w refl valid kept)
 kept_told (Err e) m at w entries made stays valid kept = subst (λ es. IsKept (known w.name w.master es)) (sym stays) kept

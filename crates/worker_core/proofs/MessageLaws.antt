@@ -1,5 +1,5 @@
 -- What a message changes, and what it is taken as.
-use Rattle.std.proofs.Common.{◌≡◌, ℕ, ◌==◌, ◌&&◌, ◌||◌, Bool, true, false, cond, List, [], ◌∷◌, ◌++◌, Option, Some, None, Ok, Err, is_none, is_ok, is_some, refl, sym, ap, ◌∙◌}
+use Rattle.std.proofs.Common.{◌≡◌, ℕ, ◌==◌, ◌&&◌, ◌||◌, Bool, true, false, cond, List, [], ◌∷◌, ◌++◌, Option, Some, None, Result, Ok, Err, is_none, is_ok, is_some, refl, sym, ap, ◌∙◌}
 use Rattle.std.proofs.lemmas.Bool.{eq-eqb, eqb-true}
 use Rattle.std.specs.Option.{option_map, option_map_or}
 use Rattle.ticket_items.specs.Refusal.{number_of}
@@ -8,52 +8,71 @@ use Rattle.ticket_items.specs.declared.refusal.Refusal.TheVariants as refusals
 use Rattle.ticket_items.specs.declared.refusal.Refusal.TheVariants.{BadPart, WrongMessage, WrongSender}
 use Rattle.ticket_rows.specs.Ticket.{first_of, unless}
 use Rattle.ticket_tree.specs.Part.{Copied, is_sound}
-use Rattle.controller.specs.Reply.{refused_or, spawn_in}
+use Rattle.controller.proofs.Answered.{answering_stays, free_answers}
+use Rattle.controller.specs.Reply.{answer_to}
+use Rattle.controller.specs.Step.{Step, answering}
 use Rattle.controller.specs.declared.body.Body.{Body}
 use Rattle.controller.specs.declared.body.Body.TheVariants.{Submit, Return, Abort, Answer}
 use Rattle.controller.specs.declared.message.Message.{Message}
+use Rattle.controller.specs.declared.queue_status.QueueStatus.{QueueStatus}
 use Rattle.controller.specs.declared.queue_status.QueueStatus.TheVariants as queue
-use Rattle.controller.specs.declared.reply.Reply.TheVariants as reply
 use Rattle.worker_core.proofs.AtNumber.{find-at_number, find-behind, find-push}
 use Rattle.worker_core.proofs.Closing.{aborted_number, aborted_shut, closed_declined, declined_shut, found_aborted, found_closed, told_closed}
 use Rattle.worker_core.proofs.OrderLaws.{order_keeps_entries}
 use Rattle.worker_core.proofs.Refusals.{for_free, from_free, is_from}
 use Rattle.worker_core.specs.Laws.{AbortIsDeclined, DeclinedStays, MessageKeepsEntries, RefusalChangesNothing, SubmitIsAgain, SubmitIsTaken, entry_after}
-use Rattle.worker_core.specs.Messages.{abort_reply, aborted_entry, after_taking, again_reply, body_refusal, take_refusal, take_reply, taken, taken_entries, told_or}
+use Rattle.worker_core.specs.Messages.{aborted_entry, aborting, again, answered, body_refusal, declining, entering, submitted, take_refusal, take_step, taken}
 use Rattle.worker_core.specs.Worker.{Known, closed_entry, declined_entry, entry_of, is_declined, is_of, new_entry, told_in, told_of_stage, with_entry}
 use Rattle.worker_core.specs.declared.entry.Entry.{Entry}
 
 -- ---- entries
 
-push_either : (found : Option Entry) (p : Copied) (at : ℕ) (entries : List Entry) (s : ℕ) (e : Entry) → entry_of entries s ≡ Some e → entry_of (cond (is_some found) entries (entries ++ new_entry p at ∷ [])) s ≡ Some e
-push_either None p at entries s e here = find-push (is_of s) entries (new_entry p at ∷ []) e here
-push_either (Some x) p at entries s e here = here
+push_either : (found : Option Entry) (p : Copied) (at : ℕ) (w : Known) (s : ℕ) (e : Entry) → entry_of w.entries s ≡ Some e → entry_of (option_map_or (again p.spawn_id w) found (entering p at w)).next.entries s ≡ Some e
+push_either None p at w s e here = find-push (is_of s) w.entries (new_entry p at ∷ []) e here
+push_either (Some x) p at w s e here = here
 
-abort_either : (found : Option Entry) (same : Bool) (t at : ℕ) (entries : List Entry) (s : ℕ) (e : Entry) → entry_of entries t ≡ found → (t == s) ≡ same → entry_of entries s ≡ Some e
-    → entry_of (cond (is_some found) (with_entry t (aborted_entry at) entries) (entries ++ declined_entry t at ∷ [])) s ≡ Some (cond same (aborted_entry at e) e)
-abort_either (Some x) same t at entries s e there is here = found_aborted same t at entries s e is here
-abort_either None false t at entries s e there is here = find-push (is_of s) entries (declined_entry t at ∷ []) e here
-abort_either None true t at entries s e there is here =
+abort_either : (found : Option Entry) (same : Bool) (t at : ℕ) (w : Known) (s : ℕ) (e : Entry) → entry_of w.entries t ≡ found → (t == s) ≡ same → entry_of w.entries s ≡ Some e
+    → entry_of (option_map_or (aborting t at w) found (declining t at w)).next.entries s ≡ Some (cond same (aborted_entry at e) e)
+abort_either (Some x) same t at w s e there is here = found_aborted same t at w.entries s e is here
+abort_either None false t at w s e there is here = find-push (is_of s) w.entries (declined_entry t at ∷ []) e here
+abort_either None true t at w s e there is here =
     let one : t ≡ s = eqb-true t s is in
-    let none : entry_of entries s ≡ None = ap (entry_of entries) (sym one) ∙ there in
+    let none : entry_of w.entries s ≡ None = ap (entry_of w.entries) (sym one) ∙ there in
     absurd (some_none (sym here ∙ none))
   where
     some_none : {X : Type 0} {x : X} → ◌≡◌ {A = Option X} (Some x) None → ⊥
     some_none e = cc
 
-taken_keeps : (body : Body) (at : ℕ) (w : Known) (s : ℕ) (e : Entry) → entry_of w.entries s ≡ Some e → entry_of (taken body at w).entries s ≡ Some (entry_after s body at e)
-taken_keeps (Submit p) at w s e here = push_either (entry_of w.entries p.spawn_id) p at w.entries s e here
+taken_keeps : (body : Body) (at : ℕ) (w : Known) (s : ℕ) (e : Entry) → entry_of w.entries s ≡ Some e → entry_of (taken body at w).next.entries s ≡ Some (entry_after s body at e)
+taken_keeps (Submit p) at w s e here = push_either (entry_of w.entries p.spawn_id) p at w s e here
 taken_keeps (Return p) at w s e here = here
-taken_keeps (Abort t) at w s e here = abort_either (entry_of w.entries t) (t == s) t at w.entries s e refl refl here
-taken_keeps (Answer c t told) at w s e here = found_closed (is_ok told) (t == s) t w.entries s e refl here
+taken_keeps (Abort t) at w s e here = abort_either (entry_of w.entries t) (t == s) t at w s e refl refl here
+taken_keeps (Answer c t (Ok status)) at w s e here = found_closed true (t == s) t w.entries s e refl here
+taken_keeps (Answer c t (Err reason)) at w s e here = found_closed false (t == s) t w.entries s e refl here
 
 either_keeps : (refusal : Option Refusal) (m : Message) (at : ℕ) (w : Known) (s : ℕ) (e : Entry) → entry_of w.entries s ≡ Some e
-    → entry_of (cond (is_some refusal) w (taken m.body at w)).entries s ≡ Some (cond (is_none refusal) (entry_after s m.body at e) e)
+    → entry_of (answering w.name m at refusal w (taken m.body at w)).next.entries s ≡ Some (cond (is_none refusal) (entry_after s m.body at e) e)
 either_keeps None m at w s e here = taken_keeps m.body at w s e here
 either_keeps (Some r) m at w s e here = here
 
 pub message_keeps_entries : MessageKeepsEntries
 message_keeps_entries m at w s e here = either_keeps (take_refusal m w) m at w s e here
+
+-- and nothing else is changed
+pub entries_alone : (body : Body) (at : ℕ) (w : Known) → (taken body at w).next ≡ record w { entries = (taken body at w).next.entries }
+entries_alone (Submit p) at w = by (entry_of w.entries p.spawn_id)
+  where
+    by : (found : Option Entry) → let t = option_map_or (again p.spawn_id w) found (entering p at w) in t.next ≡ record w { entries = t.next.entries }
+    by None = refl
+    by (Some e) = refl
+entries_alone (Return p) at w = refl
+entries_alone (Abort s) at w = by (entry_of w.entries s)
+  where
+    by : (found : Option Entry) → let t = option_map_or (aborting s at w) found (declining s at w) in t.next ≡ record w { entries = t.next.entries }
+    by None = refl
+    by (Some e) = refl
+entries_alone (Answer c s (Ok status)) at w = refl
+entries_alone (Answer c s (Err reason)) at w = refl
 
 -- ---- what is told
 
@@ -63,66 +82,60 @@ new_is_of p at = ap (λ b. cond b (Some (new_entry p at)) None) (eq-eqb p.spawn_
 declined_is_of : (s at : ℕ) → entry_of (declined_entry s at ∷ []) s ≡ Some (declined_entry s at)
 declined_is_of s at = ap (λ b. cond b (Some (declined_entry s at)) None) (eq-eqb s s refl)
 
--- a part that comes, or an answer, leaves what a command of the spawn is told: one of which there is no entry is running, as a new one is, and one that is closed has its end still
-pub told_pushed : (found : Option Entry) (p : Copied) (at : ℕ) (entries : List Entry) → entry_of entries p.spawn_id ≡ found
-    → told_in (cond (is_some found) entries (entries ++ new_entry p at ∷ [])) p.spawn_id ≡ told_in entries p.spawn_id
-told_pushed (Some x) p at entries here = refl
-told_pushed None p at entries none =
-    ap (λ o. option_map_or (λ e. told_of_stage e.phase) o (Ok queue.Running)) (find-behind (is_of p.spawn_id) entries (new_entry p at ∷ []) none ∙ new_is_of p at) ∙ sym (ap (λ o. option_map_or (λ e. told_of_stage e.phase) o (Ok queue.Running)) none)
+-- what is told of the spawn of an entry
+pub told_found : (s : ℕ) (entries : List Entry) (e : Entry) → entry_of entries s ≡ Some e → told_in entries s ≡ told_of_stage e.phase
+told_found s entries e here = ap (λ o. option_map_or (λ (x : Entry). told_of_stage x.phase) o (Ok queue.Running)) here
 
-pub told_answered : (ok : Bool) (s : ℕ) (entries : List Entry) → told_in (cond ok (with_entry s closed_entry entries) entries) s ≡ told_in entries s
-told_answered true s entries = told_closed s entries
-told_answered false s entries = refl
+-- of a part that is new, of a spawn that is declined, and of one that is given up, as its entry is then
+pub told_new : (p : Copied) (at : ℕ) (entries : List Entry) → entry_of entries p.spawn_id ≡ None → told_in (entries ++ new_entry p at ∷ []) p.spawn_id ≡ Ok queue.Running
+told_new p at entries none = told_found p.spawn_id (entries ++ new_entry p at ∷ []) (new_entry p at) (find-behind (is_of p.spawn_id) entries (new_entry p at ∷ []) none ∙ new_is_of p at)
 
--- one that is to be given up is told how it is then
-pub told_aborted : (found : Option Entry) (s at : ℕ) (entries : List Entry) → entry_of entries s ≡ found
-    → told_in (cond (is_some found) (with_entry s (aborted_entry at) entries) (entries ++ declined_entry s at ∷ [])) s ≡ option_map_or (λ e. told_of_stage (aborted_entry at e).phase) found (Err (number_of refusals.Declined))
-told_aborted (Some x) s at entries here =
-    ap (λ o. option_map_or (λ (e : Entry). told_of_stage e.phase) o (Ok queue.Running)) (find-at_number (λ (e : Entry). e.spawn_id) s (aborted_entry at) entries (aborted_number at) ∙ ap (option_map (aborted_entry at)) here)
-told_aborted None s at entries none =
-    ap (λ o. option_map_or (λ (e : Entry). told_of_stage e.phase) o (Ok queue.Running)) (find-behind (is_of s) entries (declined_entry s at ∷ []) none ∙ declined_is_of s at)
+pub told_declined : (s at : ℕ) (entries : List Entry) → entry_of entries s ≡ None → told_in (entries ++ declined_entry s at ∷ []) s ≡ Err (number_of refusals.Declined)
+told_declined s at entries none = told_found s (entries ++ declined_entry s at ∷ []) (declined_entry s at) (find-behind (is_of s) entries (declined_entry s at ∷ []) none ∙ declined_is_of s at)
+
+pub told_aborted : (s at : ℕ) (entries : List Entry) (x : Entry) → entry_of entries s ≡ Some x → told_in (with_entry s (aborted_entry at) entries) s ≡ told_of_stage (aborted_entry at x).phase
+told_aborted s at entries x here =
+    told_found s (with_entry s (aborted_entry at) entries) (aborted_entry at x) (find-at_number (λ (e : Entry). e.spawn_id) s (aborted_entry at) entries (aborted_number at) ∙ ap (option_map (aborted_entry at)) here)
+
+-- an answer leaves what is told
+pub told_answered : (told : Result QueueStatus ℕ) (s : ℕ) (w : Known) → (answered s told w).told ≡ told_in w.entries s
+told_answered (Ok status) s w = told_closed s w.entries
+told_answered (Err reason) s w = refl
 
 -- ---- answers
 
-same_either : (b : Bool) (old new : Known) → new ≡ old → cond b old new ≡ old
-same_either true old new e = refl
-same_either false old new e = e
-
 pub refusal_changes_nothing : RefusalChangesNothing
-refusal_changes_nothing m at w c s reason says = same_either (is_some (take_refusal m w)) w (taken m.body at w) (ap (λ body. taken body at w) says)
+refusal_changes_nothing m at w c s reason says =
+    answering_stays w.name m at (take_refusal m w) w (taken m.body at w) (ap (λ body. (taken body at w).next) says)
 
 -- ---- a part that came again
 
-submit_again : (p : Copied) (at : ℕ) (w : Known) (e : Entry) → entry_of w.entries p.spawn_id ≡ Some e → taken (Submit p) at w ≡ w
-submit_again p at w e here = ap (λ o. record w { entries = cond (is_some o) w.entries (w.entries ++ new_entry p at ∷ []) }) here
-
 pub submit_is_again : SubmitIsAgain
 submit_is_again m at w p e says none here =
-    let state : after_taking m at w ≡ w = same_either (is_some (take_refusal m w)) w (taken m.body at w) (ap (λ body. taken body at w) says ∙ submit_again p at w e here) in
+    let comes = ap (λ body. taken body at w) says ∙ ap (λ o. option_map_or (again p.spawn_id w) o (entering p at w)) here in
+    let step = free_answers w.name m at (take_refusal m w) w (taken m.body at w) (again p.spawn_id w e) none comes in
     record {
-      state = state;
-      reply = ap (λ r. refused_or r (take_reply m.body w.entries)) none ∙ ap (λ body. Ok (take_reply body w.entries)) says ∙ ap (λ o. Ok (option_map_or (again_reply p.spawn_id) o (reply.Taken p.spawn_id))) here;
-      told = ap (λ r. told_or r (told_in (taken_entries m.body at w.entries) (spawn_in m.body))) none
-          ∙ ap (λ body. told_in (taken_entries body at w.entries) (spawn_in body)) says
-          ∙ told_pushed (entry_of w.entries p.spawn_id) p at w.entries refl
-          ∙ ap (λ o. option_map_or (λ (x : Entry). told_of_stage x.phase) o (Ok queue.Running)) here;
+      state = ap (λ (t : Step Known Message). t.next) step;
+      reply = ap (λ (t : Step Known Message). t.reply) step;
+      told = ap (λ (t : Step Known Message). t.sent) step ∙ ap (answer_to w.name m at) (told_found p.spawn_id w.entries e here);
     }
 
 -- ---- a part that was taken
 
-submit_has : (found : Option Entry) (p : Copied) (at : ℕ) (entries : List Entry) → entry_of entries p.spawn_id ≡ found
-    → (e : Entry) × (entry_of (cond (is_some found) entries (entries ++ new_entry p at ∷ [])) p.spawn_id ≡ Some e)
-submit_has None p at entries none = (new_entry p at, find-behind (is_of p.spawn_id) entries (new_entry p at ∷ []) none ∙ new_is_of p at)
-submit_has (Some x) p at entries here = (x, here)
+submit_has : (found : Option Entry) (p : Copied) (at : ℕ) (w : Known) → entry_of w.entries p.spawn_id ≡ found
+    → (e : Entry) × (entry_of (option_map_or (again p.spawn_id w) found (entering p at w)).next.entries p.spawn_id ≡ Some e)
+submit_has None p at w none = (new_entry p at, find-behind (is_of p.spawn_id) w.entries (new_entry p at ∷ []) none ∙ new_is_of p at)
+submit_has (Some x) p at w here = (x, here)
 
 free_again : (p : Copied) (entries : List Entry) (e : Entry) → entry_of entries p.spawn_id ≡ Some e → body_refusal (Submit p) entries ≡ None
 free_again p entries e here = ap (λ o. unless (is_some o || is_sound p) BadPart) here
 
 pub submit_is_taken : SubmitIsTaken
 submit_is_taken m at w p says none =
-    let next = taken (Submit p) at w in
-    let after : after_taking m at w ≡ next = ap (λ r. cond (is_some r) w (taken m.body at w)) none ∙ ap (λ body. taken body at w) says in
-    let has = submit_has (entry_of w.entries p.spawn_id) p at w.entries refl in
+    let next : Known = record w { entries = (submitted p at w).next.entries } in
+    let step = free_answers w.name m at (take_refusal m w) w (taken m.body at w) (submitted p at w) none (ap (λ body. taken body at w) says) in
+    let after : (take_step m at w).next ≡ next = ap (λ (t : Step Known Message). t.next) step ∙ entries_alone (Submit p) at w in
+    let has = submit_has (entry_of w.entries p.spawn_id) p at w refl in
     let e : Entry = has.0 in (
       e,
       ap (λ (v : Known). entry_of v.entries p.spawn_id) after ∙ has.1,
@@ -135,16 +148,13 @@ submit_is_taken m at w p says none =
 
 -- ---- a spawn that is declined
 
-declined_has : (found : Option Entry) (s at : ℕ) (entries : List Entry) → entry_of entries s ≡ found → found ≡ None
-    → entry_of (cond (is_some found) (with_entry s (aborted_entry at) entries) (entries ++ declined_entry s at ∷ [])) s ≡ Some (declined_entry s at)
-declined_has None s at entries none is = find-behind (is_of s) entries (declined_entry s at ∷ []) none ∙ declined_is_of s at
-declined_has (Some x) s at entries here is = cc
-
 pub abort_is_declined : AbortIsDeclined
 abort_is_declined m at w s says free none =
-    let after : after_taking m at w ≡ taken (Abort s) at w = ap (λ r. cond (is_some r) w (taken m.body at w)) free ∙ ap (λ body. taken body at w) says in (
-      ap (λ r. refused_or r (take_reply m.body w.entries)) free ∙ ap (λ body. Ok (take_reply body w.entries)) says ∙ ap (λ o. Ok (option_map_or (abort_reply s) o (reply.Declined s))) none,
-      (declined_entry s at, ap (λ (v : Known). entry_of v.entries s) after ∙ declined_has (entry_of w.entries s) s at w.entries refl none, refl),
+    let comes = ap (λ body. taken body at w) says ∙ ap (λ o. option_map_or (aborting s at w) o (declining s at w)) none in
+    let step = free_answers w.name m at (take_refusal m w) w (taken m.body at w) (declining s at w) free comes in
+    let new = declined_entry s at in (
+      ap (λ (t : Step Known Message). t.reply) step,
+      (new, ap (λ (t : Step Known Message). entry_of t.next.entries s) step ∙ find-behind (is_of s) w.entries (new ∷ []) none ∙ declined_is_of s at, refl),
     )
 
 same_if : (b : Bool) (new old : Entry) → new ≡ old → cond b new old ≡ old

@@ -1,19 +1,18 @@
 -- What a worker sends may be sent: a part, or an answer with the number of a refusal.
-use Rattle.std.proofs.Common.{◌≡◌, ℕ, List, true, Option, Some, None, Result, Ok, refl}
+use Rattle.std.proofs.Common.{◌≡◌, ℕ, List, true, Option, Some, None, Ok, Err, refl}
 use Rattle.std.specs.Option.{option_and_then, option_map, option_map_or}
 use Rattle.std.specs.Prelude.{IfSome}
-use Rattle.ticket_items.specs.declared.refusal.Refusal.{Refusal}
 use Rattle.ticket_tree.specs.Part.{Copied}
 use Rattle.controller.proofs.Answered.{sends_so}
-use Rattle.controller.proofs.Sendable.{answers_sent, told}
-use Rattle.controller.specs.Reply.{spawn_in}
+use Rattle.controller.proofs.Sendable.{answering_sends}
 use Rattle.controller.specs.Words.{is_told, may_be_sent}
+use Rattle.controller.specs.declared.body.Body.{Body}
+use Rattle.controller.specs.declared.body.Body.TheVariants.{Submit, Return, Abort, Answer}
 use Rattle.controller.specs.declared.message.Message.{Message}
-use Rattle.controller.specs.declared.queue_status.QueueStatus.{QueueStatus}
 use Rattle.controller.specs.declared.queue_status.QueueStatus.TheVariants as queue
-use Rattle.worker_core.specs.Messages.{take_refusal, take_step, taken_entries, taken_result, told_or}
+use Rattle.worker_core.specs.Messages.{aborting, again, answered, declining, entering, take_refusal, take_step, taken}
 use Rattle.worker_core.specs.Orders.{finished_entry, order_refusal, order_step, ordered, part_return, return_of}
-use Rattle.worker_core.specs.Worker.{Known, entry_of, told_in, told_of_stage}
+use Rattle.worker_core.specs.Worker.{Known, entry_of, told_of_stage}
 use Rattle.worker_core.specs.declared.entry.Entry.{Entry}
 use Rattle.worker_core.specs.declared.order.Order.{Order}
 use Rattle.worker_core.specs.declared.order.Order.TheVariants.{Edit, Finish, Resend}
@@ -50,11 +49,20 @@ told_found : (found : Option Entry) → is_told (option_map_or (λ e. told_of_st
 told_found None = refl
 told_found (Some e) = told_of e.phase
 
-told_either : (refusal : Option Refusal) (result : Result QueueStatus ℕ) → is_told result ≡ true → is_told (told_or refusal result) ≡ true
-told_either None result is = is
-told_either (Some e) result is = told (Some e) queue.Running
+submit_told : (found : Option Entry) (p : Copied) (at' : ℕ) (w : Known) → is_told (option_map_or (again p.spawn_id w) found (entering p at' w)).told ≡ true
+submit_told None p at' w = told_found (entry_of (entering p at' w).next.entries p.spawn_id)
+submit_told (Some e) p at' w = told_found (entry_of w.entries p.spawn_id)
+
+abort_told : (found : Option Entry) (s at' : ℕ) (w : Known) → is_told (option_map_or (aborting s at' w) found (declining s at' w)).told ≡ true
+abort_told None s at' w = told_found (entry_of (declining s at' w).next.entries s)
+abort_told (Some e) s at' w = told_found (entry_of (aborting s at' w e).next.entries s)
+
+taken_told : (body : Body) (at' : ℕ) (w : Known) → is_told (taken body at' w).told ≡ true
+taken_told (Submit p) at' w = submit_told (entry_of w.entries p.spawn_id) p at' w
+taken_told (Return p) at' w = told_found (entry_of w.entries p.spawn_id)
+taken_told (Abort s) at' w = abort_told (entry_of w.entries s) s at' w
+taken_told (Answer c s (Ok status)) at' w = told_found (entry_of (answered s (Ok status) w).next.entries s)
+taken_told (Answer c s (Err reason)) at' w = told_found (entry_of w.entries s)
 
 pub by_message : (m : Message) (at' : ℕ) (w : Known) → IsSendable (take_step m at' w).sent
-by_message m at' w =
-    let entries = taken_entries m.body at' w.entries in
-    answers_sent w.name m at' (taken_result m at' w) (told_either (take_refusal m w) (told_in entries (spawn_in m.body)) (told_found (entry_of entries (spawn_in m.body))))
+by_message m at' w = answering_sends w.name m at' (take_refusal m w) w (taken m.body at' w) (taken_told m.body at' w)

@@ -17,7 +17,7 @@ use Rattle.controller.specs.declared.message.Message.{Message}
 use Rattle.controller.specs.declared.queue_status.QueueStatus.TheVariants.{Running, Completed, Aborted}
 use Rattle.controller.specs.declared.reply.Reply.TheVariants.{Again, Acked, Noted, Taken}
 use Rattle.controller.specs.declared.reply.Reply.TheVariants as reply
-use Rattle.worker_core.specs.Messages.{after_taking, taken_answer, taken_reply}
+use Rattle.worker_core.specs.Messages.{take_step}
 use Rattle.worker_core.specs.Orders.{order_refusal, ordered}
 use Rattle.worker_core.specs.Stored.{is_worker}
 use Rattle.worker_core.specs.Worker.{Known, known, may_change}
@@ -67,7 +67,7 @@ abbrev press : Known
 press = known (codes "press") (codes "mis") []
 
 abbrev taken : Known
-taken = after_taking sent 110 press
+taken = (take_step sent 110 press).next
 
 abbrev done : Known
 done = (ordered (Finish 1 end.Completed) 120 taken).next
@@ -79,7 +79,7 @@ abbrev refusing : Message
 refusing = from_to (codes "mis") (codes "press") 150 (Answer command.Return 1 (Err 22))
 
 abbrev closed : Known
-closed = after_taking acknowledged 150 done
+closed = (take_step acknowledged 150 done).next
 
 -- ---- orders
 
@@ -147,88 +147,88 @@ may_late = refl
 
 -- ---- messages
 
-first : taken_reply sent press ≡ Ok (Taken 1)
+first : (take_step sent 110 press).reply ≡ Ok (Taken 1)
 first = refl
 
 entry : taken.entries ≡ record { spawn_id = 1; phase = Open; part = Some (part (codes "Waiting")); at = 110 } ∷ []
 entry = refl
 
-first_answer : taken_answer sent 110 press ≡ Some (from_to (codes "press") (codes "mis") 110 (Answer command.Submit 1 (Ok Running)))
+first_answer : (take_step sent 110 press).sent ≡ Some (from_to (codes "press") (codes "mis") 110 (Answer command.Submit 1 (Ok Running)))
 first_answer = refl
 
-again : taken_reply sent taken ≡ Ok (Again 1)
+again : (take_step sent 111 taken).reply ≡ Ok (Again 1)
 again = refl
 
-again_answer : taken_answer sent 111 taken ≡ Some (from_to (codes "press") (codes "mis") 111 (Answer command.Submit 1 (Ok Running)))
+again_answer : (take_step sent 111 taken).sent ≡ Some (from_to (codes "press") (codes "mis") 111 (Answer command.Submit 1 (Ok Running)))
 again_answer = refl
 
-late_answer : taken_answer sent 140 done ≡ Some (from_to (codes "press") (codes "mis") 140 (Answer command.Submit 1 (Ok Completed)))
+late_answer : (take_step sent 140 done).sent ≡ Some (from_to (codes "press") (codes "mis") 140 (Answer command.Submit 1 (Ok Completed)))
 late_answer = refl
 
-late_state : after_taking sent 140 done ≡ done
+late_state : (take_step sent 140 done).next ≡ done
 late_state = refl
 
-acked : taken_reply acknowledged done ≡ Ok (Acked 1)
+acked : (take_step acknowledged 150 done).reply ≡ Ok (Acked 1)
 acked = refl
 
-refused : taken_reply refusing done ≡ Ok (Noted 1)
+refused : (take_step refusing 150 done).reply ≡ Ok (Noted 1)
 refused = refl
 
-refused_state : after_taking refusing 150 done ≡ done
+refused_state : (take_step refusing 150 done).next ≡ done
 refused_state = refl
 
 -- the entry gives up its part, and keeps all else
 gave_up : closed.entries ≡ record { spawn_id = 1; phase = Closed end.Completed; part = None; at = 120 } ∷ []
 gave_up = refl
 
-acked_again : taken_reply acknowledged closed ≡ Ok (Acked 1)
+acked_again : (take_step acknowledged 160 closed).reply ≡ Ok (Acked 1)
 acked_again = refl
 
-acked_again_state : after_taking acknowledged 160 closed ≡ closed
+acked_again_state : (take_step acknowledged 160 closed).next ≡ closed
 acked_again_state = refl
 
-refused_late : taken_reply refusing closed ≡ Ok (Noted 1)
+refused_late : (take_step refusing 160 closed).reply ≡ Ok (Noted 1)
 refused_late = refl
 
-again_late : taken_reply sent closed ≡ Ok (Again 1)
+again_late : (take_step sent 170 closed).reply ≡ Ok (Again 1)
 again_late = refl
 
-again_late_answer : taken_answer sent 170 closed ≡ Some (from_to (codes "press") (codes "mis") 170 (Answer command.Submit 1 (Ok Completed)))
+again_late_answer : (take_step sent 170 closed).sent ≡ Some (from_to (codes "press") (codes "mis") 170 (Answer command.Submit 1 (Ok Completed)))
 again_late_answer = refl
 
-again_late_state : after_taking sent 170 closed ≡ closed
+again_late_state : (take_step sent 170 closed).next ≡ closed
 again_late_state = refl
 
 closed_orders : map (λ o. order_refusal o closed.entries) (Edit 1 (Note (codes "n1") (codes "late")) ∷ Finish 1 end.Aborted ∷ Resend 1 ∷ []) ≡ Some NotOpen ∷ Some NotOpen ∷ Some Acknowledged ∷ []
 closed_orders = refl
 
-acked_early : taken_reply acknowledged taken ≡ Err NotDone
+acked_early : (take_step acknowledged 150 taken).reply ≡ Err NotDone
 acked_early = refl
 
-acked_early_state : after_taking acknowledged 150 taken ≡ taken
+acked_early_state : (take_step acknowledged 150 taken).next ≡ taken
 acked_early_state = refl
 
-acked_unknown : taken_reply (from_to (codes "mis") (codes "press") 150 (Answer command.Return 2 (Ok Completed))) done ≡ Err UnknownEntry
+acked_unknown : (take_step (from_to (codes "mis") (codes "press") 150 (Answer command.Return 2 (Ok Completed))) 150 done).reply ≡ Err UnknownEntry
 acked_unknown = refl
 
 -- the receiver is asked for before the sender, and the sender before what is said
-other_receiver : taken_reply (from_to (codes "mis") (codes "bind") 100 (Submit (part (codes "Waiting")))) press ≡ Err WrongMessage
+other_receiver : (take_step (from_to (codes "mis") (codes "bind") 100 (Submit (part (codes "Waiting")))) 110 press).reply ≡ Err WrongMessage
 other_receiver = refl
 
-other_answer : taken_answer (from_to (codes "bind") (codes "fold") 100 (Submit (part (codes "Waiting")))) 110 press ≡ Some (from_to (codes "press") (codes "bind") 110 (Answer command.Submit 1 (Err 45)))
+other_answer : (take_step (from_to (codes "bind") (codes "fold") 100 (Submit (part (codes "Waiting")))) 110 press).sent ≡ Some (from_to (codes "press") (codes "bind") 110 (Answer command.Submit 1 (Err 45)))
 other_answer = refl
 
-other_sender : taken_reply (from_to (codes "bind") (codes "press") 100 (Submit (record (part (codes "Waiting")) { ancestors = [] }))) press ≡ Err WrongSender
+other_sender : (take_step (from_to (codes "bind") (codes "press") 100 (Submit (record (part (codes "Waiting")) { ancestors = [] }))) 110 press).reply ≡ Err WrongSender
 other_sender = refl
 
-came_back : taken_reply (from_to (codes "bind") (codes "press") 100 (Return (part (codes "Waiting")))) press ≡ Err WrongMessage
+came_back : (take_step (from_to (codes "bind") (codes "press") 100 (Return (part (codes "Waiting")))) 110 press).reply ≡ Err WrongMessage
 came_back = refl
 
 -- without ancestors it can't have come from a ticket, but what is there already isn't asked for that
-bad_part : taken_reply (from_to (codes "mis") (codes "press") 100 (Submit (record (part (codes "Waiting")) { ancestors = [] }))) press ≡ Err BadPart
+bad_part : (take_step (from_to (codes "mis") (codes "press") 100 (Submit (record (part (codes "Waiting")) { ancestors = [] }))) 110 press).reply ≡ Err BadPart
 bad_part = refl
 
-bad_again : taken_reply (from_to (codes "mis") (codes "press") 100 (Submit (record (part (codes "Waiting")) { ancestors = [] }))) taken ≡ Ok (Again 1)
+bad_again : (take_step (from_to (codes "mis") (codes "press") 100 (Submit (record (part (codes "Waiting")) { ancestors = [] }))) 110 taken).reply ≡ Ok (Again 1)
 bad_again = refl
 
 -- ---- to be given up
@@ -237,44 +237,44 @@ abbrev asked : Message
 asked = from_to (codes "mis") (codes "press") 100 (Abort 1)
 
 abbrev declining : Known
-declining = after_taking asked 120 press
+declining = (take_step asked 120 press).next
 
 abbrev ended : Known
-ended = after_taking asked 120 taken
+ended = (take_step asked 120 taken).next
 
 -- before the part is taken it is declined, for good
-declined : taken_reply asked press ≡ Ok (reply.Declined 1)
+declined : (take_step asked 120 press).reply ≡ Ok (reply.Declined 1)
 declined = refl
 
-declined_answer : taken_answer asked 120 press ≡ Some (from_to (codes "press") (codes "mis") 120 (Answer command.Abort 1 (Err 38)))
+declined_answer : (take_step asked 120 press).sent ≡ Some (from_to (codes "press") (codes "mis") 120 (Answer command.Abort 1 (Err 38)))
 declined_answer = refl
 
 declined_entries : declining.entries ≡ record { spawn_id = 1; phase = stage.Declined; part = None; at = 120 } ∷ []
 declined_entries = refl
 
-declined_again : taken_reply asked declining ≡ Ok (reply.Declined 1)
+declined_again : (take_step asked 121 declining).reply ≡ Ok (reply.Declined 1)
 declined_again = refl
 
-late_part : taken_reply sent declining ≡ Ok (reply.Declined 1)
+late_part : (take_step sent 121 declining).reply ≡ Ok (reply.Declined 1)
 late_part = refl
 
-late_part_answer : taken_answer sent 121 declining ≡ Some (from_to (codes "press") (codes "mis") 121 (Answer command.Submit 1 (Err 38)))
+late_part_answer : (take_step sent 121 declining).sent ≡ Some (from_to (codes "press") (codes "mis") 121 (Answer command.Submit 1 (Err 38)))
 late_part_answer = refl
 
-late_part_state : after_taking sent 121 declining ≡ declining
+late_part_state : (take_step sent 121 declining).next ≡ declining
 late_part_state = refl
 
 declined_orders : map (λ o. order_refusal o declining.entries) (Edit 1 (Note (codes "n1") (codes "late")) ∷ Finish 1 end.Aborted ∷ Resend 1 ∷ []) ≡ Some UnknownEntry ∷ Some UnknownEntry ∷ Some UnknownEntry ∷ []
 declined_orders = refl
 
-acked_declined : taken_reply acknowledged declining ≡ Err UnknownEntry
+acked_declined : (take_step acknowledged 150 declining).reply ≡ Err UnknownEntry
 acked_declined = refl
 
 -- the work on an open one ends, and its part goes back as it is sent once more
-ends : taken_reply asked taken ≡ Ok (reply.Ended 1)
+ends : (take_step asked 120 taken).reply ≡ Ok (reply.Ended 1)
 ends = refl
 
-ends_answer : taken_answer asked 120 taken ≡ Some (from_to (codes "press") (codes "mis") 120 (Answer command.Abort 1 (Ok Aborted)))
+ends_answer : (take_step asked 120 taken).sent ≡ Some (from_to (codes "press") (codes "mis") 120 (Answer command.Abort 1 (Ok Aborted)))
 ends_answer = refl
 
 ended_entries : ended.entries ≡ record { spawn_id = 1; phase = Done end.Aborted; part = Some (part (codes "Aborted")); at = 120 } ∷ []
@@ -284,17 +284,17 @@ ended_return : (ordered (Resend 1) 123 ended).sent ≡ Some (from_to (codes "pre
 ended_return = refl
 
 -- one that is finished or closed stays so
-too_late : map (λ w. taken_reply asked w) (ended ∷ done ∷ closed ∷ []) ≡ Ok (Again 1) ∷ Ok (Again 1) ∷ Ok (Again 1) ∷ []
+too_late : map (λ w. (take_step asked 140 w).reply) (ended ∷ done ∷ closed ∷ []) ≡ Ok (Again 1) ∷ Ok (Again 1) ∷ Ok (Again 1) ∷ []
 too_late = refl
 
-too_late_answer : taken_answer asked 140 done ≡ Some (from_to (codes "press") (codes "mis") 140 (Answer command.Abort 1 (Ok Completed)))
+too_late_answer : (take_step asked 140 done).sent ≡ Some (from_to (codes "press") (codes "mis") 140 (Answer command.Abort 1 (Ok Completed)))
 too_late_answer = refl
 
-too_late_states : map (λ w. after_taking asked 140 w) (ended ∷ done ∷ closed ∷ []) ≡ ended ∷ done ∷ closed ∷ []
+too_late_states : map (λ w. (take_step asked 140 w).next) (ended ∷ done ∷ closed ∷ []) ≡ ended ∷ done ∷ closed ∷ []
 too_late_states = refl
 
 -- a worker asks for nothing to be given up, and is told of none
-answer_to_none : taken_reply (from_to (codes "mis") (codes "press") 130 (Answer command.Abort 1 (Ok Aborted))) taken ≡ Err WrongMessage
+answer_to_none : (take_step (from_to (codes "mis") (codes "press") 130 (Answer command.Abort 1 (Ok Aborted))) 130 taken).reply ≡ Err WrongMessage
 answer_to_none = refl
 
 -- ---- what was stored

@@ -6,13 +6,14 @@ use Rattle.ticket_rows.specs.Edit.{target}
 use Rattle.ticket_rows.specs.Place.{places}
 use Rattle.ticket_tree.specs.Part.{Copied}
 use Rattle.ticket_tree.specs.PartView.{own_rows, part_row}
+use Rattle.controller.specs.Reply.{answer_to}
 use Rattle.controller.specs.declared.body.Body.{Body}
 use Rattle.controller.specs.declared.body.Body.TheVariants.{Abort, Answer, Submit}
 use Rattle.controller.specs.declared.command.Command.{Command}
 use Rattle.controller.specs.declared.message.Message.{Message}
 use Rattle.controller.specs.declared.reply.Reply.TheVariants as reply
-use Rattle.worker_core.specs.Messages.{IsValidBody, aborted_entry, after_taking, again_reply}
-use Rattle.worker_core.specs.Messages.{take_refusal, taken_reply, taken_result}
+use Rattle.worker_core.specs.Messages.{IsValidBody, aborted_entry, again_reply, take_refusal}
+use Rattle.worker_core.specs.Messages.{take_step}
 use Rattle.worker_core.specs.Orders.{order_refusal, order_step, return_of, spawn_of_order}
 use Rattle.worker_core.specs.Worker.{IsKept, Known, closed_entry, entry_of, has, is_open}
 use Rattle.worker_core.specs.Worker.{is_declined, is_ended, may_change, told_of_stage}
@@ -87,26 +88,26 @@ entry_after s body at e = e
 abbrev pub MessageKeepsEntries : Type 0
 MessageKeepsEntries =
     (m : Message) (at : ℕ) (w : Known) (s : ℕ) (e : Entry) → entry_of w.entries s ≡ Some e
-    → entry_of (after_taking m at w).entries s
+    → entry_of (take_step m at w).next.entries s
     ≡ Some (if is_none (take_refusal m w) then entry_after s m.body at e else e)
 
 -- what always holds of a worker holds after a message
 abbrev pub MessageIsKept : Type 0
 MessageIsKept = (m : Message) (at : ℕ) (w : Known) → IsValidBody m.body → IsKept w
-    → IsKept (after_taking m at w)
+    → IsKept (take_step m at w).next
 
 -- an answer that tells of a refusal changes nothing
 abbrev pub RefusalChangesNothing : Type 0
 RefusalChangesNothing =
     (m : Message) (at : ℕ) (w : Known) (c : Command) (s reason : ℕ)
-    → m.body ≡ Answer c s (Err reason) → after_taking m at w ≡ w
+    → m.body ≡ Answer c s (Err reason) → (take_step m at w).next ≡ w
 
 -- a part of which there is an entry changes nothing, is taken as one that came again or was
 -- declined, and is told how far the entry is
 pub record IsAgain (m : Message) (at : ℕ) (w : Known) (s : ℕ) (e : Entry) : Type 0 where
-  pub state : after_taking m at w ≡ w
-  pub reply : taken_reply m w ≡ Ok (again_reply s e)
-  pub told : taken_result m at w ≡ told_of_stage e.phase
+  pub state : (take_step m at w).next ≡ w
+  pub reply : (take_step m at w).reply ≡ Ok (again_reply s e)
+  pub told : (take_step m at w).sent ≡ answer_to w.name m at (told_of_stage e.phase)
 
 abbrev pub SubmitIsAgain : Type 0
 SubmitIsAgain =
@@ -118,8 +119,8 @@ SubmitIsAgain =
 abbrev pub SubmitIsTaken : Type 0
 SubmitIsTaken =
     (m : Message) (at : ℕ) (w : Known) (p : Copied) → m.body ≡ Submit p → take_refusal m w ≡ None
-    → (e : Entry) × (entry_of (after_taking m at w).entries p.spawn_id ≡ Some e)
-    × (take_refusal m (after_taking m at w) ≡ None)
+    → (e : Entry) × (entry_of (take_step m at w).next.entries p.spawn_id ≡ Some e)
+    × (take_refusal m (take_step m at w).next ≡ None)
 
 -- a spawn that is to be given up, of which there is no entry, is declined, and has an entry that
 -- says so
@@ -127,15 +128,15 @@ abbrev pub AbortIsDeclined : Type 0
 AbortIsDeclined =
     (m : Message) (at : ℕ) (w : Known) (s : ℕ) → m.body ≡ Abort s → take_refusal m w ≡ None
     → entry_of w.entries s ≡ None
-    → (taken_reply m w ≡ Ok (reply.Declined s))
-    × ((e : Entry) × (entry_of (after_taking m at w).entries s ≡ Some e) × (is_declined e ≡ true))
+    → ((take_step m at w).reply ≡ Ok (reply.Declined s))
+    × ((e : Entry) × (entry_of (take_step m at w).next.entries s ≡ Some e) × (is_declined e ≡ true))
 
 -- and that entry stays as it is, whatever is ordered or comes
 abbrev pub DeclinedStays : Type 0
 DeclinedStays =
     (w : Known) (s : ℕ) (e : Entry) → entry_of w.entries s ≡ Some e → is_declined e ≡ true
     → ((o : Order) (at : ℕ) → IsKept w → entry_of (order_step o at w).next.entries s ≡ Some e)
-    × ((m : Message) (at : ℕ) → entry_of (after_taking m at w).entries s ≡ Some e)
+    × ((m : Message) (at : ℕ) → entry_of (take_step m at w).next.entries s ≡ Some e)
 
 -- ---- what is given back
 

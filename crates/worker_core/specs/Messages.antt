@@ -1,18 +1,16 @@
--- What a worker does with a message, whoever sent it and whatever it says: why it is refused, what
--- becomes of the entries, what is replied and what is answered.
+-- What a worker does with a message, whoever sent it and whatever it says: why it is refused, and
+-- else what comes of it.
 use Rattle.std.specs.Prelude.{ℕ, ◌&&◌, ◌||◌, Bool, true, false, not, List, [], ◌∷◌, ◌++◌}
-use Rattle.std.specs.Prelude.{if◌then◌else◌, Option, Some, None, is_some, Result, Ok, Err, is_ok, ⊤}
+use Rattle.std.specs.Prelude.{if◌then◌else◌, Option, Some, None, is_some, Result, Ok, Err, ⊤}
 use Rattle.std.specs.Option.{option_map_or}
 use Rattle.std.specs.Str.{bytes_eq}
-use Rattle.ticket_items.specs.Refusal.{number_of}
 use Rattle.ticket_items.specs.declared.refusal.Refusal.{Refusal}
 use Rattle.ticket_items.specs.declared.refusal.Refusal.TheVariants.{UnknownEntry, NotDone, BadPart}
 use Rattle.ticket_items.specs.declared.refusal.Refusal.TheVariants.{WrongMessage, WrongSender}
 use Rattle.ticket_rows.specs.Copies.{with_copies}
 use Rattle.ticket_rows.specs.Ticket.{IsValid, first_of, unless}
 use Rattle.ticket_tree.specs.Part.{Copied, is_sound}
-use Rattle.controller.specs.Reply.{answer_to, refused_or, spawn_in}
-use Rattle.controller.specs.Step.{Step}
+use Rattle.controller.specs.Step.{Step, Taking, answering}
 use Rattle.controller.specs.declared.body.Body.{Body}
 use Rattle.controller.specs.declared.body.Body.TheVariants.{Submit, Return, Abort, Answer}
 use Rattle.controller.specs.declared.command.Command.{Command}
@@ -85,75 +83,61 @@ IsValidBody (Answer c s told) = ⊤
 abbrev pub aborted_entry : ℕ → Entry → Entry
 aborted_entry at e = if is_open e then finished_entry end.Aborted at e else e
 
--- the entries after a message at a time that isn't refused: a part of which there is none gets one;
--- a spawn that is to be given up is ended if it is open, and declined for good where there is none;
--- and one whose part has come back is closed
-abbrev pub taken_entries : Body → ℕ → List Entry → List Entry
-taken_entries (Submit p) at entries =
-    if is_some (entry_of entries p.spawn_id) then entries else entries ++ new_entry p at ∷ []
-taken_entries (Return p) at entries = entries
-taken_entries (Abort s) at entries =
-    if is_some (entry_of entries s) then with_entry s (aborted_entry at) entries
-    else entries ++ declined_entry s at ∷ []
-taken_entries (Answer c s told) at entries =
-    if is_ok told then with_entry s closed_entry entries else entries
+-- ---- what comes of a message that isn't refused
 
-abbrev pub taken : Body → ℕ → Known → Known
-taken body at w = record w { entries = taken_entries body at w.entries }
-
--- the worker after a message at a time. A refusal changes nothing
-abbrev pub after_taking : Message → ℕ → Known → Known
-after_taking m at w = if is_some (take_refusal m w) then w else taken m.body at w
-
--- ---- what is replied, and what is answered
-
--- what an answer is taken as: acknowledged, or a refusal that is noted
-abbrev pub answer_reply : ℕ → Result QueueStatus ℕ → Reply
-answer_reply s (Ok status) = reply.Acked s
-answer_reply s (Err reason) = reply.Noted s
+-- it is taken as this and leaves these entries, and its command is told what is told of a spawn in
+-- them
+abbrev pub leaving : Reply → ℕ → List Entry → Known → Taking Known
+leaving r s entries w =
+    record { reply = r; told = told_in entries s; next = record w { entries = entries } }
 
 -- what a command is taken as that comes to an entry which it doesn't change: it came before, or its
 -- spawn was declined
 abbrev pub again_reply : ℕ → Entry → Reply
 again_reply s e = if is_declined e then reply.Declined s else reply.Again s
 
+-- a part comes of which there is an entry
+abbrev pub again : ℕ → Known → Entry → Taking Known
+again s w e = leaving (again_reply s e) s w.entries w
+
+-- a part comes of which there is none: it gets one
+abbrev pub entering : Copied → ℕ → Known → Taking Known
+entering p at w =
+    leaving (reply.Taken p.spawn_id) p.spawn_id (w.entries ++ new_entry p at ∷ []) w
+
 -- what it is taken as that the spawn of an entry is to be given up
 abbrev pub abort_reply : ℕ → Entry → Reply
 abort_reply s e = if is_open e then reply.Ended s else again_reply s e
 
--- what a message is taken as
-abbrev pub take_reply : Body → List Entry → Reply
-take_reply (Submit p) entries =
-    option_map_or (again_reply p.spawn_id) (entry_of entries p.spawn_id) (reply.Taken p.spawn_id)
-take_reply (Return p) entries = reply.Already p.spawn_id
-take_reply (Abort s) entries =
-    option_map_or (abort_reply s) (entry_of entries s) (reply.Declined s)
-take_reply (Answer c s told) entries = answer_reply s told
+-- the spawn of an entry is to be given up: the work on it ends, if it is open
+abbrev pub aborting : ℕ → ℕ → Known → Entry → Taking Known
+aborting s at w e = leaving (abort_reply s e) s (with_entry s (aborted_entry at) w.entries) w
 
--- the reply to a message: what it was taken as, or why it was refused
-abbrev pub taken_reply : Message → Known → Result Reply Refusal
-taken_reply m w = refused_or (take_refusal m w) (take_reply m.body w.entries)
+-- a spawn without an entry is to be given up: it is declined, for good
+abbrev pub declining : ℕ → ℕ → Known → Taking Known
+declining s at w = leaving (reply.Declined s) s (w.entries ++ declined_entry s at ∷ []) w
 
--- what a command is told: the number of the refusal, if there is one, or else this
-abbrev pub told_or : Option Refusal → Result QueueStatus ℕ → Result QueueStatus ℕ
-told_or refusal told = option_map_or (λ e. Err (number_of e)) refusal told
+-- a part comes
+abbrev pub submitted : Copied → ℕ → Known → Taking Known
+submitted p at w =
+    option_map_or (again p.spawn_id w) (entry_of w.entries p.spawn_id) (entering p at w)
 
--- what a command is told: why it was refused, or what its entry tells once it is taken
-abbrev pub taken_result : Message → ℕ → Known → Result QueueStatus ℕ
-taken_result m at w =
-    told_or (take_refusal m w) (told_in (taken_entries m.body at w.entries) (spawn_in m.body))
+-- a spawn is to be given up
+abbrev pub aborted : ℕ → ℕ → Known → Taking Known
+aborted s at w = option_map_or (aborting s at w) (entry_of w.entries s) (declining s at w)
 
--- the answer to a message: to a command from the worker to its sender, and to an answer none
-abbrev pub taken_answer : Message → ℕ → Known → Option Message
-taken_answer m at w = answer_to w.name m at (taken_result m at w)
+-- a part that was given back has come, and its entry is closed; or it was refused, which is noted
+abbrev pub answered : ℕ → Result QueueStatus ℕ → Known → Taking Known
+answered s (Ok status) w = leaving (reply.Acked s) s (with_entry s closed_entry w.entries) w
+answered s (Err reason) w = leaving (reply.Noted s) s w.entries w
 
--- ---- the step
+-- what comes of a message at a time that isn't refused, by what it says
+abbrev pub taken : Body → ℕ → Known → Taking Known
+taken (Submit p) at w = submitted p at w
+taken (Return p) at w = leaving (reply.Already p.spawn_id) p.spawn_id w.entries w
+taken (Abort s) at w = aborted s at w
+taken (Answer c s told) at w = answered s told w
 
 -- the worker's step on a message at a time
 abbrev pub take_step : Message → ℕ → Known → Step Known Message
-take_step m at w =
-    record {
-      reply = taken_reply m w;
-      sent = taken_answer m at w;
-      next = after_taking m at w;
-    }
+take_step m at w = answering w.name m at (take_refusal m w) w (taken m.body at w)

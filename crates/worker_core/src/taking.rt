@@ -1,10 +1,11 @@
 //! What a worker does with a message.
 
-ghost use Rattle.std.specs.Prelude.{◌≡◌, ℕ, true, false, if◌then◌else◌, Ok, Err, None};
-ghost use Rattle.std.specs.Prelude.{OnOk, OnErr, IfOk, IsOk, is_ok};
+ghost use Rattle.std.specs.Prelude.{◌≡◌, ℕ, List, true, false, if◌then◌else◌, Ok, Err, None};
+ghost use Rattle.std.specs.Prelude.{OnOk, OnErr, IfOk, IsOk};
 ghost use Rattle.ticket_rows.specs.Copies.{with_copies};
 ghost use Rattle.ticket_rows.specs.Ticket.{IsValid};
 ghost use Rattle.controller.specs.Reply as replies;
+ghost use Rattle.controller.specs.Step as steps;
 ghost use Rattle.worker_core.specs.Messages as messages;
 ghost use Rattle.worker_core.specs.Worker as worker;
 
@@ -14,7 +15,7 @@ use crate::entry::Entry;
 use crate::ordering::end_entry;
 use crate::stage::Stage;
 use controller::answering::answer_to;
-use controller::{Body, Command, Message, Outcome, QueueStatus, Reply};
+use controller::{Body, Command, Message, Outcome, QueueStatus, Reply, Taken};
 use std::alloc::{AllocError, Global};
 use ticket_tree::{Id, Part, Refusal, SpawnId};
 
@@ -96,12 +97,21 @@ fn refusal_of(name: &Id, master: &Id, entries: &Entries, message: &Message) -> O
 }
 
 /// What an answer is taken as.
-fn answer_reply(spawn: SpawnId, told: Result<QueueStatus, u16>) -> Reply
-    ensures { result ≡ messages.answer_reply spawn told }
+fn answer_taken(entries: &Entries, spawn: SpawnId, told: Result<QueueStatus, u16>) -> Taken
+    ensures reply { (name : List ℕ) (master : List ℕ) → result.reply
+        ≡ (messages.answered spawn told (worker.known name master entries.now)).reply }
+    ensures told { (name : List ℕ) (master : List ℕ) → result.told
+        ≡ (messages.answered spawn told (worker.known name master entries.now)).told }
 {
     match told {
-        Ok(_) => Reply::Acked(spawn),
-        Err(_) => Reply::Noted(spawn),
+        Ok(_) => Taken {
+            reply: Reply::Acked(spawn),
+            told: entries.told_in(spawn),
+        },
+        Err(_) => Taken {
+            reply: Reply::Noted(spawn),
+            told: entries.told_in(spawn),
+        },
     }
 }
 
@@ -127,35 +137,22 @@ fn abort_reply(spawn: SpawnId, entry: &Entry) -> Reply
     }
 }
 
-/// What a message is taken as.
-fn reply_to(entries: &Entries, body: &Body) -> Reply
-    ensures { result ≡ messages.take_reply body.now entries.now }
+/// What a part that goes out is taken as: it gets an entry where there is none.
+fn part_taken(entries: &Entries, part: &Part) -> Taken
+    ensures reply { (name : List ℕ) (master : List ℕ) (at : ℕ) → result.reply
+        ≡ (messages.submitted part.now at (worker.known name master entries.now)).reply }
+    ensures told { (name : List ℕ) (master : List ℕ) (at : ℕ) → result.told
+        ≡ (messages.submitted part.now at (worker.known name master entries.now)).told }
 {
-    match body {
-        Body::Submit(part) => match entries.entry_of(part.spawn_id()) {
-            None => Reply::Taken(part.spawn_id()),
-            Some(entry) => again_reply(part.spawn_id(), entry),
+    match entries.entry_of(part.spawn_id()) {
+        None => Taken {
+            reply: Reply::Taken(part.spawn_id()),
+            told: Ok(QueueStatus::Running),
         },
-        Body::Return(part) => Reply::Already(part.spawn_id()),
-        Body::Abort(spawn_id) => match entries.entry_of(*spawn_id) {
-            None => Reply::Declined(*spawn_id),
-            Some(entry) => abort_reply(*spawn_id, entry),
+        Some(entry) => Taken {
+            reply: again_reply(part.spawn_id(), entry),
+            told: entry.phase.told(),
         },
-        Body::Answer {
-            spawn_id,
-            result,
-            ..
-        } => answer_reply(*spawn_id, *result),
-    }
-}
-
-/// The reply to a message: what it is taken as, or the refusal.
-fn reply_or(refusal: &Option<Refusal>, entries: &Entries, body: &Body) -> Result<Reply, Refusal>
-    ensures { result ≡ replies.refused_or refusal.now (messages.take_reply body.now entries.now) }
-{
-    match refusal {
-        Some(refusal) => Err(*refusal),
-        None => Ok(reply_to(entries, body)),
     }
 }
 
@@ -171,36 +168,49 @@ fn abort_told(entry: &Entry) -> Result<QueueStatus, u16>
     }
 }
 
-/// What a command is told that isn't refused, as its entry is after it.
-fn told_after(entries: &Entries, body: &Body) -> Result<QueueStatus, u16>
-    ensures { (at : ℕ) → result ≡ worker.told_in (messages.taken_entries body.now at entries.now)
-        (replies.spawn_in body.now) }
+/// What it is taken as that a spawn is to be given up.
+fn abort_taken(entries: &Entries, spawn: SpawnId) -> Taken
+    ensures reply { (name : List ℕ) (master : List ℕ) (at : ℕ) → result.reply
+        ≡ (messages.aborted spawn at (worker.known name master entries.now)).reply }
+    ensures told { (name : List ℕ) (master : List ℕ) (at : ℕ) → result.told
+        ≡ (messages.aborted spawn at (worker.known name master entries.now)).told }
+{
+    match entries.entry_of(spawn) {
+        None => Taken {
+            reply: Reply::Declined(spawn),
+            told: Stage::Declined.told(),
+        },
+        Some(entry) => Taken {
+            reply: abort_reply(spawn, entry),
+            told: abort_told(entry),
+        },
+    }
+}
+
+/// What a message is taken as.
+pub fn taken_as(entries: &Entries, body: &Body) -> Taken
+    ensures reply { (name : List ℕ) (master : List ℕ) (at : ℕ) → result.reply
+        ≡ (messages.taken body.now at (worker.known name master entries.now)).reply }
+    ensures told { (name : List ℕ) (master : List ℕ) (at : ℕ) → result.told
+        ≡ (messages.taken body.now at (worker.known name master entries.now)).told }
 {
     match body {
-        Body::Submit(part) => entries.told_in(part.spawn_id()),
-        Body::Return(part) => entries.told_in(part.spawn_id()),
-        Body::Abort(spawn_id) => match entries.entry_of(*spawn_id) {
-            None => Stage::Declined.told(),
-            Some(entry) => abort_told(entry),
+        Body::Submit(part) => part_taken(entries, part),
+        Body::Return(part) => Taken {
+            reply: Reply::Already(part.spawn_id()),
+            told: entries.told_in(part.spawn_id()),
         },
-        Body::Answer { spawn_id, .. } => entries.told_in(*spawn_id),
+        Body::Abort(spawn_id) => abort_taken(entries, *spawn_id),
+        Body::Answer {
+            spawn_id,
+            result,
+            ..
+        } => answer_taken(entries, *spawn_id, *result),
     }
 }
 
-/// What a command is told: the number of the refusal, or how its entry is after it.
-fn told_or(refusal: Option<Refusal>, entries: &Entries, body: &Body) -> Result<QueueStatus, u16>
-    ensures { (at : ℕ) → result ≡ messages.told_or refusal
-        (worker.told_in (messages.taken_entries body.now at entries.now)
-        (replies.spawn_in body.now)) }
-{
-    match refusal {
-        Some(refusal) => Err(refusal.number()),
-        None => told_after(entries, body),
-    }
-}
-
-/// What comes of a message: the reply, and the answer to a command. To an answer there is none, and
-/// that takes no memory.
+/// What comes of a message: what it is taken as, or the refusal, and the answer to a command. To an
+/// answer there is none, and that takes no memory.
 fn outcome_of(
     alloc: Global,
     name: &Id,
@@ -209,24 +219,39 @@ fn outcome_of(
     message: &Message,
     at: u64,
 ) -> Result<Outcome, AllocError>
-    ensures reply { IfOk result (λ outcome. outcome.reply
-        ≡ replies.refused_or refusal (messages.take_reply message.now.body entries.now)) }
-    ensures answer { IfOk result (λ outcome. outcome.answer
-        ≡ replies.answer_to name.now message.now at (messages.told_or refusal
-        (worker.told_in (messages.taken_entries message.now.body at entries.now)
-        (replies.spawn_in message.now.body)))) }
+    ensures reply { (master : List ℕ) → let w = worker.known name.now master entries.now in
+        IfOk result (λ outcome. outcome.reply ≡ (steps.answering name.now message.now at refusal w
+        (messages.taken message.now.body at w)).reply) }
+    ensures answer { (master : List ℕ) → let w = worker.known name.now master entries.now in
+        IfOk result (λ outcome. outcome.answer ≡ (steps.answering name.now message.now at refusal w
+        (messages.taken message.now.body at w)).sent) }
     ensures answers { replies.is_answer message.now.body ≡ true → IsOk result }
 {
-    let reply = reply_or(&refusal, entries, &message.body);
-    let told = told_or(refusal, entries, &message.body);
-    let answer = answer_to(alloc, name, message, at, told)?;
-    Ok(Outcome { reply, answer })
+    match &refusal {
+        Some(refusal) => {
+            let told = Err(refusal.number());
+            let answer = answer_to(alloc, name, message, at, told)?;
+            Ok(Outcome {
+                reply: Err(*refusal),
+                answer,
+            })
+        }
+        None => {
+            let taken = taken_as(entries, &message.body);
+            let answer = answer_to(alloc, name, message, at, taken.told)?;
+            Ok(Outcome {
+                reply: Ok(taken.reply),
+                answer,
+            })
+        }
+    }
 }
 
 /// Makes an entry of a part that is taken at a time, where there is none of its spawn.
 fn enter(entries: &mut Entries, part: Part, at: u64) -> Result<(), AllocError>
-    ensures ok { OnOk result
-        (entries.new ≡ messages.taken_entries (Body.Submit part) at entries.old) }
+    ensures ok { (name : List ℕ) (master : List ℕ) → OnOk result
+        (worker.known name master entries.new
+        ≡ (messages.submitted part at (worker.known name master entries.old)).next) }
     ensures err { OnErr result (entries.new ≡ entries.old) }
     ensures valid { IsValid (with_copies part.rows part.rw part.ro) }
 {
@@ -254,8 +279,9 @@ fn abort(alloc: Global, entry: &mut Entry, at: u64) -> Result<(), AllocError>
 /// Takes it that a spawn is to be given up: its entry is ended if it is open, and where there is
 /// none the spawn is declined, for good.
 fn give_up(alloc: Global, entries: &mut Entries, spawn: SpawnId, at: u64) -> Result<(), AllocError>
-    ensures ok { OnOk result
-        (entries.new ≡ messages.taken_entries (Body.Abort spawn) at entries.old) }
+    ensures ok { (name : List ℕ) (master : List ℕ) → OnOk result
+        (worker.known name master entries.new
+        ≡ (messages.aborted spawn at (worker.known name master entries.old)).next) }
     ensures err { OnErr result (entries.new ≡ entries.old) }
 {
     match entries.place_of(spawn) {
@@ -269,9 +295,8 @@ fn give_up(alloc: Global, entries: &mut Entries, spawn: SpawnId, at: u64) -> Res
 
 /// Closes the entry of a part that was given back, if it has come.
 fn take_answer(entries: &mut Entries, spawn: SpawnId, told: Result<QueueStatus, u16>)
-    ensures { entries.new ≡ if is_ok told
-        then worker.with_entry spawn worker.closed_entry entries.old
-        else entries.old }
+    ensures { (name : List ℕ) (master : List ℕ) → worker.known name master entries.new
+        ≡ (messages.answered spawn told (worker.known name master entries.old)).next }
 {
     if told.is_ok() {
         entries.close(spawn);
@@ -280,8 +305,9 @@ fn take_answer(entries: &mut Entries, spawn: SpawnId, told: Result<QueueStatus, 
 
 /// Takes what a message says that isn't refused. An answer takes no memory.
 fn take_body(alloc: Global, entries: &mut Entries, body: Body, at: u64) -> Result<(), AllocError>
-    ensures ok { OnOk result
-        (entries.new ≡ messages.taken_entries body at entries.old) }
+    ensures ok { (name : List ℕ) (master : List ℕ) → OnOk result
+        (worker.known name master entries.new
+        ≡ (messages.taken body at (worker.known name master entries.old)).next) }
     ensures err { OnErr result (entries.new ≡ entries.old) }
     ensures valid { messages.IsValidBody body }
     ensures answers { replies.is_answer body ≡ true → IsOk result }
@@ -309,8 +335,10 @@ fn take_unless(
     body: Body,
     at: u64,
 ) -> Result<(), AllocError>
-    ensures ok { OnOk result (entries.new ≡ if refused then entries.old else
-        messages.taken_entries body at entries.old) }
+    ensures ok { (name : List ℕ) (master : List ℕ) → OnOk result
+        (worker.known name master entries.new ≡ if refused
+        then worker.known name master entries.old
+        else (messages.taken body at (worker.known name master entries.old)).next) }
     ensures err { OnErr result (entries.new ≡ entries.old) }
     ensures valid { refused ≡ false → messages.IsValidBody body }
     ensures answers { replies.is_answer body ≡ true → IsOk result }
@@ -333,12 +361,12 @@ pub fn do_take(
     at: u64,
 ) -> Result<Outcome, AllocError>
     ensures state { OnOk result (worker.known name.now master.now entries.new
-        ≡ messages.after_taking message at
-        (worker.known name.now master.now entries.old)) }
-    ensures reply { IfOk result (λ outcome. outcome.reply ≡ messages.taken_reply message
-        (worker.known name.now master.now entries.old)) }
-    ensures answer { IfOk result (λ outcome. outcome.answer ≡ messages.taken_answer message at
-        (worker.known name.now master.now entries.old)) }
+        ≡ (messages.take_step message at
+        (worker.known name.now master.now entries.old)).next) }
+    ensures reply { IfOk result (λ outcome. outcome.reply ≡ (messages.take_step message at
+        (worker.known name.now master.now entries.old)).reply) }
+    ensures answer { IfOk result (λ outcome. outcome.answer ≡ (messages.take_step message at
+        (worker.known name.now master.now entries.old)).sent) }
     ensures err { OnErr result (entries.new ≡ entries.old) }
     ensures answers { replies.is_answer message.body ≡ true → IsOk result }
     ensures valid { OnOk result (messages.take_refusal message

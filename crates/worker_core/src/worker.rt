@@ -3,8 +3,8 @@ use crate::entry::Entry;
 use crate::order::Order;
 use crate::ordering::do_order;
 use crate::stored::are_parts;
-use crate::taking::do_take;
-use controller::{Done, Message, Outcome};
+use crate::taking::{do_take, taken_as};
+use controller::{Body, Done, Message, Outcome, Taken};
 use std::alloc::{AllocError, Global};
 use std::marker::Model;
 use ticket_tree::{Id, Refusal, SpawnId};
@@ -30,7 +30,7 @@ impl Model for Worker {
 }
 
 impl Worker {
-    ghost use Rattle.std.specs.Prelude.{◌≡◌, ◌↔◌, ◌⊎◌, true, false, [], Err, OnOk, OnErr};
+    ghost use Rattle.std.specs.Prelude.{◌≡◌, ◌↔◌, ◌⊎◌, ℕ, true, false, [], Err, OnOk, OnErr};
     ghost use Rattle.std.specs.Prelude.{IfOk, IfErr, IsErrOf, IsOk};
     ghost use Rattle.controller.specs.Reply.{is_answer};
     ghost use Rattle.controller.specs.Step.{done_step, outcome_step};
@@ -150,6 +150,15 @@ impl Worker {
             order,
             at,
         )
+    }
+
+    /// What it takes a message as, and what a command is told, unless it refuses it. Needs no
+    /// memory.
+    pub fn taken_as(&self, body: &Body) -> Taken
+        ensures reply { (at : ℕ) → result.reply ≡ (messages.taken body.now at self.now).reply }
+        ensures told { (at : ℕ) → result.told ≡ (messages.taken body.now at self.now).told }
+    {
+        taken_as(&self.entries, body)
     }
 
     /// Takes a message, whoever sent it and whatever it says, at a time in seconds since 1970. The

@@ -1,8 +1,9 @@
-use Rattle.std.proofs.Common.{◌≡◌, ◌∙◌, Result, Ok, Err, IfOk, sym, ap, subst}
+use Rattle.std.proofs.Common.{◌≡◌, ◌∙◌, Result, Ok, Err, IfOk, OnOk, cond, is_some, sym, ap, subst}
 use Rattle.std.specs.Result.{result_and}
-use Rattle.controller.specs.Reply.{answer_to, spawn_in}
-use Rattle.worker_core.specs.Messages.{taken_entries, told_or}
-use Rattle.worker_core.specs.Worker.{told_in}
+use Rattle.controller.proofs.Answered.{answering_leads}
+use Rattle.controller.specs.Step.{answering}
+use Rattle.worker_core.specs.Messages.{take_refusal, taken}
+use Rattle.worker_core.specs.Worker.{known}
 use Rattle.worker_core.proofs.taking.do_take.Goals as goal
 
 -- what holds of a value holds of the result that is that value or an error
@@ -10,10 +11,29 @@ if_and : {X Y E : Type 0} (P : Y → Type 0) (first : Result X E) (y : Y) (resul
 if_and P (Ok x) y result e p = subst (λ r. IfOk r P) (sym e) p
 if_and P (Err x) y result e p = subst (λ r. IfOk r P) (sym e) tt
 
+-- and what follows where the first went well holds where both did
+on_and : {X Y E P Q : Type 0} (first : Result X E) (y : Y) (result : Result Y E) → result ≡ result_and first (Ok y) → OnOk first P → (P → Q) → OnOk result Q
+on_and {Q = Q} (Ok x) y result e p f = subst (λ r. OnOk r Q) (sym e) (f p)
+on_and {Q = Q} (Err x) y result e p f = subst (λ r. OnOk r Q) (sym e) tt
+
+pub returns-in-Ok-clause-state : goal.returns-in-Ok-clause-state
+returns-in-Ok-clause-state c =
+    let w = known c.args.name.now c.args.master.now c.args.entries.now in
+    let m = c.args.message in
+    let t = taken m.body c.args.at w in
+    on_and c.take_unless.result c.in-Ok.outcome c.and.result c.and.ensures (c.take_unless.ensures.ok w.name w.master)
+    (λ made. made ∙ ap (λ b. cond b w t.next) (c.is_some.ensures ∙ ap is_some c.refusal_of-refusal.ensures) ∙ answering_leads w.name m c.args.at (take_refusal m w) w t)
+
+pub returns-in-Ok-clause-reply : goal.returns-in-Ok-clause-reply
+returns-in-Ok-clause-reply c =
+    let w = known c.args.name.now c.args.master.now c.args.entries.now in
+    let m = c.args.message in
+    if_and _ c.take_unless.result c.in-Ok.outcome c.and.result c.and.ensures
+    (c.in-Ok.ensures.reply w.master ∙ ap (λ r. (answering w.name m c.args.at r w (taken m.body c.args.at w)).reply) c.refusal_of-refusal.ensures)
+
 pub returns-in-Ok-clause-answer : goal.returns-in-Ok-clause-answer
 returns-in-Ok-clause-answer c =
-    let name = c.args.name.now in
+    let w = known c.args.name.now c.args.master.now c.args.entries.now in
     let m = c.args.message in
-    let entries = c.args.entries.now in
     if_and _ c.take_unless.result c.in-Ok.outcome c.and.result c.and.ensures
-    (c.in-Ok.ensures.answer ∙ ap (λ r. answer_to name m c.args.at (told_or r (told_in (taken_entries m.body c.args.at entries) (spawn_in m.body)))) c.refusal_of-refusal.ensures)
+    (c.in-Ok.ensures.answer w.master ∙ ap (λ r. (answering w.name m c.args.at r w (taken m.body c.args.at w)).sent) c.refusal_of-refusal.ensures)

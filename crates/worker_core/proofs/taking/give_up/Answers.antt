@@ -1,12 +1,11 @@
 use Rattle.std.proofs.Common.{◌∙◌, ◌∷◌, ◌++◌, [], sym, ap, slice_set}
 use Rattle.std.proofs.lemmas.Result.{on_ok_weaker}
 use Rattle.ticket_items.proofs.Places.{none_at_position}
-use Rattle.controller.specs.declared.body.Body.TheVariants.{Abort}
 use Rattle.worker_core.proofs.Closing.{aborted_number}
 use Rattle.worker_core.proofs.GivingUp.{declined_behind, given_up}
 use Rattle.worker_core.proofs.SpawnIndex.{index_kept, place_inside, spawn_stays}
-use Rattle.worker_core.specs.Messages.{aborted_entry, taken_entries}
-use Rattle.worker_core.specs.Worker.{entry_of, is_of}
+use Rattle.worker_core.specs.Messages.{aborted, aborted_entry}
+use Rattle.worker_core.specs.Worker.{entry_of, is_of, known}
 use Rattle.worker_core.specs.declared.entry.Entry.{Entry}
 use Rattle.worker_core.proofs.taking.give_up.Goals as goal
 
@@ -16,9 +15,9 @@ push-requires c =
     ap (λ (e : Entry). entry_of entries e.spawn_id) c.declined.ensures ∙ none_at_position (is_of c.args.spawn) entries (sym c.in-None.ensures)
 
 pub returns-in_ok-push-in-None-clause-ok : goal.returns-in_ok-push-in-None-clause-ok
-returns-in_ok-push-in-None-clause-ok c =
+returns-in_ok-push-in-None-clause-ok c name master =
     let entries = c.args.entries.now in
-    c.in_ok-push-in-None.ensures.ok ∙ ap (λ e. entries ++ e ∷ []) c.declined.ensures ∙ declined_behind c.args.spawn c.args.at entries (sym c.in-None.ensures)
+    ap (known name master) (c.in_ok-push-in-None.ensures.ok ∙ ap (λ e. entries ++ e ∷ []) c.declined.ensures) ∙ declined_behind name master c.args.spawn c.args.at entries (sym c.in-None.ensures)
 
 pub invariant_of-entries : goal.invariant_of-entries
 invariant_of-entries c =
@@ -29,14 +28,14 @@ invariant_of-entries c =
     (spawn_stays c.abort.result (aborted_entry at) x y (aborted_number at) c.abort.ensures.ok c.abort.ensures.err)
 
 pub returns-in-Some-clause-ok : goal.returns-in-Some-clause-ok
-returns-in-Some-clause-ok c =
+returns-in-Some-clause-ok c name master =
     let s = c.args.spawn in
     let at = c.args.at in
     let k = c.in-Some.place in
     let entries = c.entries.inside.list.items in
     on_ok_weaker c.abort.result
     (λ made.
-    ap (slice_set entries k) made
-    ∙ given_up s at entries k c.index_mut.result.now c.entries.invariant.once (place_inside s k entries c.args.entries.now c.entries.view_is (sym c.in-Some.ensures)) c.index_mut.ensures.value
-    ∙ ap (taken_entries (Abort s) at) c.entries.view_is)
+    ap (λ e. known name master (slice_set entries k e)) made
+    ∙ given_up name master s at entries k c.index_mut.result.now c.entries.invariant.once (place_inside s k entries c.args.entries.now c.entries.view_is (sym c.in-Some.ensures)) c.index_mut.ensures.value
+    ∙ ap (λ es. (aborted s at (known name master es)).next) c.entries.view_is)
     c.abort.ensures.ok

@@ -1,12 +1,13 @@
 use Rattle.std.proofs.Common.{◌≡◌, ◌∙◌, false, cond, IfOk, is_some, sym, ap, subst}
-use Rattle.controller.specs.Reply.{answer_to, is_freed, refused_or, told_of}
-use Rattle.controller.specs.Step.{outcome_step}
+use Rattle.controller.proofs.Answered.{answering_leads}
+use Rattle.controller.specs.Reply.{is_freed}
+use Rattle.controller.specs.Step.{answering, outcome_step}
 use Rattle.master_core.proofs.HoldersKept.{table_done}
 use Rattle.master_core.proofs.Kept.{kept_told, stays}
 use Rattle.master_core.proofs.Merging.{fit_of}
 use Rattle.master_core.proofs.Passing.{no_refusal, of_both, ok_of_both, replied_free}
 use Rattle.master_core.specs.Master.{known}
-use Rattle.master_core.specs.Messages.{after_taking, end_of, take_refusal, take_reply, take_step, taken, taken_answer, taken_reply}
+use Rattle.master_core.specs.Messages.{take_refusal, take_step, taken}
 use Rattle.master_core.proofs.master.Master.take.Goals as goal
 
 pub take_unless-requires-clause-fits : goal.take_unless-requires-clause-fits
@@ -34,11 +35,15 @@ returns-in-Ok-clause-ok c =
     let old = c.args.self.now in
     let m = c.args.message in
     let told : c.is_some-refused.result ≡ is_some (take_refusal m w) = c.is_some-refused.ensures ∙ ap is_some (c.refusal_of-refusal.ensures ∙ sym (ap (take_refusal m) c.self.view_is)) in
-    let said : c.in-Ok.outcome.reply ≡ taken_reply m old = c.in-Ok.ensures.reply ∙ ap (λ r. refused_or r (take_reply m.body old)) c.refusal_of-refusal.ensures in
-    let sent : c.in-Ok.outcome.answer ≡ taken_answer m c.args.at old = c.in-Ok.ensures.answer ∙ ap (λ r. answer_to old.name m c.args.at (told_of r (end_of m.body))) c.refusal_of-refusal.ensures in
+    let said : c.in-Ok.outcome.reply ≡ (take_step m c.args.at old).reply = c.in-Ok.ensures.reply ∙ ap (λ r. (answering old.name m c.args.at r old (taken m.body c.args.at old)).reply) c.refusal_of-refusal.ensures in
+    let sent : c.in-Ok.outcome.answer ≡ (take_step m c.args.at old).sent = c.in-Ok.ensures.answer ∙ ap (λ r. (answering old.name m c.args.at r old (taken m.body c.args.at old)).sent) c.refusal_of-refusal.ensures in
     of_both (λ o. outcome_step o (known c.self.inside.name c.self.inside.workers c.take_unless.new.ticket c.take_unless.new.records.items) ≡ take_step m c.args.at old) c.take_unless.result c.in-Ok.outcome c.and.result c.and.ensures (c.take_unless.ensures.ok c.self.inside.name c.self.inside.workers)
     (λ made.
-    let led = made ∙ ap (λ b. cond b w (taken m.body c.args.at w)) told ∙ ap (after_taking m c.args.at) c.self.view_is in
+    let led =
+    made
+    ∙ ap (λ b. cond b w (taken m.body c.args.at w).next) told
+    ∙ answering_leads w.name m c.args.at (take_refusal m w) w (taken m.body c.args.at w)
+    ∙ ap (λ v. (take_step m c.args.at v).next) c.self.view_is in
     λ i. record { reply = said i; sent = sent i; next = led i })
 
 pub returns-in-Ok-clause-answers : goal.returns-in-Ok-clause-answers
@@ -50,4 +55,4 @@ returns-in-Ok-clause-answers c is free =
     let told : c.is_some-refused.result ≡ is_some (take_refusal m w) = c.is_some-refused.ensures ∙ ap is_some (c.refusal_of-refusal.ensures ∙ sym (ap (take_refusal m) c.self.view_is)) in
     ok_of_both c.take_unless.result c.in-Ok.outcome c.and.result c.and.ensures
     (c.take_unless.ensures.answers name workers is
-    (replied_free (take_refusal m w) c.is_some-refused.result (take_reply m.body w) told (subst (λ v. IfOk (taken_reply m v) (λ r. is_freed r ≡ false)) (sym c.self.view_is) free)))
+    (replied_free (take_refusal m w) c.is_some-refused.result m c.args.at w (taken m.body c.args.at w) told (subst (λ v. IfOk (take_step m c.args.at v).reply (λ r. is_freed r ≡ false)) (sym c.self.view_is) free)))

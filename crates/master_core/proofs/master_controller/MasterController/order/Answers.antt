@@ -1,6 +1,6 @@
 use Rattle.std.proofs.Common.{◌≡◌, true, ap, subst, sym}
+use Rattle.std.proofs.lemmas.Result.{IfOk-weaker}
 use Rattle.std.specs.Prelude.{IfSome}
-use Rattle.controller.proofs.Sendable.{if_ok}
 use Rattle.controller.specs.Words.{may_be_sent}
 use Rattle.master_core.proofs.NeverMemory.{order_idle, order_known}
 use Rattle.master_core.proofs.Sends.{by_order}
@@ -8,8 +8,9 @@ use Rattle.master_core.proofs.master_controller.MasterController.order.Goals as 
 
 pub returns-clause-sendable : goal.returns-clause-sendable
 returns-clause-sendable c =
-    if_ok _ _ c.order.result c.order.ensures.ok
+    IfOk-weaker c.order.result _ _
     (λ done is. subst (λ sent. IfSome sent (λ m. may_be_sent m.body ≡ true)) (ap (λ s. s.sent) (sym is)) (by_order c.args.order c.args.at c.args.self.now))
+    c.order.ensures.ok
 
 pub returns-clause-known : goal.returns-clause-known
 returns-clause-known c = order_known c.args.order c.args.at c.args.self.now
