@@ -23,7 +23,7 @@ pub fn spawn_in(body: &Body) -> SpawnId
 }
 
 /// The command that a message gives. An answer gives none.
-pub fn command_in(body: &Body) -> Option<Command>
+pub fn command_given(body: &Body) -> Option<Command>
     ensures { result ≡ replies.command_given body.now }
 {
     match body {
@@ -48,7 +48,7 @@ pub fn answer_to(
         ≡ replies.answer_to name.now message.now at told) }
     ensures answers { replies.is_answer message.now.body ≡ true → IsOk result }
 {
-    match command_in(&message.body) {
+    match command_given(&message.body) {
         None => Ok(None),
         Some(command) => Ok(Some(Message {
             sender: name.copy(alloc)?,

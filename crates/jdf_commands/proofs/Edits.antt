@@ -14,7 +14,7 @@ use Rattle.ticket_items.specs.declared.edit.Edit.{Edit}
 use Rattle.ticket_items.specs.declared.refusal.Refusal.{Refusal}
 use Rattle.ticket_items.specs.declared.refusal.Refusal.TheVariants.{Memory}
 use Rattle.json_items.specs.Edits.{edit_draft}
-use Rattle.json_shapes.specs.Form.{edit_has_names, edit_has_texts}
+use Rattle.json_items.specs.Edits.{edit_has_names, edit_has_texts}
 use Rattle.json_source.specs.Read.{◌>>=◌, Fails}
 use Rattle.json_items.proofs.ListLemmas.{Fails-weaker}
 use Rattle.json_items.specs.Listed.{each, list_form}

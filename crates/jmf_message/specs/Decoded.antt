@@ -1,13 +1,12 @@
 -- The message that bytes are, or why they are none: the first of `NotJson`, `NotProfile`,
--- `WrongVersion`, `WrongMessage`, `BadId`,
--- `BadText`, and then what is wrong with the part.
-use Rattle.std.specs.Prelude.{◌≡◌, ◌⊎◌, ℕ, ◌&&◌, Bool, true, List, [], ◌∷◌, if◌then◌else◌, Option}
+-- `WrongVersion`, `WrongMessage`, `BadId`, `BadText`, and then what is wrong with the part.
+use Rattle.std.specs.Prelude.{ℕ, ◌&&◌, Bool, true, List, [], ◌∷◌, if◌then◌else◌, Option}
 use Rattle.std.specs.Prelude.{Some, None, option_and_then, Result, Err}
 use Rattle.std.specs.Option.{option_map_or}
-use Rattle.std.specs.Str.{IsUtf8, bytes_eq}
+use Rattle.std.specs.Str.{bytes_eq}
 use Rattle.serde_json.specs.Data.{Data}
-use Rattle.serde_json.specs.Read.{read}
 use Rattle.json_items.specs.Judged.{sound}
+use Rattle.json_profile.specs.ReadAs.{IsReadAs, IsRefusalOf as IsUnread}
 use Rattle.json_shapes.specs.PartDraft.{RawPart}
 use Rattle.json_shapes.specs.PartForm as part
 use Rattle.json_source.specs.Read.{◌>>=◌, provided}
@@ -16,9 +15,9 @@ use Rattle.ticket_items.specs.SpawnId.{spawn_text}
 use Rattle.ticket_rows.specs.Ticket.{unless, first_of}
 use Rattle.ticket_tree.specs.Part.{Copied}
 use Rattle.ticket_items.specs.declared.refusal.Refusal.{Refusal}
-use Rattle.ticket_items.specs.declared.refusal.Refusal.TheVariants.{NotJson, NotProfile}
+use Rattle.ticket_items.specs.declared.refusal.Refusal.TheVariants.{NotProfile}
 use Rattle.ticket_items.specs.declared.refusal.Refusal.TheVariants.{WrongVersion, WrongMessage}
-use Rattle.ticket_items.specs.declared.refusal.Refusal.TheVariants.{BadId, BadText, Memory}
+use Rattle.ticket_items.specs.declared.refusal.Refusal.TheVariants.{BadId, BadText}
 use Rattle.jmf_message.specs.Form.{RawMessage, document_form}
 use Rattle.controller.specs.Words.{version}
 use Rattle.controller.specs.declared.body.Body.{Body}
@@ -96,14 +95,10 @@ abbrev pub message_read : Data → Result Message Refusal
 message_read d = option_map_or draft_read (document_form d) (Err NotProfile)
 
 -- the bytes are JSON that is read so
-pub record IsDecodedAs (bytes : List ℕ) (answer : Result Message Refusal) : Type 0 where
-  pub value : Data
-  pub utf8 : IsUtf8 bytes
-  pub json : read bytes ≡ Some value
-  pub form : message_read value ≡ answer
+abbrev pub IsDecodedAs : List ℕ → Result Message Refusal → Type 0
+IsDecodedAs bytes answer = IsReadAs message_read bytes answer
 
 -- why bytes are refused: they are no JSON, or this is the first refusal of their data, or memory
 -- ran out
 abbrev pub IsRefusalOf : List ℕ → Refusal → Type 0
-IsRefusalOf bytes e = ((e ≡ NotJson) × (IsUtf8 bytes → read bytes ≡ None))
-    ⊎ (IsDecodedAs bytes (Err e) ⊎ (e ≡ Memory))
+IsRefusalOf bytes e = IsUnread message_read bytes e

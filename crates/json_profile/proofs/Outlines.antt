@@ -25,7 +25,8 @@ use Rattle.json_profile.proofs.Again.{raw_depths}
 use Rattle.ticket_items.specs.Ids.{are_distinct}
 use Rattle.ticket_items.specs.declared.refusal.Refusal.{Refusal}
 use Rattle.ticket_items.specs.declared.refusal.Refusal.TheVariants.{BadId, DuplicateId, TooDeep, ReservedStatus, BadText, NotATree, UnresolvedLink, Memory}
-use Rattle.json_shapes.specs.Form.{Answers, has_names, has_texts, built_fault, sound, ticket_fault}
+use Rattle.json_items.specs.Judged.{Answers, sound}
+use Rattle.json_shapes.specs.Form.{has_names, has_texts, built_fault, ticket_fault}
 use Rattle.json_source.specs.Read.{◌>>=◌, provided, has_only, text_under, attrs_of}
 
 -- ---- a node's own row

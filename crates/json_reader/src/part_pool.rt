@@ -30,7 +30,7 @@ fn own_len(pool: &[MarkedDraft<'_>]) -> usize
 /// How many resources in front show that they are copies to change, of the spawn of this text.
 fn change_len(pool: &[MarkedDraft<'_>], spawn: &str) -> usize
     ensures { result
-        ≡ prefix_len (λ d. draft.shows_change spawn.now (drafted_shown d.shown)) pool.now }
+        ≡ prefix_len (λ d. shown.shows_change spawn.now (drafted_shown d.shown)) pool.now }
 {
     pool.iter()
         .take_while(|draft| draft.shown.is_change(spawn))
@@ -39,7 +39,7 @@ fn change_len(pool: &[MarkedDraft<'_>], spawn: &str) -> usize
 
 /// Whether all show that they are copies to read alone, of the spawn of this text.
 fn are_read(pool: &[MarkedDraft<'_>], spawn: &str) -> bool
-    ensures { result ≡ list_all (λ d. draft.shows_read spawn.now (drafted_shown d.shown)) pool.now }
+    ensures { result ≡ list_all (λ d. shown.shows_read spawn.now (drafted_shown d.shown)) pool.now }
 {
     pool.iter().all(|draft| draft.shown.is_read(spawn))
 }

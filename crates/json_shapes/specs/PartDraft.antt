@@ -12,9 +12,9 @@ use Rattle.json_shapes.specs.Draft.{RawRow, root_members, node_rows, resources_o
 use Rattle.json_items.specs.Listed.{each, items_under}
 use Rattle.json_items.specs.declared.resources.marked_form.Marked.{Marked}
 use Rattle.json_items.specs.Shown.{shows_nothing}
-use Rattle.json_source.specs.Read.{◌>>=◌, provided, has_only, text_under}
-unfoldable pub use Rattle.json_items.specs.Ancestors.{ancestor_draft}
-pub use Rattle.json_items.specs.Shown.{shown_rw, shown_ro, shows_change, shows_read}
+use Rattle.json_source.specs.Read.{◌>>=◌, provided, text_under}
+use Rattle.json_items.specs.Ancestors.{ancestor_draft}
+use Rattle.json_items.specs.Shown.{shows_change, shows_read}
 
 -- ---- the three groups of the resources of a part's root
 

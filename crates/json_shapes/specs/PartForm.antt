@@ -14,10 +14,11 @@ use Rattle.ticket_items.specs.declared.node_row.NodeRow.{NodeRow}
 use Rattle.ticket_items.specs.declared.refusal.Refusal.{Refusal}
 use Rattle.ticket_items.specs.declared.refusal.Refusal.TheVariants.{NotProfile}
 use Rattle.ticket_items.specs.declared.resource.Resource.{Resource}
-use Rattle.json_shapes.specs.Form.{checked_fault, row_has_names, row_has_texts, sound}
+use Rattle.json_items.specs.Judged.{checked_fault, sound}
+use Rattle.json_shapes.specs.Form.{row_has_names, row_has_texts}
 use Rattle.json_shapes.specs.PartDraft.{RawPart, part_draft}
 use Rattle.json_items.specs.Resources.{resource_has_names, resource_has_texts}
-unfoldable pub use Rattle.json_items.specs.Ancestors.{ancestor_has_names}
+use Rattle.json_items.specs.Ancestors.{ancestor_has_names}
 
 -- whether all ids and names of copies are such
 abbrev pub copies_have_names : List Resource → List Resource → Bool

@@ -12,11 +12,13 @@ use Rattle.ticket_items.specs.declared.edit.Edit.{Edit}
 use Rattle.ticket_items.specs.declared.refusal.Refusal.{Refusal}
 use Rattle.ticket_items.specs.declared.refusal.Refusal.TheVariants.{BadId, BadText, NotJson}
 use Rattle.ticket_items.specs.declared.refusal.Refusal.TheVariants.{NotProfile, Memory}
+use Rattle.json_profile.specs.ReadAs as bytes
 use Rattle.json_shapes.specs.Draft.{RawTicket, ticket_draft}
 use Rattle.json_items.specs.Edits.{edit_draft}
 use Rattle.json_items.specs.Listed.{list_form}
-use Rattle.json_shapes.specs.Form.{has_names, has_texts, edit_has_names, edit_has_texts, built_fault}
-use Rattle.json_shapes.specs.Form.{sound}
+use Rattle.json_shapes.specs.Form.{has_names, has_texts, built_fault}
+use Rattle.json_items.specs.Edits.{edit_has_names, edit_has_texts}
+use Rattle.json_items.specs.Judged.{sound}
 use Rattle.json_source.specs.Read.{◌>>=◌, provided, has_only, number_under}
 
 -- edits to be done at a time, in seconds since 1970, to a ticket
@@ -75,13 +77,9 @@ document_read d =
     (Err NotProfile)
 
 -- the bytes are JSON that is read so
-pub record IsReadAs (input : List ℕ) (answer : Result Document Refusal) : Type 0 where
-  pub value : Data
-  pub utf8 : IsUtf8 input
-  pub json : read input ≡ Some value
-  pub form : document_read value ≡ answer
+abbrev pub IsReadAs : List ℕ → Result Document Refusal → Type 0
+IsReadAs input answer = bytes.IsReadAs document_read input answer
 
 -- why an input is refused: no JSON, the first refusal of its data, or memory ran out
 abbrev pub IsRefusalOf : List ℕ → Refusal → Type 0
-IsRefusalOf input e =
-    ((e ≡ NotJson) × (IsUtf8 input → read input ≡ None)) ⊎ (IsReadAs input (Err e) ⊎ (e ≡ Memory))
+IsRefusalOf input e = bytes.IsRefusalOf document_read input e

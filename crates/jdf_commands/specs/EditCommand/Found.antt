@@ -4,7 +4,7 @@ use Rattle.std.specs.Prelude.{◌≡◌, ℕ, true, List, ◌++◌, Option, Some
 use Rattle.std.specs.List.{list_all}
 use Rattle.ticket_items.specs.declared.edit.Edit.{Edit}
 use Rattle.ticket_items.specs.declared.refusal.Refusal.{Refusal}
-use Rattle.json_shapes.specs.Form.{edit_has_names, edit_has_texts}
+use Rattle.json_items.specs.Edits.{edit_has_names, edit_has_texts}
 use Rattle.json_source.specs.Read.{Fails}
 use Rattle.json_reader.specs.Found.{IsFoundTicket, all_hold, both}
 use Rattle.json_reader.specs.declared.checks.Checks.{Checks}

@@ -4,7 +4,7 @@
 ghost use Rattle.std.specs.Prelude.{◌≡◌, ◌∷◌, [], codes, map, true};
 ghost use Rattle.std.specs.Option.{option_map};
 ghost use Rattle.json_items.specs.Edits.{edit_draft};
-ghost use Rattle.json_shapes.specs.Form.{edit_has_names, edit_has_texts};
+ghost use Rattle.json_items.specs.Edits.{edit_has_names, edit_has_texts};
 ghost use Rattle.json_items.specs.DraftedEdits.{drafted_edit};
 ghost use Rattle.json_items.specs.Listed.{each, items_under};
 ghost use Rattle.serde_json.specs.View.{items_of};

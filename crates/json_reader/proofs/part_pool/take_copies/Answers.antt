@@ -1,6 +1,6 @@
 use Rattle.std.proofs.Common.{◌∙◌, take, drop, sym, ap}
 use Rattle.std.specs.List.{list_all, prefix_len}
-use Rattle.json_shapes.specs.PartDraft.{shows_change, shows_read}
+use Rattle.json_items.specs.Shown.{shows_change, shows_read}
 use Rattle.json_items.specs.Shown.{shows_nothing}
 use Rattle.json_reader.specs.DraftedPool.{drafted_shown}
 use Rattle.json_reader.proofs.PartPools.{grouped_copies, grouped_none}
