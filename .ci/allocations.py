@@ -1,13 +1,18 @@
 #!/usr/bin/env python3
-"""The program with each of its allocations refused in turn: allocations.py PROGRAM [--each N]
+"""Programs whose allocations are refused: allocations.py PROGRAM REFUSED_ORDERS [--each N]
 
-A small library stands between the program and the allocator, and refuses the allocation of one
+A small library stands between a program and the allocator, and refuses the allocation of one
 number, or all from one on. A command of each kind runs so, from its first allocation on until
 twenty runs meet none. Each run ends with `Refused 90 Memory` and status 1, or as if nothing had been
 refused, and leaves FILE as it was or as the step leaves it; an edit tells it on its own line.
 --each 10 tries every tenth allocation.
+
+Or it refuses all from a line that the program writes until it has written the next. REFUSED_ORDERS
+is that of crates/refused_orders, which writes such a line before each order that it gives to a
+controller, and then the answer.
 """
 import argparse
+import itertools
 import os
 import shutil
 import subprocess
@@ -16,18 +21,26 @@ import tempfile
 
 import faults
 import processes
-from processes import PROGRAM, passes
+from processes import PROGRAM, passes, wants
 
 # So many runs in a row that end well show that there are no more allocations.
 ENOUGH = 20
-# What refuses them: those from REFUSED_FROM to REFUSED_TO, the first being 1.
+# What the orders are, and the answers to them.
+ORDERS = os.path.join(os.path.dirname(processes.HERE), "crates/refused_orders")
+# What refuses allocations: those from REFUSED_FROM to REFUSED_TO, the first being 1; and all from a
+# write of the bytes REFUSED_BEHIND to the end of the next write.
 REFUSES = """
 #include <stdlib.h>
+#include <string.h>
+#include <sys/syscall.h>
+#include <unistd.h>
 
 void *__libc_malloc(size_t size);
 void *__libc_realloc(void *old, size_t size);
 
 static unsigned long made, from, to;
+static const char *mark;
+static int is_behind;
 
 static unsigned long number(const char *name) {
     const char *text = getenv(name);
@@ -37,12 +50,19 @@ static unsigned long number(const char *name) {
 __attribute__((constructor)) static void begin(void) {
     from = number("REFUSED_FROM");
     to = number("REFUSED_TO");
+    mark = getenv("REFUSED_BEHIND");
     made = 0;
 }
 
 static int refused(void) {
     made++;
-    return from && from <= made && made <= to;
+    return is_behind || (from && from <= made && made <= to);
+}
+
+ssize_t write(int file, const void *bytes, size_t count) {
+    ssize_t written = syscall(SYS_write, file, bytes, count);
+    is_behind = mark && count == strlen(mark) && !memcmp(bytes, mark, count);
+    return written;
 }
 
 void *malloc(size_t size) {
@@ -107,14 +127,29 @@ def refusing(step, first, last):
             del os.environ[name]
 
 
+def orders_are_refused_without_memory():
+    """Each refusal comes as ever, and what else would be done tells that memory ran out."""
+    given, told = (processes.content(os.path.join(ORDERS, name)) for name in ("stdin", "stdout"))
+    assert b"\nRefused" in told and b"\nDone\n" in told, "an order of each kind is wanted"
+    ran = subprocess.run([ARGS.refused_orders], input=given, capture_output=True, timeout=60,
+                         env=dict(os.environ, LD_PRELOAD=LIBRARY, REFUSED_BEHIND="Prepared\n"))
+    wants((ran.returncode, ran.stderr), (0, b""))
+    wanted = told.decode().replace("\nDone\n", "\n" + faults.MEMORY)
+    for lines in itertools.zip_longest(ran.stdout.decode().split("\n"), wanted.split("\n")):
+        wants(*lines)
+    print(f"  {told.count(b'Refused')} refusals without memory")
+
+
 def arguments():
     parser = argparse.ArgumentParser()
     parser.add_argument("program")
+    parser.add_argument("refused_orders", type=os.path.abspath)
     parser.add_argument("--each", type=int, default=1)
     return parser.parse_args()
 
 
-TESTS = [one_allocation_is_refused, all_allocations_from_one_on_are_refused]
+TESTS = [orders_are_refused_without_memory, one_allocation_is_refused,
+         all_allocations_from_one_on_are_refused]
 ARGS = arguments()
 FOLDER = tempfile.mkdtemp()
 LIBRARY = build(FOLDER)
