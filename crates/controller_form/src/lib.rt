@@ -5,10 +5,8 @@
 mod openings;
 mod orders;
 mod states;
+mod ticket_member;
 
 pub use openings::{Opening, Shop, ShopDraft, opening_of};
 pub use orders::{MasterOrderDraft, WorkerOrderDraft, master_order_of, worker_order_of};
-pub use states::{
-    master_pair_of, master_state_of, master_state_text, master_state_value, worker_pair_of,
-    worker_state_of, worker_state_text, worker_state_value,
-};
+pub use states::StateForm;

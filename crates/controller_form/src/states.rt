@@ -11,10 +11,9 @@ mod phase_word;
 mod record_draft;
 mod record_text;
 mod stage_word;
-mod state_text;
+mod state_draft;
+mod state_form;
 mod worker_draft;
 mod worker_state;
 
-pub use master_state::{master_pair_of, master_state_of, master_state_value};
-pub use state_text::{master_state_text, worker_state_text};
-pub use worker_state::{worker_pair_of, worker_state_of, worker_state_value};
+pub use state_form::StateForm;

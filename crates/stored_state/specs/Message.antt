@@ -1,5 +1,5 @@
 -- The messages that bytes are.
-use Rattle.std.specs.Prelude.{◌≡◌, ℕ, List, Option, None, option_and_then}
+use Rattle.std.specs.Prelude.{◌≡◌, ℕ, List, Option, option_and_then}
 use Rattle.std.specs.List.{filter_map}
 use Rattle.std.specs.Result.{result_ok}
 use Rattle.serde_json.specs.Read.{read}

@@ -9,8 +9,6 @@ mod order_bytes;
 mod resting;
 mod station;
 mod stored;
-mod stored_master;
-mod stored_worker;
 mod storing;
 mod taken_bytes;
 mod told;

@@ -6,8 +6,8 @@ ghost use Rattle.stored_state.specs.Opened.{any_state_read, controller_in, is_st
 
 use crate::kept::Kept;
 use crate::kind::{Kind, kind_of};
-use crate::stored::Stored;
 use crate::storing::load_bytes;
+use controller_form::StateForm;
 use json_source::{Scratch, tree_of};
 use keepers::Keep;
 use master_core::Master;

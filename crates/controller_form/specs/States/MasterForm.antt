@@ -5,13 +5,13 @@ use Rattle.std.specs.Prelude.{Option, Some, None, Result, Err}
 use Rattle.std.specs.List.{list_all}
 use Rattle.std.specs.Option.{option_and_then, option_map_or}
 use Rattle.serde_json.specs.Data.{Data, no_members, member, string, array, object}
-use Rattle.serde_json.specs.Find.{as_str, get}
+use Rattle.serde_json.specs.Find.{get}
 use Rattle.ticket_items.specs.Names.{is_name}
 use Rattle.ticket_items.specs.declared.refusal.Refusal.{Refusal}
 use Rattle.ticket_items.specs.declared.refusal.Refusal.TheVariants.{BadState}
 use Rattle.ticket_items.specs.declared.refusal.Refusal.TheVariants.{NotProfile, ReservedStatus}
 use Rattle.ticket_rows.specs.Ticket.{first_of, unless}
-use Rattle.json_shapes.specs.Draft.{RawTicket, ticket_draft}
+use Rattle.json_shapes.specs.Draft.{RawTicket}
 use Rattle.json_shapes.specs.Form as ticket_form
 use Rattle.json_items.specs.Judged.{checked_fault, sound}
 use Rattle.json_items.specs.Listed.{data_items, list_form, texts_data}
@@ -19,6 +19,7 @@ use Rattle.json_source.specs.Read.{◌>>=◌, provided, has_only, text_under}
 use Rattle.json_text.specs.Written.{ticket_data}
 use Rattle.master_core.specs.Master.{Known, known}
 use Rattle.master_core.specs.Stored.{is_master}
+use Rattle.controller_form.specs.Openings.ShopForm.{ticket_under, workers_under}
 use Rattle.controller_form.specs.States.RecordForm.{are_told_in, record_data, record_form}
 use Rattle.controller_form.specs.States.RecordForm.{record_has_names, record_has_texts}
 use Rattle.controller_form.specs.States.StateFormat.{controller_under, format_of, read_in}
@@ -44,8 +45,8 @@ any_master_draft d = do
   _ ← provided (has_only master_members d)
   name ← text_under (codes "Name") d
   records ← option_and_then (list_form record_form) (get (codes "Spawns") d)
-  ticket ← option_and_then ticket_draft (get (codes "Ticket") d)
-  workers ← option_and_then (list_form as_str) (get (codes "Workers") d)
+  ticket ← ticket_under d
+  workers ← workers_under d
   Some (record { name = name; workers = workers; ticket = ticket; records = records })
 
 -- a draft in a format, which has to tell the phases of its records

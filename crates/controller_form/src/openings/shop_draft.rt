@@ -1,4 +1,5 @@
 use crate::openings::shop::Shop;
+use crate::ticket_member::ticket_under;
 use json_items::{Borrowed, Checked, Draft, Drafts, build_two, two};
 use json_profile::TicketDraft;
 use json_source::Source;
@@ -15,8 +16,7 @@ pub struct ShopDraft<'a> {
 }
 
 impl<'a> ShopDraft<'a> {
-    ghost use Rattle.json_source.specs.Read.{Gives};
-    ghost use Rattle.json_reader.specs.DraftedTicket.{drafted_ticket};
+    ghost use Rattle.json_shapes.specs.Read.{Gives};
     ghost use Rattle.controller_form.specs.Openings.DraftedShop.{drafted_shop};
     ghost use Rattle.controller_form.specs.Openings.ShopForm as form;
 
@@ -27,22 +27,12 @@ impl<'a> ShopDraft<'a> {
         ensures { Gives drafted_shop result (form.shop_draft (S.content value.now)) }
     {
         let (master, workers) = two(alloc, value, "Master", "Workers")?;
-        let ticket = ShopDraft::ticket(alloc, value)?;
+        let ticket = ticket_under(alloc, value)?;
         Ok(ShopDraft {
             master,
             workers,
             ticket,
         })
-    }
-
-    /// The draft of the ticket under `Ticket`.
-    fn ticket<S: Source>(alloc: Global, value: &'a S) -> Result<TicketDraft<'a>, Refusal>
-        ensures { Gives drafted_ticket result (form.ticket_under (S.content value.now)) }
-    {
-        match value.member("Ticket") {
-            Some(ticket) => TicketDraft::of(alloc, ticket),
-            None => Err(Refusal::NotProfile),
-        }
     }
 }
 
@@ -69,12 +59,12 @@ impl<'a> Checked for ShopDraft<'a> {
         self.ticket.has_texts()
     }
 
-    /// Refuses the first fault of its ticket, then `SameName`; `Memory` may come before any but
-    /// what a resource shows of spawns.
+    /// Refuses the first fault of its ticket, then `SameName`; `Memory` may come before any.
     fn build_known(&self, alloc: Global) -> Result<Shop, Refusal> {
-        let ticket = self.ticket.build_known(alloc)?;
         let (master, workers) = build_two(alloc, &self.master, &self.workers)?;
-        if !are_apart(alloc, &master, workers.as_slice())? {
+        let is_apart = are_apart(alloc, &master, workers.as_slice())?;
+        let ticket = self.ticket.build_known(alloc)?;
+        if !is_apart {
             return Err(Refusal::SameName);
         }
         Ok(Shop {

@@ -8,8 +8,10 @@ ghost use Rattle.controller_form.specs.States.RecordForm.{is_phase_told_in};
 ghost use Rattle.controller_form.specs.States.RecordForm.{record_has_names, record_has_texts};
 ghost use Rattle.json_source.specs.Read.{Gives};
 
-use crate::states::format::Format;
+use crate::states::format::{Format, controller_under, format_of};
 use crate::states::record_draft::{RecordDraft, StoredRecord};
+use crate::states::state_draft::StateDraft;
+use crate::ticket_member::ticket_under;
 use json_items::{Borrowed, Checked, Draft, Drafts, build_two, only, two, under};
 use json_profile::TicketDraft;
 use json_source::Source;
@@ -74,17 +76,12 @@ fn build_spawns(alloc: Global, records: &[RecordDraft<'_>]) -> Result<Vec<SpawnR
 }
 
 impl<'a> MasterDraft<'a> {
-    ghost use Rattle.std.specs.Prelude.{codes};
-    ghost use Rattle.serde_json.specs.Find.{get};
-    ghost use Rattle.std.specs.Option.{option_and_then};
-    ghost use Rattle.json_shapes.specs.Draft.{ticket_draft};
-    ghost use Rattle.json_source.specs.Read.{Gives};
-    ghost use Rattle.json_reader.specs.DraftedTicket.{drafted_ticket};
+    ghost use Rattle.json_shapes.specs.Read.{Gives};
     ghost use Rattle.controller_form.specs.States.Drafted.{drafted_master};
     ghost use Rattle.controller_form.specs.States.MasterForm as form;
 
     /// The draft that a value is in a format. Refuses `NotProfile`, and `Memory`.
-    pub fn of<S: Source>(
+    fn in_format<S: Source>(
         alloc: Global,
         value: &'a S,
         format: Format,
@@ -106,7 +103,7 @@ impl<'a> MasterDraft<'a> {
     {
         only(value, &["Name", "Spawns", "Ticket", "Workers"])?;
         let (name, records) = two(alloc, value, "Name", "Spawns")?;
-        let ticket = MasterDraft::ticket(alloc, value)?;
+        let ticket = ticket_under(alloc, value)?;
         let workers = under(alloc, value, "Workers")?;
         Ok(MasterDraft {
             name,
@@ -115,16 +112,17 @@ impl<'a> MasterDraft<'a> {
             records,
         })
     }
+}
 
-    /// The draft of the ticket under `Ticket`.
-    fn ticket<S: Source>(alloc: Global, value: &'a S) -> Result<TicketDraft<'a>, Refusal>
-        ensures { Gives drafted_ticket result
-            (option_and_then ticket_draft (get (codes "Ticket") (S.content value.now))) }
-    {
-        match value.member("Ticket") {
-            Some(ticket) => TicketDraft::of(alloc, ticket),
-            None => Err(Refusal::NotProfile),
-        }
+impl<'a> StateDraft<'a> for MasterDraft<'a> {
+    ghost use Rattle.controller_form.specs.States.MasterForm as form;
+
+    ghost read = { form.master_state_read };
+
+    fn of<S: Source>(alloc: Global, value: &'a S) -> Result<MasterDraft<'a>, Refusal> {
+        let format = format_of(value)?;
+        let controller = controller_under(value, "Master")?;
+        MasterDraft::in_format(alloc, controller, format)
     }
 }
 
@@ -161,9 +159,9 @@ impl<'a> Checked for MasterDraft<'a> {
         if !are_bare(self.records.as_slice()) {
             return Err(Refusal::ReservedStatus);
         }
-        let ticket = self.ticket.build_known(alloc)?;
-        let spawns = build_spawns(alloc, self.records.as_slice())?;
         let (name, workers) = build_two(alloc, &self.name, &self.workers)?;
+        let spawns = build_spawns(alloc, self.records.as_slice())?;
+        let ticket = self.ticket.build_known(alloc)?;
         Master::of_parts(alloc, name, workers, ticket, spawns)
     }
 }

@@ -2,7 +2,8 @@
 
 use crate::states::entry_draft::EntryDraft;
 use crate::states::entry_drafts::{build_entries, entry_drafts, have_names, have_texts};
-use crate::states::format::Format;
+use crate::states::format::{Format, controller_under, format_of};
+use crate::states::state_draft::StateDraft;
 use json_items::{Borrowed, Checked, Draft, Drafts, build_two, only, two};
 use json_source::Source;
 use std::alloc::Global;
@@ -29,7 +30,7 @@ impl<'a> WorkerDraft<'a> {
 
     /// The draft that a value is in a format. Refuses `NotProfile`, and `Memory`.
     #[tactic(auto, unfolding(crate::specs::States::WorkerForm::worker_draft))]
-    pub fn of<S: Source>(
+    fn in_format<S: Source>(
         alloc: Global,
         value: &'a S,
         format: Format,
@@ -59,6 +60,18 @@ impl<'a> WorkerDraft<'a> {
         let items = list.items().ok_or(Refusal::NotProfile)?;
         let drafts = entry_drafts(alloc, items, format)?;
         Ok(Drafts::new(drafts))
+    }
+}
+
+impl<'a> StateDraft<'a> for WorkerDraft<'a> {
+    ghost use Rattle.controller_form.specs.States.WorkerForm as form;
+
+    ghost read = { form.worker_state_read };
+
+    fn of<S: Source>(alloc: Global, value: &'a S) -> Result<WorkerDraft<'a>, Refusal> {
+        let format = format_of(value)?;
+        let controller = controller_under(value, "Worker")?;
+        WorkerDraft::in_format(alloc, controller, format)
     }
 }
 

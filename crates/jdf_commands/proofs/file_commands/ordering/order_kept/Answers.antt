@@ -9,13 +9,13 @@ use Rattle.jdf_commands.proofs.file_commands.ordering.order_kept.Goals as goal
 
 pub returns-in-Ok-clause-ok : goal.returns-in-Ok-clause-ok
 returns-in-Ok-clause-ok g c =
-    out_of g.K.Keep.is_honest g.K.Keep.held (λ x. compact_text (g.C.Stored.state_data x)) (λ s. s ≡ in_text (g.C.Controller.order_step c.in-Ok.order c.args.at c.args.kept.now.controller))
+    out_of g.K.Keep.is_honest g.K.Keep.held (λ x. compact_text (g.C.StateForm.state_data x)) (λ s. s ≡ in_text (g.C.Controller.order_step c.in-Ok.order c.args.at c.args.kept.now.controller))
     (IsOfOrder g.C.Ordered.order_read c.args.input.now (λ order. in_text (g.C.Controller.order_step order c.args.at c.args.kept.now.controller)))
     c.do_order.new.kept c.do_order.result (λ s is. record { order = c.in-Ok.order; read = c.in-Ok.ensures.ok; is = is }) c.do_order.ensures.ok
 
 pub returns-in-Ok-clause-refused : goal.returns-in-Ok-clause-refused
 returns-in-Ok-clause-refused g c =
-    no_output_of g.K.Keep.is_honest g.K.Keep.held g.K.Keep.count g.K.Keep.save_fails (λ x. compact_text (g.C.Stored.state_data x)) (λ e. e ≡ Memory) (IsRefusalOf g.C.Ordered.order_read c.args.input.now)
+    no_output_of g.K.Keep.is_honest g.K.Keep.held g.K.Keep.count g.K.Keep.save_fails (λ x. compact_text (g.C.StateForm.state_data x)) (λ e. e ≡ Memory) (IsRefusalOf g.C.Ordered.order_read c.args.input.now)
     (λ s. s ≡ in_text (g.C.Controller.order_step c.in-Ok.order c.args.at c.args.kept.now.controller))
     (IsOfOrder g.C.Ordered.order_read c.args.input.now (λ order. in_text (g.C.Controller.order_step order c.args.at c.args.kept.now.controller)))
     c.args.kept.now c.do_order.new.kept c.do_order.result (λ e is. inr (inr is)) (λ s is. record { order = c.in-Ok.order; read = c.in-Ok.ensures.ok; is = is }) c.do_order.ensures.refused

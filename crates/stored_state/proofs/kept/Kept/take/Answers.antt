@@ -30,5 +30,5 @@ step_tells h b n f bytes text old new m decoded (Err e) fact = error_tells h b n
 pub returns-clause-refused : goal.returns-clause-refused
 returns-clause-refused g c =
     step_tells g.K.Keep.is_honest g.K.Keep.held g.K.Keep.count g.K.Keep.save_fails c.args.bytes.now
-    (λ m. compact_text (g.C.Stored.state_data (g.C.Controller.take_step m c.args.at c.args.self.now.controller).next))
+    (λ m. compact_text (g.C.StateForm.state_data (g.C.Controller.take_step m c.args.at c.args.self.now.controller).next))
     c.args.self.now c.take_message.new.self c.in_ok-message.message c.in_ok-message.ensures.found c.take_message.result c.take_message.ensures.refused

@@ -64,4 +64,4 @@ returns-then-not-are_bare-clause-err c =
 pub returns-in_err-ticket-clause-err : goal.returns-in_err-ticket-clause-err
 returns-in_err-ticket-clause-err c =
     let shown = all_mapped (λ (r : StoredRecord). r.bare) drafted_record c.args.self.now.records ∙ sym (ap (list_all (λ d. (drafted_record d).bare)) c.as_slice.ensures) ∙ sym c.are_bare.ensures ∙ c.if-not-are_bare.false in
-    refused_part c.from_residual.result c.in_err-ticket.field-0.0 (built_fault (drafted_ticket c.args.self.now.ticket)) (master_built_fault (drafted_master c.args.self.now)) c.from_residual.ensures.1 c.in_err-ticket.ensures.err (λ is. in_ticket _ _ _ _ shown is)
+    refused_part c.from_residual-in_err-ticket.result c.in_err-ticket.field-0.0 (built_fault (drafted_ticket c.args.self.now.ticket)) (master_built_fault (drafted_master c.args.self.now)) c.from_residual-in_err-ticket.ensures.1 c.in_err-ticket.ensures.err (λ is. in_ticket _ _ _ _ shown is)

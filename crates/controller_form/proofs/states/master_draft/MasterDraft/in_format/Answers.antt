@@ -9,7 +9,7 @@ use Rattle.controller_form.specs.States.RecordForm.{are_told_in, is_phase_told_i
 use Rattle.controller_form.specs.declared.states.format.Format.{Format}
 use Rattle.controller_form.specs.declared.states.record_draft.RecordDraft.{RecordDraft}
 use Rattle.controller_form.proofs.Drafts.{spawns_drafted}
-use Rattle.controller_form.proofs.states.master_draft.MasterDraft.of.Goals as goal
+use Rattle.controller_form.proofs.states.master_draft.MasterDraft.in_format.Goals as goal
 
 -- the phases are told just if the test of the drafts says so
 told : (format : Format) (ds seen : List RecordDraft) (b : Bool) → seen ≡ ds → b ≡ list_all (λ d. is_phase_told_in format (drafted_record d).spawn.phase) seen

@@ -4,7 +4,7 @@ use Rattle.json_items.specs.Listed.{data_items}
 use Rattle.json_text.proofs.PrintedObjects.{opened, same_member, closed}
 use Rattle.controller_form.specs.States.EntryForm.{entry_data}
 use Rattle.controller_form.specs.States.StateFormat.{written}
-use Rattle.controller_form.proofs.states.state_text.print_worker.Goals as goal
+use Rattle.controller_form.proofs.states.worker_state.print_worker.Goals as goal
 
 pub returns-clause-printed : goal.returns-clause-printed
 returns-clause-printed c =

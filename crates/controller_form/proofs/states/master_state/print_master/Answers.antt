@@ -4,7 +4,7 @@ use Rattle.json_items.specs.Listed.{data_items, texts_data}
 use Rattle.json_text.proofs.PrintedObjects.{opened, same_member, keyed, closed}
 use Rattle.json_text.specs.Written.{ticket_data}
 use Rattle.controller_form.specs.States.RecordForm.{record_data}
-use Rattle.controller_form.proofs.states.state_text.print_master.Goals as goal
+use Rattle.controller_form.proofs.states.master_state.print_master.Goals as goal
 
 pub returns-clause-printed : goal.returns-clause-printed
 returns-clause-printed c =

@@ -1,5 +1,5 @@
 use Rattle.controller_form.proofs.Refusing.{refused_so}
-use Rattle.controller_form.proofs.states.master_state.master_pair_of.Goals as goal
+use Rattle.controller_form.proofs.states.state_draft.StateDraft.pair.Goals as goal
 
 pub returns-in_err-second-clause-refused : goal.returns-in_err-second-clause-refused
 returns-in_err-second-clause-refused g c =
