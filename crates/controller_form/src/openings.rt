@@ -1,7 +1,6 @@
 //! Shops as JSON, in our own profile: a master with its workers' names and its ticket; and what a
 //! controller is begun of, a master or a worker.
 
-mod master_opening;
 mod opening;
 mod opening_read;
 mod shop;

@@ -2,6 +2,7 @@
 use Rattle.std.specs.Prelude.{ℕ, ◌&&◌, Bool, true, not, List, [], ◌∷◌, codes, Option, Some}
 use Rattle.std.specs.Prelude.{is_some, if◌then◌else◌, Result, Err}
 use Rattle.std.specs.Option.{option_map_or}
+use Rattle.std.specs.Result.{result_map_both}
 use Rattle.std.specs.Str.{bytes_eq}
 use Rattle.serde_json.specs.Data.{Data}
 use Rattle.serde_json.specs.Find.{get}
@@ -14,9 +15,10 @@ use Rattle.json_source.specs.Read.{◌>>=◌, provided, has_only, text_under}
 use Rattle.master_core.specs.Master as master
 use Rattle.worker_core.specs.Worker as worker
 use Rattle.controller_form.specs.Openings.ShopForm.{RawShop, shop_draft, shop_fault, shop_has_names}
-use Rattle.controller_form.specs.Openings.ShopForm.{shop_has_texts}
+use Rattle.controller_form.specs.Openings.ShopForm.{shop_has_texts, shop_of}
 use Rattle.controller_form.specs.declared.openings.opening.Opening.{Opening}
 use Rattle.controller_form.specs.declared.openings.opening.Opening.TheVariants.{Master, Worker}
+use Rattle.controller_form.specs.declared.openings.shop.Shop.{Shop}
 
 -- ---- a master
 
@@ -29,13 +31,17 @@ master_draft d = provided (has_only master_members d) >>= λ _. shop_draft d
 abbrev pub shop_read_fault : RawShop → Option Refusal
 shop_read_fault s = checked_fault (shop_has_names s) (shop_has_texts s) (shop_fault s)
 
+-- the shop of a master
+abbrev pub shop_read : Data → Result Shop Refusal
+shop_read d =
+    option_map_or (λ s. sound (shop_read_fault s) (shop_of s)) (master_draft d) (Err NotProfile)
+
 -- the master of a shop, of whose ticket nothing is out
-abbrev pub master_in : RawShop → Opening
-master_in s = Master (master.known s.master s.workers s.ticket.job [])
+abbrev pub opened : Shop → Opening
+opened s = Master (master.known s.master s.workers s.ticket [])
 
 abbrev pub master_read : Data → Result Opening Refusal
-master_read d =
-    option_map_or (λ s. sound (shop_read_fault s) (master_in s)) (master_draft d) (Err NotProfile)
+master_read d = result_map_both opened (λ e. e) (shop_read d)
 
 -- ---- a worker
 

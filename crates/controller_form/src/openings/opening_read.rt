@@ -5,20 +5,36 @@ ghost use Rattle.json_items.specs.Judged.{Answers};
 ghost use Rattle.json_profile.specs.ReadAs.{IsReadAs, IsRefusalOf};
 ghost use Rattle.controller_form.specs.Openings.OpeningForm as form;
 
-use crate::openings::master_opening::MasterOpening;
 use crate::openings::opening::Opening;
+use crate::openings::shop::Shop;
+use crate::openings::shop_draft::ShopDraft;
 use crate::openings::worker_opening::WorkerOpening;
-use json_items::Checked;
+use json_items::{Checked, only};
 use json_source::{Scratch, Source, tree_of};
+use master_core::Master;
 use std::alloc::Global;
 use ticket_tree::Refusal;
+
+/// The shop of the master that a value begins.
+fn shop_in<S: Source>(alloc: Global, value: &S) -> Result<Shop, Refusal>
+    ensures { Answers result (form.shop_read (S.content value.now)) }
+{
+    only(value, &["Master", "Ticket", "Workers"])?;
+    let draft = ShopDraft::of(alloc, value)?;
+    draft.build(alloc)
+}
 
 /// The master that a value begins.
 fn master_opening<S: Source>(alloc: Global, value: &S) -> Result<Opening, Refusal>
     ensures { Answers result (form.master_read (S.content value.now)) }
 {
-    let draft = MasterOpening::of(alloc, value)?;
-    draft.build(alloc)
+    let Shop {
+        master: name,
+        workers,
+        ticket,
+    } = shop_in(alloc, value)?;
+    let master = Master::new(alloc, name, workers, ticket)?;
+    Ok(Opening::Master(master))
 }
 
 /// The worker that a value begins.
