@@ -16,7 +16,7 @@ pub struct ShopDraft<'a> {
 }
 
 impl<'a> ShopDraft<'a> {
-    ghost use Rattle.json_shapes.specs.Read.{Gives};
+    ghost use Rattle.json_source.specs.Read.{Gives};
     ghost use Rattle.controller_form.specs.Openings.DraftedShop.{drafted_shop};
     ghost use Rattle.controller_form.specs.Openings.ShopForm as form;
 

@@ -76,7 +76,7 @@ fn build_spawns(alloc: Global, records: &[RecordDraft<'_>]) -> Result<Vec<SpawnR
 }
 
 impl<'a> MasterDraft<'a> {
-    ghost use Rattle.json_shapes.specs.Read.{Gives};
+    ghost use Rattle.json_source.specs.Read.{Gives};
     ghost use Rattle.controller_form.specs.States.Drafted.{drafted_master};
     ghost use Rattle.controller_form.specs.States.MasterForm as form;
 
