@@ -149,6 +149,7 @@ impl World {
         ensures state { OnOk result (self.new
             ≡ happening.settled stop self.old (happening.master_step order at self.old)) }
         ensures err { OnErr result (self.new ≡ self.old) }
+        ensures kept { state.IsKept self.old }
     {
         stepping::is_told(alloc, &mut self.master, &mut self.messages, order, at, stop)
     }
@@ -170,6 +171,7 @@ impl World {
         ensures err { OnErr result (self.new ≡ self.old) }
         ensures unmade { happening.is_reached (happening.worker_step name.now order at self.old)
             ≡ false → IsOk result }
+        ensures kept { state.IsKept self.old }
     {
         match place_of(self.workers.as_slice(), name) {
             None => {
@@ -251,6 +253,7 @@ impl World {
         ensures err { OnErr result (self.new ≡ self.old) }
         ensures unmade { happening.is_reached (happening.delivery_step number at self.old)
             ≡ false → IsOk result }
+        ensures kept { state.IsKept self.old }
     {
         let Some(message) = self.messages.read(alloc, number)? else {
             return Ok(Answer::without_step(Word::NoMessage));
@@ -270,6 +273,7 @@ impl World {
         ensures err { OnErr result (self.new ≡ self.old) }
         ensures unmade { happening.is_reached (Err (happening.restart_word name.now self.old))
             ≡ false → IsOk result }
+        ensures kept { state.IsKept self.old }
     {
         if name == self.master.controller().name() {
             self.master.restart(alloc)?;
@@ -306,8 +310,6 @@ impl World {
         ensures held { (c : Changer) (x : List ℕ)
             → MayChange self.new c x ↔ Holds (shows self.new).shop c x }
     {
-        // A world is kept in order.
-        let _sent = self.messages();
         let Event { what, at, stop } = event;
         match what {
             What::MasterOrder(order) => self.order_master(alloc, order, at, stop),
@@ -345,8 +347,8 @@ impl World {
         ensures held { (c : Changer) (x : List ℕ)
             → MayChange self.new c x ↔ Holds (shows self.new).shop c x }
     {
-        // A world is kept in order.
-        let _sent = self.messages();
+        // A world is kept in order: that is known where a field is named.
+        let _ = &self.messages;
         let mut answers = Vec::with_capacity(alloc, events.len())?;
         for event in events {
             let answer = self.step(alloc, event)?;

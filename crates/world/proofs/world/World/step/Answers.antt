@@ -6,51 +6,51 @@ use Rattle.world.proofs.world.World.step.Goals as goal
 -- ---- what is answered, and what is shown then
 
 pub returns-in-MasterOrder-clause-said : goal.returns-in-MasterOrder-clause-said
-returns-in-MasterOrder-clause-said c = said_so c.order_master.result c.args.event (MasterOrder c.in-MasterOrder.order) c.args.self.now c.messages-sent.ensures.kept c.in-MasterOrder.is c.order_master.ensures.answer
+returns-in-MasterOrder-clause-said c = said_so c.order_master.result c.args.event (MasterOrder c.in-MasterOrder.order) c.args.self.now c.order_master.ensures.kept c.in-MasterOrder.is c.order_master.ensures.answer
 
 pub returns-in-MasterOrder-clause-shown : goal.returns-in-MasterOrder-clause-shown
-returns-in-MasterOrder-clause-shown c = shown_so c.order_master.result c.args.event (MasterOrder c.in-MasterOrder.order) c.args.self.now c.order_master.new.self c.messages-sent.ensures.kept c.in-MasterOrder.is c.order_master.ensures.state
+returns-in-MasterOrder-clause-shown c = shown_so c.order_master.result c.args.event (MasterOrder c.in-MasterOrder.order) c.args.self.now c.order_master.new.self c.order_master.ensures.kept c.in-MasterOrder.is c.order_master.ensures.state
 
 pub returns-in-WorkerOrder-clause-said : goal.returns-in-WorkerOrder-clause-said
-returns-in-WorkerOrder-clause-said c = said_so c.order_worker.result c.args.event (WorkerOrder c.in-WorkerOrder.name c.in-WorkerOrder.order) c.args.self.now c.messages-sent.ensures.kept c.in-WorkerOrder.is c.order_worker.ensures.answer
+returns-in-WorkerOrder-clause-said c = said_so c.order_worker.result c.args.event (WorkerOrder c.in-WorkerOrder.name c.in-WorkerOrder.order) c.args.self.now c.order_worker.ensures.kept c.in-WorkerOrder.is c.order_worker.ensures.answer
 
 pub returns-in-WorkerOrder-clause-shown : goal.returns-in-WorkerOrder-clause-shown
-returns-in-WorkerOrder-clause-shown c = shown_so c.order_worker.result c.args.event (WorkerOrder c.in-WorkerOrder.name c.in-WorkerOrder.order) c.args.self.now c.order_worker.new.self c.messages-sent.ensures.kept c.in-WorkerOrder.is c.order_worker.ensures.state
+returns-in-WorkerOrder-clause-shown c = shown_so c.order_worker.result c.args.event (WorkerOrder c.in-WorkerOrder.name c.in-WorkerOrder.order) c.args.self.now c.order_worker.new.self c.order_worker.ensures.kept c.in-WorkerOrder.is c.order_worker.ensures.state
 
 pub returns-in-Deliver-clause-said : goal.returns-in-Deliver-clause-said
-returns-in-Deliver-clause-said c = said_so c.deliver.result c.args.event (Deliver c.in-Deliver.number) c.args.self.now c.messages-sent.ensures.kept c.in-Deliver.is c.deliver.ensures.answer
+returns-in-Deliver-clause-said c = said_so c.deliver.result c.args.event (Deliver c.in-Deliver.number) c.args.self.now c.deliver.ensures.kept c.in-Deliver.is c.deliver.ensures.answer
 
 pub returns-in-Deliver-clause-shown : goal.returns-in-Deliver-clause-shown
-returns-in-Deliver-clause-shown c = shown_so c.deliver.result c.args.event (Deliver c.in-Deliver.number) c.args.self.now c.deliver.new.self c.messages-sent.ensures.kept c.in-Deliver.is c.deliver.ensures.state
+returns-in-Deliver-clause-shown c = shown_so c.deliver.result c.args.event (Deliver c.in-Deliver.number) c.args.self.now c.deliver.new.self c.deliver.ensures.kept c.in-Deliver.is c.deliver.ensures.state
 
 pub returns-in-Restart-clause-said : goal.returns-in-Restart-clause-said
-returns-in-Restart-clause-said c = said_so c.restart.result c.args.event (Restart c.in-Restart.name) c.args.self.now c.messages-sent.ensures.kept c.in-Restart.is c.restart.ensures.answer
+returns-in-Restart-clause-said c = said_so c.restart.result c.args.event (Restart c.in-Restart.name) c.args.self.now c.restart.ensures.kept c.in-Restart.is c.restart.ensures.answer
 
 pub returns-in-Restart-clause-shown : goal.returns-in-Restart-clause-shown
-returns-in-Restart-clause-shown c = shown_so c.restart.result c.args.event (Restart c.in-Restart.name) c.args.self.now c.restart.new.self c.messages-sent.ensures.kept c.in-Restart.is c.restart.ensures.state
+returns-in-Restart-clause-shown c = shown_so c.restart.result c.args.event (Restart c.in-Restart.name) c.args.self.now c.restart.new.self c.restart.ensures.kept c.in-Restart.is c.restart.ensures.state
 
 -- ---- who may change what then
 
 pub returns-in-MasterOrder-clause-alone : goal.returns-in-MasterOrder-clause-alone
-returns-in-MasterOrder-clause-alone c = alone c.order_master.new.self (kept_then c.order_master.result (MasterOrder c.in-MasterOrder.order) c.args.event.at c.args.event.stop c.args.self.now c.order_master.new.self c.messages-sent.ensures.kept c.order_master.ensures.state c.order_master.ensures.err)
+returns-in-MasterOrder-clause-alone c = alone c.order_master.new.self (kept_then c.order_master.result (MasterOrder c.in-MasterOrder.order) c.args.event.at c.args.event.stop c.args.self.now c.order_master.new.self c.order_master.ensures.kept c.order_master.ensures.state c.order_master.ensures.err)
 
 pub returns-in-MasterOrder-clause-held : goal.returns-in-MasterOrder-clause-held
-returns-in-MasterOrder-clause-held c = by_holders c.order_master.new.self (kept_then c.order_master.result (MasterOrder c.in-MasterOrder.order) c.args.event.at c.args.event.stop c.args.self.now c.order_master.new.self c.messages-sent.ensures.kept c.order_master.ensures.state c.order_master.ensures.err)
+returns-in-MasterOrder-clause-held c = by_holders c.order_master.new.self (kept_then c.order_master.result (MasterOrder c.in-MasterOrder.order) c.args.event.at c.args.event.stop c.args.self.now c.order_master.new.self c.order_master.ensures.kept c.order_master.ensures.state c.order_master.ensures.err)
 
 pub returns-in-WorkerOrder-clause-alone : goal.returns-in-WorkerOrder-clause-alone
-returns-in-WorkerOrder-clause-alone c = alone c.order_worker.new.self (kept_then c.order_worker.result (WorkerOrder c.in-WorkerOrder.name c.in-WorkerOrder.order) c.args.event.at c.args.event.stop c.args.self.now c.order_worker.new.self c.messages-sent.ensures.kept c.order_worker.ensures.state c.order_worker.ensures.err)
+returns-in-WorkerOrder-clause-alone c = alone c.order_worker.new.self (kept_then c.order_worker.result (WorkerOrder c.in-WorkerOrder.name c.in-WorkerOrder.order) c.args.event.at c.args.event.stop c.args.self.now c.order_worker.new.self c.order_worker.ensures.kept c.order_worker.ensures.state c.order_worker.ensures.err)
 
 pub returns-in-WorkerOrder-clause-held : goal.returns-in-WorkerOrder-clause-held
-returns-in-WorkerOrder-clause-held c = by_holders c.order_worker.new.self (kept_then c.order_worker.result (WorkerOrder c.in-WorkerOrder.name c.in-WorkerOrder.order) c.args.event.at c.args.event.stop c.args.self.now c.order_worker.new.self c.messages-sent.ensures.kept c.order_worker.ensures.state c.order_worker.ensures.err)
+returns-in-WorkerOrder-clause-held c = by_holders c.order_worker.new.self (kept_then c.order_worker.result (WorkerOrder c.in-WorkerOrder.name c.in-WorkerOrder.order) c.args.event.at c.args.event.stop c.args.self.now c.order_worker.new.self c.order_worker.ensures.kept c.order_worker.ensures.state c.order_worker.ensures.err)
 
 pub returns-in-Deliver-clause-alone : goal.returns-in-Deliver-clause-alone
-returns-in-Deliver-clause-alone c = alone c.deliver.new.self (kept_then c.deliver.result (Deliver c.in-Deliver.number) c.args.event.at c.args.event.stop c.args.self.now c.deliver.new.self c.messages-sent.ensures.kept c.deliver.ensures.state c.deliver.ensures.err)
+returns-in-Deliver-clause-alone c = alone c.deliver.new.self (kept_then c.deliver.result (Deliver c.in-Deliver.number) c.args.event.at c.args.event.stop c.args.self.now c.deliver.new.self c.deliver.ensures.kept c.deliver.ensures.state c.deliver.ensures.err)
 
 pub returns-in-Deliver-clause-held : goal.returns-in-Deliver-clause-held
-returns-in-Deliver-clause-held c = by_holders c.deliver.new.self (kept_then c.deliver.result (Deliver c.in-Deliver.number) c.args.event.at c.args.event.stop c.args.self.now c.deliver.new.self c.messages-sent.ensures.kept c.deliver.ensures.state c.deliver.ensures.err)
+returns-in-Deliver-clause-held c = by_holders c.deliver.new.self (kept_then c.deliver.result (Deliver c.in-Deliver.number) c.args.event.at c.args.event.stop c.args.self.now c.deliver.new.self c.deliver.ensures.kept c.deliver.ensures.state c.deliver.ensures.err)
 
 pub returns-in-Restart-clause-alone : goal.returns-in-Restart-clause-alone
-returns-in-Restart-clause-alone c = alone c.restart.new.self (kept_then c.restart.result (Restart c.in-Restart.name) c.args.event.at c.args.event.stop c.args.self.now c.restart.new.self c.messages-sent.ensures.kept c.restart.ensures.state c.restart.ensures.err)
+returns-in-Restart-clause-alone c = alone c.restart.new.self (kept_then c.restart.result (Restart c.in-Restart.name) c.args.event.at c.args.event.stop c.args.self.now c.restart.new.self c.restart.ensures.kept c.restart.ensures.state c.restart.ensures.err)
 
 pub returns-in-Restart-clause-held : goal.returns-in-Restart-clause-held
-returns-in-Restart-clause-held c = by_holders c.restart.new.self (kept_then c.restart.result (Restart c.in-Restart.name) c.args.event.at c.args.event.stop c.args.self.now c.restart.new.self c.messages-sent.ensures.kept c.restart.ensures.state c.restart.ensures.err)
+returns-in-Restart-clause-held c = by_holders c.restart.new.self (kept_then c.restart.result (Restart c.in-Restart.name) c.args.event.at c.args.event.stop c.args.self.now c.restart.new.self c.restart.ensures.kept c.restart.ensures.state c.restart.ensures.err)
