@@ -1,5 +1,5 @@
 -- What always holds of a shop holds after each event, and so after all.
-use Rattle.std.proofs.Common.{◌≡◌, inl, ℕ, Bool, true, false, cond, zero, suc, List, [], ◌∷◌, ◌++◌, Option, Some, None, is_some, IsSomeAnd, Ok, Err, refl, sym, ap, ◌∙◌, subst}
+use Rattle.std.proofs.Common.{◌≡◌, inl, ℕ, Bool, true, false, cond, zero, suc, List, [], ◌∷◌, ◌++◌, Option, Some, None, IfSome, IsSomeAnd, Ok, Err, refl, sym, ap, ◌∙◌, subst}
 use Rattle.std.proofs.lemmas.Bool.{eq-eqb, true≢false}
 use Rattle.std.proofs.lemmas.List.Elements.{All-contains}
 use Rattle.std.proofs.lemmas.Option.{get_or_from_slice_get, slice_get_within}
@@ -11,11 +11,11 @@ use Rattle.ticket_items.specs.declared.refusal.Refusal.{Refusal}
 use Rattle.ticket_items.specs.declared.refusal.Refusal.TheVariants.{UnknownWorker}
 use Rattle.ticket_rows.proofs.AtHome.{find-passes}
 use Rattle.ticket_items.proofs.Apart.{bytes_eq-same}
+use Rattle.controller.proofs.Answered.{answering_tells, free_answers, told_by}
 use Rattle.controller.specs.Reply.{spawn_in}
 use Rattle.controller.specs.declared.body.Body.{Body}
 use Rattle.controller.specs.declared.body.Body.TheVariants.{Submit, Return, Abort, Answer}
 use Rattle.controller.specs.declared.message.Message.{Message}
-use Rattle.controller.specs.declared.queue_status.QueueStatus.TheVariants as queue
 use Rattle.master_core.proofs.MessageKept.{message_is_kept}
 use Rattle.master_core.proofs.OrderKept.{ordered_kept}
 use Rattle.master_core.proofs.Recorded.{number_is}
@@ -26,6 +26,7 @@ use Rattle.master_core.specs.declared.order.Order as master_order
 use Rattle.worker_core.proofs.AtNumber.{find-at_number, find-behind, found_holds}
 use Rattle.worker_core.proofs.Closing.{aborted_is_shut, aborted_number}
 use Rattle.worker_core.proofs.Kept as worker_kept
+use Rattle.worker_core.proofs.MessageLaws.{told_found}
 use Rattle.worker_core.specs.Messages as worker_messages
 use Rattle.worker_core.specs.Orders as worker_orders
 use Rattle.worker_core.specs.Worker as worker
@@ -39,13 +40,13 @@ use Rattle.world.proofs.MasterSteps as master_steps
 use Rattle.world.proofs.Names.{ordered_names, taken_by_master_names, taken_by_worker_names, worker_ordered_names}
 use Rattle.world.proofs.Stored.{entry_there, found_and}
 use Rattle.world.proofs.Receivers.{worker_receives}
-use Rattle.world.proofs.Sending.{IsTaken, answer_is_new}
+use Rattle.world.proofs.Sending.{IsNew, IsTaken, answer_is_new}
 use Rattle.world.proofs.WorkerSteps as worker_steps
 use Rattle.world.specs.Controllers.{entry_at, is_named, worker_of}
 use Rattle.world.specs.Happening.{after, after_all, master_takes, receiver_takes, settled, step_of, worker_takes}
 use Rattle.world.specs.Messages.{AreRecorded, IsInOrder, TellsEntry, entry_for}
 use Rattle.world.specs.State.{IsKept, State, message_at}
-use Rattle.controller.specs.Step.{Step, unless_refused}
+use Rattle.controller.specs.Step.{Step, Taking, unless_refused}
 use Rattle.master_core.specs.Orders.{order_step as ordered_master}
 use Rattle.worker_core.specs.Orders.{order_step as ordered_worker}
 use Rattle.master_core.specs.Messages.{take_step as taken_by_master}
@@ -75,8 +76,8 @@ master_order_keeps o at w ok =
     record { stored = stored; sent = master_steps.ordered_sends o at c w.messages ok.master none kept stored.messages.each })
 
 -- a part that comes back to the master was put in then, and it isn't to give a spawn up
-taken_back : (w : State) (m : Message) (at : ℕ) (body : Body) → m.body ≡ body → IsKept w → m.receiver ≡ w.controllers.master.name → (h : IsInOrder w.controllers m) (later : IsInOrder (master_steps.with_master w.controllers (master_messages.after_taking m at w.controllers.master)) m)
-    → IsTaken (master_steps.with_master w.controllers (master_messages.after_taking m at w.controllers.master)) later.spawn (master_messages.taken_result m w.controllers.master) body
+taken_back : (w : State) (m : Message) (at : ℕ) (body : Body) → m.body ≡ body → IsKept w → m.receiver ≡ w.controllers.master.name → (h : IsInOrder w.controllers m) (later : IsInOrder (master_steps.with_master w.controllers (master_messages.take_step m at w.controllers.master).next) m)
+    → IsTaken (master_steps.with_master w.controllers (master_messages.take_step m at w.controllers.master).next) later.spawn (told_by (master_messages.take_refusal m w.controllers.master) (master_messages.taken m.body at w.controllers.master).told) body
 taken_back w m at (Submit p) says ok own h later = tt
 taken_back w m at (Answer d s told) says ok own h later = tt
 taken_back w m at (Abort s) says ok own h later =
@@ -85,20 +86,26 @@ taken_back w m at (Abort s) says ok own h later =
 taken_back w m at (Return p) says ok own h later =
     let c = w.controllers in
     let none = master_refuses_nothing c m ok.recorded ok.back (ap worker_messages.is_for_workers says) h in (
-      returned_told c m p says none,
-      returned_in m at c.master p h.spawn later.spawn says none (ap (λ b. master.record_of c.master.records (spawn_in b)) (sym says) ∙ h.recorded) (ap (λ b. master.record_of (master_messages.after_taking m at c.master).records (spawn_in b)) (sym says) ∙ later.recorded),
+      returned_told c m at p says none,
+      returned_in m at c.master p h.spawn later.spawn says none (ap (λ b. master.record_of c.master.records (spawn_in b)) (sym says) ∙ h.recorded) (ap (λ b. master.record_of (master_messages.take_step m at c.master).next.records (spawn_in b)) (sym says) ∙ later.recorded),
     )
 
 pub master_takes_keeps : (m : Message) (at : ℕ) (w : State) → IsKept w → Contains w.messages m → m.receiver ≡ w.controllers.master.name → Keeps w (master_moved w.controllers (taken_by_master m at w.controllers.master))
 master_takes_keeps m at w ok there own =
     let c = w.controllers in
-    let next = master_messages.after_taking m at c.master in
+    let next = (master_messages.take_step m at c.master).next in
     let good : IsInOrder c m = All-contains (IsInOrder c) w.messages m ok.messages.each there in
     let later = master_steps.taken_later m at c ok.master good.for_master in
     let stored = master_stored c next w.messages ok (message_is_kept m at c.master good.for_master ok.master) (taken_by_master_names m at c.master) later (returned_back m at c ok.master.numbered good ok.back) in
     let d = master_steps.with_master c next in
     let good_later : IsInOrder d m = in_order_later c d later m good in
-    record { stored = stored; sent = answer_is_new d w.messages c.master.name m.sender m.receiver m.at at m.body (master_messages.taken_result m c.master) stored.messages.each own good_later (taken_back w m at m.body refl ok own good good_later) }
+    let why = master_messages.take_refusal m c.master in
+    let t = master_messages.taken m.body at c.master in
+    record {
+      stored = stored;
+      sent = subst (λ o. IfSome o (IsNew d w.messages)) (answering_tells c.master.name m at why c.master t)
+          (answer_is_new d w.messages c.master.name m.sender m.receiver m.at at m.body (told_by why t.told) stored.messages.each own good_later (taken_back w m at m.body refl ok own good good_later));
+    }
 
 -- ---- a worker
 
@@ -139,22 +146,22 @@ worker_order_keeps o at w v ok found =
     record { stored = stored; sent = worker_steps.ordered_sends o at c w.messages v found is.knows none kept recorded stored.messages.each })
 
 -- what is to be given up has an entry then, which tells what is told
-given_up : (found : Option Entry) (s at : ℕ) (entries : List Entry) → worker.entry_of entries s ≡ found
-    → let next = cond (is_some found) (worker.with_entry s (worker_messages.aborted_entry at) entries) (entries ++ worker.declined_entry s at ∷ []) in
-    IsSomeAnd (worker.entry_of next s) (TellsEntry (worker.told_in next s))
-given_up None s at entries none =
-    let next = entries ++ worker.declined_entry s at ∷ [] in
-    let there : worker.entry_of next s ≡ Some (worker.declined_entry s at) = find-behind (worker.is_of s) entries (worker.declined_entry s at ∷ []) none ∙ ap (λ b. cond b (Some (worker.declined_entry s at)) None) (eq-eqb s s refl) in
-    found_and (TellsEntry (worker.told_in next s)) (worker.entry_of next s) (worker.declined_entry s at) there (refl, ap (λ o. option_map_or (λ (e : Entry). worker.told_of_stage e.phase) o (Ok queue.Running)) there)
-given_up (Some x) s at entries here =
-    let next = worker.with_entry s (worker_messages.aborted_entry at) entries in
+given_up : (found : Option Entry) (s at : ℕ) (v : worker.Known) → worker.entry_of v.entries s ≡ found
+    → let t = option_map_or (worker_messages.aborting s at v) found (worker_messages.declining s at v) in
+    IsSomeAnd (worker.entry_of t.next.entries s) (TellsEntry t.told)
+given_up None s at v none =
+    let next = v.entries ++ worker.declined_entry s at ∷ [] in
+    let there : worker.entry_of next s ≡ Some (worker.declined_entry s at) = find-behind (worker.is_of s) v.entries (worker.declined_entry s at ∷ []) none ∙ ap (λ b. cond b (Some (worker.declined_entry s at)) None) (eq-eqb s s refl) in
+    found_and (TellsEntry (worker.told_in next s)) (worker.entry_of next s) (worker.declined_entry s at) there (refl, told_found s next (worker.declined_entry s at) there)
+given_up (Some x) s at v here =
+    let next = worker.with_entry s (worker_messages.aborted_entry at) v.entries in
     let new = worker_messages.aborted_entry at x in
-    let there : worker.entry_of next s ≡ Some new = find-at_number worker_kept.number_of s (worker_messages.aborted_entry at) entries (aborted_number at) ∙ ap (option_map (worker_messages.aborted_entry at)) here in
-    found_and (TellsEntry (worker.told_in next s)) (worker.entry_of next s) new there (aborted_is_shut at x, ap (λ o. option_map_or (λ (e : Entry). worker.told_of_stage e.phase) o (Ok queue.Running)) there)
+    let there : worker.entry_of next s ≡ Some new = find-at_number worker_kept.number_of s (worker_messages.aborted_entry at) v.entries (aborted_number at) ∙ ap (option_map (worker_messages.aborted_entry at)) here in
+    found_and (TellsEntry (worker.told_in next s)) (worker.entry_of next s) new there (aborted_is_shut at x, told_found s next new there)
 
 -- none comes back to a worker, and what is to be given up is answered as its entry is then
 taken_so : (w : State) (v : worker.Known) (m : Message) (at : ℕ) (body : Body) → m.body ≡ body → m.receiver ≡ v.name → IsKept w → worker_of w.controllers.workers v.name ≡ Some v → IsThere w v → (h : IsInOrder w.controllers m)
-    (later : IsInOrder (worker_steps.with_next w.controllers v.name (worker_messages.after_taking m at v)) m) → IsTaken (worker_steps.with_next w.controllers v.name (worker_messages.after_taking m at v)) later.spawn (worker_messages.taken_result m at v) body
+    (later : IsInOrder (worker_steps.with_next w.controllers v.name (worker_messages.take_step m at v).next) m) → IsTaken (worker_steps.with_next w.controllers v.name (worker_messages.take_step m at v).next) later.spawn (told_by (worker_messages.take_refusal m v) (worker_messages.taken m.body at v).told) body
 taken_so w v m at (Submit p) says own ok found is h later = tt
 taken_so w v m at (Answer d s said) says own ok found is h later = tt
 taken_so w v m at (Return p) says own ok found is h later =
@@ -163,28 +170,29 @@ taken_so w v m at (Return p) says own ok found is h later =
     absurd (true≢false (sym (ap (bytes_eq v.name) (sym one) ∙ bytes_eq-same v.name) ∙ is.kept.apart))
 taken_so w v m at (Abort s) says own ok found is h later =
     let c = w.controllers in
-    let next = worker_messages.after_taking m at v in
+    let next = (worker_messages.take_step m at v).next in
     let d = worker_steps.with_next c v.name next in
     let theirs : worker_messages.is_for_workers m.body ≡ true = ap worker_messages.is_for_workers says in
     let none = worker_refuses_nothing c v m (ap (worker_of c.workers) own ∙ found) (sym own) is.knows theirs h in
     let r = later.spawn in
     let number : r.id ≡ s = number_is d.master.records (spawn_in m.body) r later.recorded ∙ ap spawn_in says in
     let named : r.worker ≡ v.name = sym (later.to ∙ ap (λ b. cond (worker_messages.is_for_workers b) r.worker d.master.name) says) ∙ own in
-    let entries = worker_messages.taken_entries (Abort s) at v.entries in
-    let after : next ≡ worker_messages.taken (Abort s) at v = ap (λ o. cond (is_some o) v (worker_messages.taken m.body at v)) none ∙ ap (λ b. worker_messages.taken b at v) says in
+    let comes : worker_messages.taken m.body at v ≡ worker_messages.aborted s at v = ap (λ b. worker_messages.taken b at v) says in
+    let entries = (worker_messages.aborted s at v).next.entries in
+    let after : next ≡ (worker_messages.aborted s at v).next =
+    ap (λ (x : Step worker.Known Message). x.next) (free_answers v.name m at (worker_messages.take_refusal m v) v (worker_messages.taken m.body at v) (worker_messages.aborted s at v) none comes) in
     let entered : entry_for d r ≡ worker.entry_of entries s =
-    ap (λ n. entry_at d.workers n r.id) named ∙ entry_there v.name v next c.workers r.id found (ap (λ (u : worker.Known). u.name) after)
+    ap (λ n. entry_at d.workers n r.id) named ∙ entry_there v.name v next c.workers r.id found (taken_by_worker_names m at v).own
     ∙ ap (λ (u : worker.Known). worker.entry_of u.entries r.id) after ∙ ap (worker.entry_of entries) number in
-    let told : worker_messages.taken_result m at v ≡ worker.told_in entries s =
-    ap (λ o. worker_messages.told_or o (worker.told_in (worker_messages.taken_entries m.body at v.entries) (spawn_in m.body))) none
-    ∙ ap (λ b. worker.told_in (worker_messages.taken_entries b at v.entries) (spawn_in b)) says in
-    subst (λ o. IsSomeAnd o (TellsEntry (worker_messages.taken_result m at v))) (sym entered)
-    (subst (λ t. IsSomeAnd (worker.entry_of entries s) (TellsEntry t)) (sym told) (given_up (worker.entry_of v.entries s) s at v.entries refl))
+    let told : told_by (worker_messages.take_refusal m v) (worker_messages.taken m.body at v).told ≡ (worker_messages.aborted s at v).told =
+    ap (λ o. told_by o (worker_messages.taken m.body at v).told) none ∙ ap (λ (t : Taking worker.Known). t.told) comes in
+    subst (λ o. IsSomeAnd o (TellsEntry (told_by (worker_messages.take_refusal m v) (worker_messages.taken m.body at v).told))) (sym entered)
+    (subst (λ t. IsSomeAnd (worker.entry_of entries s) (TellsEntry t)) (sym told) (given_up (worker.entry_of v.entries s) s at v refl))
 
 pub worker_takes_keeps : (m : Message) (at : ℕ) (w : State) (v : worker.Known) → IsKept w → worker_of w.controllers.workers v.name ≡ Some v → Contains w.messages m → m.receiver ≡ v.name → Keeps w (worker_moved w.controllers v (taken_by_worker m at v))
 worker_takes_keeps m at w v ok found there own =
     let c = w.controllers in
-    let next = worker_messages.after_taking m at v in
+    let next = (worker_messages.take_step m at v).next in
     let is = is_there w v ok found in
     let good : IsInOrder c m = All-contains (IsInOrder c) w.messages m ok.messages.each there in
     let names = taken_by_worker_names m at v in
@@ -193,8 +201,13 @@ worker_takes_keeps m at w v ok found there own =
     let stored = worker_stored c v next w.messages ok is.knows (worker_kept.message_is_kept m at v good.for_worker is.kept) names later recorded in
     let d = worker_steps.with_next c v.name next in
     let good_later : IsInOrder d m = in_order_later c d later m good in
-    let told = worker_messages.taken_result m at v in
-    record { stored = stored; sent = answer_is_new d w.messages v.name m.sender m.receiver m.at at m.body told stored.messages.each own good_later (taken_so w v m at m.body refl own ok found is good good_later) }
+    let why = worker_messages.take_refusal m v in
+    let t = worker_messages.taken m.body at v in
+    record {
+      stored = stored;
+      sent = subst (λ o. IfSome o (IsNew d w.messages)) (answering_tells v.name m at why v t)
+          (answer_is_new d w.messages v.name m.sender m.receiver m.at at m.body (told_by why t.told) stored.messages.each own good_later (taken_so w v m at m.body refl own ok found is good good_later));
+    }
 
 -- ---- one event
 

@@ -1,12 +1,8 @@
 -- What holds of a result holds as more is known.
-use Rattle.std.proofs.Common.{◌≡◌, List, Option, Result, Ok, Err, IfOk, OnOk, OnErr, refl}
+use Rattle.std.proofs.Common.{◌≡◌, List, Option, Result, Ok, Err, OnOk, OnErr, refl}
 use Rattle.world.specs.Settling.{settled_messages, settled_state, with_sent}
 use Rattle.world_items.specs.declared.stop.Stop.{Stop}
 use Rattle.world_items.specs.declared.stop.Stop.TheVariants.{Run, BeforeSave, BeforeSend}
-
-pub if_ok : {C E : Type 0} (P Q : C → Type 0) (r : Result C E) → IfOk r P → ((m : C) → P m → Q m) → IfOk r Q
-if_ok P Q (Ok m) p go = go m p
-if_ok P Q (Err e) p go = tt
 
 pub on_ok : {C E : Type 0} (P Q R : Type 0) (r : Result C E) → OnOk r P → OnOk r Q → (P → Q → R) → OnOk r R
 on_ok P Q R (Ok m) p q go = go p q

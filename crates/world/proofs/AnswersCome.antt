@@ -1,10 +1,10 @@
 -- An answer that comes to the controller that gave the command: the master notes it, and the worker gives up the part.
-use Rattle.std.proofs.Common.{◌≡◌, ◌∙◌, ℕ, Bool, true, false, cond, not, List, map, Option, Some, None, Result, Ok, Err, is_ok, is_some, refl, sym, ap, subst}
+use Rattle.std.proofs.Common.{◌≡◌, ◌∙◌, ℕ, Bool, true, false, cond, not, List, map, Option, Some, None, Result, Ok, Err, is_ok, refl, sym, ap, subst}
 use Rattle.std.proofs.lemmas.Bool.{true≢false}
 use Rattle.std.specs.Option.{option_map, option_map_or}
 use Rattle.ticket_items.proofs.Places.{same_found}
 use Rattle.ticket_items.specs.declared.refusal.Refusal.{Refusal}
-use Rattle.controller.specs.Reply.{refused_or}
+use Rattle.controller.specs.Reply.{answer_to}
 use Rattle.controller.specs.declared.body.Body.TheVariants.{Answer}
 use Rattle.controller.specs.declared.command.Command.{Command}
 use Rattle.controller.specs.declared.command.Command.TheVariants as command
@@ -14,6 +14,7 @@ use Rattle.controller.specs.declared.reply.Reply.TheVariants as reply
 use Rattle.spawn.specs.Records.{is_out}
 use Rattle.spawn.specs.declared.records.phase.Phase.TheVariants as recorded
 use Rattle.master_core.specs.Master as master
+use Rattle.master_core.specs.Messages as master_messages
 use Rattle.worker_core.proofs.Closing.{closed_number, ended_shut}
 use Rattle.worker_core.specs.Messages as worker_messages
 use Rattle.worker_core.specs.Worker as worker
@@ -35,9 +36,9 @@ use Rattle.world.specs.Shop as plain
 use Rattle.world.specs.ShopActs as acts
 use Rattle.world.specs.ShopSteps as shop
 use Rattle.world.specs.ShopSteps.{replies}
-use Rattle.world.specs.Showing.{phase_shown, shop_shown, spawn_shown}
+use Rattle.world.specs.Showing.{phase_shown, shop_shown, spawn_shown, tag_of}
 use Rattle.world.specs.State.{IsKept, State}
-use Rattle.controller.specs.Step.{Step}
+use Rattle.controller.specs.Step.{Step, answering}
 use Rattle.world_items.specs.declared.word.Word.TheVariants.{NoMessage}
 use Rattle.master_core.specs.Messages.{take_step as taken_by_master}
 use Rattle.worker_core.specs.Messages.{take_step as taken_by_worker}
@@ -54,26 +55,19 @@ submit_is_answered w sender receiver sent s told at ok good =
     let c = w.controllers in
     let m = answer sender receiver sent command.Submit s told in
     let none = master_refuses_nothing c m ok.recorded ok.back refl good in
-    record {
-      reply = ap (λ o. refused_or o (reply.Noted s)) none;
-      next = ap (λ o. shop_shown (record c { master = cond (is_some o) c.master c.master })) none;
-      sent = refl;
-    }
+    subst (λ why. Agrees (master_moved c (answering c.master.name m at why c.master (master_messages.noted s c.master))) (replies (reply.Noted s) (shop_shown c))) (sym none)
+    (record { reply = refl; next = refl; sent = refl })
 
-acknowledged : (s : ℕ) (told : Result QueueStatus ℕ) → is_ok told ≡ true → worker_messages.answer_reply s told ≡ reply.Acked s
-acknowledged s (Ok status) e = refl
-acknowledged s (Err reason) e = cc
+-- what tells of success tells a Status
+acknowledged : (told : Result QueueStatus ℕ) → is_ok told ≡ true → (status : QueueStatus) × (told ≡ Ok status)
+acknowledged (Ok status) e = (status, refl)
+acknowledged (Err reason) e = cc
 
 -- ---- an answer to the worker
 
--- the worker's step, by why the answer is refused and by whether it tells of success
-abbrev step_by : worker.Known → ℕ → Result QueueStatus ℕ → Option Refusal → Bool → Step worker.Known Message
-step_by v s told why good =
-    record {
-      reply = refused_or why (worker_messages.answer_reply s told);
-      next = cond (is_some why) v (record v { entries = cond good (worker.with_entry s worker.closed_entry v.entries) v.entries });
-      sent = None;
-    }
+-- the worker's step, by why the answer is refused and by what it tells
+abbrev step_by : worker.Known → Message → ℕ → ℕ → Option Refusal → Result QueueStatus ℕ → Step worker.Known Message
+step_by v m s at why told = answering v.name m at why v (worker_messages.answered s told v)
 
 -- an entry on which the work has ended is closed then
 closed_by : (stage : Stage) (e : Entry) → e.phase ≡ stage → worker.is_ended_stage stage ≡ true → worker.is_closed (worker.closed_in stage e) ≡ true
@@ -87,9 +81,9 @@ merged_so true = refl
 merged_so false = refl
 
 -- an answer of success closes the entry of a spawn that isn't out, and the shop is the same but for its phase
-closes : (w : State) (v : worker.Known) (s : ℕ) (e : Entry) (told : Result QueueStatus ℕ) → IsKept w → worker_of w.controllers.workers v.name ≡ Some v → worker.entry_of v.entries s ≡ Some e → worker.is_ended e ≡ true → (h : HasRecord w.controllers v.name s e) → is_out h.spawn ≡ false → is_ok told ≡ true
-    → Agrees (worker_moved w.controllers v (step_by v s told None true)) (shop.back_acknowledged (shop_shown w.controllers) (spawn_shown w.controllers h.spawn))
-closes w v s e told ok found here ended h back good =
+closes : (w : State) (v : worker.Known) (m : Message) (s at : ℕ) (e : Entry) (status : QueueStatus) → IsKept w → worker_of w.controllers.workers v.name ≡ Some v → worker.entry_of v.entries s ≡ Some e → worker.is_ended e ≡ true → (h : HasRecord w.controllers v.name s e) → is_out h.spawn ≡ false → ((told : Result QueueStatus ℕ) → option_map tag_of (answer_to v.name m at told) ≡ None)
+    → Agrees (worker_moved w.controllers v (step_by v m s at None (Ok status))) (shop.back_acknowledged (shop_shown w.controllers) (spawn_shown w.controllers h.spawn))
+closes w v m s at e status ok found here ended h back unanswered =
     let c = w.controllers in
     let p = shop_shown c in
     let r = h.spawn in
@@ -102,14 +96,15 @@ closes w v s e told ok found here ended h back good =
     let now = λ (x : List ℕ).
     let o = master.holder c.master x in
     row_stored c v.name s next new r stored (λ row. row) x o (λ held. absurd (true≢false (sym (held_claimed c.master s r x ok.master h.recorded held).3 ∙ back))) (λ other. refl) in
-    let said : worker_messages.answer_reply s told ≡ reply.Acked r.id = acknowledged s told good ∙ ap (λ n. reply.Acked n) (sym h.number) in
-    subst (λ b. Agrees (worker_moved c v (step_by v s told None true)) (shop.replies (reply.Acked r.id) (cond b (acts.closed r.id p) p)))
+    let said : reply.Acked s ≡ reply.Acked r.id = ap (λ n. reply.Acked n) (sym h.number) in
+    let told = (worker_messages.answered s (Ok status) v).told in
+    subst (λ b. Agrees (worker_moved c v (step_by v m s at None (Ok status))) (shop.replies (reply.Acked r.id) (cond b (acts.closed r.id p) p)))
     (sym (ap plain.is_merged was ∙ merged_so (worker.is_closed e)))
     (split (worker.is_closed e)
-    (λ closed. subst (λ b. Agrees (worker_moved c v (step_by v s told None true)) (shop.replies (reply.Acked r.id) (cond (not b) (acts.closed r.id p) p))) (sym closed)
+    (λ closed. subst (λ b. Agrees (worker_moved c v (step_by v m s at None (Ok status))) (shop.replies (reply.Acked r.id) (cond (not b) (acts.closed r.id p) p))) (sym closed)
     (record {
       reply = ap Ok said;
-      sent = refl;
+      sent = unanswered told;
       next = same_shop _ _
           (record {
             master = refl;
@@ -122,10 +117,10 @@ closes w v s e told ok found here ended h back good =
             spawns = spawns_stay c v.name s next new r stored (is ∙ sym (was ∙ when_true (worker.is_closed e) plain.Closed plain.Merged closed));
           });
     }))
-    (λ open'. subst (λ b. Agrees (worker_moved c v (step_by v s told None true)) (shop.replies (reply.Acked r.id) (cond (not b) (acts.closed r.id p) p))) (sym open')
+    (λ open'. subst (λ b. Agrees (worker_moved c v (step_by v m s at None (Ok status))) (shop.replies (reply.Acked r.id) (cond (not b) (acts.closed r.id p) p))) (sym open')
     (record {
       reply = ap Ok said;
-      sent = refl;
+      sent = unanswered told;
       next = same_shop _ _
           (record {
             master = refl;
@@ -153,8 +148,9 @@ return_is_answered w v sender receiver sent s told at ok found named knows good 
     let e : Entry = there.0 in
     let h = entry_record w v.name s v e ok own there.1 in
     let a = spawn_shown c h.spawn in
+    let says = acknowledged told good.says.0 in
     let back : is_out h.spawn ≡ false = ap is_out (same_found h.spawn good.spawn (master.record_of c.master.records s) h.recorded good.recorded) ∙ good.says.1 in
     subst (StepsAgree (Ok (worker_moved c v (taken_by_worker m at v))))
     (sym (ap (λ o. option_map_or (λ b. Ok (shop.back_acknowledged p b)) o (Err NoMessage)) (spawn_found c s ∙ ap (option_map (spawn_shown c)) h.recorded)))
-    (subst (λ why. Agrees (worker_moved c v (step_by v s told why (is_ok told))) (shop.back_acknowledged p a)) (sym none)
-    (subst (λ b. Agrees (worker_moved c v (step_by v s told None b)) (shop.back_acknowledged p a)) (sym good.says.0) (closes w v s e told ok own there.1 there.2 h back good.says.0)))
+    (subst (λ why. Agrees (worker_moved c v (step_by v m s at why told)) (shop.back_acknowledged p a)) (sym none)
+    (subst (λ t. Agrees (worker_moved c v (step_by v m s at None t)) (shop.back_acknowledged p a)) (sym says.1) (closes w v m s at e says.0 ok own there.1 there.2 h back (λ t. refl))))

@@ -22,7 +22,7 @@ use Rattle.spawn.specs.declared.records.spawn_rec.SpawnRec.{SpawnRec}
 use Rattle.master_core.proofs.MessageLaws.{message_ends_spawns}
 use Rattle.master_core.proofs.Recorded.{phase_if, phase_or}
 use Rattle.master_core.specs.Master.{IsNumbered, Known, is_of, record_of, with_phase}
-use Rattle.master_core.specs.Messages.{after_taking}
+use Rattle.master_core.specs.Messages.{take_step}
 use Rattle.master_core.specs.Orders.{ordered}
 use Rattle.master_core.specs.declared.order.Order.{Order}
 use Rattle.master_core.specs.declared.order.Order.TheVariants as order
@@ -100,7 +100,7 @@ declined_so c m s reason r q body is same says =
     let e : Entry = there.0 in
     subst (λ t. IsSomeAnd (entry_for c t) (IsBack Withdrawn)) same (found_and (IsBack Withdrawn) (entry_for c r) e there.1 (declined_told reason e.phase there.2.1))
 
-pub returned_back : (m : Message) (at : ℕ) (c : Controllers) → IsNumbered c.master.records → IsInOrder c m → All (HasComeBack c) c.master.records → All (HasComeBack c) (after_taking m at c.master).records
+pub returned_back : (m : Message) (at : ℕ) (c : Controllers) → IsNumbered c.master.records → IsInOrder c m → All (HasComeBack c) c.master.records → All (HasComeBack c) (take_step m at c.master).next.records
 returned_back m at c numbered h all =
     let records = c.master.records in
     elim (message_ends_spawns m at c.master) [

@@ -9,7 +9,9 @@ use Rattle.ticket_items.specs.declared.refusal.Refusal.TheVariants.{BadPart, Not
 use Rattle.ticket_rows.proofs.AtHome.{find-passes}
 use Rattle.ticket_rows.specs.Ticket.{first_of, unless}
 use Rattle.ticket_tree.specs.Part.{Copied, is_sound}
-use Rattle.controller.specs.Reply.{refused_or, spawn_in, told_of}
+use Rattle.controller.proofs.Answered.{free_answers, told_by}
+use Rattle.controller.specs.Reply.{spawn_in}
+use Rattle.controller.specs.Step.{Step}
 use Rattle.controller.specs.declared.body.Body.{Body}
 use Rattle.controller.specs.declared.body.Body.TheVariants.{Submit, Return, Abort, Answer}
 use Rattle.controller.specs.declared.command.Command.TheVariants as command
@@ -25,6 +27,7 @@ use Rattle.merge.specs.Alike.{is_fit}
 use Rattle.merge.specs.Shape.{Fits}
 use Rattle.master_core.proofs.MessageLaws.{in_stays_in, merged_is_in}
 use Rattle.master_core.proofs.Recorded.{number_is}
+use Rattle.master_core.proofs.WhileOut.{made_out, while_out_so}
 use Rattle.master_core.specs.Master as master
 use Rattle.master_core.specs.Messages as master_messages
 use Rattle.worker_core.proofs.AtNumber.{found_holds}
@@ -189,22 +192,24 @@ worker_refuses_nothing c v m found named knows theirs h =
 -- ---- what is told of a part that was brought back
 
 -- it wasn't refused, and once it is put in its spawn isn't out
-pub returned_told : (c : Controllers) (m : Message) (p : Copied) → m.body ≡ Return p → master_messages.take_refusal m c.master ≡ None → is_ok (master_messages.taken_result m c.master) ≡ true
-returned_told c m p says none = ap (λ o. is_ok (told_of o (master_messages.end_of m.body))) none
+pub returned_told : (c : Controllers) (m : Message) (at : ℕ) (p : Copied) → m.body ≡ Return p → master_messages.take_refusal m c.master ≡ None → is_ok (told_by (master_messages.take_refusal m c.master) (master_messages.taken m.body at c.master).told) ≡ true
+returned_told c m at p says none =
+    let w = c.master in
+    ap (λ o. is_ok (told_by o (master_messages.taken m.body at w).told)) none
+    ∙ ap (λ b. is_ok (master_messages.taken b at w).told) says
+    ∙ while_out_so (λ t. is_ok t.told ≡ true) (master_messages.merging p at w) (master_messages.already p w) (master.record_of w.records p.spawn_id) (λ r. refl) refl
 
 out_next : (o : Option SpawnRec) (r : SpawnRec) → o ≡ Some r → option_map_or is_out o false ≡ false → is_out r ≡ false
 out_next o r found e = ap (λ q. option_map_or is_out q false) (sym found) ∙ e
 
-in_either : (out : Bool) (m : Message) (at : ℕ) (w : master.Known) (p : Copied) (r q : SpawnRec) → is_out r ≡ out → m.body ≡ Return p → master_messages.take_refusal m w ≡ None → master.record_of w.records p.spawn_id ≡ Some r → master.record_of (master_messages.after_taking m at w).records p.spawn_id ≡ Some q → is_out q ≡ false
+in_either : (out : Bool) (m : Message) (at : ℕ) (w : master.Known) (p : Copied) (r q : SpawnRec) → is_out r ≡ out → m.body ≡ Return p → master_messages.take_refusal m w ≡ None → master.record_of w.records p.spawn_id ≡ Some r → master.record_of (master_messages.take_step m at w).next.records p.spawn_id ≡ Some q → is_out q ≡ false
 in_either false m at w p r q back says none found later =
-    ap is_out (same_found q r (master.record_of (master_messages.after_taking m at w).records p.spawn_id) later ((in_stays_in w p.spawn_id r found back).1 m at)) ∙ back
+    ap is_out (same_found q r (master.record_of (master_messages.take_step m at w).next.records p.spawn_id) later ((in_stays_in w p.spawn_id r found back).1 m at)) ∙ back
 in_either true m at w p r q out says none found later =
-    let told : master_messages.taken_reply m w ≡ Ok (reply.Merged p.spawn_id) =
-    ap (λ o. refused_or o (master_messages.take_reply m.body w)) none
-    ∙ ap (λ b. Ok (master_messages.take_reply b w)) says
-    ∙ ap (λ o. Ok (cond (option_map_or is_out o false) (reply.Merged p.spawn_id) (reply.Already p.spawn_id))) found
-    ∙ ap (λ b. Ok (cond b (reply.Merged p.spawn_id) (reply.Already p.spawn_id))) out in
-    out_next (master.record_of (master_messages.after_taking m at w).records p.spawn_id) q later (merged_is_in m at w p.spawn_id told).1
+    let comes = ap (λ b. master_messages.taken b at w) says ∙ made_out (master_messages.merging p at w) (master_messages.already p w) (master.record_of w.records p.spawn_id) r found out in
+    let told : (master_messages.take_step m at w).reply ≡ Ok (reply.Merged p.spawn_id) =
+    ap (λ (s : Step master.Known Message). s.reply) (free_answers w.name m at (master_messages.take_refusal m w) w (master_messages.taken m.body at w) (master_messages.merging p at w r) none comes) in
+    out_next (master.record_of (master_messages.take_step m at w).next.records p.spawn_id) q later (merged_is_in m at w p.spawn_id told).1
 
-pub returned_in : (m : Message) (at : ℕ) (w : master.Known) (p : Copied) (r q : SpawnRec) → m.body ≡ Return p → master_messages.take_refusal m w ≡ None → master.record_of w.records p.spawn_id ≡ Some r → master.record_of (master_messages.after_taking m at w).records p.spawn_id ≡ Some q → is_out q ≡ false
+pub returned_in : (m : Message) (at : ℕ) (w : master.Known) (p : Copied) (r q : SpawnRec) → m.body ≡ Return p → master_messages.take_refusal m w ≡ None → master.record_of w.records p.spawn_id ≡ Some r → master.record_of (master_messages.take_step m at w).next.records p.spawn_id ≡ Some q → is_out q ≡ false
 returned_in m at w p r q says none found later = in_either (is_out r) m at w p r q refl says none found later

@@ -14,7 +14,7 @@ use Rattle.master_core.proofs.PartsKept.{message_keeps_spawns, order_keeps_spawn
 use Rattle.master_core.proofs.Recorded.{number_is}
 use Rattle.master_core.proofs.Refusals.{done_order}
 use Rattle.master_core.specs.Master.{IsKept, Known, is_of, merged_record, next_number, record_of, withdrawn_record}
-use Rattle.master_core.specs.Messages.{IsValidBody, after_taking}
+use Rattle.master_core.specs.Messages.{IsValidBody, take_step}
 use Rattle.master_core.specs.Orders.{abort_of, order_refusal, ordered, spawn_sent, submit_of}
 use Rattle.master_core.specs.declared.order.Order.{Order}
 use Rattle.master_core.specs.declared.order.Order.TheVariants as order
@@ -102,7 +102,7 @@ ordered_sends (order.Withdraw s) at c messages kept none next all =
 
 -- ---- messages
 
-pub taken_later : (m : Message) (at : ℕ) (c : Controllers) → IsKept c.master → IsValidBody m.body → AreLater c (with_master c (after_taking m at c.master))
+pub taken_later : (m : Message) (at : ℕ) (c : Controllers) → IsKept c.master → IsValidBody m.body → AreLater c (with_master c (take_step m at c.master).next)
 taken_later m at c kept valid =
     record {
       name = (taken_by_master_names m at c.master).own;

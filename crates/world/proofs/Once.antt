@@ -1,5 +1,5 @@
 -- The part of each spawn is put in at most once, whatever happens.
-use Rattle.std.proofs.Common.{◌≡◌, ◌∙◌, ℕ, zero, suc, Bool, true, false, cond, List, [], ◌∷◌, Option, Some, None, Result, Ok, Err, inl, inr, refl, sym, ap, subst, slice_get}
+use Rattle.std.proofs.Common.{◌≡◌, ◌∙◌, ℕ, zero, suc, Bool, true, false, cond, List, [], ◌∷◌, Option, Some, None, Ok, Err, inl, inr, refl, sym, ap, subst, slice_get}
 use Rattle.std.proofs.lemmas.Bool.{true≢false}
 use Rattle.std.proofs.lemmas.List.Elements.{All-contains}
 use Rattle.std.proofs.lemmas.Option.{same_Some}
@@ -7,12 +7,10 @@ use Rattle.std.specs.Option.{option_map_or}
 use Rattle.std.specs.Str.{bytes_eq}
 use Rattle.ticket_items.specs.declared.refusal.Refusal.{Refusal}
 use Rattle.ticket_items.specs.declared.refusal.Refusal.TheVariants.{UnknownWorker}
-use Rattle.controller.specs.Reply.{refused_or}
+use Rattle.ticket_tree.specs.Part.{Copied}
 use Rattle.controller.specs.declared.body.Body.{Body}
 use Rattle.controller.specs.declared.body.Body.TheVariants.{Submit, Return, Abort, Answer as Answered}
 use Rattle.controller.specs.declared.message.Message.{Message}
-use Rattle.controller.specs.declared.queue_status.QueueStatus.{QueueStatus}
-use Rattle.controller.specs.declared.reply.Reply.{Reply}
 use Rattle.controller.specs.declared.reply.Reply.TheVariants as reply
 use Rattle.spawn.specs.Records.{is_out}
 use Rattle.spawn.specs.declared.records.spawn_rec.SpawnRec.{SpawnRec}
@@ -38,7 +36,7 @@ use Rattle.world.specs.Laws.{EachIsMergedOnce}
 use Rattle.world.specs.Messages.{IsInOrder}
 use Rattle.world.specs.Once.{AreMergedOnce, TellsMerge}
 use Rattle.world.specs.State.{IsKept, State, message_at}
-use Rattle.controller.specs.Step.{Step, unless_refused}
+use Rattle.controller.specs.Step.{Step, Taking, answering, unless_refused}
 use Rattle.world.specs.Step.{word_of}
 use Rattle.master_core.specs.Orders.{order_step as ordered_master}
 use Rattle.worker_core.specs.Orders.{order_step as ordered_worker}
@@ -121,35 +119,32 @@ again_reply : (declined : Bool) (t s : ℕ) → cond declined (reply.Declined t)
 again_reply true t s is = cc
 again_reply false t s is = cc
 
-submit_reply : (found : Option Entry) (t s : ℕ) → option_map_or (worker_messages.again_reply t) found (reply.Taken t) ≡ reply.Merged s → ⊥
-submit_reply None t s is = cc
-submit_reply (Some e) t s is = again_reply (worker.is_declined e) t s is
+submit_reply : (found : Option Entry) (p : Copied) (at : ℕ) (v : worker.Known) (s : ℕ) → (option_map_or (worker_messages.again p.spawn_id v) found (worker_messages.entering p at v)).reply ≡ reply.Merged s → ⊥
+submit_reply None p at v s is = cc
+submit_reply (Some e) p at v s is = again_reply (worker.is_declined e) p.spawn_id s is
 
 ended_reply : (opened : Bool) (e : Entry) (t s : ℕ) → cond opened (reply.Ended t) (worker_messages.again_reply t e) ≡ reply.Merged s → ⊥
 ended_reply true e t s is = cc
 ended_reply false e t s is = again_reply (worker.is_declined e) t s is
 
-abort_reply : (found : Option Entry) (t s : ℕ) → option_map_or (worker_messages.abort_reply t) found (reply.Declined t) ≡ reply.Merged s → ⊥
-abort_reply None t s is = cc
-abort_reply (Some e) t s is = ended_reply (worker.is_open e) e t s is
+abort_reply : (found : Option Entry) (t at : ℕ) (v : worker.Known) (s : ℕ) → (option_map_or (worker_messages.aborting t at v) found (worker_messages.declining t at v)).reply ≡ reply.Merged s → ⊥
+abort_reply None t at v s is = cc
+abort_reply (Some e) t at v s is = ended_reply (worker.is_open e) e t s is
 
-said_reply : (told : Result QueueStatus ℕ) (t s : ℕ) → worker_messages.answer_reply t told ≡ reply.Merged s → ⊥
-said_reply (Ok status) t s is = cc
-said_reply (Err reason) t s is = cc
-
-no_take_reply : (body : Body) (entries : List Entry) (s : ℕ) → worker_messages.take_reply body entries ≡ reply.Merged s → ⊥
-no_take_reply (Submit p) entries s is = submit_reply (worker.entry_of entries p.spawn_id) p.spawn_id s is
-no_take_reply (Return p) entries s is = cc
-no_take_reply (Abort t) entries s is = abort_reply (worker.entry_of entries t) t s is
-no_take_reply (Answered c t told) entries s is = said_reply told t s is
+no_take_reply : (body : Body) (at : ℕ) (v : worker.Known) (s : ℕ) → (worker_messages.taken body at v).reply ≡ reply.Merged s → ⊥
+no_take_reply (Submit p) at v s is = submit_reply (worker.entry_of v.entries p.spawn_id) p at v s is
+no_take_reply (Return p) at v s is = cc
+no_take_reply (Abort t) at v s is = abort_reply (worker.entry_of v.entries t) t at v s is
+no_take_reply (Answered c t (Ok status)) at v s is = cc
+no_take_reply (Answered c t (Err reason)) at v s is = cc
 
 -- a reply that is told in a word
-told_reply : (refusal : Option Refusal) (r : Reply) (s : ℕ) → word_of (refused_or refusal r) ≡ Did (reply.Merged s) → (refused_or refusal r ≡ Ok (reply.Merged s)) × (r ≡ reply.Merged s)
-told_reply None r s is = let same : r ≡ reply.Merged s = cc in (ap Ok same, same)
-told_reply (Some e) r s is = cc
+told_reply : {S : Type 0} (why : Option Refusal) (name : List ℕ) (m : Message) (at : ℕ) (v : S) (t : Taking S) (s : ℕ) → word_of (answering name m at why v t).reply ≡ Did (reply.Merged s) → ((answering name m at why v t).reply ≡ Ok (reply.Merged s)) × (t.reply ≡ reply.Merged s)
+told_reply None name m at v t s is = let same : t.reply ≡ reply.Merged s = cc in (ap Ok same, same)
+told_reply (Some e) name m at v t s is = cc
 
-no_worker_take : (m : Message) (v : worker.Known) (s : ℕ) → word_of (worker_messages.taken_reply m v) ≡ Did (reply.Merged s) → ⊥
-no_worker_take m v s is = no_take_reply m.body v.entries s (told_reply (worker_messages.take_refusal m v) (worker_messages.take_reply m.body v.entries) s is).1
+no_worker_take : (m : Message) (at : ℕ) (v : worker.Known) (s : ℕ) → word_of (worker_messages.take_step m at v).reply ≡ Did (reply.Merged s) → ⊥
+no_worker_take m at v s is = no_take_reply m.body at v s (told_reply (worker_messages.take_refusal m v) v.name m at v (worker_messages.taken m.body at v) s is).1
 
 -- the word of a step is told only where its state is stored
 settled_tells : (stop : Stop) (w : State) (moved : Step Controllers Message) (s : ℕ) → TellsMerge s (settled_word stop w (Ok moved)) → (word_of moved.reply ≡ Did (reply.Merged s)) × ((settled stop w (Ok moved)).controllers ≡ moved.next)
@@ -166,14 +161,14 @@ no_found None f word stop w s unsaid other tells = other tells
 no_found (Some v) f word stop w s unsaid other tells = no_step stop w (worker_moved w.controllers v (f v)) s (unsaid v) tells
 
 -- a master that took a part back
-taken_merges : (m : Message) (at : ℕ) (w next : State) (s : ℕ) (before : Option SpawnRec) → IsKept w → IsInOrder w.controllers m → record_of w.controllers.master.records s ≡ before → master_messages.taken_reply m w.controllers.master ≡ Ok (reply.Merged s)
+taken_merges : (m : Message) (at : ℕ) (w next : State) (s : ℕ) (before : Option SpawnRec) → IsKept w → IsInOrder w.controllers m → record_of w.controllers.master.records s ≡ before → (master_messages.take_step m at w.controllers.master).reply ≡ Ok (reply.Merged s)
     → next.controllers ≡ (master_moved w.controllers (taken_by_master m at w.controllers.master)).next → Merges w next s
 taken_merges m at w next s None ok good has told is =
     let laws = merged_is_in m at w.controllers.master s told in
     absurd (true≢false (sym laws.0 ∙ ap (λ o. option_map_or is_out o false) has))
 taken_merges m at w next s (Some r) ok good has told is =
     let laws = merged_is_in m at w.controllers.master s told in
-    let here : (q : SpawnRec) → record_of (master_messages.after_taking m at w.controllers.master).records s ≡ Some q → Merges w next s = λ q there. record {
+    let here : (q : SpawnRec) → record_of (master_messages.take_step m at w.controllers.master).next.records s ≡ Some q → Merges w next s = λ q there. record {
       was_out = laws.0;
       now = q;
       has = ap (λ (c : Controllers). record_of c.master.records s) is ∙ there;
@@ -191,10 +186,11 @@ receiver_merges : (mine : Bool) (m : Message) (at : ℕ) (stop : Stop) (w : Stat
     → Merges w (settled stop w (cond mine (master_takes m at w) (worker_takes m at w))) s
 receiver_merges true m at stop w s ok good tells =
     let step = settled_tells stop w (master_moved w.controllers (taken_by_master m at w.controllers.master)) s tells in
-    let told = (told_reply (master_messages.take_refusal m w.controllers.master) (master_messages.take_reply m.body w.controllers.master) s step.0).0 in
+    let x = w.controllers.master in
+    let told = (told_reply (master_messages.take_refusal m x) x.name m at x (master_messages.taken m.body at x) s step.0).0 in
     taken_merges m at w (settled stop w (master_takes m at w)) s (record_of w.controllers.master.records s) ok good refl told step.1
 receiver_merges false m at stop w s ok good tells =
-    absurd (no_found (worker_of w.controllers.workers m.receiver) (taken_by_worker m at) NoMessage stop w s (λ v. no_worker_take m v s) (λ e. cc) tells)
+    absurd (no_found (worker_of w.controllers.workers m.receiver) (taken_by_worker m at) NoMessage stop w s (λ v. no_worker_take m at v s) (λ e. cc) tells)
 
 delivered_merges : (found : Option Message) (k at : ℕ) (stop : Stop) (w : State) (s : ℕ) → message_at w.messages k ≡ found → IsKept w → TellsMerge s (settled_word stop w (option_map_or (receiver_takes at w) found (Err NoMessage)))
     → Merges w (settled stop w (option_map_or (receiver_takes at w) found (Err NoMessage))) s

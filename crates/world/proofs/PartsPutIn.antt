@@ -1,5 +1,5 @@
 -- A part that comes back to the master: its step and the shop's agree.
-use Rattle.std.proofs.Common.{◌≡◌, ◌==◌, ◌∙◌, ◌&&◌, ℕ, Bool, true, false, cond, List, [], ◌∷◌, map, Option, Some, None, is_some, Ok, Err, refl, sym, ap, subst}
+use Rattle.std.proofs.Common.{◌≡◌, ◌==◌, ◌∙◌, ◌&&◌, ℕ, Bool, true, false, cond, List, [], ◌∷◌, map, Option, Some, None, is_some, Result, Ok, Err, refl, sym, ap, subst}
 use Rattle.std.proofs.lemmas.Bool.{eqb-true}
 use Rattle.std.proofs.lemmas.List.Elements.{All-contains, All-head, All-tail}
 use Rattle.std.specs.List.{All, Contains}
@@ -10,9 +10,10 @@ use Rattle.ticket_rows.specs.Place.{place_at, places}
 use Rattle.ticket_tree.specs.Part.{Copied}
 use Rattle.ticket_tree.specs.PartView.{part_row}
 use Rattle.ticket_tree.specs.PlainEdit.{touch}
-use Rattle.controller.specs.Reply.{refused_or}
+use Rattle.controller.specs.Reply.{answer_to}
 use Rattle.controller.specs.declared.body.Body.TheVariants.{Return}
 use Rattle.controller.specs.declared.message.Message.{Message}
+use Rattle.controller.specs.declared.queue_status.QueueStatus.{QueueStatus}
 use Rattle.controller.specs.declared.reply.Reply.TheVariants as reply
 use Rattle.spawn.proofs.Lawful.{placed}
 use Rattle.spawn.specs.Records.{is_out}
@@ -54,8 +55,8 @@ use Rattle.world.specs.ShopActs as acts
 use Rattle.world.specs.ShopSteps as shop
 use Rattle.world.specs.Showing.{entry_of_spawn, now_shown, part_of_spawn, phase_shown, row_at, seen_shown, shop_shown, spawn_shown, tag_of}
 use Rattle.world.specs.State.{IsKept, State}
-use Rattle.controller.specs.Step.{Step}
-use Rattle.master_core.specs.Messages.{take_step as taken_by_master}
+use Rattle.controller.specs.Step.{Step, answering}
+use Rattle.master_core.specs.Messages.{already, merging, take_step as taken_by_master, while_out}
 use Rattle.world.specs.Stepping.{master_moved}
 use Rattle.world_items.specs.declared.word.Word.TheVariants.{NoMessage}
 
@@ -196,23 +197,13 @@ part_returned sender receiver sent p = record { sender = sender; receiver = rece
 
 -- the master's step, by why the part is refused and by the record of its spawn
 abbrev step_by : master.Known → Message → Copied → ℕ → Option Refusal → Option SpawnRec → Step master.Known Message
-step_by m message p at why o =
-    record {
-      reply = refused_or why (cond (option_map_or is_out o false) (reply.Merged p.spawn_id) (reply.Already p.spawn_id));
-      next = cond (is_some why) m (option_map_or (λ r. cond (is_out r) (master_messages.merged p at m r) m) o m);
-      sent = master_messages.taken_answer message at m;
-    }
+step_by m message p at why o = answering m.name message at why m (while_out (merging p at m) (already p m) o)
 
 -- the step on one that isn't refused, by whether its spawn is out
 abbrev step_on : master.Known → Message → Copied → ℕ → SpawnRec → Bool → Step master.Known Message
-step_on m message p at r out =
-    record {
-      reply = Ok (cond out (reply.Merged p.spawn_id) (reply.Already p.spawn_id));
-      next = cond out (master_messages.merged p at m r) m;
-      sent = master_messages.taken_answer message at m;
-    }
+step_on m message p at r out = answering m.name message at None m (cond out (merging p at m r) (already p m))
 
-back_by : (out : Bool) (c : Controllers) (message : Message) (p : Copied) (at : ℕ) (r : SpawnRec) → r.id ≡ p.spawn_id → (out ≡ true → ComesBack c r p) → option_map tag_of (master_messages.taken_answer message at c.master) ≡ Some (shop.ToReturn p.spawn_id)
+back_by : (out : Bool) (c : Controllers) (message : Message) (p : Copied) (at : ℕ) (r : SpawnRec) → r.id ≡ p.spawn_id → (out ≡ true → ComesBack c r p) → ((told : Result QueueStatus ℕ) → option_map tag_of (answer_to c.master.name message at told) ≡ Some (shop.ToReturn p.spawn_id))
     → Agrees (master_moved c (step_on c.master message p at r out)) (cond out (shop.sends (reply.Merged r.id) (acts.merged at (spawn_shown c r) (shop_shown c)) (shop.ToReturn r.id)) (shop.sends (reply.Already r.id) (shop_shown c) (shop.ToReturn r.id)))
 back_by true c message p at r number back answered =
     let h = back refl in
@@ -230,10 +221,10 @@ back_by true c message p at r number back answered =
             holder = λ x. holder_put c r p at x h;
             spawns = spawns_put c r p at h;
           });
-      sent = answered ∙ ap (λ n. Some (shop.ToReturn n)) (sym number);
+      sent = answered (Ok (master_messages.end_of_part p)) ∙ ap (λ n. Some (shop.ToReturn n)) (sym number);
     }
 back_by false c message p at r number back answered =
-    record { reply = ap (λ n. Ok (reply.Already n)) (sym number); next = refl; sent = answered ∙ ap (λ n. Some (shop.ToReturn n)) (sym number) }
+    record { reply = ap (λ n. Ok (reply.Already n)) (sym number); next = refl; sent = answered (Ok (master_messages.end_of_part p)) ∙ ap (λ n. Some (shop.ToReturn n)) (sym number) }
 
 and_all : (b : Bool) → (b && true) ≡ b
 and_all true = refl
@@ -280,4 +271,4 @@ part_is_put_in w sender receiver sent p at ok there =
     (subst (λ why. Agrees (master_moved c (step_by c.master m p at why (master.record_of c.master.records p.spawn_id))) (shop.return_comes at s (spawn_shown c r))) (sym (master_refuses_nothing c m ok.recorded ok.back refl h))
     (subst (λ o. Agrees (master_moved c (step_by c.master m p at None o)) (shop.return_comes at s (spawn_shown c r))) (sym h.recorded)
     (subst (λ b. Agrees (master_moved c (step_on c.master m p at r (is_out r))) (cond b merges again)) (sym (done_shown c r ended.0 ended.1 ended.2.0))
-    (back_by (is_out r) c m p at r number (comes_back w sender receiver sent p ok h) refl))))
+    (back_by (is_out r) c m p at r number (comes_back w sender receiver sent p ok h) (λ told. refl)))))

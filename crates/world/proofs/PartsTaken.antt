@@ -1,5 +1,5 @@
 -- A part that comes to its worker: the controllers' step and the shop's agree.
-use Rattle.std.proofs.Common.{◌≡◌, ◌==◌, ◌∙◌, ℕ, Bool, true, false, cond, not, List, [], ◌∷◌, ◌++◌, map, Option, Some, None, Ok, Err, is_some, refl, sym, ap, subst}
+use Rattle.std.proofs.Common.{◌≡◌, ◌==◌, ◌∙◌, ℕ, Bool, true, false, cond, not, List, [], ◌∷◌, ◌++◌, map, Option, Some, None, Result, Ok, Err, refl, sym, ap, subst}
 use Rattle.std.proofs.lemmas.Bool.{eq-eqb, eqb-false, ne_eqb}
 use Rattle.std.proofs.lemmas.List.Elements.{All-contains}
 use Rattle.std.proofs.lemmas.List.Folds.{find-append}
@@ -10,9 +10,10 @@ use Rattle.ticket_items.specs.declared.refusal.Refusal.{Refusal}
 use Rattle.ticket_rows.specs.Place.{Place, place_at, places, row_in}
 use Rattle.ticket_tree.specs.Part.{Copied}
 use Rattle.ticket_tree.specs.PartView.{part_row}
-use Rattle.controller.specs.Reply.{refused_or}
+use Rattle.controller.specs.Reply.{answer_to}
 use Rattle.controller.specs.declared.body.Body.TheVariants.{Submit}
 use Rattle.controller.specs.declared.message.Message.{Message}
+use Rattle.controller.specs.declared.queue_status.QueueStatus.{QueueStatus}
 use Rattle.controller.specs.declared.reply.Reply.TheVariants as reply
 use Rattle.spawn.proofs.Lawful.{held_is_claimed, placed}
 use Rattle.spawn.proofs.PartShows.{part_shows_claim}
@@ -25,7 +26,7 @@ use Rattle.spawn.specs.declared.tables.holder.Holder.TheVariants.{Master, Spawn}
 use Rattle.master_core.proofs.Recorded.{number_is}
 use Rattle.master_core.specs.Master as master
 use Rattle.worker_core.proofs.AtNumber.{found_holds}
-use Rattle.worker_core.specs.Messages.{again_reply, taken_answer}
+use Rattle.worker_core.specs.Messages.{again, again_reply, entering}
 use Rattle.worker_core.specs.Worker as worker
 use Rattle.worker_core.specs.declared.entry.Entry.{Entry}
 use Rattle.world.proofs.Agreeing.{Agrees, StepsAgree}
@@ -45,7 +46,7 @@ use Rattle.world.specs.ShopActs.{in_phase, taken}
 use Rattle.world.specs.ShopSteps as shop
 use Rattle.world.specs.Showing.{entry_of_spawn, phase_shown, row_at, seen_shown, shop_shown, spawn_shown, tag_of}
 use Rattle.world.specs.State.{IsKept, State}
-use Rattle.controller.specs.Step.{Step}
+use Rattle.controller.specs.Step.{Step, Taking, answering}
 use Rattle.worker_core.specs.Messages.{take_step as taken_by_worker}
 use Rattle.world.specs.Stepping.{worker_moved}
 use Rattle.world_items.specs.declared.word.Word.TheVariants.{NoMessage}
@@ -54,14 +55,16 @@ use Rattle.world_items.specs.declared.word.Word.TheVariants.{NoMessage}
 abbrev part_sent : List ℕ → worker.Known → ℕ → Copied → Message
 part_sent sender v sent p = record { sender = sender; receiver = v.name; at = sent; body = Submit p }
 
--- the worker's step, by why the part is refused and by the entry that it has
+-- what comes of it, by the entry that the worker has, and the worker's step, by why the part is refused
+abbrev coming : worker.Known → Copied → ℕ → Option Entry → Taking worker.Known
+coming v p at o = option_map_or (again p.spawn_id v) o (entering p at v)
+
 abbrev step_by : worker.Known → Message → Copied → ℕ → Option Refusal → Option Entry → Step worker.Known Message
-step_by v m p at why o =
-    record {
-      reply = refused_or why (option_map_or (again_reply p.spawn_id) o (reply.Taken p.spawn_id));
-      next = cond (is_some why) v (record v { entries = cond (is_some o) v.entries (v.entries ++ worker.new_entry p at ∷ []) });
-      sent = taken_answer m at v;
-    }
+step_by v m p at why o = answering v.name m at why v (coming v p at o)
+
+-- its answer goes back
+abbrev IsAnswered : worker.Known → Message → Copied → ℕ → Type 0
+IsAnswered v m p at = (told : Result QueueStatus ℕ) → option_map tag_of (answer_to v.name m at told) ≡ Some (shop.ToSubmit p.spawn_id)
 
 -- ---- what the spawn holds
 
@@ -101,7 +104,7 @@ again_shown c s r e number back entered =
     ∙ sym (ap (λ b. cond b (reply.Again r.id) (reply.Declined r.id)) (ap (λ o. is_taken (phase_shown r.phase o)) entered ∙ taken_of_entry r.phase e known))
 
 taken_again : (w : State) (v : worker.Known) (m : Message) (p : Copied) (at : ℕ) (r : SpawnRec) (e : Entry) → IsKept w → worker_of w.controllers.workers v.name ≡ Some v → r.id ≡ p.spawn_id → HasComeBack w.controllers r → entry_for w.controllers r ≡ Some e
-    → option_map tag_of (taken_answer m at v) ≡ Some (shop.ToSubmit p.spawn_id)
+    → IsAnswered v m p at
     → Agrees (worker_moved w.controllers v (step_by v m p at None (Some e))) (shop.submit_comes (shop_shown w.controllers) (spawn_shown w.controllers r))
 taken_again w v m p at r e ok found number back entered answered =
     let c = w.controllers in
@@ -111,7 +114,7 @@ taken_again w v m p at r e ok found number back entered answered =
     (record {
       reply = ap Ok (again_shown c p.spawn_id r e number back entered);
       next = ap shop_shown (stored_same w v.name v ok found);
-      sent = answered ∙ ap (λ n. Some (shop.ToSubmit n)) (sym number);
+      sent = answered (coming v p at (Some e)).told ∙ ap (λ n. Some (shop.ToSubmit n)) (sym number);
     })
 
 -- ---- a part of which there is none
@@ -158,7 +161,7 @@ part_as_seen c p r x ok found out made missing held =
     ∙ sym (ap (row_at c x) held ∙ ap (λ o. option_map_or (λ q. part_row q x) (option_and_then (λ (e : Entry). e.part) o) (seen_shown c x)) none)
 
 newly_taken : (w : State) (v : worker.Known) (m : Message) (p : Copied) (at : ℕ) (r : SpawnRec) → IsKept w → worker_of w.controllers.workers v.name ≡ Some v → master.record_of w.controllers.master.records p.spawn_id ≡ Some r → r.worker ≡ v.name
-    → (is_out r ≡ true → p ≡ part_for w.controllers.master.ticket r) → worker.entry_of v.entries p.spawn_id ≡ None → entry_for w.controllers r ≡ None → option_map tag_of (taken_answer m at v) ≡ Some (shop.ToSubmit p.spawn_id)
+    → (is_out r ≡ true → p ≡ part_for w.controllers.master.ticket r) → worker.entry_of v.entries p.spawn_id ≡ None → entry_for w.controllers r ≡ None → IsAnswered v m p at
     → Agrees (worker_moved w.controllers v (step_by v m p at None None)) (shop.submit_comes (shop_shown w.controllers) (spawn_shown w.controllers r))
 newly_taken w v m p at r ok found recorded named made missing none answered =
     let c = w.controllers in
@@ -195,7 +198,7 @@ newly_taken w v m p at r ok found recorded named made missing none answered =
             spawns = spawns_stored c v.name p.spawn_id next new r Open stored (ap (λ phase. phase_shown phase (Some new)) (phase_out r.phase out))
                 ∙ ap (λ n. in_phase Open n (map (spawn_shown c) c.master.records)) (sym number);
           });
-      sent = answered ∙ ap (λ n. Some (shop.ToSubmit n)) (sym number);
+      sent = answered (coming v p at None).told ∙ ap (λ n. Some (shop.ToSubmit n)) (sym number);
     })
 
 -- ---- the step
@@ -222,5 +225,5 @@ part_is_taken w v sender sent p at ok found there =
     (sym (ap (λ o. option_map_or (λ a. Ok (shop.submit_comes plain a)) o (Err NoMessage)) (spawn_found c p.spawn_id ∙ ap (option_map (spawn_shown c)) h.recorded)))
     (subst (λ why. Agrees (worker_moved c v (step_by v m p at why own)) (shop.submit_comes plain (spawn_shown c r))) (sym (worker_refuses_nothing c v m found refl knows refl h))
     (split_some own
-    (λ e has. subst (λ o. Agrees (worker_moved c v (step_by v m p at None o)) (shop.submit_comes plain (spawn_shown c r))) (sym has) (taken_again w v m p at r e ok found number (found_holds (HasComeBack c) (master.is_of p.spawn_id) c.master.records r h.recorded ok.back) (entered ∙ has) refl))
-    (λ missing. subst (λ o. Agrees (worker_moved c v (step_by v m p at None o)) (shop.submit_comes plain (spawn_shown c r))) (sym missing) (newly_taken w v m p at r ok found h.recorded (sym h.to) made missing (entered ∙ missing) refl))))
+    (λ e has. subst (λ o. Agrees (worker_moved c v (step_by v m p at None o)) (shop.submit_comes plain (spawn_shown c r))) (sym has) (taken_again w v m p at r e ok found number (found_holds (HasComeBack c) (master.is_of p.spawn_id) c.master.records r h.recorded ok.back) (entered ∙ has) (λ told. refl)))
+    (λ missing. subst (λ o. Agrees (worker_moved c v (step_by v m p at None o)) (shop.submit_comes plain (spawn_shown c r))) (sym missing) (newly_taken w v m p at r ok found h.recorded (sym h.to) made missing (entered ∙ missing) (λ told. refl)))))

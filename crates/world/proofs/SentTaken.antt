@@ -3,7 +3,7 @@ use Rattle.std.proofs.Common.{◌≡◌, ℕ, Bool, true, false, cond, Some, Non
 use Rattle.std.proofs.lemmas.List.Elements.{All-contains}
 use Rattle.std.specs.Option.{option_map_or}
 use Rattle.std.specs.Str.{bytes_eq}
-use Rattle.controller.specs.Reply.{refused_or}
+use Rattle.controller.specs.Step.{answering}
 use Rattle.controller.specs.declared.message.Message.{Message}
 use Rattle.controller.specs.declared.reply.Reply.{Reply}
 use Rattle.master_core.specs.Messages as master_messages
@@ -31,12 +31,15 @@ Said w step = (reply : Reply) × ((settled_word Run w step).word ≡ Did reply)
 -- ---- what it says
 
 master_said : (m : Message) (at : ℕ) (w : State) → master_messages.take_refusal m w.controllers.master ≡ None → Said w (master_takes m at w)
-master_said m at w none = (master_messages.take_reply m.body w.controllers.master, ap (λ o. word_of (refused_or o (master_messages.take_reply m.body w.controllers.master))) none)
+master_said m at w none =
+    let x = w.controllers.master in
+    let t = master_messages.taken m.body at x in
+    (t.reply, ap (λ o. word_of (answering x.name m at o x t).reply) none)
 
 worker_said : (m : Message) (at : ℕ) (w : State) (v : worker.Known) → worker_of w.controllers.workers m.receiver ≡ Some v → worker_messages.take_refusal m v ≡ None → Said w (worker_takes m at w)
 worker_said m at w v found none = (
-  worker_messages.take_reply m.body v.entries,
-  ap (λ o. (settled_word Run w (option_map_or (λ u. Ok (worker_moved w.controllers u (taken_by_worker m at u))) o (Err NoMessage))).word) found ∙ ap (λ o. word_of (refused_or o (worker_messages.take_reply m.body v.entries))) none,
+  (worker_messages.taken m.body at v).reply,
+  ap (λ o. (settled_word Run w (option_map_or (λ u. Ok (worker_moved w.controllers u (taken_by_worker m at u))) o (Err NoMessage))).word) found ∙ ap (λ o. word_of (answering v.name m at o v (worker_messages.taken m.body at v)).reply) none,
 )
 
 -- who takes it is told by its receiver

@@ -9,10 +9,11 @@ use Rattle.ticket_rows.specs.Ticket.{has_node}
 use Rattle.ticket_tree.proofs.PlainOneRow.{append_of_places, append_of_rows}
 use Rattle.ticket_tree.specs.PartView.{part_row}
 use Rattle.ticket_tree.specs.PlainEdit.{touch}
-use Rattle.controller.specs.Reply.{refused_or}
+use Rattle.controller.specs.Reply.{answer_to}
 use Rattle.controller.specs.declared.command.Command.TheVariants as command
 use Rattle.controller.specs.declared.message.Message.{Message}
 use Rattle.controller.specs.declared.queue_status.QueueStatus.{QueueStatus}
+use Rattle.controller.specs.declared.queue_status.QueueStatus.TheVariants as queue
 use Rattle.controller.specs.declared.reply.Reply.TheVariants as reply
 use Rattle.spawn.proofs.Ended.{end_keeps_others, ended_claim_is_masters}
 use Rattle.spawn.proofs.Lawful.{placed}
@@ -27,7 +28,7 @@ use Rattle.merge.specs.Withdrawal.{withdrawn}
 use Rattle.master_core.proofs.Recorded.{found_phase, number_is, phase_at_place, phase_if}
 use Rattle.master_core.specs.Master as master
 use Rattle.master_core.specs.Messages as master_messages
-use Rattle.master_core.specs.Messages.{take_step as taken_by_master}
+use Rattle.master_core.specs.Messages.{freeing, noted, take_step as taken_by_master, while_out}
 use Rattle.worker_core.specs.Worker as worker
 use Rattle.worker_core.specs.declared.entry.Entry.{Entry}
 use Rattle.worker_core.specs.declared.stage.Stage.{Stage}
@@ -49,9 +50,9 @@ use Rattle.world.specs.Messages.{IsInOrder, entry_for}
 use Rattle.world.specs.Shop as plain
 use Rattle.world.specs.ShopActs as acts
 use Rattle.world.specs.ShopSteps as shop
-use Rattle.world.specs.Showing.{entry_of_spawn, now_shown, part_of_spawn, phase_shown, row_at, seen_shown, shop_shown, spawn_shown}
+use Rattle.world.specs.Showing.{entry_of_spawn, now_shown, part_of_spawn, phase_shown, row_at, seen_shown, shop_shown, spawn_shown, tag_of}
 use Rattle.world.specs.State.{IsKept, State}
-use Rattle.controller.specs.Step.{Step}
+use Rattle.controller.specs.Step.{Step, answering}
 use Rattle.world.specs.Stepping.{master_moved}
 use Rattle.world_items.specs.declared.word.Word.TheVariants.{NoMessage}
 
@@ -180,26 +181,16 @@ stage_told stages.Declined shut = refl
 -- ---- the step
 
 -- the master's step on an answer that isn't refused, by whether it tells that the spawn is declined, and whether that is out
-abbrev step_on : master.Known → ℕ → ℕ → SpawnRec → Bool → Bool → Step master.Known Message
-step_on m s at r declined out =
-    record {
-      reply = Ok (cond (declined && out) (reply.Freed s) (reply.Noted s));
-      next = cond declined (cond out (master_messages.freed at m r) m) m;
-      sent = None;
-    }
+abbrev step_on : master.Known → Message → ℕ → ℕ → SpawnRec → Bool → Bool → Step master.Known Message
+step_on m message s at r declined out = answering m.name message at None m (cond declined (cond out (freeing s at m r) (noted s m)) (noted s m))
 
 -- the same, by why it is refused and by the record of the spawn
-abbrev step_by : master.Known → ℕ → ℕ → Bool → Option Refusal → Option SpawnRec → Step master.Known Message
-step_by m s at declined why o =
-    record {
-      reply = refused_or why (cond (declined && option_map_or is_out o false) (reply.Freed s) (reply.Noted s));
-      next = cond (is_some why) m (cond declined (option_map_or (λ r. cond (is_out r) (master_messages.freed at m r) m) o m) m);
-      sent = None;
-    }
+abbrev step_by : master.Known → Message → ℕ → ℕ → Bool → Option Refusal → Option SpawnRec → Step master.Known Message
+step_by m message s at declined why o = answering m.name message at why m (cond declined (while_out (freeing s at m) (noted s m) o) (noted s m))
 
-freed_by : (declined out : Bool) (c : Controllers) (s at : ℕ) (r : SpawnRec) → r.id ≡ s → (declined ≡ true → out ≡ true → IsFreed c r)
-    → Agrees (master_moved c (step_on c.master s at r declined out)) (cond (out && declined) (shop.replies (reply.Freed r.id) (acts.freed at (spawn_shown c r) (shop_shown c))) (shop.replies (reply.Noted r.id) (shop_shown c)))
-freed_by true true c s at r number freed =
+freed_by : (declined out : Bool) (c : Controllers) (message : Message) (s at : ℕ) (r : SpawnRec) → r.id ≡ s → (declined ≡ true → out ≡ true → IsFreed c r) → ((told : Result QueueStatus ℕ) → option_map tag_of (answer_to c.master.name message at told) ≡ None)
+    → Agrees (master_moved c (step_on c.master message s at r declined out)) (cond (out && declined) (shop.replies (reply.Freed r.id) (acts.freed at (spawn_shown c r) (shop_shown c))) (shop.replies (reply.Noted r.id) (shop_shown c)))
+freed_by true true c message s at r number freed unanswered =
     let h = freed refl refl in
     record {
       reply = ap (λ n. Ok (reply.Freed n)) (sym number);
@@ -215,11 +206,11 @@ freed_by true true c s at r number freed =
             holder = λ x. holder_freed c r at x h;
             spawns = spawns_freed c r at c.master.records;
           });
-      sent = refl;
+      sent = unanswered (Ok queue.Completed);
     }
-freed_by true false c s at r number freed = record { reply = ap (λ n. Ok (reply.Noted n)) (sym number); next = refl; sent = refl }
-freed_by false true c s at r number freed = record { reply = ap (λ n. Ok (reply.Noted n)) (sym number); next = refl; sent = refl }
-freed_by false false c s at r number freed = record { reply = ap (λ n. Ok (reply.Noted n)) (sym number); next = refl; sent = refl }
+freed_by true false c message s at r number freed unanswered = record { reply = ap (λ n. Ok (reply.Noted n)) (sym number); next = refl; sent = unanswered (Ok queue.Completed) }
+freed_by false true c message s at r number freed unanswered = record { reply = ap (λ n. Ok (reply.Noted n)) (sym number); next = refl; sent = unanswered (Ok queue.Completed) }
+freed_by false false c message s at r number freed unanswered = record { reply = ap (λ n. Ok (reply.Noted n)) (sym number); next = refl; sent = unanswered (Ok queue.Completed) }
 
 -- an entry that was declined has no part
 no_part : (e : Entry) → worker.IsKeptEntry e → worker.is_declined e ≡ true → e.part ≡ None
@@ -261,7 +252,7 @@ abort_is_answered w sender receiver sent s told at ok h =
     let notes = shop.replies (reply.Noted r.id) p in
     subst (StepsAgree (Ok (master_moved c (taken_by_master m at c.master))))
     (sym (ap (λ o. option_map_or (λ b. Ok (shop.abort_answered at p b)) o (Err NoMessage)) (spawn_found c s ∙ ap (option_map (spawn_shown c)) h.recorded)))
-    (subst (λ why. Agrees (master_moved c (step_by c.master s at declined why (master.record_of c.master.records s))) (shop.abort_answered at p a)) (sym (master_refuses_nothing c m ok.recorded ok.back refl h))
-    (subst (λ o. Agrees (master_moved c (step_by c.master s at declined None o)) (shop.abort_answered at p a)) (sym h.recorded)
-    (subst (λ b. Agrees (master_moved c (step_on c.master s at r declined (is_out r))) (cond b frees notes)) (sym shown)
-    (freed_by declined (is_out r) c s at r number freed))))
+    (subst (λ why. Agrees (master_moved c (step_by c.master m s at declined why (master.record_of c.master.records s))) (shop.abort_answered at p a)) (sym (master_refuses_nothing c m ok.recorded ok.back refl h))
+    (subst (λ o. Agrees (master_moved c (step_by c.master m s at declined None o)) (shop.abort_answered at p a)) (sym h.recorded)
+    (subst (λ b. Agrees (master_moved c (step_on c.master m s at r declined (is_out r))) (cond b frees notes)) (sym shown)
+    (freed_by declined (is_out r) c m s at r number freed (λ said. refl)))))

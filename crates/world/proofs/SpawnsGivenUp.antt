@@ -1,5 +1,5 @@
 -- What is to be given up comes to its worker: the controllers' step and the shop's agree.
-use Rattle.std.proofs.Common.{◌≡◌, ◌∙◌, ℕ, true, false, cond, List, [], ◌∷◌, ◌++◌, map, Option, Some, None, Ok, Err, is_some, refl, sym, ap, subst}
+use Rattle.std.proofs.Common.{◌≡◌, ◌∙◌, ℕ, true, false, cond, List, map, Option, Some, None, Result, Ok, Err, refl, sym, ap, subst}
 use Rattle.std.proofs.lemmas.List.Elements.{All-contains}
 use Rattle.std.specs.List.{Contains}
 use Rattle.std.specs.Option.{option_and_then, option_map, option_map_or}
@@ -8,9 +8,10 @@ use Rattle.ticket_items.specs.declared.refusal.Refusal.{Refusal}
 use Rattle.ticket_tree.specs.Part.{Copied}
 use Rattle.ticket_tree.specs.PartView.{part_row}
 use Rattle.ticket_tree.specs.PlainEdit.{plain_rows}
-use Rattle.controller.specs.Reply.{refused_or}
+use Rattle.controller.specs.Reply.{answer_to}
 use Rattle.controller.specs.declared.body.Body.TheVariants.{Abort}
 use Rattle.controller.specs.declared.message.Message.{Message}
+use Rattle.controller.specs.declared.queue_status.QueueStatus.{QueueStatus}
 use Rattle.controller.specs.declared.reply.Reply.TheVariants as reply
 use Rattle.spawn.proofs.Outside.{some_of}
 use Rattle.spawn.specs.declared.records.phase.Phase.TheVariants as recorded
@@ -23,7 +24,7 @@ use Rattle.worker_core.proofs.Closing.{aborted_number, aborted_shut}
 use Rattle.worker_core.proofs.EditedPart.{ending_free}
 use Rattle.worker_core.proofs.Kept.{kept_part}
 use Rattle.worker_core.proofs.Refusals.{of_open}
-use Rattle.worker_core.specs.Messages.{abort_reply, aborted_entry, again_reply, taken_answer}
+use Rattle.worker_core.specs.Messages.{aborted_entry, aborting, again_reply, declining}
 use Rattle.worker_core.specs.Messages.{take_step as taken_by_worker}
 use Rattle.worker_core.specs.Orders as orders
 use Rattle.worker_core.specs.Worker as worker
@@ -47,7 +48,7 @@ use Rattle.world.specs.ShopActs as acts
 use Rattle.world.specs.ShopSteps as shop
 use Rattle.world.specs.Showing.{entry_of_spawn, now_shown, phase_shown, row_at, seen_shown, shop_shown, spawn_shown, tag_of}
 use Rattle.world.specs.State.{IsKept, State}
-use Rattle.controller.specs.Step.{Step}
+use Rattle.controller.specs.Step.{Step, Taking, answering}
 use Rattle.world.specs.Stepping.{worker_moved}
 use Rattle.world_items.specs.declared.word.Word.TheVariants.{NoMessage}
 
@@ -55,18 +56,20 @@ use Rattle.world_items.specs.declared.word.Word.TheVariants.{NoMessage}
 abbrev abort_sent : List ℕ → worker.Known → ℕ → ℕ → Message
 abort_sent sender v sent s = record { sender = sender; receiver = v.name; at = sent; body = Abort s }
 
--- the worker then, by the entry that it has
+-- what comes of it, and the worker then, by the entry that it has
+abbrev coming : worker.Known → ℕ → ℕ → Option Entry → Taking worker.Known
+coming v s at o = option_map_or (aborting s at v) o (declining s at v)
+
 abbrev next_by : worker.Known → ℕ → ℕ → Option Entry → worker.Known
-next_by v s at o = record v { entries = cond (is_some o) (worker.with_entry s (aborted_entry at) v.entries) (v.entries ++ worker.declined_entry s at ∷ []) }
+next_by v s at o = (coming v s at o).next
 
 -- its step, by why the message is refused and by the entry
 abbrev step_by : worker.Known → Message → ℕ → ℕ → Option Refusal → Option Entry → Step worker.Known Message
-step_by v m s at why o =
-    record {
-      reply = refused_or why (option_map_or (abort_reply s) o (reply.Declined s));
-      next = cond (is_some why) v (next_by v s at o);
-      sent = taken_answer m at v;
-    }
+step_by v m s at why o = answering v.name m at why v (coming v s at o)
+
+-- its answer goes back
+abbrev IsAnswered : worker.Known → Message → ℕ → ℕ → Type 0
+IsAnswered v m s at = (told : Result QueueStatus ℕ) → option_map tag_of (answer_to v.name m at told) ≡ Some (shop.ToAbort s)
 
 -- ---- a spawn of which there is no entry
 
@@ -79,7 +82,7 @@ seen_alone w s r x recorded none held =
     sym (ap (row_at c x) held ∙ ap (λ o. option_map_or (λ q. part_row q x) (option_and_then (λ (e : Entry). e.part) o) (seen_shown c x)) missing)
 
 declines : (w : State) (v : worker.Known) (m : Message) (s at : ℕ) (r : SpawnRec) → IsKept w → worker_of w.controllers.workers v.name ≡ Some v → master.record_of w.controllers.master.records s ≡ Some r → r.worker ≡ v.name → worker.entry_of v.entries s ≡ None → entry_for w.controllers r ≡ None
-    → option_map tag_of (taken_answer m at v) ≡ Some (shop.ToAbort s) → Agrees (worker_moved w.controllers v (step_by v m s at None None)) (shop.abort_comes at (shop_shown w.controllers) (spawn_shown w.controllers r))
+    → IsAnswered v m s at → Agrees (worker_moved w.controllers v (step_by v m s at None None)) (shop.abort_comes at (shop_shown w.controllers) (spawn_shown w.controllers r))
 declines w v m s at r ok found recorded' named missing none answered =
     let c = w.controllers in
     let p = shop_shown c in
@@ -119,7 +122,7 @@ declines w v m s at r ok found recorded' named missing none answered =
             spawns = spawns_stored c v.name s next new r Declined stored (ap (λ phase. phase_shown phase (Some new)) (phase_out r.phase out))
                 ∙ ap (λ n. acts.in_phase Declined n (map (spawn_shown c) c.master.records)) (sym number);
           });
-      sent = answered ∙ ap (λ n. Some (shop.ToAbort n)) (sym number);
+      sent = answered (coming v s at None).told ∙ ap (λ n. Some (shop.ToAbort n)) (sym number);
     })
 
 -- ---- a spawn of which there is an entry
@@ -144,7 +147,7 @@ not_away w v m s at e h agrees =
 
 -- an open one ends, as its worker ends it
 ends : (w : State) (v : worker.Known) (m : Message) (s at : ℕ) (e : Entry) → IsKept w → worker_of w.controllers.workers v.name ≡ Some v → worker.entry_of v.entries s ≡ Some e → (h : HasRecord w.controllers v.name s e) → worker.is_open e ≡ true
-    → option_map tag_of (taken_answer m at v) ≡ Some (shop.ToAbort s) → Agrees (worker_moved w.controllers v (step_by v m s at None (Some e))) (taken_step w at h.spawn)
+    → IsAnswered v m s at → Agrees (worker_moved w.controllers v (step_by v m s at None (Some e))) (taken_step w at h.spawn)
 ends w v m s at e ok found has_entry h open' answered =
     let c = w.controllers in
     let p = shop_shown c in
@@ -183,7 +186,7 @@ ends w v m s at e ok found has_entry h open' answered =
             spawns = spawns_stored c v.name s next new r Done stored (ap (λ phase. phase_shown phase (Some new)) (phase_out r.phase out) ∙ ap (λ (y : Entry). phase_shown recorded.Out (Some y)) same)
                 ∙ ap (λ n. acts.in_phase Done n (map (spawn_shown c) c.master.records)) (sym h.number);
           });
-      sent = answered ∙ ap (λ n. Some (shop.ToAbort n)) (sym h.number);
+      sent = answered (coming v s at (Some e)).told ∙ ap (λ n. Some (shop.ToAbort n)) (sym h.number);
     })
 
 -- the entry of a spawn is found where its record is
@@ -192,7 +195,7 @@ entry_there w name s e h = ap (option_and_then (entry_for w.controllers)) h.reco
 
 -- what isn't open stays
 stays : (w : State) (v : worker.Known) (m : Message) (s at : ℕ) (e : Entry) → IsKept w → worker_of w.controllers.workers v.name ≡ Some v → worker.entry_of v.entries s ≡ Some e → (h : HasRecord w.controllers v.name s e) → worker.is_open e ≡ false
-    → option_map tag_of (taken_answer m at v) ≡ Some (shop.ToAbort s) → Agrees (worker_moved w.controllers v (step_by v m s at None (Some e))) (taken_step w at h.spawn)
+    → IsAnswered v m s at → Agrees (worker_moved w.controllers v (step_by v m s at None (Some e))) (taken_step w at h.spawn)
 stays w v m s at e ok found has_entry h shut answered =
     let c = w.controllers in
     let p = shop_shown c in
@@ -224,7 +227,7 @@ stays w v m s at e ok found has_entry h shut answered =
             holder = λ x. refl;
             spawns = spawns_stay c v.name s next new r stored (ap (λ (y : Entry). phase_shown r.phase (Some y)) same ∙ ap (phase_shown r.phase) (sym h.entered));
           });
-      sent = answered ∙ ap (λ n. Some (shop.ToAbort n)) (sym h.number);
+      sent = answered (coming v s at (Some e)).told ∙ ap (λ n. Some (shop.ToAbort n)) (sym h.number);
     })
 
 -- ---- the step
@@ -253,10 +256,10 @@ spawn_is_given_up w v sender sent s at ok found there =
     (subst (λ o. Agrees (worker_moved c v (step_by v m s at None o)) (shop.abort_comes at plain (spawn_shown c on.spawn))) (sym has)
     (not_away w v m s at e on
     (split (worker.is_open e)
-    (λ open'. ends w v m s at e ok found has on open' refl)
-    (λ shut. stays w v m s at e ok found has on shut refl))))))
+    (λ open'. ends w v m s at e ok found has on open' (λ told. refl))
+    (λ shut. stays w v m s at e ok found has on shut (λ told. refl)))))))
     (λ missing.
     subst (StepsAgree (Ok (worker_moved c v (taken_by_worker m at v)))) (sym (known r h.recorded))
     (subst (λ why. Agrees (worker_moved c v (step_by v m s at why own)) (shop.abort_comes at plain (spawn_shown c r))) (sym none)
     (subst (λ o. Agrees (worker_moved c v (step_by v m s at None o)) (shop.abort_comes at plain (spawn_shown c r))) (sym missing)
-    (declines w v m s at r ok found h.recorded (sym h.to) missing (entered ∙ missing) refl))))
+    (declines w v m s at r ok found h.recorded (sym h.to) missing (entered ∙ missing) (λ told. refl)))))

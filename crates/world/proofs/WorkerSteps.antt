@@ -1,9 +1,9 @@
 -- What a worker makes of an order or a message: the controllers are later, its entries have records, and what it sends is new.
-use Rattle.std.proofs.Common.{◌≡◌, ◌==◌, ◌&&◌, inl, inr, ℕ, Bool, true, false, cond, List, [], ◌∷◌, ◌++◌, Option, Some, None, IfSome, IsSomeAnd, is_none, is_ok, is_some, refl, sym, ap, ◌∙◌, subst}
+use Rattle.std.proofs.Common.{◌≡◌, ◌==◌, ◌&&◌, inl, inr, ℕ, Bool, true, false, cond, List, Option, Some, None, IfSome, IsSomeAnd, Result, Ok, Err, is_none, is_ok, is_some, refl, sym, ap, ◌∙◌, subst}
 use Rattle.std.proofs.lemmas.Bool.{and_parts, eqb-true, true≢false}
 use Rattle.std.proofs.lemmas.List.Elements.{All-push}
 use Rattle.std.specs.List.{All}
-use Rattle.std.specs.Option.{option_map}
+use Rattle.std.specs.Option.{option_map, option_map_or}
 use Rattle.std.specs.Str.{bytes_eq}
 use Rattle.ticket_items.proofs.Places.{same_found}
 use Rattle.ticket_items.specs.declared.refusal.Refusal.{Refusal}
@@ -12,8 +12,9 @@ use Rattle.ticket_tree.specs.Part.{Copied, edited_part}
 use Rattle.controller.specs.declared.body.Body.{Body}
 use Rattle.controller.specs.declared.body.Body.TheVariants.{Submit, Return, Abort, Answer}
 use Rattle.controller.specs.declared.command.Command.TheVariants as command
-use Rattle.controller.specs.Step.{Step}
+use Rattle.controller.specs.Step.{Step, answering}
 use Rattle.controller.specs.declared.message.Message.{Message}
+use Rattle.controller.specs.declared.queue_status.QueueStatus.{QueueStatus}
 use Rattle.spawn.specs.Parts.{part_for}
 use Rattle.spawn.specs.Records.{is_out}
 use Rattle.spawn.specs.declared.records.spawn_rec.SpawnRec.{SpawnRec}
@@ -26,9 +27,9 @@ use Rattle.worker_core.proofs.MessageLaws.{message_keeps_entries}
 use Rattle.worker_core.proofs.OrderLaws.{order_keeps_entries, ordered_return}
 use Rattle.worker_core.proofs.Refusals.{done_order, edit_free, for_free, ordered_on}
 use Rattle.worker_core.specs.Laws.{entry_after}
-use Rattle.worker_core.specs.Messages.{aborted_entry, after_taking, is_for_workers, take_refusal, taken, taken_entries}
+use Rattle.worker_core.specs.Messages.{aborted_entry, aborting, again, answered, declining, entering, is_for_workers, take_refusal, take_step, taken}
 use Rattle.worker_core.specs.Orders.{edited_entry, ended_part, ending, finished_entry, order_refusal, ordered, part_return, spawn_of_order}
-use Rattle.worker_core.specs.Worker.{IsKept, IsKeptEntry, IsKeptPart, Known, closed_entry, declined_entry, entry_of, is_declined, is_ended, is_of, is_open, new_entry, with_entry}
+use Rattle.worker_core.specs.Worker.{IsKept, IsKeptEntry, IsKeptPart, Known, closed_entry, declined_entry, entry_of, is_declined, is_ended, is_of, is_open, new_entry}
 use Rattle.worker_core.specs.declared.end.End.TheVariants.{Aborted}
 use Rattle.worker_core.specs.declared.entry.Entry.{Entry}
 use Rattle.worker_core.specs.declared.order.Order.{Order}
@@ -125,9 +126,9 @@ ordered_sends o at c messages v found knows none kept recorded all =
 
 -- ---- messages
 
-recorded_push : (found : Option Entry) (c : Controllers) (name : List ℕ) (entries : List Entry) (new : Entry) → All (IsRecorded c name) entries → IsRecorded c name new → All (IsRecorded c name) (cond (is_some found) entries (entries ++ new ∷ []))
-recorded_push None c name entries new all own = All-push (IsRecorded c name) entries new all own
-recorded_push (Some e) c name entries new all own = all
+recorded_push : (found : Option Entry) (c : Controllers) (v : Known) (p : Copied) (at : ℕ) → All (IsRecorded c v.name) v.entries → IsRecorded c v.name (new_entry p at) → All (IsRecorded c v.name) (option_map_or (again p.spawn_id v) found (entering p at v)).next.entries
+recorded_push None c v p at all own = All-push (IsRecorded c v.name) v.entries (new_entry p at) all own
+recorded_push (Some e) c v p at all own = all
 
 same_part : (p q : Copied) → Submit p ≡ Submit q → p ≡ q
 same_part p q e = cc
@@ -139,9 +140,9 @@ closed_recorded c name s r e found back own h =
     let same : there.0 ≡ r = same_found there.0 r (record_of c.master.records s) (ap (record_of c.master.records) (sym (eqb-true e.spawn_id s own)) ∙ there.1) found in
     found_and _ (record_of c.master.records (closed_entry e).spawn_id) there.0 (ap (record_of c.master.records) (closed_number e) ∙ there.1) (there.2.0, λ out taken. absurd (true≢false (sym out ∙ ap is_out same ∙ back)))
 
-recorded_answered : (ok : Bool) (c : Controllers) (name : List ℕ) (s : ℕ) (r : SpawnRec) (entries : List Entry) → record_of c.master.records s ≡ Some r → is_out r ≡ false → All (IsRecorded c name) entries → All (IsRecorded c name) (cond ok (with_entry s closed_entry entries) entries)
-recorded_answered false c name s r entries found back all = all
-recorded_answered true c name s r entries found back all = All-each_at_number (IsRecorded c name) number_of s closed_entry entries (λ e own h. closed_recorded c name s r e found back own h) all
+recorded_answered : (told : Result QueueStatus ℕ) (c : Controllers) (s : ℕ) (r : SpawnRec) (v : Known) → record_of c.master.records s ≡ Some r → is_out r ≡ false → All (IsRecorded c v.name) v.entries → All (IsRecorded c v.name) (answered s told v).next.entries
+recorded_answered (Err reason) c s r v found back all = all
+recorded_answered (Ok status) c s r v found back all = All-each_at_number (IsRecorded c v.name) number_of s closed_entry v.entries (λ e own h. closed_recorded c v.name s r e found back own h) all
 
 -- one that is to be given up has its part as it had it
 aborted_by : (b : Bool) (at : ℕ) (c : Controllers) (name : List ℕ) (e : Entry) → is_open e ≡ b → IsRecorded c name e → IsRecorded c name (aborted_entry at e)
@@ -150,30 +151,31 @@ aborted_by true at c name e open' h =
     (changed_recorded (ended_part Aborted at) c name e (finished_entry Aborted at e) (λ r p. edited_fits (ending p Aborted) at c.master.ticket r p refl) refl refl (open_taken e open') h)
 aborted_by false at c name e shut h = subst (IsRecorded c name) (sym (aborted_shut at e shut)) h
 
-recorded_aborted : (found : Option Entry) (c : Controllers) (name : List ℕ) (s at : ℕ) (r : SpawnRec) (entries : List Entry) → record_of c.master.records s ≡ Some r → r.worker ≡ name → All (IsRecorded c name) entries
-    → All (IsRecorded c name) (cond (is_some found) (with_entry s (aborted_entry at) entries) (entries ++ declined_entry s at ∷ []))
-recorded_aborted (Some x) c name s at r entries found named all = All-each_at_number (IsRecorded c name) number_of s (aborted_entry at) entries (λ e own h. aborted_by (is_open e) at c name e refl h) all
-recorded_aborted None c name s at r entries found named all =
-    All-push (IsRecorded c name) entries (declined_entry s at) all (found_and _ (record_of c.master.records s) r found (named, λ out taken. absurd (true≢false taken)))
+recorded_aborted : (found : Option Entry) (c : Controllers) (s at : ℕ) (r : SpawnRec) (v : Known) → record_of c.master.records s ≡ Some r → r.worker ≡ v.name → All (IsRecorded c v.name) v.entries
+    → All (IsRecorded c v.name) (option_map_or (aborting s at v) found (declining s at v)).next.entries
+recorded_aborted (Some x) c s at r v found named all = All-each_at_number (IsRecorded c v.name) number_of s (aborted_entry at) v.entries (λ e own h. aborted_by (is_open e) at c v.name e refl h) all
+recorded_aborted None c s at r v found named all =
+    All-push (IsRecorded c v.name) v.entries (declined_entry s at) all (found_and _ (record_of c.master.records s) r found (named, λ out taken. absurd (true≢false taken)))
 
-recorded_taken : (c : Controllers) (name sender receiver : List ℕ) (sent at : ℕ) (body : Body) (entries : List Entry) → receiver ≡ name → is_for_workers body ≡ true → IsInOrder c (record { sender = sender; receiver = receiver; at = sent; body = body }) → All (IsRecorded c name) entries → All (IsRecorded c name) (taken_entries body at entries)
-recorded_taken c name sender receiver sent at (Submit p) entries own theirs h all =
+recorded_taken : (c : Controllers) (v : Known) (sender receiver : List ℕ) (sent at : ℕ) (body : Body) → receiver ≡ v.name → is_for_workers body ≡ true → IsInOrder c (record { sender = sender; receiver = receiver; at = sent; body = body }) → All (IsRecorded c v.name) v.entries → All (IsRecorded c v.name) (taken body at v).next.entries
+recorded_taken c v sender receiver sent at (Submit p) own theirs h all =
     let made = λ (out : is_out h.spawn ≡ true). same_part p (part_for c.master.ticket h.spawn) (ap (λ (m : Message). m.body) (h.says out)) in
-    recorded_push (entry_of entries p.spawn_id) c name entries (new_entry p at) all
+    recorded_push (entry_of v.entries p.spawn_id) c v p at all
     (found_and _ (record_of c.master.records p.spawn_id) h.spawn h.recorded (sym h.to ∙ own, λ out taken. subst (Fits c.master.ticket h.spawn) (sym (made out)) (made_part_fits c.master.ticket h.spawn)))
-recorded_taken c name sender receiver sent at (Return p) entries own theirs h all = all
-recorded_taken c name sender receiver sent at (Abort s) entries own theirs h all = recorded_aborted (entry_of entries s) c name s at h.spawn entries h.recorded (sym h.to ∙ own) all
-recorded_taken c name sender receiver sent at (Answer command.Submit s told) entries own theirs h all = absurd (true≢false (sym theirs))
-recorded_taken c name sender receiver sent at (Answer command.Abort s told) entries own theirs h all = absurd (true≢false (sym theirs))
-recorded_taken c name sender receiver sent at (Answer command.Return s told) entries own theirs h all = recorded_answered (is_ok told) c name s h.spawn entries h.recorded h.says.1 all
+recorded_taken c v sender receiver sent at (Return p) own theirs h all = all
+recorded_taken c v sender receiver sent at (Abort s) own theirs h all = recorded_aborted (entry_of v.entries s) c s at h.spawn v h.recorded (sym h.to ∙ own) all
+recorded_taken c v sender receiver sent at (Answer command.Submit s told) own theirs h all = absurd (true≢false (sym theirs))
+recorded_taken c v sender receiver sent at (Answer command.Abort s told) own theirs h all = absurd (true≢false (sym theirs))
+recorded_taken c v sender receiver sent at (Answer command.Return s told) own theirs h all = recorded_answered told c s h.spawn v h.recorded h.says.1 all
 
-recorded_either : (refusal : Option Refusal) (c : Controllers) (m : Message) (at : ℕ) (v : Known) → take_refusal m v ≡ refusal → m.receiver ≡ v.name → IsInOrder c m → All (IsRecorded c v.name) v.entries → All (IsRecorded c v.name) (cond (is_some refusal) v (taken m.body at v)).entries
+recorded_either : (refusal : Option Refusal) (c : Controllers) (m : Message) (at : ℕ) (v : Known) → take_refusal m v ≡ refusal → m.receiver ≡ v.name → IsInOrder c m → All (IsRecorded c v.name) v.entries
+    → All (IsRecorded c v.name) (answering v.name m at refusal v (taken m.body at v)).next.entries
 recorded_either (Some e) c m at v is own h all = all
 recorded_either None c m at v is own h all =
-    recorded_taken c v.name m.sender m.receiver m.at at m.body v.entries own (and_parts (bytes_eq m.receiver v.name) (is_for_workers m.body) (for_free m v is)).1 h all
+    recorded_taken c v m.sender m.receiver m.at at m.body own (and_parts (bytes_eq m.receiver v.name) (is_for_workers m.body) (for_free m v is)).1 h all
 
 -- a part that is taken is of a spawn that has a record
-pub taken_recorded : (c : Controllers) (m : Message) (at : ℕ) (v : Known) → m.receiver ≡ v.name → IsInOrder c m → All (IsRecorded c v.name) v.entries → All (IsRecorded c v.name) (after_taking m at v).entries
+pub taken_recorded : (c : Controllers) (m : Message) (at : ℕ) (v : Known) → m.receiver ≡ v.name → IsInOrder c m → All (IsRecorded c v.name) v.entries → All (IsRecorded c v.name) (take_step m at v).next.entries
 taken_recorded c m at v own h all = recorded_either (take_refusal m v) c m at v refl own h all
 
 same_or_closed : (b : Bool) (e : Entry) → IsSameOrClosed e (cond b (closed_entry e) e)
@@ -195,7 +197,7 @@ taken_if : (b : Bool) (old new : Entry) → IsSameOrClosed old new → IsSameOrC
 taken_if true old new is = is
 taken_if false old new is = inl refl
 
-pub taken_stays : (m : Message) (at : ℕ) (v : Known) (s : ℕ) (e : Entry) → entry_of v.entries s ≡ Some e → is_open e ≡ false → (x : Entry) × (entry_of (after_taking m at v).entries s ≡ Some x) × IsSameOrClosed e x
+pub taken_stays : (m : Message) (at : ℕ) (v : Known) (s : ℕ) (e : Entry) → entry_of v.entries s ≡ Some e → is_open e ≡ false → (x : Entry) × (entry_of (take_step m at v).next.entries s ≡ Some x) × IsSameOrClosed e x
 taken_stays m at v s e found ended =
     let free = is_none (take_refusal m v) in
     let next = entry_after s m.body at e in

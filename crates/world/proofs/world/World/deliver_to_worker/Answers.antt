@@ -1,7 +1,8 @@
 use Rattle.std.proofs.Common.{◌≡◌, ap, refl, subst, sym, ◌∙◌}
+use Rattle.std.proofs.lemmas.Result.{IfOk-weaker}
 use Rattle.std.specs.List.{Contains}
 use Rattle.world.proofs.AlwaysKept.{worker_takes_keeps}
-use Rattle.world.proofs.Answered.{if_ok, on_ok}
+use Rattle.world.proofs.Answered.{on_ok}
 use Rattle.world.proofs.Settled.{found_answers, found_settles, none_answers, none_settles}
 use Rattle.world.proofs.WorkerPlaces.{StandsAt, found, found_own, kept_there, name_of, none_there, settled_there, stands_at}
 use Rattle.world.specs.Happening.{settled, settled_word, worker_takes}
@@ -42,8 +43,8 @@ returns-in-Some-clause-answer c =
     let name = c.args.message.receiver in
     let x = c.index_mut-stored.result.now in
     let here : StandsAt workers name c.in-Some.place x = stands_at workers c.as_slice.result.now name c.in-Some.place x c.as_slice.ensures.value (sym c.in-Some.ensures) c.index_mut-stored.ensures.value in
-    if_ok _ _ c.takes.result c.takes.ensures.answer (λ a e. e ∙ found_answers c.args.stop w (taken_by_worker c.args.message c.args.at) (NoMessage) (worker_of workers name) x (taken_by_worker c.args.message c.args.at x) (found workers name c.in-Some.place x here) refl
-    ∙ ap (λ (v : State). settled_word c.args.stop v (worker_takes c.args.message c.args.at v)) c.self.view_is)
+    IfOk-weaker c.takes.result _ _ (λ a e. e ∙ found_answers c.args.stop w (taken_by_worker c.args.message c.args.at) (NoMessage) (worker_of workers name) x (taken_by_worker c.args.message c.args.at x) (found workers name c.in-Some.place x here) refl
+    ∙ ap (λ (v : State). settled_word c.args.stop v (worker_takes c.args.message c.args.at v)) c.self.view_is) c.takes.ensures.answer
 
 pub returns-in-Some-clause-state : goal.returns-in-Some-clause-state
 returns-in-Some-clause-state c =

@@ -1,8 +1,9 @@
 use Rattle.std.proofs.Common.{◌≡◌, true, Option, Ok, Err, is_ok, ap, refl, subst, sym, ◌∙◌}
+use Rattle.std.proofs.lemmas.Result.{IfOk-weaker}
 use Rattle.std.specs.Option.{option_map_or}
 use Rattle.ticket_items.specs.declared.refusal.Refusal.TheVariants.{UnknownWorker}
 use Rattle.world.proofs.AlwaysKept.{worker_order_keeps}
-use Rattle.world.proofs.Answered.{if_ok, on_ok}
+use Rattle.world.proofs.Answered.{on_ok}
 use Rattle.world.proofs.Settled.{found_answers, found_settles, none_answers, none_settles}
 use Rattle.worker_core.specs.Worker as worker
 use Rattle.world.proofs.Unmade.{is_made}
@@ -45,8 +46,8 @@ returns-in-Some-clause-answer c =
     let name = c.args.name.now in
     let x = c.index_mut-stored.result.now in
     let here : StandsAt workers name c.in-Some.place x = stands_at workers c.as_slice.result.now name c.in-Some.place x c.as_slice.ensures.value (sym c.in-Some.ensures) c.index_mut-stored.ensures.value in
-    if_ok _ _ c.is_told.result c.is_told.ensures.answer (λ a e. e ∙ found_answers c.args.stop w (ordered_worker c.args.order c.args.at) (Refused UnknownWorker) (worker_of workers name) x (ordered_worker c.args.order c.args.at x) (found workers name c.in-Some.place x here) refl
-    ∙ ap (λ (v : State). settled_word c.args.stop v (worker_step c.args.name.now c.args.order c.args.at v)) c.self.view_is)
+    IfOk-weaker c.is_told.result _ _ (λ a e. e ∙ found_answers c.args.stop w (ordered_worker c.args.order c.args.at) (Refused UnknownWorker) (worker_of workers name) x (ordered_worker c.args.order c.args.at x) (found workers name c.in-Some.place x here) refl
+    ∙ ap (λ (v : State). settled_word c.args.stop v (worker_step c.args.name.now c.args.order c.args.at v)) c.self.view_is) c.is_told.ensures.answer
 
 pub returns-in-Some-clause-state : goal.returns-in-Some-clause-state
 returns-in-Some-clause-state c =
