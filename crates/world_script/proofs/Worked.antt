@@ -19,6 +19,7 @@ use Rattle.controller.specs.declared.reply.Reply.TheVariants as reply
 use Rattle.master_core.specs.declared.order.Order.TheVariants as master
 use Rattle.worker_core.specs.declared.order.Order.TheVariants as worker
 use Rattle.controller_form.specs.Orders.MasterForm as master_form
+use Rattle.controller_form.specs.Orders.SpawnNamed.{known_form}
 use Rattle.controller_form.specs.Orders.WorkerForm as worker_form
 use Rattle.world_items.specs.declared.answer.Answer.{Answer}
 use Rattle.world_items.specs.declared.event.Event.{Event}
@@ -29,7 +30,7 @@ use Rattle.world_items.specs.declared.what.What.TheVariants.{MasterOrder, Worker
 use Rattle.world_items.specs.declared.word.Word.{Word}
 use Rattle.world_items.specs.declared.word.Word.TheVariants.{Did, Refused, Stopped, Restarted, NoMessage}
 use Rattle.world_script.specs.AnswerText.{answer_text}
-use Rattle.world_script.specs.EventForm.{event_form, what_form, kind_form, order_form}
+use Rattle.world_script.specs.EventForm.{event_form, what_form, order_form}
 use Rattle.world_script.specs.EventForm.{deliver_form, restart_form}
 use Rattle.world_script.specs.Script.{script_draft, script_read}
 use Rattle.world_script.specs.declared.script.Script.{Script}
@@ -158,9 +159,8 @@ order_to_each : read_as (text press (resend ++ codes "\"To\":\"mis\"},"
     ∷ event (WorkerOrder (codes "press") (worker.Resend 1)) 1 BeforeSave
     ∷ event (WorkerOrder (codes "fold") (worker.Resend 1)) 1 Run ∷ [])))
 unfolding serde_json_on_literals script_draft shop_draft ticket_draft own_row node_has_names pools_have_names
-    row_has_texts event_form what_form kind_form order_form master_form.master_order_form
-    master_form.kind_form master_form.known_form worker_form.worker_order_form
-    worker_form.kind_form worker_form.resend_form
+    row_has_texts event_form what_form order_form master_form.master_order_form
+    known_form worker_form.worker_order_form
 order_to_each = refl
 
 -- a message that is delivered, and a restart
@@ -172,7 +172,7 @@ delivery_and_restart : read_as (text press
     (event (Deliver 18446744073709551615) 0 BeforeSend
     ∷ event (Restart (codes "mis")) 2 Run ∷ [])))
 unfolding serde_json_on_literals script_draft shop_draft ticket_draft own_row node_has_names pools_have_names
-    row_has_texts event_form what_form kind_form deliver_form restart_form
+    row_has_texts event_form what_form deliver_form restart_form
 delivery_and_restart = refl
 
 -- ---- refusals
@@ -181,7 +181,7 @@ delivery_and_restart = refl
 unknown_member : read_as (text press
     (codes "{\"At\":1,\"By\":\"mis\",\"Event\":\"Restart\",\"To\":\"mis\"}"))
     ≡ Some (Err NotProfile)
-unfolding serde_json_on_literals script_draft shop_draft ticket_draft own_row event_form what_form kind_form
+unfolding serde_json_on_literals script_draft shop_draft ticket_draft own_row event_form what_form
     restart_form
 unknown_member = refl
 
@@ -193,7 +193,7 @@ unknown_stop = refl
 
 unknown_event : read_as (text press (codes "{\"At\":1,\"Event\":\"Stop\",\"To\":\"mis\"}"))
     ≡ Some (Err NotProfile)
-unfolding serde_json_on_literals script_draft shop_draft ticket_draft own_row event_form what_form kind_form
+unfolding serde_json_on_literals script_draft shop_draft ticket_draft own_row event_form what_form
 unknown_event = refl
 
 -- a worker's order to the master
@@ -201,8 +201,8 @@ finish_to_master : read_as (text press
     (codes "{\"At\":1,\"Event\":\"Order\",\"Order\":{\"Order\":\"Finish\",\"SpawnID\":\"S1\","
     ++ codes "\"Status\":\"Completed\"},\"To\":\"mis\"}"))
     ≡ Some (Err NotProfile)
-unfolding serde_json_on_literals script_draft shop_draft ticket_draft own_row event_form what_form kind_form
-    order_form master_form.master_order_form master_form.kind_form
+unfolding serde_json_on_literals script_draft shop_draft ticket_draft own_row event_form what_form
+    order_form master_form.master_order_form
 finish_to_master = refl
 
 -- a note of the master's node
@@ -217,8 +217,8 @@ too_long = replicate 1025 97
 
 long_note : read_as (text press (note too_long)) ≡ Some (Err BadText)
 unfolding serde_json_on_literals script_draft shop_draft ticket_draft own_row node_has_names pools_have_names
-    row_has_texts event_form what_form kind_form order_form master_form.master_order_form
-    master_form.kind_form master_form.edit_form edit_draft adding_draft note_draft
+    row_has_texts event_form what_form order_form master_form.master_order_form
+    master_form.edit_form edit_draft adding_draft note_draft
 long_note = refl
 
 -- a name that is none comes before it, also behind it
@@ -226,8 +226,8 @@ name_before_text : read_as (text press
     (note too_long ++ codes ",{\"At\":2,\"Event\":\"Restart\",\"To\":\"0\"}"))
     ≡ Some (Err BadId)
 unfolding serde_json_on_literals script_draft shop_draft ticket_draft own_row node_has_names pools_have_names
-    row_has_texts event_form what_form kind_form order_form restart_form
-    master_form.master_order_form master_form.kind_form master_form.edit_form edit_draft
+    row_has_texts event_form what_form order_form restart_form
+    master_form.master_order_form master_form.edit_form edit_draft
     adding_draft note_draft
 name_before_text = refl
 
@@ -237,8 +237,8 @@ no_spawn : read_as (text press
     ++ codes "\"To\":\"press\"}"))
     ≡ Some (Err BadId)
 unfolding serde_json_on_literals script_draft shop_draft ticket_draft own_row node_has_names pools_have_names
-    row_has_texts event_form what_form kind_form order_form worker_form.worker_order_form
-    worker_form.kind_form worker_form.resend_form
+    row_has_texts event_form what_form order_form worker_form.worker_order_form
+    known_form
 no_spawn = refl
 
 -- a worker of the master's name, and two of one name

@@ -55,16 +55,12 @@ restart_form d = do
   name ← text_under (codes "To") d
   Some (Restart name)
 
--- what happens, of the kind that a word names
-unfoldable pub kind_form : List ℕ → List ℕ → Data → Option What
-kind_form master kind d =
+-- what happens, of the kind that its `Event` names
+unfoldable pub what_form : List ℕ → Data → Option What
+what_form master d = text_under (codes "Event") d >>= λ kind.
     if bytes_eq kind (codes "Order") then order_form master d
     else (if bytes_eq kind (codes "Deliver") then deliver_form d
     else (if bytes_eq kind (codes "Restart") then restart_form d else None))
-
--- what happens, of the kind that its `Event` names
-unfoldable pub what_form : List ℕ → Data → Option What
-what_form master d = text_under (codes "Event") d >>= λ kind. kind_form master kind d
 
 -- where the controller stops, by its word
 abbrev pub stop_named : List ℕ → Option Stop

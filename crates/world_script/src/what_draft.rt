@@ -6,7 +6,7 @@ ghost use Rattle.world_script.specs.DraftedEvent.{drafted_what};
 ghost use Rattle.world_script.specs.EventForm as form;
 
 use controller_form::{MasterOrderDraft, WorkerOrderDraft};
-use json_items::{Borrowed, Checked, Draft, number_under, text_under};
+use json_items::{Borrowed, Checked, Draft, number_under, only, text_under};
 use json_source::Source;
 use std::alloc::Global;
 use ticket_tree::{Id, Refusal};
@@ -47,9 +47,7 @@ fn order_to<'a, S: Source>(
 fn order<'a, S: Source>(alloc: Global, master: &str, value: &'a S) -> Result<WhatDraft<'a>, Refusal>
     ensures { Gives drafted_what result (form.order_form master.now (S.content value.now)) }
 {
-    if !value.has_only(&["At", "Event", "Order", "Stop", "To"]) {
-        return Err(Refusal::NotProfile);
-    }
+    only(value, &["At", "Event", "Order", "Stop", "To"])?;
     let name = text_under(value, "To").ok_or(Refusal::NotProfile)?;
     match value.member("Order") {
         Some(order) => order_to(alloc, master, name, order),
@@ -62,9 +60,7 @@ fn order<'a, S: Source>(alloc: Global, master: &str, value: &'a S) -> Result<Wha
 fn deliver<'a, S: Source>(value: &'a S) -> Result<WhatDraft<'a>, Refusal>
     ensures { Gives drafted_what result (form.deliver_form (S.content value.now)) }
 {
-    if !value.has_only(&["At", "Deliver", "Event", "Stop"]) {
-        return Err(Refusal::NotProfile);
-    }
+    only(value, &["At", "Deliver", "Event", "Stop"])?;
     let number = number_under(value, "Deliver").ok_or(Refusal::NotProfile)?;
     Ok(WhatDraft::Deliver(number))
 }
@@ -74,33 +70,9 @@ fn deliver<'a, S: Source>(value: &'a S) -> Result<WhatDraft<'a>, Refusal>
 fn restart<'a, S: Source>(value: &'a S) -> Result<WhatDraft<'a>, Refusal>
     ensures { Gives drafted_what result (form.restart_form (S.content value.now)) }
 {
-    if !value.has_only(&["At", "Event", "Stop", "To"]) {
-        return Err(Refusal::NotProfile);
-    }
+    only(value, &["At", "Event", "Stop", "To"])?;
     let name = text_under(value, "To").ok_or(Refusal::NotProfile)?;
     Ok(WhatDraft::Restart(Borrowed::new(name)))
-}
-
-/// The draft of what happens, of a kind.
-#[tactic(auto, unfolding(crate::specs::EventForm::kind_form))]
-fn draft_of_kind<'a, S: Source>(
-    alloc: Global,
-    master: &str,
-    kind: &str,
-    value: &'a S,
-) -> Result<WhatDraft<'a>, Refusal>
-    ensures { Gives drafted_what result
-        (form.kind_form master.now kind.now (S.content value.now)) }
-{
-    if kind == "Order" {
-        order(alloc, master, value)
-    } else if kind == "Deliver" {
-        deliver(value)
-    } else if kind == "Restart" {
-        restart(value)
-    } else {
-        Err(Refusal::NotProfile)
-    }
 }
 
 impl<'a> WhatDraft<'a> {
@@ -115,7 +87,15 @@ impl<'a> WhatDraft<'a> {
         ensures { Gives drafted_what result (form.what_form master.now (S.content value.now)) }
     {
         let kind = text_under(value, "Event").ok_or(Refusal::NotProfile)?;
-        draft_of_kind(alloc, master, kind, value)
+        if kind == "Order" {
+            order(alloc, master, value)
+        } else if kind == "Deliver" {
+            deliver(value)
+        } else if kind == "Restart" {
+            restart(value)
+        } else {
+            Err(Refusal::NotProfile)
+        }
     }
 
     /// Whether its ids and names are valid, and its SpawnID names a spawn.

@@ -16,7 +16,7 @@ use Rattle.json_items.specs.Listed.{list_form}
 use Rattle.json_source.specs.Read.{◌>>=◌, provided, has_only, text_under}
 use Rattle.master_core.specs.declared.order.Order.{Order}
 use Rattle.master_core.specs.declared.order.Order.TheVariants.{Edit, Spawn, Resend, Withdraw}
-use Rattle.controller_form.specs.Orders.SpawnNamed.{spawn_under}
+use Rattle.controller_form.specs.Orders.SpawnNamed.{known_form}
 
 -- ---- by members and their kinds alone
 
@@ -46,24 +46,13 @@ spawn_form d = do
   worker ← text_under (codes "Worker") d
   Some (Spawn node worker copies)
 
-abbrev pub known_members : List (List ℕ)
-known_members = codes "Order" ∷ codes "SpawnID" ∷ []
-
--- the spawn of an order about one that was made
-unfoldable pub known_form : Data → Option ℕ
-known_form d = provided (has_only known_members d) >>= λ _. spawn_under d
-
--- an order of the kind that a word names
-unfoldable pub kind_form : List ℕ → Data → Option Order
-kind_form kind d =
+-- an order of the kind that its `Order` names
+unfoldable pub master_order_form : Data → Option Order
+master_order_form d = text_under (codes "Order") d >>= λ kind.
     if bytes_eq kind (codes "Edit") then edit_form d
     else (if bytes_eq kind (codes "Spawn") then spawn_form d
     else (if bytes_eq kind (codes "Resend") then option_map Resend (known_form d)
     else (if bytes_eq kind (codes "Withdraw") then option_map Withdraw (known_form d) else None)))
-
--- an order, of the kind that its `Order` names
-unfoldable pub master_order_form : Data → Option Order
-master_order_form d = text_under (codes "Order") d >>= λ kind. kind_form kind d
 
 -- ---- ids, names and texts
 

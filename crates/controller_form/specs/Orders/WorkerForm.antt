@@ -2,7 +2,7 @@
 -- texts of an edit may be any bytes, and the SpawnID any text.
 use Rattle.std.specs.Prelude.{ℕ, ◌&&◌, Bool, true, List, [], ◌∷◌, codes, if◌then◌else◌, Option}
 use Rattle.std.specs.Prelude.{Some, None, Result}
-use Rattle.std.specs.Option.{option_and_then}
+use Rattle.std.specs.Option.{option_and_then, option_map}
 use Rattle.std.specs.Str.{bytes_eq}
 use Rattle.serde_json.specs.Data.{Data}
 use Rattle.serde_json.specs.Find.{get}
@@ -14,7 +14,7 @@ use Rattle.json_source.specs.Read.{◌>>=◌, provided, has_only, text_under}
 use Rattle.worker_core.specs.declared.order.Order.{Order}
 use Rattle.worker_core.specs.declared.order.Order.TheVariants.{Edit, Finish, Resend}
 use Rattle.controller_form.specs.Orders.EndNamed.{end_named}
-use Rattle.controller_form.specs.Orders.SpawnNamed.{spawn_under}
+use Rattle.controller_form.specs.Orders.SpawnNamed.{known_form, spawn_under}
 
 -- ---- by members and their kinds alone
 
@@ -41,26 +41,12 @@ finish_form d = do
   end ← end_named word
   Some (Finish s end)
 
-abbrev pub resend_members : List (List ℕ)
-resend_members = codes "Order" ∷ codes "SpawnID" ∷ []
-
--- to give it back once more
-unfoldable pub resend_form : Data → Option Order
-resend_form d = do
-  _ ← provided (has_only resend_members d)
-  s ← spawn_under d
-  Some (Resend s)
-
--- an order of the kind that a word names
-unfoldable pub kind_form : List ℕ → Data → Option Order
-kind_form kind d =
+-- an order of the kind that its `Order` names
+unfoldable pub worker_order_form : Data → Option Order
+worker_order_form d = text_under (codes "Order") d >>= λ kind.
     if bytes_eq kind (codes "Edit") then edit_form d
     else (if bytes_eq kind (codes "Finish") then finish_form d
-    else (if bytes_eq kind (codes "Resend") then resend_form d else None))
-
--- an order, of the kind that its `Order` names
-unfoldable pub worker_order_form : Data → Option Order
-worker_order_form d = text_under (codes "Order") d >>= λ kind. kind_form kind d
+    else (if bytes_eq kind (codes "Resend") then option_map Resend (known_form d) else None))
 
 -- ---- ids, names and texts
 

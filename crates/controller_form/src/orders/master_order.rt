@@ -5,9 +5,8 @@ ghost use Rattle.json_items.specs.Judged.{Answers};
 ghost use Rattle.json_source.specs.Read.{Gives};
 ghost use Rattle.controller_form.specs.Orders.DraftedMasterOrder.{drafted_master_order};
 ghost use Rattle.controller_form.specs.Orders.MasterForm as forms;
-ghost use Rattle.controller_form.specs.Orders.SpawnNamed.{spawn_named};
 
-use crate::orders::spawn_named::names_spawn;
+use crate::orders::spawn_named::{known, names_spawn};
 use json_items::{
     AnyText, Borrowed, Checked, Draft, Drafts, EditDraft, build_two, only, text_under, two, under,
 };
@@ -56,46 +55,26 @@ fn spawn<'a, S: Source>(alloc: Global, value: &'a S) -> Result<MasterOrderDraft<
     Ok(MasterOrderDraft::Spawn { node, worker, rw })
 }
 
-/// The text that names the spawn of an order about one that was made.
-#[tactic(auto, unfolding(crate::specs::Orders::MasterForm::known_form))]
-fn known<'a, S: Source>(alloc: Global, value: &'a S) -> Result<Borrowed<'a, AnyText>, Refusal>
-    ensures { Gives spawn_named result (forms.known_form (S.content value.now)) }
-{
-    only(value, &["Order", "SpawnID"])?;
-    under(alloc, value, "SpawnID")
-}
-
-/// The draft of an order of a kind.
-#[tactic(auto, unfolding(crate::specs::Orders::MasterForm::kind_form))]
-fn draft_of_kind<'a, S: Source>(
-    alloc: Global,
-    kind: &str,
-    value: &'a S,
-) -> Result<MasterOrderDraft<'a>, Refusal>
-    ensures { Gives drafted_master_order result (forms.kind_form kind.now (S.content value.now)) }
-{
-    if kind == "Edit" {
-        edit(alloc, value)
-    } else if kind == "Spawn" {
-        spawn(alloc, value)
-    } else if kind == "Resend" {
-        Ok(MasterOrderDraft::Resend(known(alloc, value)?))
-    } else if kind == "Withdraw" {
-        Ok(MasterOrderDraft::Withdraw(known(alloc, value)?))
-    } else {
-        Err(Refusal::NotProfile)
-    }
-}
-
 impl<'a> MasterOrderDraft<'a> {
-    /// The draft that a value is. Refuses `NotProfile`, and `Memory`.
+    /// The draft that a value is, of the kind that its `Order` names. Refuses `NotProfile`, and
+    /// `Memory`.
     #[tactic(auto, unfolding(crate::specs::Orders::MasterForm::master_order_form))]
     pub fn of<S: Source>(alloc: Global, value: &'a S) -> Result<MasterOrderDraft<'a>, Refusal>
         ensures { Gives drafted_master_order result
             (forms.master_order_form (S.content value.now)) }
     {
         let kind = text_under(value, "Order").ok_or(Refusal::NotProfile)?;
-        draft_of_kind(alloc, kind, value)
+        if kind == "Edit" {
+            edit(alloc, value)
+        } else if kind == "Spawn" {
+            spawn(alloc, value)
+        } else if kind == "Resend" {
+            Ok(MasterOrderDraft::Resend(known(alloc, value)?))
+        } else if kind == "Withdraw" {
+            Ok(MasterOrderDraft::Withdraw(known(alloc, value)?))
+        } else {
+            Err(Refusal::NotProfile)
+        }
     }
 }
 
@@ -121,8 +100,9 @@ impl<'a> Checked for MasterOrderDraft<'a> {
             MasterOrderDraft::Spawn { node, worker, rw } => node.has_names()
                 && worker.has_names()
                 && rw.has_names(),
-            MasterOrderDraft::Resend(spawn) => names_spawn(spawn.as_str()),
-            MasterOrderDraft::Withdraw(spawn) => names_spawn(spawn.as_str()),
+            MasterOrderDraft::Resend(spawn) | MasterOrderDraft::Withdraw(spawn) => {
+                names_spawn(spawn.as_str())
+            }
         }
     }
 
@@ -130,9 +110,7 @@ impl<'a> Checked for MasterOrderDraft<'a> {
     fn has_texts(&self) -> bool {
         match self {
             MasterOrderDraft::Edit(edit) => edit.has_texts(),
-            MasterOrderDraft::Spawn { .. } => true,
-            MasterOrderDraft::Resend(_) => true,
-            MasterOrderDraft::Withdraw(_) => true,
+            _ => true,
         }
     }
 

@@ -6,7 +6,7 @@ ghost use Rattle.controller_form.specs.Orders.DraftedWorkerOrder.{drafted_worker
 ghost use Rattle.controller_form.specs.Orders.WorkerForm as forms;
 
 use crate::orders::end_named::end_named;
-use crate::orders::spawn_named::names_spawn;
+use crate::orders::spawn_named::{known, names_spawn};
 use json_items::{AnyText, Borrowed, Checked, Draft, EditDraft, only, text_under, two, under};
 use json_source::Source;
 use std::alloc::Global;
@@ -56,45 +56,25 @@ fn finish<'a, S: Source>(alloc: Global, value: &'a S) -> Result<WorkerOrderDraft
     Ok(WorkerOrderDraft::Finish { spawn, end })
 }
 
-/// An order to give it back once more.
-#[tactic(auto, unfolding(crate::specs::Orders::WorkerForm::resend_form))]
-fn resend<'a, S: Source>(alloc: Global, value: &'a S) -> Result<WorkerOrderDraft<'a>, Refusal>
-    ensures { Gives drafted_worker_order result (forms.resend_form (S.content value.now)) }
-{
-    only(value, &["Order", "SpawnID"])?;
-    let spawn = under(alloc, value, "SpawnID")?;
-    Ok(WorkerOrderDraft::Resend { spawn })
-}
-
-/// The draft of an order of a kind.
-#[tactic(auto, unfolding(crate::specs::Orders::WorkerForm::kind_form))]
-fn draft_of_kind<'a, S: Source>(
-    alloc: Global,
-    kind: &str,
-    value: &'a S,
-) -> Result<WorkerOrderDraft<'a>, Refusal>
-    ensures { Gives drafted_worker_order result (forms.kind_form kind.now (S.content value.now)) }
-{
-    if kind == "Edit" {
-        edit(alloc, value)
-    } else if kind == "Finish" {
-        finish(alloc, value)
-    } else if kind == "Resend" {
-        resend(alloc, value)
-    } else {
-        Err(Refusal::NotProfile)
-    }
-}
-
 impl<'a> WorkerOrderDraft<'a> {
-    /// The draft that a value is. Refuses `NotProfile`, and `Memory`.
+    /// The draft that a value is, of the kind that its `Order` names. Refuses `NotProfile`, and
+    /// `Memory`.
     #[tactic(auto, unfolding(crate::specs::Orders::WorkerForm::worker_order_form))]
     pub fn of<S: Source>(alloc: Global, value: &'a S) -> Result<WorkerOrderDraft<'a>, Refusal>
         ensures { Gives drafted_worker_order result
             (forms.worker_order_form (S.content value.now)) }
     {
         let kind = text_under(value, "Order").ok_or(Refusal::NotProfile)?;
-        draft_of_kind(alloc, kind, value)
+        if kind == "Edit" {
+            edit(alloc, value)
+        } else if kind == "Finish" {
+            finish(alloc, value)
+        } else if kind == "Resend" {
+            let spawn = known(alloc, value)?;
+            Ok(WorkerOrderDraft::Resend { spawn })
+        } else {
+            Err(Refusal::NotProfile)
+        }
     }
 }
 
@@ -127,8 +107,7 @@ impl<'a> Checked for WorkerOrderDraft<'a> {
     fn has_texts(&self) -> bool {
         match self {
             WorkerOrderDraft::Edit { edit, .. } => edit.has_texts(),
-            WorkerOrderDraft::Finish { .. } => true,
-            WorkerOrderDraft::Resend { .. } => true,
+            _ => true,
         }
     }
 
