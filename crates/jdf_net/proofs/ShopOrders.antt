@@ -70,7 +70,7 @@ restarts_there old name place seen x after line same there is read keeps fresh t
 
 pub hands_to_master : (old : State) (m : Message) (at : ℕ) (after : InMemory master.Known) (refusal : Option CallRefused) (answer : Option (List ℕ)) (messages : List (List ℕ)) (reply : Reply) (r : Result EventLine CallRefused)
     → Takes is_honest held master_state master_state_read (λ y. in_text (master_messages.take_step y at old.master.controller)) old.master after refusal
-    → reply ≡ master_messages.take_reply m.body old.master.controller
+    → reply ≡ (master_messages.taken m.body at old.master.controller).reply
     → IfOk r (λ line. line ≡ handed_line reply refusal (number_of old.messages answer)) → OnOk r (messages ≡ with_sent old.messages answer)
     → IfOk r (HandsToMaster m at old (record { master = after; workers = old.workers; messages = messages }))
 hands_to_master old m at after refusal answer messages reply (Err e) takes replies told sent = tt

@@ -7,7 +7,7 @@ use Rattle.ticket_items.proofs.Places.{below_length}
 use Rattle.controller.specs.declared.message.Message.{Message}
 use Rattle.controller.specs.declared.reply.Reply.{Reply}
 use Rattle.streams.specs.declared.refused.Refused.{Refused as CallRefused}
-use Rattle.worker_core.specs.Messages.{take_reply, take_step}
+use Rattle.worker_core.specs.Messages.{take_step, taken}
 use Rattle.worker_core.specs.Worker.{Known}
 use Rattle.controller_form.specs.States.WorkerForm.{worker_state_read}
 use Rattle.stored_state.specs.Step.{in_text}
@@ -39,7 +39,7 @@ changed old messages name place seen x after same there is =
 pub hands_there : (old : State) (m : Message) (at place : ℕ) (seen : List (InMemory Known)) (x after : InMemory Known) (refusal : Option CallRefused) (answer : Option (List ℕ)) (messages : List (List ℕ)) (reply : Reply) (r : Result EventLine CallRefused)
     → seen ≡ old.workers → Some place ≡ position (is_named m.receiver) seen → x ≡ get_or old.workers place x
     → Takes is_honest held worker_state worker_state_read (λ y. in_text (take_step y at x.controller)) x after refusal
-    → reply ≡ take_reply m.body x.controller.entries
+    → reply ≡ (taken m.body at x.controller).reply
     → IfOk r (λ line. line ≡ handed_line reply refusal (number_of old.messages answer)) → OnOk r (messages ≡ with_sent old.messages answer)
     → IfOk r (HandsToNamed m at old (record { master = old.master; workers = set old.workers place after; messages = messages }))
 hands_there old m at place seen x after refusal answer messages reply (Err e) same there is takes replies told sent = tt

@@ -7,7 +7,6 @@ mod event_line;
 mod handing;
 mod loopback;
 mod pushing;
-mod replies;
 mod sent_texts;
 mod shop;
 mod written;

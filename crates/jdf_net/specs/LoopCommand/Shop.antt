@@ -179,7 +179,7 @@ pub record HandsToMaster (m : Message) (at : ℕ) (old new : State) (line : Even
   pub hands :
       Hands master_state master_state_read
       (λ x. in_text (master_messages.take_step x at old.master.controller))
-      (master_messages.take_reply m.body old.master.controller) old.master new.master
+      (master_messages.taken m.body at old.master.controller).reply old.master new.master
       old.messages new.messages line
   pub workers : new.workers ≡ old.workers
 
@@ -192,7 +192,7 @@ pub record HandsToWorker (m : Message) (at : ℕ) (old new : State) (line : Even
   pub hands :
       Hands worker_state worker_state_read
       (λ x. in_text (worker_messages.take_step x at before.controller))
-      (worker_messages.take_reply m.body before.controller.entries) before after
+      (worker_messages.taken m.body at before.controller).reply before after
       old.messages new.messages line
 
 -- if there is one

@@ -16,7 +16,6 @@ use crate::loop_command::event_line::EventLine;
 use crate::loop_command::handing::hand_over;
 use crate::loop_command::loopback::Loopback;
 use crate::loop_command::pushing::push;
-use crate::loop_command::replies::{master_reply, worker_reply};
 use crate::loop_command::sent_texts::SentTexts;
 use controller::{Message, Reply};
 use jdf_commands::word_of;
@@ -253,9 +252,9 @@ impl Shop {
     ) -> Result<EventLine, Refused>
         ensures { IfOk result (shops.HandsToMaster message.now at self.old self.new) }
     {
-        let reply = master_reply(self.master.controller(), &message.body);
+        let taken = self.master.controller().taken_as(&message.body);
         let delivery = hand_over(loopback, alloc, text, &mut self.master, at)?;
-        delivered(&mut self.messages, reply, delivery)
+        delivered(&mut self.messages, taken.reply, delivery)
     }
 
     /// A message is handed over to the worker that it is for, if there is one.
@@ -273,9 +272,9 @@ impl Shop {
             None => Ok(without_step(Word::NoMessage)),
             Some(place) => {
                 let worker = &mut self.workers[place];
-                let reply = worker_reply(worker.controller(), &message.body);
+                let taken = worker.controller().taken_as(&message.body);
                 let delivery = hand_over(loopback, alloc, text, worker, at)?;
-                delivered(&mut self.messages, reply, delivery)
+                delivered(&mut self.messages, taken.reply, delivery)
             }
         }
     }
