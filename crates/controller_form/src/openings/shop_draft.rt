@@ -5,7 +5,7 @@ use json_profile::TicketDraft;
 use json_source::Source;
 use master_core::are_apart;
 use std::alloc::Global;
-use ticket_tree::{Id, Refusal};
+use ticket_tree::{Id, Ids, Refusal};
 
 /// A shop by its members and their kinds alone: its ids, names and texts may be any.
 #[derive(Drop)]
@@ -16,6 +16,10 @@ pub struct ShopDraft<'a> {
 }
 
 impl<'a> ShopDraft<'a> {
+    ghost use Rattle.std.specs.Prelude.{◌≡◌, ◌⊎◌, ◌&&◌, ◌∷◌, true, false, IfErr, IfOk, IsErrOf, OnOk};
+    ghost use Rattle.std.specs.List.{list_all};
+    ghost use Rattle.ticket_items.specs.Ids.{are_distinct};
+    ghost use Rattle.ticket_items.specs.Names.{is_name};
     ghost use Rattle.json_source.specs.Read.{Gives};
     ghost use Rattle.controller_form.specs.Openings.DraftedShop.{drafted_shop};
     ghost use Rattle.controller_form.specs.Openings.ShopForm as form;
@@ -33,6 +37,23 @@ impl<'a> ShopDraft<'a> {
             workers,
             ticket,
         })
+    }
+
+    /// The names of its controllers, which are valid. Refuses `SameName` where two of them are
+    /// equal, and else `Memory`.
+    fn build_names(&self, alloc: Global) -> Result<(Id, Ids), Refusal>
+        requires { (is_name self.now.master && list_all is_name self.now.workers) ≡ true }
+        ensures ok { IfOk result (λ names. names ≡ (self.now.master, self.now.workers)) }
+        ensures apart { OnOk result (are_distinct (self.now.master ∷ self.now.workers) ≡ true) }
+        ensures refused { IsErrOf result Refusal.SameName
+            → are_distinct (self.now.master ∷ self.now.workers) ≡ false }
+        ensures only { IfErr result (λ e. (e ≡ Refusal.SameName) ⊎ (e ≡ Refusal.Memory)) }
+    {
+        let (master, workers) = build_two(alloc, &self.master, &self.workers)?;
+        if !are_apart(alloc, &master, workers.as_slice())? {
+            return Err(Refusal::SameName);
+        }
+        Ok((master, workers))
     }
 }
 
@@ -59,14 +80,11 @@ impl<'a> Checked for ShopDraft<'a> {
         self.ticket.has_texts()
     }
 
-    /// Refuses the first fault of its ticket, then `SameName`; `Memory` may come before any.
+    /// Refuses the first fault of its ticket, then `SameName`; `Memory` may come before any but
+    /// what a resource shows of spawns.
     fn build_known(&self, alloc: Global) -> Result<Shop, Refusal> {
-        let (master, workers) = build_two(alloc, &self.master, &self.workers)?;
-        let is_apart = are_apart(alloc, &master, workers.as_slice())?;
         let ticket = self.ticket.build_known(alloc)?;
-        if !is_apart {
-            return Err(Refusal::SameName);
-        }
+        let (master, workers) = self.build_names(alloc)?;
         Ok(Shop {
             master,
             workers,
