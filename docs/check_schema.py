@@ -27,12 +27,12 @@ WRITTEN = SCHEMA["anyOf"] + [{"$ref": "#/$defs/" + kind} for kind in ("part", "e
 INPUTS = {"": "editInput", "edit": "editInput", "world": "script", "new": "opening",
           "take": "message", "message": "message", "id": "message", "part": "part",
           "ticket": "ticket", "below": "ticket", "home": "ticket", "subtree": "ticket",
-          "change": "edit"}
+          "change": "edit", "kept": "script"}
 
 # Words of the driver alone, whose answer is one line, or none. The answer to any other is what the
 # program prints and tells, and its status on a line.
 ONE_LINE = {"text", "holders", "marked", "value", "ticket", "change", "part", "message", "id",
-            "state", "tree", "part_tree", "below", "home", "subtree"}
+            "state", "kept", "tree", "part_tree", "below", "home", "subtree"}
 
 # How many lines the answer to `send` has behind its first: a head, and a body of one line.
 SENT_LINES = 6

@@ -23,6 +23,7 @@ mod places;
 mod program;
 mod states;
 mod trees;
+mod worlds;
 
 use crate::lines::write_answers;
 use std::io;

@@ -1,7 +1,7 @@
 //! Words that the program doesn't have: files as they are, and calls that it never makes by itself.
 
 use crate::case::Case;
-use crate::{files, forms, masters, places, states, trees};
+use crate::{files, forms, masters, places, states, trees, worlds};
 use jmf_message::Message;
 use keepers::Locks;
 use std::alloc::{AllocError, Global};
@@ -41,6 +41,7 @@ fn called<R: Locks>(
         }
         ("marked", [file]) => Some(masters::line_in(rt, alloc, word, file.as_str(), &[])),
         ("below" | "subtree" | "home", ids) => Some(places::place(alloc, word, ids, input)),
+        ("kept", [name]) => Some(worlds::kept(alloc, name.as_str(), input)),
         ("tree", rows) => Some(trees::tree(alloc, rows)),
         ("part_tree", rows) => Some(trees::part_tree(alloc, rows)),
         (_, []) => form_again(alloc, word, input),
