@@ -55,6 +55,30 @@ def begin(file="mis"):
 # ---- one command
 
 
+def node(name, children=()):
+    """A node as it is printed."""
+    return {"Attr": {}, "AuditPool": [], "ID": name, "JDF": list(children), "JobPartID": "p",
+            "ResourceLinkPool": [], "ResourcePool": [], "Status": "Waiting", "Type": "Folding"}
+
+
+def a_chain_with_many_children_keeps_its_text():
+    """A chain of 32 nodes, of which the last but one has 2,000 other children, comes as it went but
+    for what is edited."""
+    children = [node("n32"), *(node(f"m{number}") for number in range(2000))]
+    ticket = lowest = node("n31", children)
+    for level in range(30, 0, -1):
+        ticket = node(f"n{level}", [ticket])
+    ticket["JobID"] = "J1"
+    added = {"Edit": "AddNode", "JobPartID": "p", "Status": "Waiting", "Type": "Folding"}
+    edits = [{"Edit": "SetStatus", "Node": "m1999", "Status": "Ready"},
+             dict(added, ID="m2000", Node="n31"), dict(added, ID="n33", Node="n32")]
+    given = json.dumps({"At": 1, "Edits": edits, "Ticket": ticket})
+    children[-1]["Status"] = "Ready"
+    lowest["JDF"].append(node("m2000"))
+    text = json.dumps(ticket, sort_keys=True, separators=(",", ":"))
+    wants(run("edit", given=given), (1, f"Edited\nEdited\nRefused 4 TooDeep\n{text}\n", ""))
+
+
 def a_step_is_held_where_its_lines_cannot_be_written():
     begin()
     with open("/dev/full", "wb") as full:
@@ -644,6 +668,7 @@ def orders_beside_a_server_lose_nothing():
 
 
 TESTS = [
+    a_chain_with_many_children_keeps_its_text,
     a_step_is_held_where_its_lines_cannot_be_written,
     a_folder_holds_no_controller,
     a_link_is_refused,
