@@ -5,7 +5,7 @@
 #![tactic(auto)]
 
 use controller::Controller;
-use controller_form::{master_order_of, master_state_of, worker_order_of, worker_state_of};
+use controller_form::{StateForm, master_order_of, worker_order_of};
 use json_source::{Scratch, tree_of};
 use master_core::Master;
 use std::alloc::Global;
@@ -14,22 +14,16 @@ use streams::refusal_line;
 use ticket_items::Refusal;
 use worker_core::Worker;
 
-/// The master whose state a text is.
-fn master(alloc: Global, text: &[u8]) -> Result<Master, Refusal> {
+/// The controller whose state a text is.
+fn controller<C: StateForm>(alloc: Global, text: &[u8]) -> Result<C, Refusal> {
     let mut scratch = Scratch::new(alloc);
-    master_state_of(alloc, &tree_of(alloc, text, &mut scratch)?)
+    C::state_of(alloc, &tree_of(alloc, text, &mut scratch)?)
 }
 
 /// The order to a master that a text is.
 fn master_order(alloc: Global, text: &[u8]) -> Result<master_core::Order, Refusal> {
     let mut scratch = Scratch::new(alloc);
     master_order_of(alloc, &tree_of(alloc, text, &mut scratch)?)
-}
-
-/// The worker whose state a text is.
-fn worker(alloc: Global, text: &[u8]) -> Result<Worker, Refusal> {
-    let mut scratch = Scratch::new(alloc);
-    worker_state_of(alloc, &tree_of(alloc, text, &mut scratch)?)
 }
 
 /// The order to a worker that a text is.
@@ -77,11 +71,17 @@ fn main(rt: HostRuntime) -> io::Result<()> {
         match line.strip_prefix(b"\t") {
             None => state = line,
             Some(order) if state.starts_with(b"{\"Format\":2,\"Master\"") => {
-                let read = prepared(master(alloc, state), master_order(alloc, order));
+                let read = prepared(
+                    controller::<Master>(alloc, state),
+                    master_order(alloc, order),
+                );
                 write_lines(alloc, &mut writer, read)?;
             }
             Some(order) => {
-                let read = prepared(worker(alloc, state), worker_order(alloc, order));
+                let read = prepared(
+                    controller::<Worker>(alloc, state),
+                    worker_order(alloc, order),
+                );
                 write_lines(alloc, &mut writer, read)?;
             }
         }
