@@ -1,5 +1,6 @@
 //! A worker of a world, and the same worker beside a keeper.
 
+use controller_form::StateForm;
 use jmf_message::decode;
 use keepers::{Keep, MemoryKeep};
 use std::alloc::{AllocError, Global};
