@@ -14,6 +14,7 @@ use std::alloc::Global;
 use std::io::{Read, Write};
 use std::time::Clock;
 use streams::{Counted, Refused};
+use ticket_tree::Refusal;
 
 /// How many reads of what nobody waits for are made at most.
 const MAX_DRAINS: u32 = 64;
@@ -113,7 +114,7 @@ pub(crate) fn serve_request<R: Locks + Clock, T: Read + Write>(
     }
 }
 
-/// Whether a request was refused before its body was read.
+/// Whether a request was refused before its body was read, or may have been, as memory ran out.
 pub(crate) fn is_early(served: &Served) -> bool {
     matches!(
         served.refusal,
@@ -123,6 +124,7 @@ pub(crate) fn is_early(served: &Served) -> bool {
                 | Refused::NoLength
                 | Refused::TooLarge
                 | Refused::Coding
+                | Refused::Core(Refusal::Memory)
         )
     )
 }
