@@ -7,13 +7,19 @@ twenty runs meet none. Each run ends with `Refused 90 Memory` and status 1, or a
 refused, and leaves FILE as it was or as the step leaves it; an edit tells it on its own line.
 --each 10 tries every tenth allocation.
 
+A server, too, is refused each of its allocations in turn: it doesn't begin, or answers a message
+with a 503, and takes the same as it comes once more.
+
 Or it refuses all from a line that the program writes until it has written the next. REFUSED_ORDERS
 is that of crates/refused_orders, which writes such a line before each order that it gives to a
 controller, and then the answer.
 """
 import argparse
+import collections
+import contextlib
 import itertools
 import os
+import re
 import shutil
 import subprocess
 import sys
@@ -21,7 +27,7 @@ import tempfile
 
 import faults
 import processes
-from processes import PROGRAM, passes, wants
+from processes import PROGRAM, asked, passes, wants
 
 # So many runs in a row that end well show that there are no more allocations.
 ENOUGH = 20
@@ -117,14 +123,56 @@ def refused_in_turn(step, last):
     return told
 
 
-def refusing(step, first, last):
-    """The step while these allocations are refused."""
+@contextlib.contextmanager
+def refused_to_programs(first, last):
+    """Programs that begin here are refused these allocations."""
     os.environ.update(LD_PRELOAD=LIBRARY, REFUSED_FROM=str(first), REFUSED_TO=str(last))
     try:
-        return faults.limited(step)
+        yield
     finally:
         for name in ("LD_PRELOAD", "REFUSED_FROM", "REFUSED_TO"):
             del os.environ[name]
+
+
+def refusing(step, first, last):
+    """The step while these allocations are refused."""
+    with refused_to_programs(first, last):
+        return faults.limited(step)
+
+
+def a_message_is_served_without_memory():
+    """A message that comes to a server while an allocation is refused is taken, or refused with a
+    503; the same is answered as ever then, and FILE ends as ever."""
+    for name, begins in (("mis", faults.OPENING), ("press", '{"Master":"mis","Worker":"press"}')):
+        wants(processes.run("new", name, given=begins), (0, "", ""))
+    given = processes.request(faults.order("mis", faults.SPAWN))
+    before = processes.content("press")
+    ends, told, number, fine = set(), collections.Counter(), 0, 0
+    while fine < ENOUGH:
+        number += 1 if fine else ARGS.each
+        statuses, end = served(given, before, number)
+        told[statuses] += 1
+        if statuses:
+            ends.add(end)
+        fine = fine + 1 if statuses == (200, 200) else 0
+    print(f"  a server without memory: {dict(told)}")
+    wants((len(ends), set(told)), (1, {None, (503, 200), (200, 503), (200, 200)}))
+
+
+def served(given, before, number):
+    """How a server that is refused the allocation of this number answers a message and the same
+    once more, if it begins at all; and the state that it leaves, but for the times."""
+    with open("press", "wb") as file:
+        file.write(before)
+    try:
+        with refused_to_programs(number, number):
+            press = processes.Served("press", "--requests", "2")
+    except AssertionError:
+        return None, before
+    with press:
+        statuses = (asked(press, given), asked(press, given))
+        wants(press.process.wait(timeout=30), 0)
+    return statuses, re.sub(rb'"At":[0-9]+', b"", processes.content("press"))
 
 
 def orders_are_refused_without_memory():
@@ -149,7 +197,7 @@ def arguments():
 
 
 TESTS = [orders_are_refused_without_memory, one_allocation_is_refused,
-         all_allocations_from_one_on_are_refused]
+         all_allocations_from_one_on_are_refused, a_message_is_served_without_memory]
 ARGS = arguments()
 FOLDER = tempfile.mkdtemp()
 LIBRARY = build(FOLDER)
