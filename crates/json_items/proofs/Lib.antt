@@ -1,3 +1,4 @@
+pub mod Again
 pub mod Attributes
 pub mod ListLemmas
 pub mod Pairs

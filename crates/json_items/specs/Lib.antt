@@ -11,4 +11,8 @@ pub mod Resources
 pub mod DraftedResources
 pub mod Edits
 pub mod DraftedEdits
-pub mod Again
+pub mod Texts
+pub mod TicketDraft
+pub mod TicketForm
+pub mod PartDraft
+pub mod PartForm

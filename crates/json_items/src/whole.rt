@@ -15,7 +15,8 @@ pub fn whole_of<'a, D: Draft<'a>, S: Source>(
     value: &'a S,
 ) -> Result<D::Whole, Refusal>
     ensures { Answers result
-        (judged (first_fault D.Whole.has_names D.Whole.has_texts) (D.Whole.form (S.content value.now))) }
+        (judged (first_fault D.Whole.has_names D.Whole.has_texts)
+        (D.Whole.form (S.content value.now))) }
 {
     let draft = D::of(alloc, value)?;
     if !draft.has_names() {

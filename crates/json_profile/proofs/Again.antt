@@ -14,9 +14,9 @@ use Rattle.ticket_items.specs.declared.marks.Marks.{Marks}
 use Rattle.ticket_items.specs.declared.node_row.NodeRow.{NodeRow}
 use Rattle.ticket_items.specs.declared.resource.Resource.{Resource}
 use Rattle.json_items.specs.Audits.{audit_draft}
-use Rattle.json_shapes.specs.Draft.{RawRow, RawTicket, resources_of, are_bare, raw_ticket, own_row, node_rows, item_rows, next_depth, node_members, root_members, ticket_draft}
+use Rattle.json_items.specs.TicketDraft.{RawRow, RawTicket, resources_of, are_bare, raw_ticket, own_row, node_rows, item_rows, next_depth, node_members, root_members, ticket_draft}
 use Rattle.json_items.specs.Listed.{pool_draft, data_items}
-use Rattle.json_shapes.specs.PartDraft.{part_members}
+use Rattle.json_items.specs.PartDraft.{part_members}
 use Rattle.json_items.specs.declared.resources.marked_form.Marked.{Marked}
 use Rattle.json_items.specs.Resources.{resource_draft}
 use Rattle.json_items.specs.Links.{link_draft}
@@ -27,7 +27,7 @@ use Rattle.json_source.specs.Read.{◌>>=◌, text_pairs}
 use Rattle.json_text.specs.Marked.{no_marks, marked_pool, marked_row, marked_rows}
 use Rattle.json_text.specs.PartWritten.{part_root_data}
 use Rattle.json_text.specs.Written.{pool_data, node_data, root_data, Tree, children, others, trees, job_data}
-use Rattle.json_items.specs.Again.{attrs_again}
+use Rattle.json_items.proofs.Again.{attrs_again}
 use Rattle.json_profile.proofs.PoolAgain.{raw_resources-again, links-again, audits-again}
 
 -- the resources of a row are those of its pool

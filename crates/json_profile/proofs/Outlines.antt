@@ -20,13 +20,13 @@ use Rattle.json_items.specs.Listed.{pool_draft}
 use Rattle.json_items.specs.declared.resources.marked_form.Marked.{Marked}
 use Rattle.json_items.specs.Resources.{resource_draft}
 use Rattle.json_items.specs.Links.{link_draft}
-use Rattle.json_shapes.specs.Draft.{RawRow, RawTicket, resources_of, raw_ticket, own_row, node_rows, child_rows, list_rows, item_rows, next_depth, node_members, root_members, ticket_draft}
+use Rattle.json_items.specs.TicketDraft.{RawRow, RawTicket, resources_of, raw_ticket, own_row, node_rows, child_rows, list_rows, item_rows, next_depth, node_members, root_members, ticket_draft}
 use Rattle.json_profile.proofs.Again.{raw_depths}
 use Rattle.ticket_items.specs.Ids.{are_distinct}
 use Rattle.ticket_items.specs.declared.refusal.Refusal.{Refusal}
 use Rattle.ticket_items.specs.declared.refusal.Refusal.TheVariants.{BadId, DuplicateId, TooDeep, ReservedStatus, BadText, NotATree, UnresolvedLink, Memory}
 use Rattle.json_items.specs.Judged.{Answers, sound}
-use Rattle.json_shapes.specs.Form.{has_names, has_texts, built_fault, ticket_fault}
+use Rattle.json_items.specs.TicketForm.{has_names, has_texts, built_fault, ticket_fault}
 use Rattle.json_source.specs.Read.{◌>>=◌, provided, has_only, text_under, attrs_of}
 
 -- ---- a node's own row

@@ -15,15 +15,15 @@ use Rattle.ticket_rows.specs.Ticket.{IsValid}
 use Rattle.ticket_items.specs.declared.ancestor.Ancestor.{Ancestor}
 use Rattle.ticket_items.specs.declared.node_row.NodeRow.{NodeRow}
 use Rattle.ticket_items.specs.declared.resource.Resource.{Resource}
-use Rattle.json_shapes.specs.Draft.{resources_of, node_rows, item_rows, next_depth}
-use Rattle.json_shapes.specs.Form.{row_has_names, row_has_texts}
+use Rattle.json_items.specs.TicketDraft.{resources_of, node_rows, item_rows, next_depth}
+use Rattle.json_items.specs.TicketForm.{row_has_names, row_has_texts}
 use Rattle.json_items.specs.Judged.{sound}
 use Rattle.json_items.specs.Shown.{shown_rw, shown_ro}
-use Rattle.json_shapes.specs.PartDraft.{Groups, RawPart, Taken, behind, is_own, is_change, is_read, grouped, taken, taken_groups, part_members, part_draft, raw_part}
+use Rattle.json_items.specs.PartDraft.{Groups, RawPart, Taken, behind, is_own, is_change, is_read, grouped, taken, taken_groups, part_members, part_draft, raw_part}
 use Rattle.json_items.specs.Ancestors.{ancestor_draft}
-use Rattle.json_items.specs.Again.{each_again, ancestor_again}
+use Rattle.json_items.proofs.Again.{each_again, ancestor_again}
 use Rattle.json_items.specs.Ancestors.{ancestor_has_names}
-use Rattle.json_shapes.specs.PartForm.{copies_have_names, copies_have_texts, has_names, part_fault, copied, part_read}
+use Rattle.json_items.specs.PartForm.{copies_have_names, copies_have_texts, has_names, part_fault, copied, part_read}
 use Rattle.json_items.specs.declared.resources.marked_form.Marked.{Marked}
 use Rattle.json_items.specs.Shown.{nothing_shown}
 use Rattle.json_items.specs.Resources.{all_showing}

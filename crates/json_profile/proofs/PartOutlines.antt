@@ -11,10 +11,10 @@ use Rattle.ticket_rows.specs.Ticket.{depths}
 use Rattle.ticket_items.specs.declared.ancestor.Ancestor.{Ancestor}
 use Rattle.ticket_items.specs.declared.refusal.Refusal.{Refusal}
 use Rattle.ticket_items.specs.declared.refusal.Refusal.TheVariants.{NotATree}
-use Rattle.json_shapes.specs.Draft.{RawRow, are_bare, node_rows}
+use Rattle.json_items.specs.TicketDraft.{RawRow, are_bare, node_rows}
 use Rattle.json_items.specs.Judged.{Answers, sound}
-use Rattle.json_shapes.specs.PartDraft.{Groups, RawPart, Taken, grouped, taken, taken_groups, ancestors_under, part_members, part_draft, raw_part}
-use Rattle.json_shapes.specs.PartForm.{has_names, has_texts, built_fault, part_fault, copied}
+use Rattle.json_items.specs.PartDraft.{Groups, RawPart, Taken, grouped, taken, taken_groups, ancestors_under, part_members, part_draft, raw_part}
+use Rattle.json_items.specs.PartForm.{has_names, has_texts, built_fault, part_fault, copied}
 use Rattle.json_source.specs.Read.{◌>>=◌, provided, text_under}
 use Rattle.json_profile.proofs.Again.{raw_depths}
 use Rattle.json_profile.proofs.Outlines.{root_is_tree, depths-raw, IsOther, fault_of-outline, draft_fault, judged_other, memory_or}

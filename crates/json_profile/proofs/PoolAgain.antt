@@ -4,10 +4,10 @@ use Rattle.serde_json.specs.Data.{array}
 use Rattle.ticket_items.specs.declared.audit.Audit.{Audit}
 use Rattle.ticket_items.specs.declared.link.Link.{Link}
 use Rattle.ticket_items.specs.declared.resource.Resource.{Resource}
-use Rattle.json_items.specs.Again.{pool_again, marked_again, link_again, audit_again}
+use Rattle.json_items.proofs.Again.{pool_again, marked_again, link_again, audit_again}
 use Rattle.json_items.specs.declared.resources.shown_form.Shown.{Shown}
 use Rattle.json_items.specs.Audits.{audit_draft}
-use Rattle.json_shapes.specs.Draft.{resources_of}
+use Rattle.json_items.specs.TicketDraft.{resources_of}
 use Rattle.json_items.specs.Listed.{pool_draft, data_items}
 use Rattle.json_items.specs.declared.resources.marked_form.Marked.{Marked}
 use Rattle.json_items.specs.Resources.{resource_draft}

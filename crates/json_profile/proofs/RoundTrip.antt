@@ -9,7 +9,7 @@ use Rattle.ticket_items.specs.declared.edit.Edit.{Edit}
 use Rattle.ticket_items.specs.declared.edit.Edit.TheVariants.{SetStatus, SetAttr, SetResStatus, SetResAttr, Note, AddNode, AddResource, AddLink}
 use Rattle.ticket_items.specs.declared.refusal.Refusal.{Refusal}
 use Rattle.ticket_items.specs.declared.refusal.Refusal.TheVariants.{NotProfile, ReservedStatus, BadId, BadText}
-use Rattle.json_shapes.specs.Form.{job_has_names, job_has_texts, ticket_fault, ticket_read}
+use Rattle.json_items.specs.TicketForm.{job_has_names, job_has_texts, ticket_fault, ticket_read}
 use Rattle.json_items.specs.Judged.{sound}
 use Rattle.json_reader.proofs.Faults.{no_fault}
 use Rattle.json_text.specs.Written.{ticket_data, edit_data}

@@ -11,7 +11,7 @@ use Rattle.ticket_items.specs.declared.ancestor.Ancestor.{Ancestor}
 use Rattle.ticket_items.specs.declared.marks.Marks.{Marks}
 use Rattle.ticket_items.specs.declared.node_row.NodeRow.{NodeRow}
 use Rattle.ticket_items.specs.declared.resource.Resource.{Resource}
-use Rattle.json_shapes.specs.Draft.{RawRow}
+use Rattle.json_items.specs.TicketDraft.{RawRow}
 use Rattle.json_text.specs.Marked.{no_marks, marked_rows}
 use Rattle.json_text.specs.PartWritten.{part_root_data, copied_root, rows_data, part_data}
 use Rattle.json_text.specs.Written.{node_data, root_data, Tree, children, others, trees, job_data, shown_data}

@@ -9,8 +9,8 @@ use Rattle.ticket_items.specs.declared.resource.Resource.{Resource}
 use Rattle.ticket_items.specs.declared.spawn_status.SpawnStatus.TheVariants.{NotSpawned, SpawnedRO, SpawnedRW}
 use Rattle.ticket_items.specs.declared.usage.Usage.TheVariants.{Input, Output}
 use Rattle.json_items.specs.Audits.{notification_draft, spawned_draft, merged_draft, audit_draft}
-use Rattle.json_shapes.specs.Draft.{node_members, own_row}
-use Rattle.json_shapes.specs.Form.{built_fault}
+use Rattle.json_items.specs.TicketDraft.{node_members, own_row}
+use Rattle.json_items.specs.TicketForm.{built_fault}
 use Rattle.json_items.specs.Listed.{pool_draft}
 use Rattle.json_items.specs.Resources.{own_resource, resource_draft}
 use Rattle.json_items.specs.Shown.{shown_draft}

@@ -10,13 +10,13 @@ use Rattle.ticket_items.specs.declared.refusal.Refusal.TheVariants.{BadId, NotPr
 use Rattle.ticket_items.specs.declared.resource.Resource.{Resource}
 use Rattle.ticket_items.specs.declared.spawn_status.SpawnStatus.TheVariants.{SpawnedRO, SpawnedRW}
 use Rattle.ticket_items.specs.declared.usage.Usage.TheVariants.{Input, Output}
-use Rattle.json_shapes.specs.Draft.{own_row}
-use Rattle.json_shapes.specs.Form.{node_has_names, pools_have_names, row_has_texts}
+use Rattle.json_items.specs.TicketDraft.{own_row}
+use Rattle.json_items.specs.TicketForm.{node_has_names, pools_have_names, row_has_texts}
 use Rattle.json_items.specs.Ancestors.{ancestor_draft}
-use Rattle.json_shapes.specs.PartDraft.{part_draft}
+use Rattle.json_items.specs.PartDraft.{part_draft}
 use Rattle.json_items.specs.Shown.{shows_change, shows_read, shown_rw, shown_ro}
 use Rattle.json_items.specs.Ancestors.{ancestor_has_names}
-use Rattle.json_shapes.specs.PartForm.{part_read}
+use Rattle.json_items.specs.PartForm.{part_read}
 use Rattle.json_items.specs.Resources.{own_resource, resource_draft}
 use Rattle.json_items.specs.Shown.{shown_draft}
 use Rattle.json_items.specs.Links.{link_draft}

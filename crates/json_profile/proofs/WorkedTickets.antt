@@ -12,11 +12,11 @@ use Rattle.ticket_items.specs.declared.refusal.Refusal.{Refusal}
 use Rattle.ticket_items.specs.declared.refusal.Refusal.TheVariants.{NotProfile, BadId}
 use Rattle.ticket_items.specs.declared.resource.Resource.{Resource}
 use Rattle.ticket_items.specs.declared.usage.Usage.TheVariants.{Input, Output}
-use Rattle.json_shapes.specs.Draft.{own_row, ticket_draft}
+use Rattle.json_items.specs.TicketDraft.{own_row, ticket_draft}
 use Rattle.json_items.specs.Edits.{edit_draft, adding_draft, setting_draft, set_status_draft}
 use Rattle.json_items.specs.Edits.{note_draft, add_link_draft}
-use Rattle.json_shapes.specs.Form.{ticket_read, edit_read, node_has_names, pools_have_names}
-use Rattle.json_shapes.specs.Form.{row_has_texts}
+use Rattle.json_items.specs.TicketForm.{ticket_read, edit_read, node_has_names, pools_have_names}
+use Rattle.json_items.specs.TicketForm.{row_has_texts}
 use Rattle.json_items.specs.Resources.{own_resource, resource_draft}
 use Rattle.json_items.specs.Shown.{shown_draft}
 use Rattle.json_items.specs.Links.{link_draft}

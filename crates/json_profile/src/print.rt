@@ -3,8 +3,8 @@
 ghost use Rattle.std.specs.Prelude.{◌≡◌, ◌≤◌, ◌++◌, Ok, false, OnOk};
 ghost use Rattle.serde_json.specs.Data.{depth};
 ghost use Rattle.serde_json.specs.Written.{compact_text, has_float};
-ghost use Rattle.json_shapes.specs.Form.{ticket_read};
-ghost use Rattle.json_shapes.specs.PartForm.{part_read};
+ghost use Rattle.json_items.specs.TicketForm.{ticket_read};
+ghost use Rattle.json_items.specs.PartForm.{part_read};
 ghost use Rattle.json_text.specs.PartWritten.{part_data};
 ghost use Rattle.json_text.specs.Written.{shown_data, ticket_data};
 ghost use Rattle.json_text.specs.Printed.{IsPrinted};

@@ -3,8 +3,8 @@
 ghost use Rattle.std.specs.Prelude.{◌≡◌, IfErr};
 ghost use Rattle.serde_json.specs.View.{view};
 ghost use Rattle.json_items.specs.Judged.{Answers};
-ghost use Rattle.json_shapes.specs.Form.{edit_read, ticket_read};
-ghost use Rattle.json_shapes.specs.PartForm.{part_read};
+ghost use Rattle.json_items.specs.TicketForm.{edit_read, ticket_read};
+ghost use Rattle.json_items.specs.PartForm.{part_read};
 
 use json_items::{Checked, EditDraft, whole_of};
 use json_reader::{PartDraft, TicketDraft};

@@ -5,8 +5,8 @@ ghost use Rattle.serde_json.specs.Data.{depth};
 ghost use Rattle.serde_json.specs.Read.{max_depth};
 ghost use Rattle.serde_json.specs.View.{view};
 ghost use Rattle.serde_json.specs.Written.{has_float};
-ghost use Rattle.json_shapes.specs.Form.{edit_read, ticket_read};
-ghost use Rattle.json_shapes.specs.PartForm.{part_read};
+ghost use Rattle.json_items.specs.TicketForm.{edit_read, ticket_read};
+ghost use Rattle.json_items.specs.PartForm.{part_read};
 ghost use Rattle.json_text.specs.PartWritten.{part_data};
 ghost use Rattle.json_text.specs.Written.{edit_data, shown_data, ticket_data};
 

@@ -8,8 +8,8 @@ use Rattle.ticket_items.specs.declared.refusal.Refusal.{Refusal}
 use Rattle.ticket_items.specs.declared.refusal.Refusal.TheVariants.{NotATree, ReservedStatus, DuplicateId, TooDeep, UnresolvedLink}
 use Rattle.ticket_items.specs.declared.node_row.NodeRow.{NodeRow}
 use Rattle.ticket_items.specs.declared.resource.Resource.{Resource}
-use Rattle.json_shapes.specs.Draft.{RawTicket, resources_of, are_bare}
-use Rattle.json_shapes.specs.Form.{built_fault, pools_have_names, row_has_names, row_has_texts}
+use Rattle.json_items.specs.TicketDraft.{RawTicket, resources_of, are_bare}
+use Rattle.json_items.specs.TicketForm.{built_fault, pools_have_names, row_has_names, row_has_texts}
 use Rattle.json_items.specs.Resources.{resource_has_names, resource_has_texts}
 use Rattle.json_items.specs.Links.{link_has_names}
 use Rattle.json_items.specs.Audits.{audit_has_names, audit_has_texts}

@@ -6,8 +6,8 @@ use Rattle.std.specs.Prelude.{IsErrAnd}
 use Rattle.serde_json.specs.Data.{Data}
 use Rattle.ticket_items.specs.Names.{is_name}
 use Rattle.ticket_items.specs.declared.refusal.Refusal.{Refusal}
-use Rattle.json_shapes.specs.Draft.{RawRow, RawTicket, node_rows, raw_ticket, root_members, ticket_draft}
-use Rattle.json_shapes.specs.Form.{row_has_names, row_has_texts}
+use Rattle.json_items.specs.TicketDraft.{RawRow, RawTicket, node_rows, raw_ticket, root_members, ticket_draft}
+use Rattle.json_items.specs.TicketForm.{row_has_names, row_has_texts}
 use Rattle.json_source.specs.Read.{◌>>=◌, Fails, text_under}
 use Rattle.json_items.proofs.ListLemmas.{Fails-weaker}
 use Rattle.json_reader.specs.Found.{IsFound, IsFoundTicket, all_hold, both, found_ticket, name_in}

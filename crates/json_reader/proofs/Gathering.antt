@@ -8,7 +8,7 @@ use Rattle.serde_json.specs.Find.{as_array, get}
 use Rattle.serde_json.specs.View.{items_of}
 use Rattle.ticket_items.specs.declared.refusal.Refusal.{Refusal}
 use Rattle.ticket_items.specs.declared.refusal.Refusal.TheVariants.{Memory}
-use Rattle.json_shapes.specs.Draft.{RawRow, item_rows, list_rows, next_depth, node_members, node_rows, own_row}
+use Rattle.json_items.specs.TicketDraft.{RawRow, item_rows, list_rows, next_depth, node_members, node_rows, own_row}
 use Rattle.json_source.specs.Read.{◌>>=◌, Fails}
 use Rattle.json_items.proofs.ListLemmas.{Fails-weaker}
 use Rattle.json_reader.proofs.Nodes.{node_rows-get, rows_under}

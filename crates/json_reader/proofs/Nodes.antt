@@ -5,7 +5,7 @@ use Rattle.std.specs.Option.{option_map}
 use Rattle.std.specs.Ordering.{nat_cmp, match_ordering}
 use Rattle.serde_json.specs.Data.{Data, Members, no_members, member, null, boolean, number, string, array, object}
 use Rattle.serde_json.specs.Find.{get, get_member}
-use Rattle.json_shapes.specs.Draft.{RawRow, own_row, node_rows, child_rows, list_rows, next_depth}
+use Rattle.json_items.specs.TicketDraft.{RawRow, own_row, node_rows, child_rows, list_rows, next_depth}
 use Rattle.json_source.specs.Read.{◌>>=◌}
 
 -- the children, by what stands under `JDF`

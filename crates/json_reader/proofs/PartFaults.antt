@@ -10,10 +10,10 @@ use Rattle.ticket_items.specs.declared.resource.Resource.{Resource}
 use Rattle.ticket_rows.specs.Copies.{with_copies}
 use Rattle.ticket_tree.specs.Part as parts
 use Rattle.ticket_tree.specs.Part.{Copied}
-use Rattle.json_shapes.specs.Form.{row_has_names, row_has_texts}
-use Rattle.json_shapes.specs.PartDraft.{RawPart}
+use Rattle.json_items.specs.TicketForm.{row_has_names, row_has_texts}
+use Rattle.json_items.specs.PartDraft.{RawPart}
 use Rattle.json_items.specs.Ancestors.{ancestor_has_names}
-use Rattle.json_shapes.specs.PartForm.{copies_have_names, has_ids, has_outer_names, has_own_names, has_names, copies_have_texts, has_texts, all_rows, copied}
+use Rattle.json_items.specs.PartForm.{copies_have_names, has_ids, has_outer_names, has_own_names, has_names, copies_have_texts, has_texts, all_rows, copied}
 use Rattle.json_items.specs.Resources.{resource_has_names, resource_has_texts}
 
 -- the ids and the names of a part

@@ -4,8 +4,8 @@ use Rattle.std.proofs.lemmas.Bool.{true≢false}
 use Rattle.std.proofs.lemmas.List.{length-drop, take_all, take-map}
 use Rattle.std.proofs.lemmas.List.Folds.{list_all-map}
 use Rattle.std.specs.List.{list_all, prefix_len, take_while}
-use Rattle.json_shapes.specs.Draft.{are_bare}
-use Rattle.json_shapes.specs.PartDraft.{Groups, behind, is_own, is_change, is_read, grouped, taken, taken_groups}
+use Rattle.json_items.specs.TicketDraft.{are_bare}
+use Rattle.json_items.specs.PartDraft.{Groups, behind, is_own, is_change, is_read, grouped, taken, taken_groups}
 use Rattle.json_items.specs.Shown.{shows_change, shows_read}
 use Rattle.json_items.specs.declared.resources.marked_form.Marked.{Marked}
 use Rattle.json_items.specs.Shown.{shows_nothing}

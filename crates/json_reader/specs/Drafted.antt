@@ -1,7 +1,7 @@
 -- What drafts are as values.
 use Rattle.std.specs.Prelude.{List, map}
 use Rattle.ticket_items.specs.declared.node_row.NodeRow.{NodeRow}
-use Rattle.json_shapes.specs.Draft.{RawRow, resources_of}
+use Rattle.json_items.specs.TicketDraft.{RawRow, resources_of}
 use Rattle.json_items.specs.declared.resources.marked_form.Marked.{Marked}
 use Rattle.json_items.specs.declared.resources.marked_form.MarkedDraft.{MarkedDraft}
 use Rattle.json_reader.specs.DraftedPool.{drafted_marked, drafted_link, drafted_audit}

@@ -1,8 +1,8 @@
 -- What drafts of parts are as values.
 use Rattle.std.specs.Prelude.{List, map}
 use Rattle.ticket_items.specs.declared.ancestor.Ancestor.{Ancestor}
-use Rattle.json_shapes.specs.Draft.{resources_of}
-use Rattle.json_shapes.specs.PartDraft.{Groups, RawPart, Taken, raw_part}
+use Rattle.json_items.specs.TicketDraft.{resources_of}
+use Rattle.json_items.specs.PartDraft.{Groups, RawPart, Taken, raw_part}
 use Rattle.json_reader.specs.Drafted.{drafted_resources, drafted_rows}
 use Rattle.json_items.specs.declared.nodes.ancestor_form.AncestorDraft.{AncestorDraft}
 use Rattle.json_items.specs.declared.resources.marked_form.MarkedDraft.{MarkedDraft}

@@ -1,5 +1,5 @@
 -- What drafts of tickets are as values.
-use Rattle.json_shapes.specs.Draft.{RawTicket, raw_ticket}
+use Rattle.json_items.specs.TicketDraft.{RawTicket, raw_ticket}
 use Rattle.json_reader.specs.Drafted.{drafted_rows}
 use Rattle.json_reader.specs.declared.ticket_draft.TicketDraft.{TicketDraft}
 

@@ -9,8 +9,9 @@ use Rattle.ticket_items.specs.declared.refusal.Refusal.{Refusal}
 use Rattle.ticket_items.specs.declared.refusal.Refusal.TheVariants.{BadId, BadText, Memory}
 use Rattle.ticket_items.specs.declared.refusal.Refusal.TheVariants.{ReservedStatus}
 use Rattle.ticket_rows.specs.Ticket.{IsValid, Job, first_of, unless}
-use Rattle.json_shapes.specs.Draft.{RawRow, RawTicket, are_bare}
-use Rattle.json_shapes.specs.Form.{built_fault, has_names, has_texts, row_has_names, row_has_texts}
+use Rattle.json_items.specs.TicketDraft.{RawRow, RawTicket, are_bare}
+use Rattle.json_items.specs.TicketForm.{built_fault, has_names, has_texts, row_has_names}
+use Rattle.json_items.specs.TicketForm.{row_has_texts}
 use Rattle.json_source.specs.Read.{Fails}
 use Rattle.json_reader.specs.declared.checks.Checks.{Checks}
 use Rattle.json_reader.specs.declared.found_nodes.FoundNodes.{FoundNodes}

@@ -1,7 +1,7 @@
 -- What nodes that are read are gathered in.
 use Rattle.std.specs.Prelude.{◌≡◌, List, ◌++◌, Option, Some, Result, Ok, Err, ⊤}
 use Rattle.ticket_items.specs.declared.refusal.Refusal.{Refusal}
-use Rattle.json_shapes.specs.Draft.{RawRow}
+use Rattle.json_items.specs.TicketDraft.{RawRow}
 use Rattle.json_source.specs.Read.{Fails}
 use Rattle.json_reader.specs.Drafted.{drafted_rows}
 use Rattle.json_reader.specs.declared.node_draft.NodeDraft.{NodeDraft}

@@ -12,7 +12,7 @@ pub struct FoundNodes {
 
 impl FoundNodes {
     ghost use Rattle.std.specs.Prelude.{◌≡◌, List, [], ◌∷◌, ◌++◌, IfErr, OnOk};
-    ghost use Rattle.json_shapes.specs.Draft.{RawRow};
+    ghost use Rattle.json_items.specs.TicketDraft.{RawRow};
     ghost use Rattle.json_reader.specs.Drafted.{drafted_raw};
     ghost use Rattle.json_reader.specs.Found.{IsFound};
 

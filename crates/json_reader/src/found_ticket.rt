@@ -40,7 +40,7 @@ fn name_in(alloc: Global, text: &str) -> Result<Option<Name>, Refusal>
 
 impl FoundTicket {
     ghost use Rattle.std.specs.Prelude.{◌≡◌, true, Some, IfErr, IfOk};
-    ghost use Rattle.json_shapes.specs.Draft.{RawTicket, ticket_draft};
+    ghost use Rattle.json_items.specs.TicketDraft.{RawTicket, ticket_draft};
     ghost use Rattle.json_source.specs.Read.{Fails};
     ghost use Rattle.json_reader.specs.Found.{Builds, IsFoundTicket, all_hold, found_ticket};
 

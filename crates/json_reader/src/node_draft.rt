@@ -37,9 +37,9 @@ impl<'a> NodeDraft<'a> {
     ghost use Rattle.std.specs.Prelude.{◌≡◌, true, IfOk, IfErr};
     ghost use Rattle.std.specs.List.{list_all};
     ghost use Rattle.ticket_items.specs.Names.{is_text};
-    ghost use Rattle.json_shapes.specs.Draft.{are_bare};
-    ghost use Rattle.json_shapes.specs.Form.{node_has_names, pools_have_names, row_has_names};
-    ghost use Rattle.json_shapes.specs.Form.{row_has_texts};
+    ghost use Rattle.json_items.specs.TicketDraft.{are_bare};
+    ghost use Rattle.json_items.specs.TicketForm.{node_has_names, pools_have_names, row_has_names};
+    ghost use Rattle.json_items.specs.TicketForm.{row_has_texts};
     ghost use Rattle.json_reader.specs.Drafted.{drafted_raw, drafted_row};
     ghost use Rattle.json_reader.specs.Found.{row_checks};
 
@@ -51,7 +51,7 @@ impl<'a> NodeDraft<'a> {
     }
 
     /// Whether its own id and names are valid.
-    #[tactic(auto, unfolding(json_shapes::specs::Form::node_has_names))]
+    #[tactic(auto, unfolding(json_items::specs::TicketForm::node_has_names))]
     fn has_own_names(&self) -> bool
         ensures { result ≡ node_has_names (drafted_row self.now) }
     {
@@ -63,7 +63,7 @@ impl<'a> NodeDraft<'a> {
     }
 
     /// Whether the ids and names in its pools are valid.
-    #[tactic(auto, unfolding(json_shapes::specs::Form::pools_have_names), using(crate::proofs::Faults::names_in_resources))]
+    #[tactic(auto, unfolding(json_items::specs::TicketForm::pools_have_names), using(crate::proofs::Faults::names_in_resources))]
     fn pools_have_names(&self) -> bool
         ensures { result ≡ pools_have_names (drafted_row self.now) }
     {
@@ -73,7 +73,7 @@ impl<'a> NodeDraft<'a> {
     }
 
     /// Whether all texts in it are valid.
-    #[tactic(auto, unfolding(json_shapes::specs::Form::row_has_texts), using(crate::proofs::Faults::texts_in_resources))]
+    #[tactic(auto, unfolding(json_items::specs::TicketForm::row_has_texts), using(crate::proofs::Faults::texts_in_resources))]
     pub fn has_texts(&self) -> bool
         ensures { result ≡ row_has_texts (drafted_row self.now) }
     {
@@ -103,7 +103,7 @@ impl<'a> NodeDraft<'a> {
     }
 
     /// The node, without what its resources show of spawns. Refuses `Memory` alone.
-    #[tactic(auto, unfolding(json_shapes::specs::Form::row_has_texts))]
+    #[tactic(auto, unfolding(json_items::specs::TicketForm::row_has_texts))]
     pub fn build(&self, alloc: Global) -> Result<NodeRow, Refusal>
         requires names { row_has_names (drafted_row self.now) ≡ true }
         requires texts { row_has_texts (drafted_row self.now) ≡ true }
@@ -134,7 +134,7 @@ impl<'a> NodeDraft<'a> {
     }
 
     /// What the node has of its own. Refuses `Memory` alone.
-    #[tactic(auto, unfolding(json_shapes::specs::Form::node_has_names))]
+    #[tactic(auto, unfolding(json_items::specs::TicketForm::node_has_names))]
     fn build_own(&self, alloc: Global) -> Result<NodeOwn, Refusal>
         requires names { node_has_names (drafted_row self.now) ≡ true }
         requires texts { list_all (λ p. is_text p.1) self.now.attrs ≡ true }

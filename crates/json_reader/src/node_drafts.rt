@@ -2,9 +2,9 @@
 
 ghost use Rattle.std.specs.Prelude.{◌≡◌, true, map, IfOk, IfErr};
 ghost use Rattle.std.specs.List.{list_all};
-ghost use Rattle.json_shapes.specs.Draft.{are_bare, node_rows, root_members};
-ghost use Rattle.json_shapes.specs.PartDraft.{part_members};
-ghost use Rattle.json_shapes.specs.Form.{row_has_names, row_has_texts};
+ghost use Rattle.json_items.specs.TicketDraft.{are_bare, node_rows, root_members};
+ghost use Rattle.json_items.specs.PartDraft.{part_members};
+ghost use Rattle.json_items.specs.TicketForm.{row_has_names, row_has_texts};
 ghost use Rattle.json_source.specs.Read.{Gives};
 ghost use Rattle.json_reader.specs.Drafted.{drafted_raw, drafted_row, drafted_rows};
 

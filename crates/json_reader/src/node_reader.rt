@@ -3,7 +3,7 @@
 ghost use Rattle.std.specs.Prelude.{◌≡◌, ◌∷◌, [], map};
 ghost use Rattle.std.specs.Option.{option_map};
 ghost use Rattle.serde_json.specs.Data.{depth};
-ghost use Rattle.json_shapes.specs.Draft as form;
+ghost use Rattle.json_items.specs.TicketDraft as form;
 ghost use Rattle.json_source.specs.Read.{Gives};
 ghost use Rattle.json_reader.specs.Drafted.{drafted_raw};
 ghost use Rattle.json_reader.specs.Gathered.{AreDrafted, Gathers};
@@ -61,7 +61,7 @@ pub const PART_MEMBERS: &[&str] = &[
 const DEEPEST_READ: u32 = 33;
 
 /// A node without its children, of an object with no other members than `names`.
-#[tactic(auto, unfolding(json_shapes::specs::Draft::own_row))]
+#[tactic(auto, unfolding(json_items::specs::TicketDraft::own_row))]
 pub fn own_row<'a, S: Source>(
     alloc: Global,
     names: &[&str],

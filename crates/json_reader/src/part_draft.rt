@@ -26,13 +26,13 @@ pub struct PartDraft<'a> {
 impl<'a> PartDraft<'a> {
     ghost use Rattle.std.specs.Prelude.{◌≡◌, is_some};
     ghost use Rattle.ticket_items.specs.SpawnId.{spawn_of};
-    ghost use Rattle.json_shapes.specs.PartDraft.{part_draft};
-    ghost use Rattle.json_shapes.specs.PartForm as form;
+    ghost use Rattle.json_items.specs.PartDraft.{part_draft};
+    ghost use Rattle.json_items.specs.PartForm as form;
     ghost use Rattle.json_source.specs.Read.{Gives};
     ghost use Rattle.json_reader.specs.DraftedPart.{drafted_part};
 
     /// The draft that a value is. Refuses `NotProfile`, and `Memory`.
-    #[tactic(auto, unfolding(json_shapes::specs::PartDraft::part_draft))]
+    #[tactic(auto, unfolding(json_items::specs::PartDraft::part_draft))]
     pub fn of<S: Source>(alloc: Global, value: &'a S) -> Result<PartDraft<'a>, Refusal>
         ensures { Gives drafted_part result (part_draft (S.content value.now)) }
     {
@@ -84,7 +84,7 @@ impl<'a> PartDraft<'a> {
 }
 
 impl<'a> Checked for PartDraft<'a> {
-    ghost use Rattle.json_shapes.specs.PartForm as form;
+    ghost use Rattle.json_items.specs.PartForm as form;
     ghost use Rattle.json_reader.specs.DraftedPart.{drafted_part};
 
     type Whole = Part;

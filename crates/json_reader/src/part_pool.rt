@@ -2,7 +2,7 @@
 
 ghost use Rattle.std.specs.Prelude.{◌≡◌, Some, IfOk, IfErr};
 ghost use Rattle.std.specs.List.{list_all, prefix_len};
-ghost use Rattle.json_shapes.specs.PartDraft as draft;
+ghost use Rattle.json_items.specs.PartDraft as draft;
 ghost use Rattle.json_items.specs.Shown as shown;
 ghost use Rattle.json_source.specs.Read.{Fails, Gives};
 ghost use Rattle.json_reader.specs.Drafted.{drafted_resources, drafted_rows};

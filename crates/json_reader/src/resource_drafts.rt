@@ -2,7 +2,7 @@
 
 ghost use Rattle.std.specs.Prelude.{◌≡◌, true, IfOk, IfErr};
 ghost use Rattle.std.specs.List.{list_all};
-ghost use Rattle.json_shapes.specs.Draft.{resources_of};
+ghost use Rattle.json_items.specs.TicketDraft.{resources_of};
 ghost use Rattle.json_items.specs.Resources as form;
 ghost use Rattle.json_items.specs.Shown as shown;
 ghost use Rattle.json_reader.specs.Drafted.{drafted_resources};

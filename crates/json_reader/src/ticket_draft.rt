@@ -16,12 +16,12 @@ pub struct TicketDraft<'a> {
 
 impl<'a> TicketDraft<'a> {
     ghost use Rattle.std.specs.Prelude.{◌≡◌};
-    ghost use Rattle.json_shapes.specs.Draft.{ticket_draft};
+    ghost use Rattle.json_items.specs.TicketDraft.{ticket_draft};
     ghost use Rattle.json_source.specs.Read.{Gives};
     ghost use Rattle.json_reader.specs.DraftedTicket.{drafted_ticket};
 
     /// The draft that a value is. Refuses `NotProfile`, and `Memory`.
-    #[tactic(auto, unfolding(json_shapes::specs::Draft::ticket_draft))]
+    #[tactic(auto, unfolding(json_items::specs::TicketDraft::ticket_draft))]
     pub fn of<S: Source>(alloc: Global, value: &'a S) -> Result<TicketDraft<'a>, Refusal>
         ensures { Gives drafted_ticket result (ticket_draft (S.content value.now)) }
     {
@@ -40,7 +40,7 @@ impl<'a> TicketDraft<'a> {
 }
 
 impl<'a> Checked for TicketDraft<'a> {
-    ghost use Rattle.json_shapes.specs.Form as form;
+    ghost use Rattle.json_items.specs.TicketForm as form;
     ghost use Rattle.json_reader.specs.DraftedTicket.{drafted_ticket};
 
     type Whole = Ticket;

@@ -1,9 +1,9 @@
-//! Looking through the nodes of a ticket, and building their rows as long as all is valid. The draft
-//! of each node is given back before the next node is read.
+//! Looking through the nodes of a ticket, and building their rows as long as all is valid. The
+//! draft of each node is given back before the next node is read.
 
 ghost use Rattle.std.specs.Prelude.{◌≡◌, ◌∷◌, [], List, map, IfErr, IfOk, Some};
 ghost use Rattle.std.specs.Option.{option_map};
-ghost use Rattle.json_shapes.specs.Draft as form;
+ghost use Rattle.json_items.specs.TicketDraft as form;
 ghost use Rattle.json_source.specs.Read.{Fails};
 ghost use Rattle.json_reader.specs.Found.{IsFound};
 ghost use Rattle.json_reader.specs.Gathered.{Gathers};

@@ -1,5 +1,5 @@
-//! What JSON data is read from: values, and trees that borrow their text. A tree takes less than half
-//! the memory of a value.
+//! What JSON data is read from: values, and trees that borrow their text. A tree takes less than
+//! half the memory of a value.
 #![tactic(auto)]
 
 mod number;

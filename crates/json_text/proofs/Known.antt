@@ -4,7 +4,7 @@ use Rattle.std.proofs.lemmas.Bool.{and_from}
 use Rattle.std.specs.List.{list_all}
 use Rattle.ticket_items.specs.Names.{is_name, is_text}
 use Rattle.ticket_items.specs.declared.node_row.NodeRow.{NodeRow}
-use Rattle.json_shapes.specs.Form.{node_has_names, pools_have_names, row_has_names, row_has_texts}
+use Rattle.json_items.specs.TicketForm.{node_has_names, pools_have_names, row_has_names, row_has_texts}
 use Rattle.json_items.specs.Audits.{audit_has_names, audit_has_texts}
 use Rattle.json_items.specs.Links.{link_has_names}
 use Rattle.json_items.specs.Resources.{resource_has_names, resource_has_texts}

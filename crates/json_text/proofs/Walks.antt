@@ -13,7 +13,7 @@ use Rattle.ticket_items.specs.declared.marks.Marks.{Marks}
 use Rattle.ticket_items.specs.declared.node_row.NodeRow.{NodeRow}
 use Rattle.ticket_rows.specs.Outline.{goes_on, is_outline}
 use Rattle.ticket_rows.specs.Ticket.{depths}
-use Rattle.json_shapes.specs.Form.{row_has_names, row_has_texts}
+use Rattle.json_items.specs.TicketForm.{row_has_names, row_has_texts}
 use Rattle.json_text.specs.TicketText.{is_front_deeper, shown_trees, shown_children, shown_node, IsDeeperAt, IsBehindDeeper}
 use Rattle.json_text.specs.Written.{Tree, children, others, has_deeper_front}
 use Rattle.json_text.specs.Nodes.{IsWalked}

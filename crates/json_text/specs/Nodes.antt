@@ -4,7 +4,7 @@ use Rattle.std.specs.List.{list_all}
 use Rattle.serde_json.specs.Data.{Members, no_members, member, string, array}
 use Rattle.ticket_items.specs.declared.marks.Marks.{Marks}
 use Rattle.ticket_items.specs.declared.node_row.NodeRow.{NodeRow}
-use Rattle.json_shapes.specs.Form.{row_has_names, row_has_texts}
+use Rattle.json_items.specs.TicketForm.{row_has_names, row_has_texts}
 use Rattle.json_items.specs.Listed.{data_items}
 use Rattle.json_items.specs.Attributes.{attrs_data}
 use Rattle.json_items.specs.Audits.{audit_data}

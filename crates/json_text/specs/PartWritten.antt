@@ -7,7 +7,7 @@ use Rattle.ticket_items.specs.SpawnId.{spawn_text}
 use Rattle.ticket_items.specs.declared.ancestor.Ancestor.{Ancestor}
 use Rattle.ticket_items.specs.declared.node_row.NodeRow.{NodeRow}
 use Rattle.ticket_items.specs.declared.resource.Resource.{Resource}
-use Rattle.json_shapes.specs.Draft.{RawRow}
+use Rattle.json_items.specs.TicketDraft.{RawRow}
 use Rattle.json_items.specs.Listed.{data_items}
 use Rattle.json_items.specs.Shown.{shown_rw, shown_ro}
 use Rattle.json_items.specs.declared.resources.marked_form.Marked.{Marked}

@@ -5,7 +5,7 @@ use Rattle.serde_json.specs.Data.{string, array, object}
 use Rattle.ticket_rows.specs.Ticket.{Job}
 use Rattle.ticket_items.specs.declared.node_row.NodeRow.{NodeRow}
 use Rattle.ticket_items.specs.declared.marks.Marks.{Marks}
-use Rattle.json_shapes.specs.Draft.{RawRow}
+use Rattle.json_items.specs.TicketDraft.{RawRow}
 use Rattle.json_items.specs.Listed.{data_items}
 use Rattle.json_items.specs.declared.resources.marked_form.Marked.{Marked}
 use Rattle.json_items.specs.Attributes.{attr_members}

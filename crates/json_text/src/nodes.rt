@@ -5,7 +5,7 @@ ghost use Rattle.std.specs.List.{list_all};
 ghost use Rattle.json.specs.Token.{Token as TokenSeen};
 ghost use Rattle.serde_json.specs.Data.{array};
 ghost use Rattle.ticket_items.specs.Names.{is_name, is_text};
-ghost use Rattle.json_shapes.specs.Form.{row_has_names, row_has_texts};
+ghost use Rattle.json_items.specs.TicketForm.{row_has_names, row_has_texts};
 ghost use Rattle.json_items.specs.Audits.{audit_has_names, audit_has_texts};
 ghost use Rattle.json_items.specs.Links.{link_has_names};
 ghost use Rattle.json_items.specs.Resources.{resource_has_names, resource_has_texts};

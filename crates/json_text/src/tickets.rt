@@ -5,7 +5,7 @@ ghost use Rattle.std.specs.List.{list_all};
 ghost use Rattle.ticket_items.specs.Names.{is_name};
 ghost use Rattle.ticket_rows.specs.Outline.{is_outline};
 ghost use Rattle.ticket_rows.specs.Ticket.{depths, IsValid};
-ghost use Rattle.json_shapes.specs.Form.{row_has_names, row_has_texts};
+ghost use Rattle.json_items.specs.TicketForm.{row_has_names, row_has_texts};
 ghost use Rattle.json_text.specs.Marked.{marked_rows};
 ghost use Rattle.json_text.specs.Written.{job_data, shown_data};
 ghost use Rattle.json_text.specs.Printed.{IsPrinted};

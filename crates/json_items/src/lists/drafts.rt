@@ -48,7 +48,8 @@ impl<'a, D: Read<'a>> Drafts<D> {
     /// The drafts that the items are. Refuses what the first refused item is refused for, and
     /// `Memory`.
     pub fn of_items<S: Source>(alloc: Global, items: &'a [S]) -> Result<Drafts<D>, Refusal>
-        ensures { Gives (map D.drafted) result (each D.Whole.form (items_of (map S.content items.now))) }
+        ensures { Gives (map D.drafted) result
+            (each D.Whole.form (items_of (map S.content items.now))) }
     {
         let mut drafts = Vec::with_capacity(alloc, items.len())?;
         for item in items {

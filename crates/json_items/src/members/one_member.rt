@@ -34,7 +34,8 @@ pub fn under_or<'a, D: Read<'a>, S: Source>(
     absent: D,
 ) -> Result<D, Refusal>
     ensures { Gives D.drafted result
-        (option_map_or D.Whole.form (get name.now (S.content value.now)) (Some (D.drafted absent))) }
+        (option_map_or D.Whole.form (get name.now (S.content value.now))
+        (Some (D.drafted absent))) }
 {
     match value.member(name) {
         Some(member) => D::of(alloc, member),

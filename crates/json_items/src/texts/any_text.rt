@@ -1,6 +1,6 @@
 ghost use Rattle.std.specs.Prelude.{◌≡◌, true, IfOk};
 ghost use Rattle.serde_json.specs.Find.{as_str};
-ghost use Rattle.json_items.specs.Again.{text_itself};
+ghost use Rattle.json_items.specs.Texts.{text_itself};
 
 use crate::{Form, Read, Word};
 use json_source::Source;

@@ -1,7 +1,7 @@
 ghost use Rattle.std.specs.Prelude.{true};
 ghost use Rattle.serde_json.specs.Find.{as_str};
 ghost use Rattle.ticket_items.specs.Names as names;
-ghost use Rattle.json_items.specs.Again.{text_itself};
+ghost use Rattle.json_items.specs.Texts.{text_itself};
 
 use crate::{Form, Word};
 use std::alloc::Global;

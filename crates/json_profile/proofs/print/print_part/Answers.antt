@@ -1,9 +1,9 @@
 use Rattle.std.proofs.Common.{◌≡◌, true, Ok, Err, Result, OnOk}
 use Rattle.std.specs.List.{list_all}
 use Rattle.ticket_items.specs.Names.{is_name}
-use Rattle.json_shapes.specs.Form.{row_has_names, row_has_texts}
+use Rattle.json_items.specs.TicketForm.{row_has_names, row_has_texts}
 use Rattle.json_items.specs.Ancestors.{ancestor_has_names}
-use Rattle.json_shapes.specs.PartForm.{copies_have_names, copies_have_texts}
+use Rattle.json_items.specs.PartForm.{copies_have_names, copies_have_texts}
 use Rattle.json_text.proofs.MemberLaws.{on_ok, on_both}
 use Rattle.json_profile.proofs.Printing.{on_three}
 use Rattle.json_profile.proofs.PartAgain.{IsKnown, part_again}

@@ -5,9 +5,9 @@ use Rattle.serde_json.specs.Data.{depth}
 use Rattle.serde_json.specs.View.{view}
 use Rattle.serde_json.specs.Written.{has_float}
 use Rattle.json_items.proofs.Wholes.{whole_again}
-use Rattle.json_items.specs.Again.{edit_again}
+use Rattle.json_items.proofs.Again.{edit_again}
 use Rattle.json_items.specs.Edits.{edit_data, edit_draft, edit_has_names, edit_has_texts}
-use Rattle.json_shapes.specs.Form.{edit_read}
+use Rattle.json_items.specs.TicketForm.{edit_read}
 use Rattle.json_profile.proofs.RoundTrip.{edit_nests, edit_plain}
 use Rattle.json_profile.proofs.Printing.{alone}
 use Rattle.json_profile.proofs.write.edit_value.Goals as goal

@@ -4,7 +4,7 @@ use Rattle.std.specs.Prelude.{IfOk}
 use Rattle.serde_json.specs.Data.{depth}
 use Rattle.serde_json.specs.View.{view}
 use Rattle.serde_json.specs.Written.{has_float}
-use Rattle.json_shapes.specs.Form.{ticket_read}
+use Rattle.json_items.specs.TicketForm.{ticket_read}
 use Rattle.json_text.specs.Written.{ticket_data}
 use Rattle.json_profile.proofs.Shape.{readable}
 use Rattle.json_profile.proofs.Printing.{alone}

@@ -1,5 +1,5 @@
 use Rattle.std.proofs.Common.{map, sym, subst, codes, Some, None, Ok, arith}
-use Rattle.json_shapes.specs.Draft.{list_rows}
+use Rattle.json_items.specs.TicketDraft.{list_rows}
 use Rattle.json_reader.specs.Gathered.{AreDrafted, Gathers}
 use Rattle.json_reader.proofs.Depths.{depth-child, depth-get}
 use Rattle.json_reader.proofs.Gathering.{finding_all, finding_failed, finding_more, list_added, list_failed, node_failed, node_found, nothing_found}

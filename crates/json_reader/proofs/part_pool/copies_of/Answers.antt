@@ -1,6 +1,6 @@
 use Rattle.std.proofs.Common.{◌∙◌, ◌==◌, drop, length, sym, ap}
 use Rattle.std.specs.List.{list_all}
-use Rattle.json_shapes.specs.Draft.{are_bare}
+use Rattle.json_items.specs.TicketDraft.{are_bare}
 use Rattle.json_reader.specs.Drafted.{drafted_raw}
 use Rattle.json_reader.proofs.PartPools.{behind_root, taken_none, taken_copies}
 use Rattle.json_reader.proofs.part_pool.copies_of.Goals as goal

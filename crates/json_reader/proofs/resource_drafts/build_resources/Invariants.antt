@@ -1,5 +1,5 @@
 use Rattle.std.proofs.Common.{◌≡◌, take}
-use Rattle.json_shapes.specs.Draft.{resources_of}
+use Rattle.json_items.specs.TicketDraft.{resources_of}
 use Rattle.json_reader.specs.Drafted.{drafted_resources}
 use Rattle.json_reader.proofs.resource_drafts.build_resources.Given as goal
 

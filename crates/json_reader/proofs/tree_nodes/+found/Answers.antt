@@ -1,5 +1,5 @@
 use Rattle.std.proofs.Common.{map, sym, subst, codes, Some, None, Ok, arith}
-use Rattle.json_shapes.specs.Draft.{list_rows}
+use Rattle.json_items.specs.TicketDraft.{list_rows}
 use Rattle.json_reader.specs.Gathered.{Gathers}
 use Rattle.json_reader.specs.Found.{IsFound}
 use Rattle.json_reader.proofs.Depths.{depth-child, depth-get}

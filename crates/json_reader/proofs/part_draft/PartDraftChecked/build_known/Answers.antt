@@ -6,9 +6,9 @@ use Rattle.ticket_items.specs.declared.node_row.NodeRow.{NodeRow}
 use Rattle.ticket_items.specs.declared.refusal.Refusal.{Refusal}
 use Rattle.ticket_items.specs.declared.refusal.Refusal.TheVariants.{Memory}
 use Rattle.ticket_rows.specs.Ticket.{IsValid, fault_of}
-use Rattle.json_shapes.specs.Draft.{resources_of}
-use Rattle.json_shapes.specs.Form.{row_has_names, row_has_texts}
-use Rattle.json_shapes.specs.PartForm.{all_rows}
+use Rattle.json_items.specs.TicketDraft.{resources_of}
+use Rattle.json_items.specs.TicketForm.{row_has_names, row_has_texts}
+use Rattle.json_items.specs.PartForm.{all_rows}
 use Rattle.json_items.specs.Resources.{resource_has_names, resource_has_texts}
 use Rattle.json_items.proofs.Tests.{all_true}
 use Rattle.json_reader.specs.Drafted.{drafted_resources, drafted_row, drafted_rows}

@@ -1,7 +1,7 @@
 use Rattle.std.proofs.Common.{◌∙◌, sym, ap, inr}
 use Rattle.std.proofs.lemmas.Bool.{and_parts}
 use Rattle.std.specs.List.{list_all}
-use Rattle.json_shapes.specs.Form.{row_has_names, row_has_texts}
+use Rattle.json_items.specs.TicketForm.{row_has_names, row_has_texts}
 use Rattle.json_reader.specs.Drafted.{drafted_row}
 use Rattle.json_reader.specs.DraftedTicket.{drafted_ticket}
 use Rattle.json_reader.proofs.Faults.{fault_of_marks, names_in_rows, texts_in_rows}

@@ -1,6 +1,6 @@
 -- The form of parts: from JSON data to a draft, which is a part by its members and their kinds
--- alone, and by what its resources
--- show. Its ids, names and texts may be any bytes, and its rows no tree's.
+-- alone, and by what its resources show. Its ids, names and texts may be any bytes, and its rows no
+-- tree's.
 use Rattle.std.specs.Prelude.{ℕ, Bool, List, [], ◌∷◌, map, drop, codes, take_while, Option, Some}
 use Rattle.std.specs.Prelude.{None}
 use Rattle.std.specs.List.{list_all, prefix_len}
@@ -8,7 +8,7 @@ use Rattle.serde_json.specs.Data.{Data}
 use Rattle.ticket_items.specs.declared.ancestor.Ancestor.{Ancestor}
 use Rattle.ticket_items.specs.declared.node_row.NodeRow.{NodeRow}
 use Rattle.ticket_items.specs.declared.resource.Resource.{Resource}
-use Rattle.json_shapes.specs.Draft.{RawRow, root_members, node_rows, resources_of, are_bare}
+use Rattle.json_items.specs.TicketDraft.{RawRow, root_members, node_rows, resources_of, are_bare}
 use Rattle.json_items.specs.Listed.{each, items_under}
 use Rattle.json_items.specs.declared.resources.marked_form.Marked.{Marked}
 use Rattle.json_items.specs.Shown.{shows_nothing}

@@ -1,6 +1,5 @@
 -- The part that JSON data is, or the first refusal of it: `NotProfile`, `BadId`, `BadText`, and
--- then what is wrong with its rows,
--- with the copies as resources of the root.
+-- then what is wrong with its rows, with the copies as resources of the root.
 use Rattle.std.specs.Prelude.{◌&&◌, Bool, List, Option, Result, Err, is_some, unwrap_or}
 use Rattle.std.specs.List.{list_all}
 use Rattle.std.specs.Option.{option_map_or}
@@ -15,8 +14,8 @@ use Rattle.ticket_items.specs.declared.refusal.Refusal.{Refusal}
 use Rattle.ticket_items.specs.declared.refusal.Refusal.TheVariants.{NotProfile}
 use Rattle.ticket_items.specs.declared.resource.Resource.{Resource}
 use Rattle.json_items.specs.Judged.{checked_fault, sound}
-use Rattle.json_shapes.specs.Form.{row_has_names, row_has_texts}
-use Rattle.json_shapes.specs.PartDraft.{RawPart, part_draft}
+use Rattle.json_items.specs.TicketForm.{row_has_names, row_has_texts}
+use Rattle.json_items.specs.PartDraft.{RawPart, part_draft}
 use Rattle.json_items.specs.Resources.{resource_has_names, resource_has_texts}
 use Rattle.json_items.specs.Ancestors.{ancestor_has_names}
 

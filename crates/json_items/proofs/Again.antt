@@ -1,5 +1,5 @@
 -- What is written is read again.
-use Rattle.std.specs.Prelude.{◌≡◌, ℕ, Bool, List, [], ◌∷◌, Option, Some, None, refl}
+use Rattle.std.specs.Prelude.{◌≡◌, ℕ, Bool, List, [], ◌∷◌, Option, Some, refl}
 use Rattle.std.specs.Option.{option_map}
 use Rattle.std.proofs.Common.{ap, ◌∙◌}
 use Rattle.serde_json.specs.Data.{Data, array, boolean, number, unsigned, string}
@@ -34,14 +34,6 @@ use Rattle.json_items.specs.Resources.{own_resource, resource_draft, resource_da
 use Rattle.json_items.specs.Shown.{shown_draft, spawn_status_form, spawn_status_data}
 use Rattle.json_items.specs.declared.resources.marked_form.Marked.{Marked}
 use Rattle.json_items.specs.declared.resources.shown_form.Shown.{Shown}
-
--- a text is itself
-same : (o : Option (List ℕ)) → o ≡ option_map (λ text. text) o
-same None = refl
-same (Some text) = refl
-
-pub text_itself : (d : Data) → as_str d ≡ option_map (λ text. text) (as_str d)
-text_itself d = same (as_str d)
 
 pub text_again : (text : List ℕ) → as_str (string text) ≡ Some text
 text_again text = refl

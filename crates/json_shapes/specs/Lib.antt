@@ -1,4 +1,0 @@
-pub mod Draft
-pub mod Form
-pub mod PartDraft
-pub mod PartForm
