@@ -6,3 +6,4 @@ pub mod SpawnId
 pub mod SpawnStatus
 pub mod Resource
 pub mod FirstFault
+pub mod Edit

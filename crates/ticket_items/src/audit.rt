@@ -6,7 +6,7 @@ use crate::text::Text;
 
 /// What happened to a node (JDF 1.5, 3.11). Each audit has its time, in seconds since 1970. Audits
 /// are never taken out.
-#[derive(Clone, Drop)]
+#[derive(Clone, Drop, PartialEq)]
 pub enum Audit {
     /// A note of a person or a device.
     Notification {

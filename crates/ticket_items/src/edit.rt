@@ -55,6 +55,63 @@ pub enum Edit {
     },
 }
 
+impl Edit {
+    ghost use Rattle.std.specs.Prelude.{◌≡◌};
+    ghost use Rattle.std.specs.Option.{option_map};
+    ghost use Rattle.ticket_items.specs.Edit as edits;
+
+    /// The id that it changes: that of a resource where it gives a resource another Status or an
+    /// attribute, and else that of a node.
+    pub fn target(&self) -> &Id
+        ensures { result.now ≡ edits.target self.now }
+    {
+        match self {
+            Edit::SetStatus { node, .. } => node,
+            Edit::SetAttr { node, .. } => node,
+            Edit::SetResStatus { resource, .. } => resource,
+            Edit::SetResAttr { resource, .. } => resource,
+            Edit::Note { node, .. } => node,
+            Edit::AddNode { node, .. } => node,
+            Edit::AddResource { node, .. } => node,
+            Edit::AddLink { node, .. } => node,
+        }
+    }
+
+    /// Whether it changes a node, and not a resource.
+    pub fn is_of_node(&self) -> bool
+        ensures { result ≡ edits.is_of_node self.now }
+    {
+        match self {
+            Edit::SetStatus { .. } | Edit::SetAttr { .. } | Edit::Note { .. } => true,
+            Edit::SetResStatus { .. } | Edit::SetResAttr { .. } => false,
+            Edit::AddNode { .. } | Edit::AddResource { .. } | Edit::AddLink { .. } => true,
+        }
+    }
+
+    /// Whether it adds to the tree: a node, a resource or a link.
+    pub fn is_structural(&self) -> bool
+        ensures { result ≡ edits.is_structural self.now }
+    {
+        match self {
+            Edit::AddNode { .. } | Edit::AddResource { .. } | Edit::AddLink { .. } => true,
+            Edit::SetStatus { .. } | Edit::SetAttr { .. } | Edit::Note { .. } => false,
+            Edit::SetResStatus { .. } | Edit::SetResAttr { .. } => false,
+        }
+    }
+
+    /// The id that it adds to the ticket.
+    pub fn added_id(&self) -> Option<&Id>
+        ensures { option_map (λ i. i.now) result ≡ edits.added_id self.now }
+    {
+        match self {
+            Edit::AddNode { id, .. } => Some(id),
+            Edit::AddResource { resource, .. } => Some(&resource.id),
+            Edit::SetStatus { .. } | Edit::SetAttr { .. } | Edit::Note { .. } => None,
+            Edit::SetResStatus { .. } | Edit::SetResAttr { .. } | Edit::AddLink { .. } => None,
+        }
+    }
+}
+
 impl Duplicate for Edit {
     ghost use Rattle.std.proofs.Common.{rules};
 

@@ -93,3 +93,15 @@ impl<T: Duplicate> Clone for Items<T> {
 impl<T: Duplicate> Duplicate for Items<T> {
     ghost equal = { λ _ _ same. same };
 }
+
+impl<T: PartialEq> PartialEq for Items<T> {
+    ghost use Rattle.std.specs.Cmp.Lexicographic.{pointwise, lists_per};
+
+    ghost eq = { pointwise T.eq };
+
+    ghost laws = { lists_per T.laws };
+
+    fn eq(&self, other: &Items<T>) -> bool {
+        self.items.as_slice() == other.items.as_slice()
+    }
+}

@@ -19,6 +19,18 @@ pub struct Resource {
     pub attrs: Attrs,
 }
 
+impl Resource {
+    ghost use Rattle.std.specs.Prelude.{◌≡◌};
+    ghost use Rattle.ticket_items.specs.Resource.{is_alike};
+
+    /// Whether it has the id, name and Class of another, as a resource and its copy have.
+    pub fn is_alike(&self, other: &Resource) -> bool
+        ensures { result ≡ is_alike self.now other.now }
+    {
+        self.id == other.id && self.name == other.name && self.class == other.class
+    }
+}
+
 impl Duplicate for Resource {
     ghost use Rattle.std.proofs.Common.{rules};
 

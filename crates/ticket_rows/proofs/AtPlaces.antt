@@ -1,21 +1,19 @@
 -- A change of the row at the place that was found is the change of the row of that id.
 use Rattle.std.proofs.Common.{◌≡◌, ℕ, zero, suc, ◌<◌, List, [], ◌∷◌, length, map}
 use Rattle.std.proofs.Common.{Option, Some, None, refl, sym, ap, ◌∙◌, true, set, get_or, slice_get}
-use Rattle.std.proofs.Common.{Result, Ok, Err, OnOk, OnErr}
+use Rattle.std.proofs.Common.{Result, Ok, Err, OnOk}
 use Rattle.std.proofs.lemmas.Option.{slice_get-get_or}
 use Rattle.std.specs.List.{position}
-use Rattle.std.proofs.lemmas.Slice.Eq.{bytes_eq-Decides}
 use Rattle.std.specs.Option.{option_map, option_map_or}
 use Rattle.std.specs.Str.{bytes_eq}
 use Rattle.ticket_items.proofs.AtKey.{set-at_key}
-use Rattle.ticket_items.proofs.Places.{found_at_position, passes_at_position}
+use Rattle.ticket_items.proofs.Places.{found_at_position}
 use Rattle.ticket_items.specs.Ids.{are_distinct}
 use Rattle.ticket_rows.proofs.NodePlaces.{node_ids_distinct}
 use Rattle.ticket_rows.specs.ChangedRow.{at_place}
-use Rattle.ticket_rows.specs.Edit.{with_row, with_resource}
+use Rattle.ticket_rows.specs.Edit.{with_row}
 use Rattle.ticket_rows.specs.Ticket.{ids}
 use Rattle.ticket_items.specs.declared.node_row.NodeRow.{NodeRow}
-use Rattle.ticket_items.specs.declared.resource.Resource.{Resource}
 
 -- a write of f of what stands at a place
 pub set_at : {X : Type 0} (f : X → X) (xs : List X) (k : ℕ) (x : X) → k < length xs

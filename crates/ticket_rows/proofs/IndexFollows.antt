@@ -1,11 +1,11 @@
 -- The index of a ticket's rows goes with them.
-use Rattle.std.proofs.Common.{◌≡◌, ℕ, zero, suc, ◌||◌, Bool, true, false, cond, List, [], ◌∷◌, ◌++◌}
-use Rattle.std.proofs.Common.{length, map, take, drop, set, insert, Option, Some, None, refl, sym, ap}
+use Rattle.std.proofs.Common.{◌≡◌, ℕ, zero, suc, ◌||◌, false, cond, List, [], ◌∷◌, ◌++◌}
+use Rattle.std.proofs.Common.{length, map, take, drop, set, insert, Some, refl, sym, ap}
 use Rattle.std.proofs.Common.{◌∙◌, slice_get, Result, Ok, Err, OnOk, OnErr}
 use Rattle.std.proofs.lemmas.Bool.{or_parts}
 use Rattle.std.proofs.lemmas.List.{map-append, take-append-drop, length-map}
 use Rattle.std.specs.List.{list_any}
-use Rattle.std.specs.Option.{option_map, option_map_or}
+use Rattle.std.specs.Option.{option_map_or}
 use Rattle.std.specs.Str.{bytes_eq}
 use Rattle.indexmap.proofs.SetLemmas.{map-insert}
 use Rattle.indexmap.specs.IndexMap.{get}
@@ -17,7 +17,7 @@ use Rattle.ticket_rows.proofs.NewResource.{add_resource}
 use Rattle.ticket_rows.proofs.SpotsFound.{spot_grows, spot_skips}
 use Rattle.ticket_rows.specs.ChangedRow.{at_place}
 use Rattle.ticket_rows.specs.Edit.{with_resource}
-use Rattle.ticket_rows.specs.Spots.{IsIndex, Pool, Spots, pool_of, pools_of, spot_among, spot_at}
+use Rattle.ticket_rows.specs.Spots.{IsIndex, Spots, pool_of, pools_of, spot_among, spot_at}
 use Rattle.ticket_rows.specs.Spots.{spot_of}
 use Rattle.ticket_rows.specs.Ticket.{ids, node_ids}
 use Rattle.ticket_items.specs.declared.node_row.NodeRow.{NodeRow}

@@ -1,5 +1,5 @@
 -- Edits of the rows of a part and of the copies that may be changed.
-use Rattle.std.proofs.Common.{◌≡◌, ◌∙◌, ℕ, ◌||◌, Bool, true, false, List, [], ◌∷◌, Option, Some, None, Result, Ok, Err, OnOk, refl, sym, ap}
+use Rattle.std.proofs.Common.{◌≡◌, ◌∙◌, ℕ, ◌||◌, Bool, true, false, List, [], ◌∷◌, Option, None, Result, Ok, Err, OnOk, sym, ap}
 use Rattle.std.specs.List.{list_any}
 use Rattle.std.specs.Str.{bytes_eq}
 use Rattle.ticket_items.proofs.Apart.{or_none, or_true}
@@ -12,7 +12,6 @@ use Rattle.ticket_items.specs.declared.refusal.Refusal.TheVariants.{UnknownResou
 use Rattle.ticket_items.specs.declared.resource.Resource.{Resource}
 use Rattle.ticket_rows.proofs.Changes.{with_resource-none}
 use Rattle.ticket_rows.specs.Edit.{with_resource}
-use Rattle.ticket_rows.specs.Homes.{has_resource}
 use Rattle.ticket_rows.specs.PartEdit.{AreApart}
 use Rattle.ticket_rows.specs.Ticket.{unless, first_of}
 

@@ -1,6 +1,6 @@
 -- The spots of resources: pool by pool, in rows that change, and what is found by them.
-use Rattle.std.proofs.Common.{◌≡◌, ℕ, zero, suc, ◌+◌, ◌<◌, ◌||◌, Bool, true, false, cond, List, []}
-use Rattle.std.proofs.Common.{◌∷◌, ◌++◌, length, map, take, drop, get_or, set, insert, Option, Some}
+use Rattle.std.proofs.Common.{◌≡◌, ℕ, suc, ◌+◌, ◌<◌, ◌||◌, Bool, true, false, cond, List, []}
+use Rattle.std.proofs.Common.{◌∷◌, ◌++◌, length, map, take, get_or, Option, Some}
 use Rattle.std.proofs.Common.{length-take-le, None, is_some, refl, sym, ap, ◌∙◌, arith, slice_get}
 use Rattle.std.proofs.lemmas.Bool.{or_parts, true≢false}
 use Rattle.std.proofs.lemmas.List.{length-map, map_push, take_more}
@@ -8,20 +8,19 @@ use Rattle.std.proofs.lemmas.Slice.Eq.{bytes_eq-Decides}
 use Rattle.std.specs.List.{find, list_any, position}
 use Rattle.std.specs.Option.{option_map, option_map_or, option_and_then}
 use Rattle.std.specs.Str.{bytes_eq}
-use Rattle.indexmap.proofs.SetLemmas.{map-insert}
 use Rattle.ticket_items.proofs.Apart.{mem-append, or_none, or_true}
 use Rattle.ticket_items.proofs.KeyPlaces.{in_front, behind, some_passes}
 use Rattle.ticket_items.proofs.Places.{position-cons, found_at_position, none_at_position}
 use Rattle.ticket_items.proofs.Places.{is_some-find}
 use Rattle.ticket_items.specs.Ids.{mem, are_distinct}
-use Rattle.ticket_rows.proofs.AtHome.{any-map, find-passes, holds, home-found, in_pool, mem-ids}
+use Rattle.ticket_rows.proofs.AtHome.{any-map, find-passes, holds, home-found, mem-ids}
 use Rattle.ticket_rows.proofs.AtHome.{home_row, none-found, resource-found}
 use Rattle.ticket_rows.proofs.IndexedNodes.{position-keys}
 use Rattle.ticket_rows.proofs.NewNode.{own_place}
 use Rattle.ticket_rows.proofs.NodePlaces.{node_ids_distinct}
 use Rattle.ticket_rows.specs.Homes.{home_of, resource_of}
 use Rattle.ticket_rows.specs.Spots.{Pool, pool_of, pools_of, spot_at, spot_in, spot_among, spot_of}
-use Rattle.ticket_rows.specs.Ticket.{ids, node_ids}
+use Rattle.ticket_rows.specs.Ticket.{ids}
 use Rattle.ticket_rows.specs.declared.spot.Spot.{Spot}
 use Rattle.ticket_items.specs.declared.node_row.NodeRow.{NodeRow}
 use Rattle.ticket_items.specs.declared.resource.Resource.{Resource}

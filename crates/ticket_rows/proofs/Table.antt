@@ -1,7 +1,7 @@
 -- The table of homes, filled row by row; and the path to a row, from the root on.
 use Rattle.std.proofs.Common.{◌≡◌, ℕ, ◌+◌, ◌-◌, ◌<◌, ◌||◌, ◌&&◌, Bool, true, false, cond, List, []}
 use Rattle.std.proofs.Common.{◌∷◌, ◌++◌, map, length, get_or, take, drop, reverse, Bor, Option}
-use Rattle.std.proofs.Common.{Some, None, is_some, is_eq, nat_cmp, refl, sym, ap, ◌∙◌, arith}
+use Rattle.std.proofs.Common.{Some, None, is_some, is_eq, nat_cmp, refl, sym, ap, ◌∙◌}
 use Rattle.std.proofs.lemmas.Bool.{true≢false}
 use Rattle.std.proofs.lemmas.List.{take_more, map_push, drop_more, drop_at, take-append-drop}
 use Rattle.std.proofs.lemmas.List.{length-drop, reverse-append, length-reverse}

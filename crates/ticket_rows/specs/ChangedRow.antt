@@ -6,7 +6,7 @@ use Rattle.std.specs.Option.{option_map_or}
 use Rattle.std.specs.Str.{bytes_eq}
 use Rattle.ticket_items.specs.declared.edit.Edit.{Edit}
 use Rattle.ticket_items.specs.declared.node_row.NodeRow.{NodeRow}
-use Rattle.ticket_rows.specs.Edit.{is_of_node, target}
+use Rattle.ticket_items.specs.Edit.{is_of_node, target}
 
 -- the list, with f of what stands at a place
 abbrev pub at_place : {X : Type 0} → ℕ → (X → X) → List X → List X

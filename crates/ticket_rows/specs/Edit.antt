@@ -1,10 +1,11 @@
 -- The edits of a ticket, on its rows: what each is refused for, and what it does.
-use Rattle.std.specs.Prelude.{ℕ, suc, ◌&&◌, Bool, true, false, not, ◌++◌, List, [], ◌∷◌, map}
-use Rattle.std.specs.Prelude.{if◌then◌else◌, nat_lt, Option, Some, None}
+use Rattle.std.specs.Prelude.{ℕ, suc, ◌&&◌, Bool, false, not, ◌++◌, List, [], ◌∷◌, map}
+use Rattle.std.specs.Prelude.{if◌then◌else◌, nat_lt, Option}
 use Rattle.std.specs.List.{list_any}
 use Rattle.std.specs.Option.{option_map_or}
 use Rattle.std.specs.Str.{bytes_eq}
 use Rattle.ticket_items.specs.Attrs.{with_attr}
+use Rattle.ticket_items.specs.Edit.{is_of_node, target}
 use Rattle.ticket_rows.specs.Homes.{has_resource, home_of}
 use Rattle.ticket_items.specs.Ids.{mem}
 use Rattle.ticket_rows.specs.Place.{is_below, node_places}
@@ -20,45 +21,7 @@ use Rattle.ticket_items.specs.declared.node_row.NodeRow.{NodeRow}
 use Rattle.ticket_items.specs.declared.refusal.Refusal.{Refusal}
 use Rattle.ticket_items.specs.declared.resource.Resource.{Resource}
 
--- ---- what it is about
-
--- the id that an edit changes, under `node` or `resource`
-abbrev pub target : Edit → List ℕ
-target (SetStatus node status) = node
-target (SetAttr node name value) = node
-target (SetResStatus resource status) = resource
-target (SetResAttr resource name value) = resource
-target (Note node text) = node
-target (AddNode node id kind job_part status) = node
-target (AddResource node resource) = node
-target (AddLink node link) = node
-
--- whether the target is read as a node's id, and not as a resource's
-abbrev pub is_of_node : Edit → Bool
-is_of_node (SetResStatus resource status) = false
-is_of_node (SetResAttr resource name value) = false
-is_of_node e = true
-
--- whether it adds to the tree: a node, a resource or a link
-abbrev pub is_structural : Edit → Bool
-is_structural (AddNode node id kind job_part status) = true
-is_structural (AddResource node resource) = true
-is_structural (AddLink node link) = true
-is_structural e = false
-
--- whether it puts anything more into the ticket, which another Status doesn't
-abbrev pub grows : Edit → Bool
-grows (SetStatus node status) = false
-grows (SetResStatus resource status) = false
-grows e = true
-
--- the id that it puts into the ticket
-abbrev pub added_id : Edit → Option (List ℕ)
-added_id (AddNode node id kind job_part status) = Some id
-added_id (AddResource node resource) = Some resource.id
-added_id e = None
-
--- ---- what it is refused for
+-- ---- what an edit is refused for
 
 -- whether a child of the node stands no deeper than 32
 abbrev pub has_room : List NodeRow → List ℕ → Bool
@@ -90,7 +53,7 @@ node_refusal node rows = no_node node (lookups rows)
 abbrev pub resource_refusal : List ℕ → List NodeRow → Option Refusal
 resource_refusal resource rows = no_resource resource (lookups rows)
 
--- ---- what it does
+-- ---- what an edit does
 
 -- the rows, with f of each row of that id
 abbrev pub with_row : List ℕ → (NodeRow → NodeRow) → List NodeRow → List NodeRow

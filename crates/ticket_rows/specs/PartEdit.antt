@@ -2,7 +2,8 @@
 use Rattle.std.specs.Prelude.{◌≡◌, ℕ, ◌||◌, true, false, List, if◌then◌else◌, Option}
 use Rattle.ticket_items.specs.Ids.{mem, are_distinct}
 use Rattle.ticket_items.specs.Resource.{resource_ids, with_item}
-use Rattle.ticket_rows.specs.Edit.{is_of_node, lookups, resource_after, target}
+use Rattle.ticket_items.specs.Edit.{is_of_node, target}
+use Rattle.ticket_rows.specs.Edit.{lookups, resource_after}
 use Rattle.ticket_rows.specs.EditRefusal.{Lookups, edit_refusal}
 use Rattle.ticket_rows.specs.Homes.{has_resource}
 use Rattle.ticket_rows.specs.Ticket.{ids}

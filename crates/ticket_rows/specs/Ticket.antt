@@ -1,5 +1,5 @@
 -- A ticket by its rows: a job id, and each node with its depth, in preorder.
-use Rattle.std.specs.Prelude.{◌≡◌, ℕ, Bool, true, false, not, List, [], ◌∷◌, map, codes, nat_le}
+use Rattle.std.specs.Prelude.{◌≡◌, ℕ, Bool, true, not, List, [], ◌∷◌, map, codes, nat_le}
 use Rattle.std.specs.Prelude.{Option, is_some}
 use Rattle.std.specs.List.{find, flat_map, list_all}
 use Rattle.std.specs.Str.{bytes_eq}

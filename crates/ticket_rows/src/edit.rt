@@ -5,5 +5,4 @@ pub mod known_rows;
 pub mod one_row;
 pub mod part_edits;
 pub mod setting_edits;
-pub mod target;
 mod walks;

@@ -38,7 +38,8 @@ impl IndexedRows {
     ghost use Rattle.std.specs.Str.{bytes_eq};
     ghost use Rattle.ticket_items.specs.Ids.{are_distinct, mem};
     ghost use Rattle.ticket_rows.specs.ChangedRow.{at_place, changed_place};
-    ghost use Rattle.ticket_rows.specs.Edit.{edited_rows, grows, refusal_of};
+    ghost use Rattle.ticket_items.specs.Edit.{grows};
+    ghost use Rattle.ticket_rows.specs.Edit.{edited_rows, refusal_of};
     ghost use Rattle.ticket_rows.specs.Homes as homes;
     ghost use Rattle.ticket_rows.specs.OneRow as one;
     ghost use Rattle.ticket_rows.specs.Place.{BoundsNodesBelow, node_places};

@@ -13,7 +13,6 @@ pub mod rows;
 mod rows_iter;
 mod spot;
 
-pub use edit::target::target_of;
 pub use edit::{edits, one_row, part_edits};
 pub use indexed_rows::IndexedRows;
 pub use rows_iter::Rows;

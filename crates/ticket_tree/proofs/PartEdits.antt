@@ -22,7 +22,8 @@ use Rattle.ticket_rows.proofs.Changes.{IsValid-with_row, IsValid-with_resource, 
 use Rattle.ticket_rows.proofs.Copies.{ids-copies, mem-copies}
 use Rattle.ticket_rows.proofs.Reasons.{status_free, node_among}
 use Rattle.ticket_rows.specs.Copies.{with_copies}
-use Rattle.ticket_rows.specs.Edit.{edited_rows, is_structural, with_row, with_resource}
+use Rattle.ticket_items.specs.Edit.{is_structural}
+use Rattle.ticket_rows.specs.Edit.{edited_rows, with_row, with_resource}
 use Rattle.ticket_rows.specs.Homes.{has_resource}
 use Rattle.ticket_rows.specs.PartEdit.{AreApart, edited_copies, part_refusal}
 use Rattle.ticket_rows.specs.Place.{places, row_in}

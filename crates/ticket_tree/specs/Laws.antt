@@ -11,7 +11,8 @@ use Rattle.ticket_rows.specs.Place.{Place, is_node, node_place, node_places, nod
 use Rattle.ticket_rows.specs.Place.{resource_place, resource_places, resource_row, places, place_at}
 use Rattle.ticket_rows.specs.Place.{home, home_at, is_below, preorder, row_in}
 use Rattle.ticket_rows.specs.Copies.{with_copies}
-use Rattle.ticket_rows.specs.Edit.{refusal_of, edited_rows, is_structural, target}
+use Rattle.ticket_items.specs.Edit.{is_structural, target}
+use Rattle.ticket_rows.specs.Edit.{refusal_of, edited_rows}
 use Rattle.ticket_tree.specs.Part.{Copied, edited_part, refusal_of_part}
 use Rattle.ticket_tree.specs.PartView.{own_rows, part_row}
 use Rattle.ticket_tree.specs.PlainEdit.{plain_refusal, plain_changed, plain_places, plain_rows}

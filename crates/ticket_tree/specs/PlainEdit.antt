@@ -4,7 +4,8 @@ use Rattle.std.specs.Prelude.{if◌then◌else◌, Option, Some, is_some}
 use Rattle.std.specs.Option.{option_map, option_map_or}
 use Rattle.std.specs.Str.{bytes_eq}
 use Rattle.ticket_items.specs.Attrs.{with_attr}
-use Rattle.ticket_rows.specs.Edit.{target, behind_last}
+use Rattle.ticket_items.specs.Edit.{target}
+use Rattle.ticket_rows.specs.Edit.{behind_last}
 use Rattle.ticket_rows.specs.EditRefusal.{Lookups, edit_refusal}
 use Rattle.ticket_rows.specs.Place.{Place, Thing, node, resource, Row, place_at, nodes_in}
 use Rattle.ticket_rows.specs.Place.{resources_in, below, is_below, home, home_at, resource_place}

@@ -18,5 +18,4 @@ pub use ticket_items::{
     MAX_TEXT_BYTES, Marks, Name, NodeRow, Refusal, ResMark, ResMarks, Resource, Resources, SpawnId,
     SpawnIds, SpawnStatus, Text, Usage, is_name, is_text,
 };
-pub use ticket_rows::part_edits::is_structural;
-pub use ticket_rows::{Rows, target_of};
+pub use ticket_rows::Rows;

@@ -85,7 +85,7 @@ impl Part {
     ghost use Rattle.std.specs.Prelude.{IfSome, IsOk};
     ghost use Rattle.ticket_tree.specs.Part as part;
     ghost use Rattle.ticket_rows.specs.Copies.{with_copies};
-    ghost use Rattle.ticket_rows.specs.Edit.{grows, is_structural};
+    ghost use Rattle.ticket_items.specs.Edit.{grows, is_structural};
     ghost use Rattle.ticket_rows.specs.Ticket.{IsValid, fault_of};
 
     /// The part of a job with these nodes in preorder, the root at depth 1, and these copies.

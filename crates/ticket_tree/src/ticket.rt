@@ -29,7 +29,8 @@ impl Ticket {
     ghost use Rattle.std.specs.Prelude.{◌≡◌, ◌⊎◌, None, Some, false, OnOk, OnErr, IfOk, IfErr};
     ghost use Rattle.std.specs.Prelude.{IfNone, IfSome, IsOk, MatchResult, is_some};
     ghost use Rattle.std.specs.Option.{option_copied};
-    ghost use Rattle.ticket_rows.specs.Edit.{edited, grows, node_refusal, refusal_of};
+    ghost use Rattle.ticket_items.specs.Edit.{grows};
+    ghost use Rattle.ticket_rows.specs.Edit.{edited, node_refusal, refusal_of};
     ghost use Rattle.ticket_rows.specs.Homes as homes;
     ghost use Rattle.ticket_rows.specs.Homes.{resource_of};
     ghost use Rattle.ticket_rows.specs.OneRow.{MayReplaceNode, MayReplaceResource, appended};

@@ -3,7 +3,8 @@
 ghost use Rattle.std.specs.Prelude.{◌≡◌, None, Some, false, OnOk, OnErr, IfErr, IfNone, IfSome};
 ghost use Rattle.std.specs.Prelude.{IsOk, MatchResult};
 ghost use Rattle.ticket_rows.specs.ChangedRow as changed;
-ghost use Rattle.ticket_rows.specs.Edit.{edited_rows, grows, refusal_of};
+ghost use Rattle.ticket_items.specs.Edit.{grows};
+ghost use Rattle.ticket_rows.specs.Edit.{edited_rows, refusal_of};
 ghost use Rattle.ticket_rows.specs.Spots.{IsIndex};
 ghost use Rattle.ticket_rows.specs.Ticket.{IsValid};
 

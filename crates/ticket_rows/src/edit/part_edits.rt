@@ -1,8 +1,8 @@
 //! The edits of a part that aren't structural: of its rows, and of the copies that may be changed.
 
 ghost use Rattle.std.specs.Prelude.{◌≡◌, false, OnOk, OnErr, IfErr, IfNone, IfSome, IsOk};
-ghost use Rattle.ticket_rows.specs.Edit as edits;
-ghost use Rattle.ticket_rows.specs.Edit.{edited_rows, grows};
+ghost use Rattle.ticket_items.specs.Edit.{grows, is_structural};
+ghost use Rattle.ticket_rows.specs.Edit.{edited_rows};
 ghost use Rattle.ticket_rows.specs.PartEdit.{AreApart, edited_copies, part_refusal};
 
 use crate::edit::setting_edits::{
@@ -10,17 +10,6 @@ use crate::edit::setting_edits::{
 };
 use crate::pools::holds;
 use ticket_items::{Edit, Id, Name, NodeRow, Refusal, Resources, Text};
-
-/// Whether an edit adds to the tree: a node, a resource or a link.
-pub fn is_structural(edit: &Edit) -> bool
-    ensures { result ≡ edits.is_structural edit.now }
-{
-    match edit {
-        Edit::AddNode { .. } | Edit::AddResource { .. } | Edit::AddLink { .. } => true,
-        Edit::SetStatus { .. } | Edit::SetAttr { .. } | Edit::Note { .. } => false,
-        Edit::SetResStatus { .. } | Edit::SetResAttr { .. } => false,
-    }
-}
 
 /// Gives a copy, or a resource of the rows, another Status.
 fn set_status_of(
@@ -87,7 +76,7 @@ pub fn apply(
     at: u64,
 ) -> Result<(), Refusal>
     requires apart { AreApart rows.old.items copies.old }
-    requires plain { edits.is_structural edit ≡ false }
+    requires plain { is_structural edit ≡ false }
     ensures rows { OnOk result (rows.new.items ≡ edited_rows edit at rows.old.items) }
     ensures copies { OnOk result (copies.new ≡ edited_copies edit copies.old) }
     ensures rows_stay { OnErr result (rows.new.items ≡ rows.old.items) }

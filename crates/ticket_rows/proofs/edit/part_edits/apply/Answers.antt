@@ -1,8 +1,6 @@
-use Rattle.std.proofs.Common.{◌≡◌, ◌∙◌, ap, sym, subst, Err, IfErr, IfNone, IfSome, IsOk}
-use Rattle.std.proofs.lemmas.Bool.{true≢false}
+use Rattle.std.proofs.Common.{◌≡◌, sym, subst, Err, IfErr, IfNone, IfSome}
 use Rattle.ticket_items.specs.declared.refusal.Refusal.TheVariants.{Memory}
 use Rattle.ticket_rows.proofs.Reasons.{ok_needs_none}
-use Rattle.ticket_rows.specs.Edit.{grows}
 use Rattle.ticket_rows.specs.PartEdit.{part_refusal}
 use Rattle.ticket_rows.proofs.edit.part_edits.apply.Goals as goal
 

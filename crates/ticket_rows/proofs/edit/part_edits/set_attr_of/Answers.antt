@@ -1,7 +1,5 @@
-use Rattle.std.proofs.Common.{◌≡◌, ◌∙◌, Err, Ok, Result, IfErr, IfNone, IfSome, IsOk, OnOk, sym, subst}
+use Rattle.std.proofs.Common.{◌≡◌, ◌∙◌, Err, Ok, IfErr, IfNone, IfSome, sym, subst}
 use Rattle.ticket_items.specs.Attrs.{with_attr}
-use Rattle.ticket_items.specs.Ids.{mem}
-use Rattle.ticket_items.specs.Resource.{resource_ids}
 use Rattle.ticket_items.specs.declared.refusal.Refusal.TheVariants.{Memory}
 use Rattle.ticket_rows.proofs.PartEdits.{held, rows_stay, copies_stay, copy_known, as_in_rows, on_ok}
 use Rattle.ticket_rows.specs.Homes.{has_resource}

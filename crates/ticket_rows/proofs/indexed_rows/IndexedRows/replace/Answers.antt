@@ -1,4 +1,4 @@
-use Rattle.std.proofs.Common.{◌≡◌, ◌∙◌, Some, refl, ap, slice_get}
+use Rattle.std.proofs.Common.{◌∙◌, refl, ap, slice_get}
 use Rattle.std.specs.Option.{option_map}
 use Rattle.ticket_rows.proofs.AtPlaces.{map-set_row}
 use Rattle.ticket_rows.proofs.IndexFollows.{index_same}
