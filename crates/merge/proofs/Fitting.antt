@@ -1,48 +1,41 @@
 -- The tests of a part tell whether it fits.
-use Rattle.std.specs.Cmp.Lexicographic.{pointwise}
-use Rattle.std.proofs.Common.{◌≡◌, ◌∙◌, ◌-◌, ◌&&◌, ◌==◌, true, false, List, [], ◌∷◌, length, map}
-use Rattle.std.proofs.Common.{sym, ap, eq-eqb}
-use Rattle.std.proofs.lemmas.Bool.{true≢false, and_parts, and_from, eqb-true}
-use Rattle.std.specs.Str.{bytes_eq}
+use Rattle.std.proofs.Common.{◌≡◌, ◌∙◌, ◌-◌, true, false, List, [], ◌∷◌, length, map, Decides, sym, ap}
+use Rattle.std.proofs.lemmas.Bool.{true≢false}
+use Rattle.std.proofs.lemmas.Bool.Decides.{Decides-and, Decides-eqb, Decides-like}
+use Rattle.std.proofs.lemmas.Slice.Eq.{bytes_eq-Decides}
 use Rattle.ticket_tree.specs.Part.{Copied}
 use Rattle.ticket_rows.specs.Place.{fixed}
 use Rattle.ticket_rows.specs.Ticket.{Job, IsValid, has_node}
+use Rattle.ticket_items.specs.Resource.{is_alike}
 use Rattle.ticket_items.specs.declared.node_row.NodeRow.{NodeRow}
 use Rattle.ticket_items.specs.declared.resource.Resource.{Resource}
 use Rattle.ticket_rows.specs.Copies.{with_copies}
 use Rattle.spawn.proofs.AroundAt.{levels_are}
+use Rattle.spawn.proofs.SameCopies.{pairs-Decides, alike-Decides}
 use Rattle.spawn.specs.Parts.{above, lifted, resources_among}
 use Rattle.ticket_tree.proofs.AtNode.{none_below_unknown}
 use Rattle.ticket_tree.specs.At.{IsAt, rows_below}
 use Rattle.ticket_tree.specs.declared.at.At.{At}
 use Rattle.spawn.specs.declared.records.spawn_rec.SpawnRec.{SpawnRec}
-use Rattle.merge.proofs.Told.{same_bytes, bytes_from, rows_same, rows_from_shape, pairs_map}
-use Rattle.merge.proofs.Told.{pairs_from, fixed_same, fixed_from}
-use Rattle.merge.specs.Alike.{is_fit, is_row, is_fixed, is_part}
+use Rattle.merge.proofs.Told.{rows-Decides}
+use Rattle.merge.specs.Alike.{is_fit, is_part}
 use Rattle.merge.specs.Shape.{Fits, shape}
 
 -- ---- the tests
 
-pub part_fits : (t : Job) (r : SpawnRec) (p : Copied)
-    → is_part t r (rows_below t.rows r.node) (length (above t.rows r.node)) p ≡ true → Fits t r p
-part_fits t r p h =
-    let below = rows_below t.rows r.node in
-    let levels = length (above t.rows r.node) in
-    let among = resources_among r.rw t.rows in
-    let p3 = and_parts (bytes_eq p.job_id t.job_id && p.spawn_id == r.id && pointwise (is_row levels) below p.rows) (pointwise is_fixed among p.rw) h in
-    let p2 = and_parts (bytes_eq p.job_id t.job_id && p.spawn_id == r.id) (pointwise (is_row levels) below p.rows) p3.0 in
-    let p1 = and_parts (bytes_eq p.job_id t.job_id) (p.spawn_id == r.id) p2.0 in
-    let rows = rows_same levels below p.rows p2.1 in
-    record { job = same_bytes p.job_id t.job_id p1.0; spawn = eqb-true p.spawn_id r.id p1.1; rows = rows.0; rw = pairs_map is_fixed fixed fixed among p.rw fixed_same p3.1; audits = rows.1 }
+pub fit-Decides : (t : Job) (r : SpawnRec) (p : Copied) → Decides (is_fit t r p) (Fits t r p)
+fit-Decides t r p =
+    Decides-like _ (λ (((job, spawn), rows), rw). record { job = job; spawn = spawn; rows = rows.0; rw = sym rw; audits = rows.1 })
+    (λ fits. (((fits.job, fits.spawn), (fits.rows, fits.audits)), sym fits.rw))
+    (Decides-and _ _
+    (Decides-and _ _ (Decides-and _ _ (bytes_eq-Decides p.job_id t.job_id) (Decides-eqb p.spawn_id r.id)) (rows-Decides (length (above t.rows r.node)) (rows_below t.rows r.node) p.rows))
+    (pairs-Decides is_alike fixed fixed alike-Decides (resources_among r.rw t.rows) p.rw))
 
-pub fits_part : (t : Job) (r : SpawnRec) (p : Copied) → Fits t r p
-    → is_part t r (rows_below t.rows r.node) (length (above t.rows r.node)) p ≡ true
-fits_part t r p fits =
-    let below = rows_below t.rows r.node in
-    let levels = length (above t.rows r.node) in
-    and_from _ _
-    (and_from _ _ (and_from _ _ (bytes_from p.job_id t.job_id fits.job) (eq-eqb p.spawn_id r.id fits.spawn)) (rows_from_shape levels below p.rows fits.rows fits.audits))
-    (pairs_from is_fixed fixed fixed (resources_among r.rw t.rows) p.rw fixed_from fits.rw)
+pub part_fits : (t : Job) (r : SpawnRec) (p : Copied) → is_fit t r p ≡ true → Fits t r p
+part_fits t r p = (fit-Decides t r p).0
+
+pub fits_part : (t : Job) (r : SpawnRec) (p : Copied) → Fits t r p → is_fit t r p ≡ true
+fits_part t r p = (fit-Decides t r p).1
 
 no_rows : (rows : List NodeRow) (rw ro : List Resource) → IsValid (with_copies rows rw ro)
     → map shape rows ≡ [] → ⊥

@@ -33,7 +33,8 @@ use Rattle.spawn.specs.declared.records.spawn_rec.SpawnRec.{SpawnRec}
 use Rattle.merge.proofs.Lawful.{AllOwn, all_own, by_id, own_back, own_front}
 use Rattle.merge.proofs.Replaced.{unfound}
 use Rattle.merge.proofs.Returning.{part_ids}
-use Rattle.merge.proofs.Told.{all_lifted, heads}
+use Rattle.spawn.proofs.SameCopies.{heads}
+use Rattle.merge.proofs.Told.{all_lifted}
 use Rattle.merge.specs.Laws.{PutOfPlaces}
 use Rattle.merge.specs.Put.{merged_audit, resource_from, row_from, rows_from}
 use Rattle.merge.specs.Putting.{pool_from, with_resources}

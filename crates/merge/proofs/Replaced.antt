@@ -25,7 +25,7 @@ use Rattle.ticket_items.specs.declared.node_row.NodeRow.{NodeRow}
 use Rattle.ticket_items.specs.declared.resource.Resource.{Resource}
 use Rattle.spawn.proofs.Among.{apart_lists}
 use Rattle.spawn.specs.Parts.{resources}
-use Rattle.merge.proofs.CopiesToChange.{resources-cons}
+use Rattle.spawn.proofs.Chosen.{resources_cons}
 use Rattle.merge.specs.Put.{resource_from}
 use Rattle.merge.specs.Putting.{node_from, with_nodes, pool_from, with_resources}
 use Rattle.merge.specs.Putting.{EachMayReplaceNode, EachMayReplaceResource, MayTakeNodes}
@@ -84,8 +84,8 @@ pub resources-mapped : (g : NodeRow → NodeRow) (h : Resource → Resource) (ro
     → resources (map g rows) ≡ map h (resources rows)
 resources-mapped g h [] keeps = refl
 resources-mapped g h (r ∷ rows) keeps =
-    resources-cons (g r) (map g rows) ∙ ap (λ pool. pool ++ resources (map g rows)) (keeps r) ∙ ap (λ xs. map h r.resources ++ xs) (resources-mapped g h rows keeps)
-    ∙ sym (ap (map h) (resources-cons r rows) ∙ map-append h r.resources (resources rows))
+    resources_cons (g r) (map g rows) ∙ ap (λ pool. pool ++ resources (map g rows)) (keeps r) ∙ ap (λ xs. map h r.resources ++ xs) (resources-mapped g h rows keeps)
+    ∙ sym (ap (map h) (resources_cons r rows) ∙ map-append h r.resources (resources rows))
 
 -- ---- ids stay
 

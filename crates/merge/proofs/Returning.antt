@@ -38,7 +38,8 @@ use Rattle.spawn.specs.declared.records.spawn_rec.SpawnRec.{SpawnRec}
 use Rattle.merge.proofs.ParentRows.{up_is}
 use Rattle.merge.proofs.Replaced.{found_key, found_mapped, unfound, resource_is, resources-mapped}
 use Rattle.merge.proofs.Replaced.{resource_from-id}
-use Rattle.merge.proofs.Told.{heads, all_lifted}
+use Rattle.spawn.proofs.SameCopies.{heads}
+use Rattle.merge.proofs.Told.{all_lifted}
 use Rattle.merge.specs.Put.{resource_from, row_from, rows_from}
 use Rattle.merge.specs.Putting.{node_from, with_nodes, pool_from, with_resources}
 use Rattle.merge.specs.Putting.{EachMayReplaceNode, EachMayReplaceResource, MayTakeNodes}

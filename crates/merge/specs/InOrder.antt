@@ -1,17 +1,11 @@
 -- What is met in ticket order: going over the ticket's resources once, each takes what stands in
 -- front of a list, if that is its own.
-use Rattle.std.specs.Prelude.{ℕ, Bool, true, false, List, [], ◌∷◌, if◌then◌else◌}
-use Rattle.std.specs.Str.{bytes_eq}
-use Rattle.ticket_items.specs.declared.resource.Resource.{Resource}
-
--- whether the id is the resource's
-abbrev pub has_id : Resource → List ℕ → Bool
-has_id x id = bytes_eq x.id id
+use Rattle.std.specs.Prelude.{Bool, true, false, List, [], ◌∷◌, unwrap_or}
+use Rattle.spawn.specs.OfResource.{behind}
 
 -- the list without its first, if that passes a test with x
 abbrev pub past : {X Y : Type 0} → (X → Y → Bool) → X → List Y → List Y
-past test x [] = []
-past test x (y ∷ ys) = if test x y then ys else y ∷ ys
+past test x ys = unwrap_or (behind (test x) ys) ys
 
 -- what is left of the second list behind the first, each of which takes what passes a test with it
 -- from the front

@@ -5,12 +5,14 @@ ghost use Rattle.std.specs.Cmp.Lexicographic.{pointwise};
 ghost use Rattle.std.specs.List.{filter};
 ghost use Rattle.std.specs.Option.{option_copied};
 ghost use Rattle.ticket_items.specs.Ids.{mem};
+ghost use Rattle.ticket_items.specs.Resource.{is_alike};
 ghost use Rattle.ticket_rows.specs.Ticket.{IsValid};
 ghost use Rattle.spawn.specs.Parts.{resources_among};
 ghost use Rattle.merge.specs.Alike as alike;
 
-use crate::alike::is_fixed;
-use crate::in_order::{are_copies_in_order, are_in_order, have_ids};
+use crate::alike::are_of;
+use crate::in_order::are_in_order;
+use spawn::behind;
 use ticket_items::is_among;
 use ticket_tree::{Id, NodeRow, Resource};
 
@@ -23,11 +25,7 @@ fn behind_pool<'a>(pool: &[Resource], ids: &[Id], copies: &'a [Resource]) -> Opt
     let mut rest = copies;
     for resource in pool {
         if is_among(ids, &resource.id) {
-            let (first, later) = rest.split_first()?;
-            if !is_fixed(resource, first) {
-                return None;
-            }
-            rest = later;
+            rest = behind(rest, resource)?;
         }
     }
     Some(rest)
@@ -36,7 +34,7 @@ fn behind_pool<'a>(pool: &[Resource], ids: &[Id], copies: &'a [Resource]) -> Opt
 /// Whether the copies have the ids, names and Classes of the resources whose ids are among these,
 /// in ticket order. Asks for each resource whether it is among them.
 fn are_copies_among(rows: &[NodeRow], ids: &[Id], copies: &[Resource]) -> bool
-    ensures { result ≡ pointwise alike.is_fixed
+    ensures { result ≡ pointwise is_alike
         (resources_among ids.now rows.now) copies.now }
 {
     let mut rest = copies;
@@ -54,11 +52,11 @@ fn are_copies_among(rows: &[NodeRow], ids: &[Id], copies: &[Resource]) -> bool
 /// of them, and one of the copies.
 pub fn are_copies(rows: &[NodeRow], ids: &[Id], copies: &[Resource]) -> bool
     requires { IsValid rows.now }
-    ensures { result ≡ pointwise alike.is_fixed
+    ensures { result ≡ pointwise is_alike
         (resources_among ids.now rows.now) copies.now }
 {
     if !are_in_order(rows, ids) {
         return are_copies_among(rows, ids, copies);
     }
-    have_ids(copies, ids) && are_copies_in_order(rows, copies)
+    are_of(copies, ids) && are_in_order(rows, copies)
 }

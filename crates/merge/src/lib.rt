@@ -3,7 +3,6 @@
 #![tactic(auto)]
 
 mod alike;
-mod audits;
 mod copies;
 mod in_order;
 pub mod laws;

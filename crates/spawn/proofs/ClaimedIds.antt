@@ -2,6 +2,7 @@
 use Rattle.std.proofs.Common.{◌≡◌, ◌∙◌, ◌⊎◌, ℕ, ◌&&◌, ◌||◌, Bool, true, false, cond, List, []}
 use Rattle.std.proofs.Common.{◌∷◌, ◌++◌, ◌+◌, ◌<◌, Bor, Some, inl, inr, length, map, get_or, take, refl}
 use Rattle.std.proofs.Common.{sym, ap, append-nil}
+use Rattle.std.proofs.lemmas.Bool.Decides.{same_from_decides}
 use Rattle.std.proofs.lemmas.Bool.{true≢false, and_from, and_parts, or_left, or_right}
 use Rattle.std.proofs.lemmas.List.{take_more}
 use Rattle.std.proofs.lemmas.List.Folds.{list_any-append}
@@ -20,7 +21,6 @@ use Rattle.ticket_tree.proofs.OnPlaces.{ids_of_places}
 use Rattle.spawn.proofs.Among.{mem_back, mem_front}
 use Rattle.spawn.proofs.ApartMore.{hold_both}
 use Rattle.spawn.proofs.Chosen.{AllOwn, all_own}
-use Rattle.spawn.proofs.GoodTest.{same_test}
 use Rattle.spawn.proofs.HomesBelow.{ids-append}
 use Rattle.spawn.proofs.Outside.{inside, none_found, outside}
 use Rattle.spawn.proofs.RowsBelow.{rows_below-around}
@@ -217,8 +217,8 @@ met_is rows recs r known claimed valid out all own =
     let inner = ids (rows_below rows r.node) in
     ap (λ b. b || list_any (λ x. is_in known x && is_in claimed x) r.rw) (any_rows (is_in claimed) (rows_below rows r.node) ∙ any_as (is_in claimed) f inner own.just)
     ∙ ap (λ b. list_any f inner || b) (any_as (λ x. is_in known x && is_in claimed x) (λ x. mem x (ids rows) && f x) r.rw (λ x. ap (λ b. b && is_in claimed x) (all.just x) ∙ ap (λ b. mem x (ids rows) && b) (own.just x)))
-    ∙ same_test (list_any f inner || list_any (λ x. mem x (ids rows) && f x) r.rw) (list_any (λ x. (mem x inner || mem x r.rw) && f x) (ids rows))
-    (there_met (ids rows) inner r.rw f (ids_within (λ s. is_below (node_places rows) s.id r.node) rows)) (met_there (ids rows) inner r.rw f)
+    ∙ same_from_decides (list_any f inner || list_any (λ x. mem x (ids rows) && f x) r.rw) (list_any (λ x. (mem x inner || mem x r.rw) && f x) (ids rows))
+    (there_met (ids rows) inner r.rw f (ids_within (λ s. is_below (node_places rows) s.id r.node) rows), met_there (ids rows) inner r.rw f) (λ e. e, λ e. e)
     ∙ sym (both_ids rows recs r valid ∙ ap (λ b. list_any (λ x. (b && claims_id rows r x) && claimed_by rows recs x) (ids rows)) out)
 
 -- ---- one spawn more

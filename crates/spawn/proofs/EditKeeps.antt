@@ -11,7 +11,8 @@ use Rattle.ticket_tree.proofs.OnPlaces.{ids_of_places}
 use Rattle.ticket_tree.proofs.PlainEdits.{edit_of_places}
 use Rattle.ticket_tree.proofs.PlainRows.{link_known}
 use Rattle.ticket_rows.proofs.Reasons.{child_new, resource_known, resource_new}
-use Rattle.ticket_rows.specs.Edit.{refusal_of, target, behind_last}
+use Rattle.ticket_items.specs.Edit.{target}
+use Rattle.ticket_rows.specs.Edit.{refusal_of, behind_last}
 use Rattle.ticket_items.specs.Ids.{mem}
 use Rattle.ticket_rows.specs.Place.{Place, Thing, node, resource, is_node, is_node_thing, places}
 use Rattle.ticket_rows.specs.Place.{node_places, resource_places, resource_place, place_at, below}

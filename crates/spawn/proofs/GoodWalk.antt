@@ -4,7 +4,7 @@
 use Rattle.std.proofs.Common.{◌≡◌, ◌∙◌, ℕ, ◌+◌, ◌<◌, ◌&&◌, Bool, true, false, not, cond, List, []}
 use Rattle.std.proofs.Common.{◌∷◌, ◌++◌, length, map, drop, get_or, Option, Some, None, refl, sym}
 use Rattle.std.proofs.Common.{ap, ◌||◌, append_assoc, is_some, nat_lt}
-use Rattle.std.proofs.lemmas.Bool.{true≢false, and_parts, and_from, or_parts}
+use Rattle.std.proofs.lemmas.Bool.{true≢false, and_parts, or_parts}
 use Rattle.std.proofs.lemmas.List.{drop_more, map-append}
 use Rattle.std.proofs.lemmas.Slice.Eq.{bytes_eq-Decides}
 use Rattle.std.proofs.lemmas.List.Folds.{list_any-append}
@@ -12,16 +12,19 @@ use Rattle.std.specs.List.{filter, list_all, list_any}
 use Rattle.std.specs.Option.{option_map, option_map_or, option_and_then}
 use Rattle.std.specs.Str.{bytes_eq}
 use Rattle.ticket_items.proofs.Apart.{bytes_eq-same, or_none}
-use Rattle.ticket_rows.specs.Homes.{homes}
 use Rattle.ticket_items.specs.Ids.{mem}
 use Rattle.ticket_tree.specs.Part.{is_linked}
-use Rattle.ticket_rows.specs.Place.{Thing, resource, fixed, Place, resource_place, places}
+use Rattle.ticket_rows.specs.Place.{fixed, Place, resource_place, places}
 use Rattle.ticket_rows.specs.Place.{places_from, is_node, below, path_of, fixed_at, node_places, up}
 use Rattle.ticket_items.specs.declared.node_row.NodeRow.{NodeRow}
 use Rattle.ticket_items.specs.declared.resource.Resource.{Resource}
 use Rattle.spawn.specs.Parts.{resources}
-use Rattle.spawn.specs.Walk.{Left, are_same, behind, met, all_met, are_none}
+use Rattle.ticket_items.specs.Resource.{is_alike}
+use Rattle.spawn.specs.OfResource.{has_id, behind}
+use Rattle.spawn.specs.Walk.{Left, met, all_met, are_none}
+use Rattle.spawn.proofs.SameCopies.{heads, alike-Decides}
 use Rattle.ticket_rows.proofs.Below.{Path}
+use Rattle.spawn.proofs.Chosen.{resources_cons}
 use Rattle.spawn.proofs.Outside.{around_places}
 use Rattle.spawn.proofs.RowsBelow.{filter-append}
 use Rattle.spawn.proofs.Split.{Around, around, path_after, path_after-append, places_from-append}
@@ -57,16 +60,6 @@ all_met-append inside rw (x ∷ xs) ys left =
     then_as (all_met inside rw (xs ++ ys)) (λ l. option_and_then (all_met inside rw ys) (all_met inside rw xs l)) (met inside rw x left) (all_met-append inside rw xs ys)
     ∙ then_then (all_met inside rw xs) (all_met inside rw ys) (met inside rw x left)
 
-own_pool : (h : List ℕ) (pool : List Resource) (rest : List (Resource × List ℕ))
-    → map {A = Resource × List ℕ} (λ e. e.0) (map (λ (x : Resource). (x, h)) pool ++ rest)
-    ≡ pool ++ map (λ e. e.0) rest
-own_pool h [] rest = refl
-own_pool h (x ∷ pool) rest = ap (λ xs. x ∷ xs) (own_pool h pool rest)
-
-pub resources-cons : (r : NodeRow) (rows : List NodeRow)
-    → resources (r ∷ rows) ≡ r.resources ++ resources rows
-resources-cons r rows = own_pool r.id r.resources (homes rows)
-
 -- what is left behind the rows from one on is what is left behind its pool, and then behind the
 -- other rows
 rows_from : (inside : List NodeRow) (rw : List (List ℕ)) (rows : List NodeRow) (i : ℕ) (d : NodeRow)
@@ -77,7 +70,7 @@ rows_from : (inside : List NodeRow) (rw : List (List ℕ)) (rows : List NodeRow)
     (all_met inside rw (get_or rows i d).resources left)
 rows_from inside rw rows i d left within =
     let r = get_or rows i d in
-    ap (λ rs. all_met inside rw (resources rs) left) (drop_more rows i d within) ∙ ap (λ xs. all_met inside rw xs left) (resources-cons r (drop (i + 1) rows))
+    ap (λ rs. all_met inside rw (resources rs) left) (drop_more rows i d within) ∙ ap (λ xs. all_met inside rw xs left) (resources_cons r (drop (i + 1) rows))
     ∙ all_met-append inside rw r.resources (resources (drop (i + 1) rows)) left
 
 pub met_more : (inside : List NodeRow) (rw : List (List ℕ)) (rows : List NodeRow) (i : ℕ)
@@ -126,65 +119,38 @@ AreTheirs ids copies changed read = (ids ≡ map (λ x. x.id) changed) × (map f
 abbrev BothWays : Type 0 → Type 0 → Type 0
 BothWays P Q = (P → Q) × (Q → P)
 
-same_fixed : (x y : Resource) → are_same x y ≡ true → fixed x ≡ fixed y
-same_fixed x y e =
-    let parts = and_parts (bytes_eq x.id y.id && bytes_eq x.name y.name) (bytes_eq x.class y.class) e in
-    let more = and_parts (bytes_eq x.id y.id) (bytes_eq x.name y.name) parts.0 in
-    ap (λ i. (i, resource x.name x.class)) ((bytes_eq-Decides x.id y.id).0 more.0) ∙ ap (λ n. (y.id, resource n x.class)) ((bytes_eq-Decides x.name y.name).0 more.1)
-    ∙ ap (λ n. (y.id, resource y.name n)) ((bytes_eq-Decides x.class y.class).0 parts.1)
-
-abbrev name_of : Thing → List ℕ
-name_of (Thing.node kind job_part links) = []
-name_of (Thing.resource name class) = name
-
-abbrev class_of : Thing → List ℕ
-class_of (Thing.node kind job_part links) = []
-class_of (Thing.resource name class) = class
-
-fixed_same : (x y : Resource) → fixed x ≡ fixed y → are_same x y ≡ true
-fixed_same x y e =
-    and_from (bytes_eq x.id y.id && bytes_eq x.name y.name) (bytes_eq x.class y.class)
-    (and_from (bytes_eq x.id y.id) (bytes_eq x.name y.name) (ap (λ f. bytes_eq x.id f.0) (sym e) ∙ bytes_eq-same x.id) (ap (λ f. bytes_eq x.name (name_of f.1)) (sym e) ∙ bytes_eq-same x.name))
-    (ap (λ f. bytes_eq x.class (class_of f.1)) (sym e) ∙ bytes_eq-same x.class)
-
-head_is : {X : Type 0} (x y : X) (xs ys : List X) → x ∷ xs ≡ y ∷ ys → x ≡ y
-head_is x y xs ys e = cc
-
-tail_is : {X : Type 0} (x y : X) (xs ys : List X) → x ∷ xs ≡ y ∷ ys → xs ≡ ys
-tail_is x y xs ys e = cc
-
 change_at : (here : Bool) (go : Left → Option Left) (x : Resource) (i : List ℕ)
     (ids : List (List ℕ)) (copies changed read : List Resource)
-    → bytes_eq i x.id ≡ here
+    → has_id x i ≡ here
     → BothWays (is_done (go (ids, copies)) ≡ true) (AreTheirs ids copies changed read)
     → BothWays
     (is_done (option_and_then go (option_map (λ left. (left, copies)) (cond here (Some ids) None)))
     ≡ true)
     (AreTheirs (i ∷ ids) copies (x ∷ changed) read)
 change_at true go x i ids copies changed read e rest = (
-  λ done. let those = rest.0 done in (ap (λ j. j ∷ ids) ((bytes_eq-Decides i x.id).0 e) ∙ ap (λ js. x.id ∷ js) those.0, those.1),
-  λ those. rest.1 (tail_is i x.id ids (map (λ y. y.id) changed) those.0, those.1),
+  λ done. let those = rest.0 done in (ap (λ j. j ∷ ids) (sym ((bytes_eq-Decides x.id i).0 e)) ∙ ap (λ js. x.id ∷ js) those.0, those.1),
+  λ those. rest.1 ((heads i x.id ids (map (λ y. y.id) changed) those.0).1, those.1),
 )
 change_at false go x i ids copies changed read e rest = (
   λ done. absurd (true≢false (sym done)),
-  λ those. absurd (true≢false (sym (ap (λ j. bytes_eq j x.id) (head_is i x.id ids (map (λ y. y.id) changed) those.0) ∙ bytes_eq-same x.id) ∙ e)),
+  λ those. absurd (true≢false (sym (ap (has_id x) (heads i x.id ids (map (λ y. y.id) changed) those.0).0 ∙ bytes_eq-same x.id) ∙ e)),
 )
 
 read_at : (here : Bool) (go : Left → Option Left) (x y : Resource) (ids : List (List ℕ))
     (copies changed read : List Resource)
-    → are_same y x ≡ here
+    → is_alike x y ≡ here
     → BothWays (is_done (go (ids, copies)) ≡ true) (AreTheirs ids copies changed read)
     → BothWays
     (is_done (option_and_then go (option_map (λ left. (ids, left)) (cond here (Some copies) None)))
     ≡ true)
     (AreTheirs ids (y ∷ copies) changed (x ∷ read))
 read_at true go x y ids copies changed read e rest = (
-  λ done. let those = rest.0 done in (those.0, ap (λ f. f ∷ map fixed copies) (same_fixed y x e) ∙ ap (λ fs. fixed x ∷ fs) those.1),
-  λ those. rest.1 (those.0, tail_is (fixed y) (fixed x) (map fixed copies) (map fixed read) those.1),
+  λ done. let those = rest.0 done in (those.0, ap (λ f. f ∷ map fixed copies) (sym ((alike-Decides x y).0 e)) ∙ ap (λ fs. fixed x ∷ fs) those.1),
+  λ those. rest.1 (those.0, (heads (fixed y) (fixed x) (map fixed copies) (map fixed read) those.1).1),
 )
 read_at false go x y ids copies changed read e rest = (
   λ done. absurd (true≢false (sym done)),
-  λ those. absurd (true≢false (sym (fixed_same y x (head_is (fixed y) (fixed x) (map fixed copies) (map fixed read) those.1)) ∙ e)),
+  λ those. absurd (true≢false (sym ((alike-Decides x y).1 (sym (heads (fixed y) (fixed x) (map fixed copies) (map fixed read) those.1).0)) ∙ e)),
 )
 
 no_ids : (go : Left → Option Left) (x : Resource) (ids : List (List ℕ))
@@ -193,11 +159,11 @@ no_ids : (go : Left → Option Left) (x : Resource) (ids : List (List ℕ))
     → BothWays (is_done (go (js, copies)) ≡ true) (AreTheirs js copies changed read))
     → BothWays
     (is_done
-    (option_and_then go (option_map (λ left. (left, copies)) (behind (λ i. bytes_eq i x.id) ids)))
+    (option_and_then go (option_map (λ left. (left, copies)) (behind (has_id x) ids)))
     ≡ true)
     (AreTheirs ids copies (x ∷ changed) read)
 no_ids go x [] copies changed read rest = (λ done. absurd (true≢false (sym done)), λ those. let e = those.0 in cc)
-no_ids go x (i ∷ ids) copies changed read rest = change_at (bytes_eq i x.id) go x i ids copies changed read refl (rest ids)
+no_ids go x (i ∷ ids) copies changed read rest = change_at (has_id x i) go x i ids copies changed read refl (rest ids)
 
 no_copies : (go : Left → Option Left) (x : Resource) (ids : List (List ℕ))
     (copies changed read : List Resource)
@@ -205,11 +171,11 @@ no_copies : (go : Left → Option Left) (x : Resource) (ids : List (List ℕ))
     → BothWays (is_done (go (ids, ys)) ≡ true) (AreTheirs ids ys changed read))
     → BothWays
     (is_done
-    (option_and_then go (option_map (λ left. (ids, left)) (behind (λ y. are_same y x) copies)))
+    (option_and_then go (option_map (λ left. (ids, left)) (behind (is_alike x) copies)))
     ≡ true)
     (AreTheirs ids copies changed (x ∷ read))
 no_copies go x ids [] changed read rest = (λ done. absurd (true≢false (sym done)), λ those. let e = those.1 in cc)
-no_copies go x ids (y ∷ copies) changed read rest = read_at (are_same y x) go x y ids copies changed read refl (rest copies)
+no_copies go x ids (y ∷ copies) changed read rest = read_at (is_alike x y) go x y ids copies changed read refl (rest copies)
 
 met_at : (linked kept : Bool) (go : Left → Option Left) (x : Resource) (ids : List (List ℕ))
     (copies changed read : List Resource)
@@ -219,8 +185,8 @@ met_at : (linked kept : Bool) (go : Left → Option Left) (x : Resource) (ids : 
     (is_done
     (option_and_then go
     (cond linked
-    (cond kept (option_map (λ left. (left, copies)) (behind (λ i. bytes_eq i x.id) ids))
-    (option_map (λ left. (ids, left)) (behind (λ y. are_same y x) copies)))
+    (cond kept (option_map (λ left. (left, copies)) (behind (has_id x) ids))
+    (option_map (λ left. (ids, left)) (behind (is_alike x) copies)))
     (Some (ids, copies))))
     ≡ true)
     (AreTheirs ids copies (put linked kept x changed) (put linked (not kept) x read))
@@ -364,8 +330,8 @@ fixed_kept t [] [] e = refl
 fixed_kept t [] (x ∷ xs) e = cc
 fixed_kept t (p ∷ ps) [] e = cc
 fixed_kept t (p ∷ ps) (x ∷ xs) e =
-    let head = head_is (fixed_at p) (fixed x) (map fixed_at ps) (map fixed xs) e in
-    kept_at (t p.id) (t x.id) p x (filter (λ q. t q.id) ps) (filter (λ y. t y.id) xs) (ap (λ f. t f.0) head) head (fixed_kept t ps xs (tail_is (fixed_at p) (fixed x) (map fixed_at ps) (map fixed xs) e))
+    let both = heads (fixed_at p) (fixed x) (map fixed_at ps) (map fixed xs) e in
+    kept_at (t p.id) (t x.id) p x (filter (λ q. t q.id) ps) (filter (λ y. t y.id) xs) (ap (λ f. t f.0) both.0) both.0 (fixed_kept t ps xs both.1)
 
 pool_fixed : (path : Path) (pool : List Resource) (rest : List Place)
     → map fixed_at (filter (λ p. not (is_node p)) (map (resource_place path) pool ++ rest))
@@ -379,7 +345,7 @@ rows_fixed : (before : Path) (rows : List NodeRow)
 rows_fixed before [] = refl
 rows_fixed before (r ∷ rows) =
     pool_fixed (path_of before r) r.resources (places_from (path_of before r) rows) ∙ ap (λ fs. map fixed r.resources ++ fs) (rows_fixed (path_of before r) rows)
-    ∙ sym (ap (map fixed) (resources-cons r rows) ∙ map-append fixed r.resources (resources rows))
+    ∙ sym (ap (map fixed) (resources_cons r rows) ∙ map-append fixed r.resources (resources rows))
 
 -- ---- what is linked outside n, on the rows before and behind
 

@@ -9,7 +9,8 @@ use Rattle.std.specs.Str.{bytes_eq}
 use Rattle.ticket_items.proofs.Apart.{bytes_eq-symm}
 use Rattle.ticket_items.specs.Ids.{mem}
 use Rattle.ticket_rows.proofs.Reasons.{child_new, resource_new}
-use Rattle.ticket_rows.specs.Edit.{added_id, behind_last, edited_rows, refusal_of, target}
+use Rattle.ticket_items.specs.Edit.{added_id, target}
+use Rattle.ticket_rows.specs.Edit.{behind_last, edited_rows, refusal_of}
 use Rattle.ticket_rows.specs.Place.{Place, place_at, places}
 use Rattle.ticket_rows.specs.Ticket.{IsValid, ids}
 use Rattle.ticket_tree.proofs.ByKind.{found_by_kind}

@@ -7,6 +7,7 @@ pub mod Outside
 pub mod HomesBelow
 pub mod PartValid
 pub mod GoodCopies
+pub mod SameCopies
 pub mod AroundAt
 pub mod RowsBelow
 pub mod Ancestry

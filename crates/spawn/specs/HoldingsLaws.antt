@@ -2,7 +2,8 @@
 use Rattle.std.specs.Prelude.{◌≡◌, ℕ, true, false, List, [], ◌∷◌, ◌++◌, Some, None, slice_get}
 use Rattle.std.specs.Prelude.{slice_set}
 use Rattle.std.specs.Option.{option_map_or}
-use Rattle.ticket_rows.specs.Edit.{added_id, edited_rows, refusal_of, target}
+use Rattle.ticket_items.specs.Edit.{added_id, target}
+use Rattle.ticket_rows.specs.Edit.{edited_rows, refusal_of}
 use Rattle.ticket_rows.specs.Place.{places}
 use Rattle.ticket_rows.specs.Ticket.{Job, IsValid}
 use Rattle.ticket_items.specs.declared.edit.Edit.{Edit}

@@ -3,7 +3,8 @@ use Rattle.std.specs.Prelude.{◌≡◌, ℕ, true, false, List, [], ◌∷◌, 
 use Rattle.std.specs.Prelude.{slice_get, slice_set}
 use Rattle.std.specs.List.{filter}
 use Rattle.std.specs.Option.{option_map_or}
-use Rattle.ticket_rows.specs.Edit.{edited_rows, refusal_of, target}
+use Rattle.ticket_items.specs.Edit.{target}
+use Rattle.ticket_rows.specs.Edit.{edited_rows, refusal_of}
 use Rattle.ticket_items.specs.Ids.{mem}
 use Rattle.ticket_tree.specs.Part.{is_sound}
 use Rattle.ticket_tree.specs.PartView.{cut, part_row, part_thing}

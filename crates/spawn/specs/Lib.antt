@@ -8,6 +8,7 @@ pub mod Bounds
 pub mod IdSet
 pub mod Laws
 pub mod Stored
+pub mod OfResource
 pub mod Walk
 pub mod OutTables
 pub mod Holdings

@@ -1,22 +1,14 @@
 -- The walk on which a record is compared with a ticket: what is left of the record's copies, as the
 -- resources of the ticket are met.
-use Rattle.std.specs.Prelude.{ℕ, ◌&&◌, Bool, true, false, List, [], ◌∷◌, Option, Some, None}
+use Rattle.std.specs.Prelude.{ℕ, Bool, true, false, List, [], ◌∷◌, Option, Some}
 use Rattle.std.specs.Prelude.{if◌then◌else◌}
 use Rattle.std.specs.Option.{option_map, option_and_then}
-use Rattle.std.specs.Str.{bytes_eq}
 use Rattle.ticket_items.specs.Ids.{mem}
+use Rattle.ticket_items.specs.Resource.{is_alike}
 use Rattle.ticket_tree.specs.Part.{is_linked}
 use Rattle.ticket_items.specs.declared.node_row.NodeRow.{NodeRow}
 use Rattle.ticket_items.specs.declared.resource.Resource.{Resource}
-
--- whether two resources have the same id, name and Class
-abbrev pub are_same : Resource → Resource → Bool
-are_same x y = bytes_eq x.id y.id && bytes_eq x.name y.name && bytes_eq x.class y.class
-
--- what stands behind the first, if that passes the test
-abbrev pub behind : {X : Type 0} → (X → Bool) → List X → Option (List X)
-behind f [] = None
-behind f (x ∷ xs) = if f x then Some xs else None
+use Rattle.spawn.specs.OfResource.{has_id, behind}
 
 -- the copies that weren't met yet: ids of those to change, and those to read
 abbrev pub Left : Type 0
@@ -26,8 +18,8 @@ Left = List (List ℕ) × List Resource
 abbrev pub met_linked : List (List ℕ) → Resource → Left → Option Left
 met_linked rw x left =
     if mem x.id rw
-    then option_map (λ ids. (ids, left.1)) (behind (λ i. bytes_eq i x.id) left.0)
-    else option_map (λ copies. (left.0, copies)) (behind (λ y. are_same y x) left.1)
+    then option_map (λ ids. (ids, left.1)) (behind (has_id x) left.0)
+    else option_map (λ copies. (left.0, copies)) (behind (is_alike x) left.1)
 
 -- what is left behind a resource, if the rows link it
 abbrev pub met : List NodeRow → List (List ℕ) → Resource → Left → Option Left

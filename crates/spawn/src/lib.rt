@@ -12,6 +12,7 @@ mod tables;
 pub use claims::apart::are_apart;
 pub use parts::spawned_part::part_for;
 pub use records::good::{are_good, is_good};
+pub use records::of_resource::{OfResource, behind};
 pub use records::phase::Phase;
 pub use records::spawn_rec::SpawnRec;
 pub use records::standing::stand_in;

@@ -2,12 +2,12 @@
 
 ghost use Rattle.std.specs.Prelude.{◌≡◌, ◌↔◌, ◌++◌, ◌||◌, false, not, IsTrue};
 ghost use Rattle.std.specs.Option.{option_map, option_map_or};
-ghost use Rattle.std.specs.Str.{bytes_eq};
 ghost use Rattle.spawn.specs.Parts.{resources};
 ghost use Rattle.spawn.specs.Records.{IsGood, is_out};
 ghost use Rattle.spawn.specs.Stored as stored;
 ghost use Rattle.spawn.specs.Walk as walk;
 
+use crate::records::of_resource::behind;
 use crate::records::spawn_rec::SpawnRec;
 use ticket_items::is_among;
 use ticket_tree::{At, Id, NodeRow, Resource, Ticket, is_linked};
@@ -19,40 +19,6 @@ struct Left<'a> {
     ro: &'a [Resource],
 }
 
-/// Whether two resources have the same id, name and Class.
-fn are_same(one: &Resource, other: &Resource) -> bool
-    ensures { result ≡ walk.are_same one.now other.now }
-{
-    one.id == other.id && one.name == other.name && one.class == other.class
-}
-
-/// The ids behind the first, if that is this one.
-fn behind_id<'a>(ids: &'a [Id], id: &Id) -> Option<&'a [Id]>
-    ensures { option_map (λ s. s.now) result ≡ walk.behind (λ i. bytes_eq i id.now) ids.now }
-{
-    match ids.split_first() {
-        None => None,
-        Some((first, later)) => { if *first == *id { Some(later) } else { None } }
-    }
-}
-
-/// The copies behind the first, if that is one of this resource.
-fn behind_copy<'a>(copies: &'a [Resource], resource: &Resource) -> Option<&'a [Resource]>
-    ensures { option_map (λ s. s.now) result
-        ≡ walk.behind (λ y. walk.are_same y resource.now) copies.now }
-{
-    match copies.split_first() {
-        None => None,
-        Some((first, later)) => {
-            if are_same(first, resource) {
-                Some(later)
-            } else {
-                None
-            }
-        }
-    }
-}
-
 /// What is left behind a resource.
 fn meet<'a>(inside: &[NodeRow], rw: &[Id], resource: &Resource, left: Left<'a>) -> Option<Left<'a>>
     ensures { option_map (λ l. (l.rw.now, l.ro.now)) result
@@ -62,15 +28,11 @@ fn meet<'a>(inside: &[NodeRow], rw: &[Id], resource: &Resource, left: Left<'a>) 
         return Some(left);
     }
     if is_among(rw, &resource.id) {
-        match behind_id(left.rw, &resource.id) {
-            None => None,
-            Some(rw) => Some(Left { rw, ro: left.ro }),
-        }
+        let rw = behind(left.rw, resource)?;
+        Some(Left { rw, ..left })
     } else {
-        match behind_copy(left.ro, resource) {
-            None => None,
-            Some(ro) => Some(Left { rw: left.rw, ro }),
-        }
+        let ro = behind(left.ro, resource)?;
+        Some(Left { ro, ..left })
     }
 }
 

@@ -1,9 +1,9 @@
 use Rattle.std.specs.Cmp.Lexicographic.{pointwise}
 use Rattle.std.proofs.Common.{◌≡◌, drop}
+use Rattle.ticket_items.specs.Resource.{is_alike}
 use Rattle.spawn.specs.Parts.{resources_among}
-use Rattle.merge.specs.Alike.{is_fixed}
 use Rattle.merge.proofs.copies.are_copies_among.Given as goal
 
 -- what is left decides
 abbrev pub invariant-loop-row : goal.invariant-loop-row
-invariant-loop-row l = pointwise is_fixed (resources_among l.ids (drop l.row-index l.rows)) l.rest ≡ pointwise is_fixed (resources_among l.ids l.rows) l.copies
+invariant-loop-row l = pointwise is_alike (resources_among l.ids (drop l.row-index l.rows)) l.rest ≡ pointwise is_alike (resources_among l.ids l.rows) l.copies

@@ -1,6 +1,7 @@
 use Rattle.std.proofs.Common.{◌∙◌, sym}
 use Rattle.std.proofs.lemmas.Bool.{true≢false}
-use Rattle.merge.proofs.Fitting.{is_part-at, part_fits, fits_part, unfit}
+use Rattle.std.proofs.lemmas.Bool.Decides.{Decides-at}
+use Rattle.merge.proofs.Fitting.{fit-Decides, is_part-at, unfit}
 use Rattle.merge.proofs.shape.fits.Goals as goal
 
 pub returns-in-None : goal.returns-in-None
@@ -11,5 +12,4 @@ returns-in-Some c =
     let t = c.args.ticket.now in
     let r = c.args.spawn.now in
     let p = c.args.part.now in
-    let same = c.is_part.ensures ∙ is_part-at t r p c.in-Some.at c.in-Some.ensures.at in
-    (λ h. part_fits t r p (sym same ∙ h), λ fits. same ∙ fits_part t r p fits)
+    Decides-at _ _ (c.is_part.ensures ∙ is_part-at t r p c.in-Some.at c.in-Some.ensures.at) (fit-Decides t r p)

@@ -1,8 +1,0 @@
-use Rattle.std.specs.Cmp.Lexicographic.{pointwise}
-use Rattle.std.proofs.Common.{◌≡◌, drop}
-use Rattle.merge.specs.Alike.{is_fixed}
-use Rattle.merge.proofs.alike.are_fixed.Given as goal
-
--- what is left decides
-abbrev pub invariant-loop-place : goal.invariant-loop-place
-invariant-loop-place l = pointwise is_fixed (drop l.place l.old) (drop l.place l.new) ≡ pointwise is_fixed l.old l.new
