@@ -10,6 +10,7 @@ use Rattle.controller.specs.declared.message.Message.{Message}
 use Rattle.controller.specs.declared.outcome.Outcome.{Outcome}
 use Rattle.controller.specs.declared.queue_status.QueueStatus.{QueueStatus}
 use Rattle.controller.specs.declared.reply.Reply.{Reply}
+use Rattle.controller.specs.declared.taken.Taken.{Taken}
 use Rattle.controller.specs.Reply.{answer_to}
 
 -- what is replied, what is sent, and the state that it leads to
@@ -61,6 +62,15 @@ done_step done next = record { reply = Ok done.reply; sent = done.message; next 
 abbrev pub outcome_step : {S : Type 0} → Outcome → S → Step S Message
 outcome_step outcome next =
     record { reply = outcome.reply; sent = outcome.answer; next = next }
+
+-- what is replied to a message that is taken so, or refused, and what its command is told
+abbrev pub reply_of : Result Taken Refusal → Result Reply Refusal
+reply_of (Ok t) = Ok t.reply
+reply_of (Err e) = Err e
+
+abbrev pub told_of : Result Taken Refusal → Result QueueStatus ℕ
+told_of (Ok t) = t.told
+told_of (Err e) = Err (number_of e)
 
 -- an order makes a step of a state: it is done as that says, or refused as that is, or else memory
 -- runs out; and what isn't done changes nothing

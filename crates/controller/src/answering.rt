@@ -2,13 +2,16 @@
 
 ghost use Rattle.std.specs.Prelude.{◌≡◌, true, IfOk, IsOk};
 ghost use Rattle.controller.specs.Reply as replies;
+ghost use Rattle.controller.specs.Step as steps;
 
 use crate::body::Body;
 use crate::command::Command;
 use crate::message::Message;
+use crate::outcome::Outcome;
 use crate::queue_status::QueueStatus;
+use crate::taken::Taken;
 use std::alloc::{AllocError, Global};
-use ticket_tree::{Duplicate, Id, SpawnId};
+use ticket_tree::{Duplicate, Id, Refusal, SpawnId};
 
 /// The spawn that a message tells of.
 pub fn spawn_in(body: &Body) -> SpawnId
@@ -61,4 +64,31 @@ pub fn answer_to(
             },
         })),
     }
+}
+
+/// What comes of a message to the controller of a name, which takes it so or refuses it, at a time
+/// in seconds since 1970. A command is answered, refused or not. To an answer there is none, which
+/// takes no memory.
+pub fn outcome_of(
+    alloc: Global,
+    name: &Id,
+    message: &Message,
+    at: u64,
+    taken: Result<Taken, Refusal>,
+) -> Result<Outcome, AllocError>
+    ensures reply { IfOk result (λ outcome. outcome.reply ≡ steps.reply_of taken) }
+    ensures answer { IfOk result (λ outcome. outcome.answer
+        ≡ replies.answer_to name.now message.now at (steps.told_of taken)) }
+    ensures answers { replies.is_answer message.now.body ≡ true → IsOk result }
+{
+    let told = match &taken {
+        Ok(taken) => taken.told,
+        Err(refusal) => Err(refusal.number()),
+    };
+    let answer = answer_to(alloc, name, message, at, told)?;
+    let reply = match taken {
+        Ok(taken) => Ok(taken.reply),
+        Err(refusal) => Err(refusal),
+    };
+    Ok(Outcome { reply, answer })
 }

@@ -4,8 +4,8 @@ use Rattle.std.proofs.lemmas.Bool.{and_parts}
 use Rattle.std.specs.Option.{option_map_or}
 use Rattle.serde_json.specs.Data.{Data}
 use Rattle.json_items.specs.Judged.{sound}
-use Rattle.json_shapes.specs.PartDraft.{RawPart, part_draft}
-use Rattle.json_shapes.specs.PartForm.{has_names, has_texts, built_fault, part_fault, copied, part_read}
+use Rattle.json_items.specs.PartDraft.{RawPart, part_draft}
+use Rattle.json_items.specs.PartForm.{has_names, has_texts, built_fault, part_fault, copied, part_read}
 use Rattle.ticket_items.proofs.SpawnTexts.{spawn_of-Some}
 use Rattle.ticket_items.specs.SpawnId.{spawn_of, spawn_text}
 use Rattle.ticket_items.specs.declared.refusal.Refusal.{Refusal}

@@ -8,8 +8,8 @@ use Rattle.std.specs.Str.{bytes_eq}
 use Rattle.serde_json.specs.Data.{Data, no_members, member, unsigned, number, string, object}
 use Rattle.json_items.specs.Judged.{sound}
 use Rattle.json_source.specs.Read.{◌>>=◌, provided}
-use Rattle.json_shapes.specs.PartDraft.{RawPart}
-use Rattle.json_shapes.specs.PartForm.{copied}
+use Rattle.json_items.specs.PartDraft.{RawPart}
+use Rattle.json_items.specs.PartForm.{copied}
 use Rattle.json_text.specs.PartWritten.{part_data}
 use Rattle.ticket_items.proofs.SpawnTexts.{spawn_of-spawn_text}
 use Rattle.ticket_items.specs.Names.{is_name}

@@ -2,8 +2,8 @@
 use Rattle.std.proofs.Common.{◌≡◌, ◌⊎◌, inl, inr, ⊎_elim, ℕ, ◌&&◌, Bool, true, false, List, [], ◌∷◌, Option, Some, None, Result, Ok, Err, IfErr, IsErrAnd, refl, sym, ap, subst, ◌∙◌}
 use Rattle.json_items.specs.Judged.{Answers, sound}
 use Rattle.json_source.specs.Read.{◌>>=◌, provided}
-use Rattle.json_shapes.specs.PartDraft.{RawPart}
-use Rattle.json_shapes.specs.PartForm.{has_names, has_texts, built_fault, part_fault, copied}
+use Rattle.json_items.specs.PartDraft.{RawPart}
+use Rattle.json_items.specs.PartForm.{has_names, has_texts, built_fault, part_fault, copied}
 use Rattle.ticket_items.specs.declared.refusal.Refusal.{Refusal}
 use Rattle.ticket_items.specs.declared.refusal.Refusal.TheVariants.{BadId, BadText, Memory}
 use Rattle.ticket_rows.specs.Ticket.{unless, first_of}

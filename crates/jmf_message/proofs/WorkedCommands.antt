@@ -3,10 +3,10 @@ use Rattle.std.proofs.Common.{◌≡◌, ℕ, List, [], ◌∷◌, Ok, Err, refl
 use Rattle.std.specs.Fmt.{digits}
 use Rattle.std.specs.Prelude.{codes}
 use Rattle.serde_json.specs.Data.{Data, no_members, member, null, unsigned, number, string, object}
-use Rattle.json_shapes.specs.Draft.{own_row}
-use Rattle.json_shapes.specs.Form.{node_has_names, pools_have_names, row_has_texts}
+use Rattle.json_items.specs.TicketDraft.{own_row}
+use Rattle.json_items.specs.TicketForm.{node_has_names, pools_have_names, row_has_texts}
 use Rattle.json_items.specs.Ancestors.{ancestor_draft}
-use Rattle.json_shapes.specs.PartDraft.{part_draft}
+use Rattle.json_items.specs.PartDraft.{part_draft}
 use Rattle.json_items.specs.Ancestors.{ancestor_has_names}
 use Rattle.json_items.specs.Links.{link_draft}
 use Rattle.json_items.specs.Resources.{own_resource, resource_draft}

@@ -7,8 +7,8 @@ use Rattle.std.specs.Str.{bytes_eq}
 use Rattle.serde_json.specs.Data.{Data}
 use Rattle.json_items.specs.Judged.{sound}
 use Rattle.json_profile.specs.ReadAs.{IsReadAs, IsRefusalOf as IsUnread}
-use Rattle.json_shapes.specs.PartDraft.{RawPart}
-use Rattle.json_shapes.specs.PartForm as part
+use Rattle.json_items.specs.PartDraft.{RawPart}
+use Rattle.json_items.specs.PartForm as part
 use Rattle.json_source.specs.Read.{◌>>=◌, provided}
 use Rattle.ticket_items.specs.Names.{is_name}
 use Rattle.ticket_items.specs.SpawnId.{spawn_text}

@@ -7,7 +7,7 @@ use Rattle.std.specs.Map.{keys_of}
 use Rattle.std.specs.Option.{option_map, option_map_or, option_and_then}
 use Rattle.serde_json.specs.Data.{Data}
 use Rattle.serde_json.specs.Find.{get}
-use Rattle.json_shapes.specs.PartDraft.{RawPart, part_draft}
+use Rattle.json_items.specs.PartDraft.{RawPart, part_draft}
 use Rattle.json_source.specs.Read.{◌>>=◌, provided, has_only, number_under, text_under}
 use Rattle.controller.specs.declared.command.Command.{Command}
 use Rattle.controller.specs.declared.command.Command.TheVariants.{Submit, Return, Abort}

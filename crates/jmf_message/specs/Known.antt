@@ -1,7 +1,7 @@
 -- What is known of the body of a message that is written.
 use Rattle.std.specs.Prelude.{◌≡◌, ◌≤◌, Ok}
 use Rattle.serde_json.specs.Data.{depth}
-use Rattle.json_shapes.specs.PartForm.{part_read}
+use Rattle.json_items.specs.PartForm.{part_read}
 use Rattle.json_text.specs.PartWritten.{part_data}
 use Rattle.ticket_tree.specs.Part.{Copied}
 use Rattle.controller.specs.declared.body.Body.{Body}

@@ -20,7 +20,8 @@ use Rattle.ticket_items.specs.declared.node_row.NodeRow.{NodeRow}
 use Rattle.ticket_rows.proofs.Below.{Path, mem-drop, mem-node_ids}
 use Rattle.ticket_rows.proofs.NodePlaces.{nodes_from, node_places-rows}
 use Rattle.ticket_rows.proofs.Reasons.{child_new, resource_new}
-use Rattle.ticket_rows.specs.Edit.{added_id, behind_last, edited, refusal_of, target}
+use Rattle.ticket_items.specs.Edit.{added_id, target}
+use Rattle.ticket_rows.specs.Edit.{behind_last, edited, refusal_of}
 use Rattle.ticket_rows.specs.Place.{Place, Row, Thing, node, resource, is_node}
 use Rattle.ticket_rows.specs.Place.{is_node_thing, node_place, path_of}
 use Rattle.ticket_rows.specs.Place.{place_at, places, node_places, nodes_in, row_in, last_of}

@@ -8,7 +8,8 @@ use Rattle.ticket_items.specs.SpawnId.{is_spawn_number}
 use Rattle.ticket_items.specs.declared.refusal.Refusal.{Refusal}
 use Rattle.ticket_items.specs.declared.refusal.Refusal.TheVariants.{Memory, NotHeld}
 use Rattle.ticket_items.specs.declared.refusal.Refusal.TheVariants as refusals
-use Rattle.ticket_rows.specs.Edit.{lookups, target}
+use Rattle.ticket_items.specs.Edit.{target}
+use Rattle.ticket_rows.specs.Edit.{lookups}
 use Rattle.ticket_rows.specs.EditRefusal.{later_refusal, unknown_refusal}
 use Rattle.ticket_rows.specs.Homes.{has_resource}
 use Rattle.ticket_rows.specs.Place.{node_places, places, up}

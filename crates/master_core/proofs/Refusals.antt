@@ -9,7 +9,8 @@ use Rattle.ticket_items.specs.declared.edit.Edit.TheVariants.{SetStatus, SetAttr
 use Rattle.ticket_items.specs.declared.node_row.NodeRow.{NodeRow}
 use Rattle.ticket_items.specs.declared.refusal.Refusal.{Refusal}
 use Rattle.ticket_items.specs.declared.refusal.Refusal.TheVariants.{UnknownNode, UnknownResource, UnknownWorker, UnknownSpawn, NotOut, WrongMessage, WrongSender}
-use Rattle.ticket_rows.specs.Edit.{lookups, refusal_of, target}
+use Rattle.ticket_items.specs.Edit.{target}
+use Rattle.ticket_rows.specs.Edit.{lookups, refusal_of}
 use Rattle.ticket_rows.specs.EditRefusal.{later_refusal, unknown_refusal}
 use Rattle.ticket_rows.specs.Homes.{has_resource}
 use Rattle.ticket_rows.specs.Place.{Place, is_node, places, place_at}

@@ -3,7 +3,7 @@ use Rattle.std.specs.Prelude.{◌≡◌, ◌⊎◌, ℕ, true, false, List, Some
 use Rattle.ticket_items.specs.Refusal.{number_of}
 use Rattle.ticket_items.specs.declared.edit.Edit.{Edit}
 use Rattle.ticket_items.specs.declared.refusal.Refusal.TheVariants.{Declined}
-use Rattle.ticket_rows.specs.Edit.{target}
+use Rattle.ticket_items.specs.Edit.{target}
 use Rattle.ticket_tree.specs.Part.{Copied}
 use Rattle.controller.specs.Reply.{is_answer, is_freed}
 use Rattle.controller.specs.declared.body.Body.TheVariants.{Return, Answer}

@@ -6,7 +6,8 @@ use Rattle.ticket_items.specs.Ids.{mem}
 use Rattle.ticket_items.specs.declared.edit.Edit.{Edit}
 use Rattle.ticket_items.specs.declared.refusal.Refusal.{Refusal}
 use Rattle.ticket_items.specs.declared.refusal.Refusal.TheVariants.{NotHeld, NotOut, UnknownWorker}
-use Rattle.ticket_rows.specs.Edit.{edited, lookups, target}
+use Rattle.ticket_items.specs.Edit.{target}
+use Rattle.ticket_rows.specs.Edit.{edited, lookups}
 use Rattle.ticket_rows.specs.EditRefusal.{later_refusal, unknown_refusal}
 use Rattle.ticket_rows.specs.Ticket.{Job, first_of, unless}
 use Rattle.controller.specs.Step.{Makes, Step, unless_refused}

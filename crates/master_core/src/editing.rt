@@ -1,7 +1,8 @@
 //! What a master does with an edit of its ticket.
 
 ghost use Rattle.std.specs.Prelude.{◌≡◌, ℕ, List, None, Some, OnOk, OnErr, IfErr};
-ghost use Rattle.std.specs.Option.{option_map, option_map_or};
+ghost use Rattle.std.specs.Option.{option_map_or};
+ghost use Rattle.ticket_items.specs.Edit.{added_id};
 ghost use Rattle.ticket_rows.specs.Edit as edits;
 ghost use Rattle.ticket_rows.specs.Ticket.{IsValid};
 ghost use Rattle.spawn.specs.Holdings.{IsTable, held_by};
@@ -15,7 +16,7 @@ use crate::order::Order;
 use controller::{Done, Reply};
 use spawn::{Holder, Holders};
 use std::alloc::Global;
-use ticket_tree::{Duplicate, Edit, Id, Refusal, Ticket, target_of};
+use ticket_tree::{Duplicate, Edit, Id, Refusal, Ticket};
 
 /// Why what a holder has can't be changed by the master.
 fn held_refusal(holder: Holder) -> Option<Refusal>
@@ -44,23 +45,12 @@ fn refusal_of(ticket: &Ticket, holders: &Holders, edit: &Edit) -> Option<Refusal
         ≡ orders.edit_refusal edit.now (master.known name workers ticket.now records) }
 {
     match ticket.check(edit) {
-        Ok(()) => not_held(holders, target_of(edit)),
+        Ok(()) => not_held(holders, edit.target()),
         Err(refusal) => match refusal {
             Refusal::UnknownNode => Some(Refusal::UnknownNode),
             Refusal::UnknownResource => Some(Refusal::UnknownResource),
-            later => not_held(holders, target_of(edit)).or(Some(later)),
+            later => not_held(holders, edit.target()).or(Some(later)),
         },
-    }
-}
-
-/// The id that an edit adds to the ticket.
-fn added_id(edit: &Edit) -> Option<&Id>
-    ensures { option_map (λ i. i.now) result ≡ edits.added_id edit.now }
-{
-    match edit {
-        Edit::AddNode { id, .. } => Some(id),
-        Edit::AddResource { resource, .. } => Some(&resource.id),
-        _ => None,
     }
 }
 
@@ -73,14 +63,14 @@ fn apply_held(
     at: u64,
 ) -> Result<(), Refusal>
     requires free { edits.refusal_of edit ticket.old.rows ≡ None }
-    requires new { (i : List ℕ) → edits.added_id edit ≡ Some i → held_by holders.old i ≡ None }
+    requires new { (i : List ℕ) → added_id edit ≡ Some i → held_by holders.old i ≡ None }
     ensures ok { OnOk result (ticket.new ≡ edits.edited edit at ticket.old) }
     ensures holders { OnOk result (holders.new ≡ edited_holdings edit holders.old) }
     ensures err { OnErr result (ticket.new ≡ ticket.old) }
     ensures holders_stay { OnErr result (holders.new ≡ holders.old) }
     ensures memory { IfErr result (λ e. e ≡ Refusal.Memory) }
 {
-    match added_id(&edit) {
+    match edit.added_id() {
         None => ticket.apply(alloc, edit, at),
         Some(id) => {
             holders.add(id.copy(alloc)?)?;

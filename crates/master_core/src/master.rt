@@ -4,6 +4,7 @@ use crate::ordering::do_order;
 use crate::stored::is_master;
 use crate::taking;
 use crate::taking::take_unless;
+use controller::answering::outcome_of;
 use controller::{Body, Done, Message, Outcome, Taken};
 use spawn::{Holder, Holders, SpawnRec, marked};
 use std::alloc::{AllocError, Global};
@@ -227,9 +228,9 @@ impl Master {
             → IfOk (messages.take_step message at self.old).reply (λ r. is_freed r ≡ false)
             → IsOk result }
     {
-        let refusal = taking::refusal_of(self, &message);
-        let refused = refusal.is_some();
-        match taking::outcome_of(alloc, self, refusal, &message, at) {
+        let taken = taking::judged(self, &message);
+        let refused = taken.is_err();
+        match outcome_of(alloc, self.name(), &message, at, taken) {
             Ok(outcome) => {
                 let ticket = &mut self.ticket;
                 let records = &mut self.records;

@@ -1,7 +1,7 @@
 //! What a master does with a message.
 
 ghost use Rattle.std.specs.Prelude.{◌≡◌, ℕ, List, true, false, if◌then◌else◌, OnOk, OnErr};
-ghost use Rattle.std.specs.Prelude.{IfOk, IsOk, Ok};
+ghost use Rattle.std.specs.Prelude.{IsOk, Ok, is_err, is_some};
 ghost use Rattle.ticket_rows.specs.Copies.{with_copies};
 ghost use Rattle.ticket_rows.specs.Ticket.{IsValid};
 ghost use Rattle.ticket_tree.specs.Part.{Copied};
@@ -19,8 +19,8 @@ ghost use Rattle.master_core.specs.Messages as messages;
 use crate::freeing::free;
 use crate::master::Master;
 use crate::records::{is_spawn_out, place_of, record_of};
-use controller::answering::{answer_to, spawn_in};
-use controller::{Body, Command, Message, Outcome, QueueStatus, Reply, Taken};
+use controller::answering::spawn_in;
+use controller::{Body, Command, Message, QueueStatus, Reply, Taken};
 use merge::{fits, merge_fitting};
 use spawn::{Holder, Holders, Phase, SpawnRec};
 use std::alloc::{AllocError, Global};
@@ -123,16 +123,15 @@ fn part_taken(master: &Master, part: &Part) -> Taken
     ensures reply { (at : ℕ) → result.reply ≡ (messages.returned part.now at master.now).reply }
     ensures told { (at : ℕ) → result.told ≡ (messages.returned part.now at master.now).told }
 {
-    if is_spawn_out(master.records(), part.spawn_id()) {
-        Taken {
-            reply: Reply::Merged(part.spawn_id()),
-            told: Ok(end_of_part(part)),
-        }
+    let spawn_id = part.spawn_id();
+    let reply = if is_spawn_out(master.records(), spawn_id) {
+        Reply::Merged(spawn_id)
     } else {
-        Taken {
-            reply: Reply::Already(part.spawn_id()),
-            told: Ok(end_of_part(part)),
-        }
+        Reply::Already(spawn_id)
+    };
+    Taken {
+        reply,
+        told: Ok(end_of_part(part)),
     }
 }
 
@@ -185,40 +184,19 @@ pub fn taken_as(master: &Master, body: &Body) -> Taken
     }
 }
 
-/// What comes of a message: what it is taken as, or the refusal, and the answer to a command. To an
-/// answer there is none, and that takes no memory.
-pub fn outcome_of(
-    alloc: Global,
-    master: &Master,
-    refusal: Option<Refusal>,
-    message: &Message,
-    at: u64,
-) -> Result<Outcome, AllocError>
-    ensures reply { IfOk result (λ outcome. outcome.reply
-        ≡ (steps.answering master.now.name message.now at refusal master.now
-        (messages.taken message.now.body at master.now)).reply) }
-    ensures answer { IfOk result (λ outcome. outcome.answer
-        ≡ (steps.answering master.now.name message.now at refusal master.now
-        (messages.taken message.now.body at master.now)).sent) }
-    ensures answers { replies.is_answer message.now.body ≡ true → IsOk result }
+/// What a message is taken as, or why it is refused.
+pub fn judged(master: &Master, message: &Message) -> Result<Taken, Refusal>
+    ensures reply { (at : ℕ) → steps.reply_of result
+        ≡ (messages.take_step message.now at master.now).reply }
+    ensures answer { (at : ℕ) →
+        replies.answer_to master.now.name message.now at (steps.told_of result)
+        ≡ (messages.take_step message.now at master.now).sent }
+    ensures refused { is_err result
+        ≡ is_some (messages.take_refusal message.now master.now) }
 {
-    match &refusal {
-        Some(refusal) => {
-            let told = Err(refusal.number());
-            let answer = answer_to(alloc, master.name(), message, at, told)?;
-            Ok(Outcome {
-                reply: Err(*refusal),
-                answer,
-            })
-        }
-        None => {
-            let taken = taken_as(master, &message.body);
-            let answer = answer_to(alloc, master.name(), message, at, taken.told)?;
-            Ok(Outcome {
-                reply: Ok(taken.reply),
-                answer,
-            })
-        }
+    match refusal_of(master, message) {
+        Some(refusal) => Err(refusal),
+        None => Ok(taken_as(master, &message.body)),
     }
 }
 

@@ -16,7 +16,8 @@ use Rattle.ticket_items.specs.declared.resource.Resource.{Resource}
 use Rattle.ticket_rows.proofs.Changes.{KeepsTicket, keeps-at_id, keeps-SetStatus, keeps-SetAttr, keeps-Note, keeps-resources}
 use Rattle.ticket_rows.proofs.Reasons.{status_free}
 use Rattle.ticket_rows.specs.Copies.{with_copies}
-use Rattle.ticket_rows.specs.Edit.{edited_rows, is_structural}
+use Rattle.ticket_items.specs.Edit.{is_structural}
+use Rattle.ticket_rows.specs.Edit.{edited_rows}
 use Rattle.ticket_rows.specs.Ticket.{IsValid, first_of, has_node, ids, ids_of, is_reserved, max_depth, unless}
 use Rattle.ticket_tree.specs.Part.{Copied, are_ancestors_new, are_linked, are_shallow_below, edited_part, has_ancestors, is_linked, is_sound, refusal_of_part}
 use Rattle.worker_core.specs.Orders.{ending}

@@ -6,7 +6,7 @@ use Rattle.ticket_items.specs.declared.edit.Edit.{Edit}
 use Rattle.ticket_items.specs.declared.refusal.Refusal.{Refusal}
 use Rattle.ticket_items.specs.declared.refusal.Refusal.TheVariants.{Memory}
 use Rattle.ticket_items.specs.declared.refusal.Refusal.TheVariants as refusals
-use Rattle.ticket_rows.specs.Edit.{is_structural}
+use Rattle.ticket_items.specs.Edit.{is_structural}
 use Rattle.ticket_rows.specs.EditRefusal.{later_refusal}
 use Rattle.ticket_rows.specs.PartEdit.{part_lookups}
 use Rattle.ticket_rows.specs.Ticket.{first_of, unless}

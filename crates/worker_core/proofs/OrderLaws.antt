@@ -15,7 +15,7 @@ use Rattle.ticket_items.specs.declared.refusal.Refusal.{Refusal}
 use Rattle.ticket_items.specs.declared.refusal.Refusal.TheVariants.{NotOpen}
 use Rattle.ticket_rows.specs.Copies.{with_copies}
 use Rattle.ticket_rows.proofs.AtHome.{holds, mem-ids}
-use Rattle.ticket_rows.specs.Edit.{is_structural, target}
+use Rattle.ticket_items.specs.Edit.{is_structural, target}
 use Rattle.ticket_rows.specs.Homes.{has_resource}
 use Rattle.ticket_rows.specs.Place.{Row}
 use Rattle.ticket_rows.specs.Ticket.{IsValid, has_node, ids, unless}

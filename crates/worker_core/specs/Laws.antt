@@ -2,7 +2,7 @@
 use Rattle.std.specs.Prelude.{◌≡◌, ◌==◌, ◌&&◌, ◌⊎◌, ℕ, true, false, List, Some, None}
 use Rattle.std.specs.Prelude.{if◌then◌else◌, is_none, is_ok, Ok, Err}
 use Rattle.ticket_items.specs.declared.edit.Edit.{Edit}
-use Rattle.ticket_rows.specs.Edit.{target}
+use Rattle.ticket_items.specs.Edit.{target}
 use Rattle.ticket_rows.specs.Place.{places}
 use Rattle.ticket_tree.specs.Part.{Copied}
 use Rattle.ticket_tree.specs.PartView.{own_rows, part_row}

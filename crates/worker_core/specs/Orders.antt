@@ -10,7 +10,7 @@ use Rattle.ticket_items.specs.declared.refusal.Refusal.{Refusal}
 use Rattle.ticket_items.specs.declared.refusal.Refusal.TheVariants.{UnknownEntry, NotOpen, ReadOnly}
 use Rattle.ticket_items.specs.declared.refusal.Refusal.TheVariants.{NotInPart, NotForWorkers}
 use Rattle.ticket_items.specs.declared.refusal.Refusal.TheVariants.{NotDone, Acknowledged}
-use Rattle.ticket_rows.specs.Edit.{is_of_node, is_structural, target}
+use Rattle.ticket_items.specs.Edit.{is_of_node, is_structural, target}
 use Rattle.ticket_rows.specs.EditRefusal.{later_refusal}
 use Rattle.ticket_rows.specs.Homes.{has_resource}
 use Rattle.ticket_rows.specs.PartEdit.{part_lookups}

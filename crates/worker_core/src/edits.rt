@@ -3,7 +3,7 @@
 ghost use Rattle.std.specs.Prelude.{◌≡◌, false};
 ghost use Rattle.ticket_items.specs.Ids.{mem};
 ghost use Rattle.ticket_items.specs.Resource.{resource_ids};
-ghost use Rattle.ticket_rows.specs.Edit as edits;
+ghost use Rattle.ticket_items.specs.Edit as edits;
 ghost use Rattle.ticket_rows.specs.EditRefusal.{Lookups, later_refusal};
 ghost use Rattle.ticket_rows.specs.Homes.{has_resource};
 ghost use Rattle.ticket_rows.specs.Ticket.{has_node};
@@ -11,18 +11,7 @@ ghost use Rattle.worker_core.specs.Orders as orders;
 
 use crate::entry::Entry;
 use ticket_rows::{pools, rows};
-use ticket_tree::{Edit, Id, NodeRow, Part, Refusal, Resource, is_structural, target_of};
-
-/// Whether an edit changes a node, and not a resource.
-fn is_of_node(edit: &Edit) -> bool
-    ensures { result ≡ edits.is_of_node edit.now }
-{
-    match edit {
-        Edit::SetStatus { .. } | Edit::SetAttr { .. } | Edit::Note { .. } => true,
-        Edit::SetResStatus { .. } | Edit::SetResAttr { .. } => false,
-        Edit::AddNode { .. } | Edit::AddResource { .. } | Edit::AddLink { .. } => true,
-    }
-}
+use ticket_tree::{Edit, Id, NodeRow, Part, Refusal, Resource};
 
 fn has_node(rows: &[NodeRow], id: &Id) -> bool
     ensures { result ≡ has_node rows.now id.now }
@@ -49,8 +38,8 @@ fn is_here(edit: &Edit, part: &Part) -> bool
     ensures { result ≡ orders.is_here edit.now part.now }
 {
     let nodes = part.rows();
-    let id = target_of(edit);
-    if is_of_node(edit) {
+    let id = edit.target();
+    if edit.is_of_node() {
         has_node(nodes.as_slice(), id)
     } else {
         has_resource(nodes.as_slice(), id) || has_copy(part.rw(), id)
@@ -61,7 +50,7 @@ fn is_here(edit: &Edit, part: &Part) -> bool
 fn is_to_read(edit: &Edit, part: &Part) -> bool
     ensures { result ≡ orders.is_to_read edit.now part.now }
 {
-    !is_of_node(edit) && has_copy(part.ro(), target_of(edit))
+    !edit.is_of_node() && has_copy(part.ro(), edit.target())
 }
 
 /// Why what an edit gives is refused: a Status that only a spawn gives.
@@ -87,7 +76,7 @@ fn value_refusal(edit: &Edit) -> Option<Refusal>
 fn part_refusal(edit: &Edit, part: &Part) -> Option<Refusal>
     ensures { result ≡ orders.part_edit_refusal edit.now part.now }
 {
-    if is_structural(edit) {
+    if edit.is_structural() {
         return Some(Refusal::NotForWorkers);
     }
     let to_read = is_to_read(edit, part);

@@ -4,7 +4,7 @@ ghost use Rattle.std.specs.Prelude.{◌≡◌, false, None, Some, Ok, OnOk, OnEr
 ghost use Rattle.std.specs.Prelude.{MatchResult};
 ghost use Rattle.std.specs.List.{position};
 ghost use Rattle.std.specs.Option.{option_map};
-ghost use Rattle.ticket_rows.specs.Edit.{is_structural};
+ghost use Rattle.ticket_items.specs.Edit.{is_structural};
 ghost use Rattle.ticket_tree.specs.Part.{edited_part, refusal_of_part};
 ghost use Rattle.controller.specs.Step.{Makes};
 ghost use Rattle.worker_core.specs.Orders as orders;

@@ -1,7 +1,7 @@
 //! What a worker does with a message.
 
 ghost use Rattle.std.specs.Prelude.{◌≡◌, ℕ, List, true, false, if◌then◌else◌, Ok, Err, None};
-ghost use Rattle.std.specs.Prelude.{OnOk, OnErr, IfOk, IsOk};
+ghost use Rattle.std.specs.Prelude.{OnOk, OnErr, IfOk, IsOk, is_err, is_some};
 ghost use Rattle.ticket_rows.specs.Copies.{with_copies};
 ghost use Rattle.ticket_rows.specs.Ticket.{IsValid};
 ghost use Rattle.controller.specs.Reply as replies;
@@ -14,7 +14,7 @@ use crate::entries::Entries;
 use crate::entry::Entry;
 use crate::ordering::end_entry;
 use crate::stage::Stage;
-use controller::answering::answer_to;
+use controller::answering::outcome_of;
 use controller::{Body, Command, Message, Outcome, QueueStatus, Reply, Taken};
 use std::alloc::{AllocError, Global};
 use ticket_tree::{Id, Part, Refusal, SpawnId};
@@ -209,41 +209,22 @@ pub fn taken_as(entries: &Entries, body: &Body) -> Taken
     }
 }
 
-/// What comes of a message: what it is taken as, or the refusal, and the answer to a command. To an
-/// answer there is none, and that takes no memory.
-fn outcome_of(
-    alloc: Global,
-    name: &Id,
-    entries: &Entries,
-    refusal: Option<Refusal>,
-    message: &Message,
-    at: u64,
-) -> Result<Outcome, AllocError>
-    ensures reply { (master : List ℕ) → let w = worker.known name.now master entries.now in
-        IfOk result (λ outcome. outcome.reply ≡ (steps.answering name.now message.now at refusal w
-        (messages.taken message.now.body at w)).reply) }
-    ensures answer { (master : List ℕ) → let w = worker.known name.now master entries.now in
-        IfOk result (λ outcome. outcome.answer ≡ (steps.answering name.now message.now at refusal w
-        (messages.taken message.now.body at w)).sent) }
-    ensures answers { replies.is_answer message.now.body ≡ true → IsOk result }
+/// What a message is taken as by the worker of a name that has these entries of its master, or why
+/// it is refused.
+fn judged(name: &Id, master: &Id, entries: &Entries, message: &Message) -> Result<Taken, Refusal>
+    ensures reply { (at : ℕ) → steps.reply_of result
+        ≡ (messages.take_step message.now at
+        (worker.known name.now master.now entries.now)).reply }
+    ensures answer { (at : ℕ) →
+        replies.answer_to name.now message.now at (steps.told_of result)
+        ≡ (messages.take_step message.now at
+        (worker.known name.now master.now entries.now)).sent }
+    ensures refused { is_err result ≡ is_some (messages.take_refusal message.now
+        (worker.known name.now master.now entries.now)) }
 {
-    match &refusal {
-        Some(refusal) => {
-            let told = Err(refusal.number());
-            let answer = answer_to(alloc, name, message, at, told)?;
-            Ok(Outcome {
-                reply: Err(*refusal),
-                answer,
-            })
-        }
-        None => {
-            let taken = taken_as(entries, &message.body);
-            let answer = answer_to(alloc, name, message, at, taken.told)?;
-            Ok(Outcome {
-                reply: Ok(taken.reply),
-                answer,
-            })
-        }
+    match refusal_of(name, master, entries, message) {
+        Some(refusal) => Err(refusal),
+        None => Ok(taken_as(entries, &message.body)),
     }
 }
 
@@ -373,11 +354,10 @@ pub fn do_take(
         (worker.known name.now master.now entries.old) ≡ None
         → messages.IsValidBody message.body) }
 {
-    let refusal = refusal_of(name, master, entries, &message);
-    match outcome_of(alloc, name, entries, refusal, &message, at) {
-        Ok(outcome) => {
-            take_unless(refusal.is_some(), alloc, entries, message.body, at).and(Ok(outcome))
-        }
+    let taken = judged(name, master, entries, &message);
+    let refused = taken.is_err();
+    match outcome_of(alloc, name, &message, at, taken) {
+        Ok(outcome) => take_unless(refused, alloc, entries, message.body, at).and(Ok(outcome)),
         Err(error) => {
             drop(message);
             Err(error)

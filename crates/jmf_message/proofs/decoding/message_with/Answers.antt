@@ -1,5 +1,5 @@
 use Rattle.std.proofs.Common.{◌≡◌, ◌∙◌, Ok, Some, sym, ap}
-use Rattle.json_shapes.specs.PartForm.{copied}
+use Rattle.json_items.specs.PartForm.{copied}
 use Rattle.json_reader.specs.DraftedPart.{drafted_part}
 use Rattle.jmf_message.specs.Decoded.{body_with, said_with}
 use Rattle.jmf_message.proofs.Saying.{handed_on, part_good, part_refused, passed, same_message}

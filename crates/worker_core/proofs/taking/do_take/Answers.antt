@@ -1,7 +1,6 @@
-use Rattle.std.proofs.Common.{◌≡◌, ◌∙◌, Result, Ok, Err, IfOk, OnOk, cond, is_some, sym, ap, subst}
+use Rattle.std.proofs.Common.{◌≡◌, ◌∙◌, Result, Ok, Err, IfOk, OnOk, cond, sym, ap, subst}
 use Rattle.std.specs.Result.{result_and}
 use Rattle.controller.proofs.Answered.{answering_leads}
-use Rattle.controller.specs.Step.{answering}
 use Rattle.worker_core.specs.Messages.{take_refusal, taken}
 use Rattle.worker_core.specs.Worker.{known}
 use Rattle.worker_core.proofs.taking.do_take.Goals as goal
@@ -22,18 +21,14 @@ returns-in-Ok-clause-state c =
     let m = c.args.message in
     let t = taken m.body c.args.at w in
     on_and c.take_unless.result c.in-Ok.outcome c.and.result c.and.ensures (c.take_unless.ensures.ok w.name w.master)
-    (λ made. made ∙ ap (λ b. cond b w t.next) (c.is_some.ensures ∙ ap is_some c.refusal_of-refusal.ensures) ∙ answering_leads w.name m c.args.at (take_refusal m w) w t)
+    (λ made. made ∙ ap (λ b. cond b w t.next) (c.is_err-refused.ensures.value ∙ c.judged-taken.ensures.refused) ∙ answering_leads w.name m c.args.at (take_refusal m w) w t)
 
 pub returns-in-Ok-clause-reply : goal.returns-in-Ok-clause-reply
 returns-in-Ok-clause-reply c =
-    let w = known c.args.name.now c.args.master.now c.args.entries.now in
-    let m = c.args.message in
     if_and _ c.take_unless.result c.in-Ok.outcome c.and.result c.and.ensures
-    (c.in-Ok.ensures.reply w.master ∙ ap (λ r. (answering w.name m c.args.at r w (taken m.body c.args.at w)).reply) c.refusal_of-refusal.ensures)
+    (c.in-Ok.ensures.reply ∙ c.judged-taken.ensures.reply c.args.at)
 
 pub returns-in-Ok-clause-answer : goal.returns-in-Ok-clause-answer
 returns-in-Ok-clause-answer c =
-    let w = known c.args.name.now c.args.master.now c.args.entries.now in
-    let m = c.args.message in
     if_and _ c.take_unless.result c.in-Ok.outcome c.and.result c.and.ensures
-    (c.in-Ok.ensures.answer w.master ∙ ap (λ r. (answering w.name m c.args.at r w (taken m.body c.args.at w)).sent) c.refusal_of-refusal.ensures)
+    (c.in-Ok.ensures.answer ∙ c.judged-taken.ensures.answer c.args.at)
