@@ -2,7 +2,7 @@
 use Rattle.std.proofs.Common.{◌≡◌, ◌&&◌, Bool, List, [], ◌∷◌, map, refl, ap}
 use Rattle.std.specs.List.{list_all}
 use Rattle.ticket_items.specs.declared.resource.Resource.{Resource}
-use Rattle.json_shapes.specs.Draft.{resources_of}
+use Rattle.json_items.specs.TicketDraft.{resources_of}
 use Rattle.json_items.specs.DraftedResources.{drafted_marked, drafted_resource}
 use Rattle.json_items.specs.Resources.{all_showing, raw_data}
 use Rattle.json_items.specs.Shown.{nothing_shown}

@@ -20,22 +20,13 @@ abbrev pub stored_members : ℕ → Stage → ℕ → Option Copied → List ℕ
 stored_members at phase spawn part word =
     with_part part (with_end phase (with_id written spawn (put (codes "Phase") (string word) (put (codes "At") (number (unsigned at)) no_members))))
 
-pub same_members : (at : ℕ) (phase : Stage) (spawn : ℕ) (part : Option Copied) (word : List ℕ) → shown_members at phase spawn part word ≡ stored_members at phase spawn part word
-same_members at Open spawn None word = refl
-same_members at Open spawn (Some p) word = refl
-same_members at (Done how) spawn None word = refl
-same_members at (Done how) spawn (Some p) word = refl
-same_members at (Closed how) spawn None word = refl
-same_members at (Closed how) spawn (Some p) word = refl
-same_members at Declined spawn None word = refl
-same_members at Declined spawn (Some p) word = refl
-
-pub members_ordered : (at : ℕ) (phase : Stage) (spawn : ℕ) (part : Option Copied) (word : List ℕ) → put_all (shown_members at phase spawn part word) no_members ≡ shown_members at phase spawn part word
-members_ordered at Open spawn None word = refl
-members_ordered at Open spawn (Some p) word = refl
-members_ordered at (Done how) spawn None word = refl
-members_ordered at (Done how) spawn (Some p) word = refl
-members_ordered at (Closed how) spawn None word = refl
-members_ordered at (Closed how) spawn (Some p) word = refl
-members_ordered at Declined spawn None word = refl
-members_ordered at Declined spawn (Some p) word = refl
+-- they are the same, and in the order of their names
+pub same_members : (at : ℕ) (phase : Stage) (spawn : ℕ) (part : Option Copied) (word : List ℕ) → (shown_members at phase spawn part word ≡ stored_members at phase spawn part word) × (put_all (shown_members at phase spawn part word) no_members ≡ shown_members at phase spawn part word)
+same_members at Open spawn None word = (refl, refl)
+same_members at Open spawn (Some p) word = (refl, refl)
+same_members at (Done how) spawn None word = (refl, refl)
+same_members at (Done how) spawn (Some p) word = (refl, refl)
+same_members at (Closed how) spawn None word = (refl, refl)
+same_members at (Closed how) spawn (Some p) word = (refl, refl)
+same_members at Declined spawn None word = (refl, refl)
+same_members at Declined spawn (Some p) word = (refl, refl)

@@ -1,17 +1,15 @@
 -- A master's state that was written is read again.
-use Rattle.std.proofs.Common.{◌≡◌, ◌∙◌, ℕ, ◌&&◌, Bool, true, false, cond, List, [], ◌∷◌, map, Option, Some, None, Ok, refl, ap}
+use Rattle.std.proofs.Common.{◌≡◌, ◌∙◌, ℕ, true, cond, List, [], ◌∷◌, map, Some, None, Ok, refl, ap}
 use Rattle.std.proofs.lemmas.Bool.{and_from}
 use Rattle.std.specs.List.{list_all}
 use Rattle.std.specs.Option.{option_and_then}
 use Rattle.serde_json.specs.Data.{string}
 use Rattle.serde_json.specs.Find.{as_str}
-use Rattle.ticket_items.specs.declared.refusal.Refusal.{Refusal}
-use Rattle.ticket_items.specs.declared.refusal.Refusal.TheVariants.{BadState, ReservedStatus}
-use Rattle.ticket_rows.specs.Ticket.{first_of, unless}
 use Rattle.spawn.specs.declared.records.spawn_rec.SpawnRec.{SpawnRec}
-use Rattle.json_shapes.specs.Draft.{RawTicket, ticket_draft}
-use Rattle.json_shapes.specs.Form as ticket_form
-use Rattle.json_items.specs.Again.{list_again, text_again}
+use Rattle.json_items.specs.TicketDraft.{RawTicket, ticket_draft}
+use Rattle.json_items.specs.TicketForm as ticket_form
+use Rattle.json_items.proofs.Again.{list_again, text_again}
+use Rattle.json_items.proofs.Tests.{all_mapped}
 use Rattle.json_items.specs.Judged.{sound}
 use Rattle.json_items.specs.Listed.{list_form, texts_data}
 use Rattle.json_source.specs.Read.{◌>>=◌}
@@ -23,11 +21,12 @@ use Rattle.controller_form.specs.States.MasterForm.{RawMaster, any_master_draft,
 use Rattle.controller_form.specs.States.MasterForm.{master_draft, master_has_names, master_has_texts}
 use Rattle.controller_form.specs.States.MasterForm.{master_in, master_state_in, master_state_read, records_are_bare}
 use Rattle.controller_form.specs.States.RecordForm.{are_told_in, record_has_names, record_has_texts}
-use Rattle.controller_form.specs.States.RecordForm.{spawn_has_names, spawn_has_texts}
+use Rattle.controller_form.specs.States.RecordForm.{spawn_has_names}
 use Rattle.controller_form.specs.States.Writable.{IsWritableMaster}
 use Rattle.controller_form.specs.declared.states.format.Format.{Format}
 use Rattle.controller_form.specs.declared.states.format.Format.TheVariants.{First, Second}
 use Rattle.controller_form.proofs.Reading.{IsSoundDraft, all_pass, nothing_wrong, sound_draft}
+use Rattle.controller_form.proofs.Refusing.{nothing}
 use Rattle.controller_form.proofs.RecordAgain.{bare, records_again}
 
 -- ---- the draft
@@ -60,22 +59,8 @@ all_bare : (rs : List SpawnRec) → records_are_bare (map bare rs) ≡ true
 all_bare [] = refl
 all_bare (r ∷ rs) = all_bare rs
 
-names_of : (rs : List SpawnRec) → list_all record_has_names (map bare rs) ≡ list_all spawn_has_names rs
-names_of [] = refl
-names_of (r ∷ rs) = ap (λ b. spawn_has_names r && b) (names_of rs)
-
-texts_of : (rs : List SpawnRec) → list_all record_has_texts (map bare rs) ≡ list_all spawn_has_texts rs
-texts_of [] = refl
-texts_of (r ∷ rs) = ap (λ b. spawn_has_texts r && b) (texts_of rs)
-
 master_of : (m : Known) (t : RawTicket) → t.job ≡ m.ticket → master_in (raw m t) ≡ m
 master_of m t same = ap (λ j. known m.name m.workers j (map (λ r. r.spawn) (map bare m.records))) same ∙ ap (known m.name m.workers m.ticket) (spawns_of m.records)
-
-no_built_fault : (records stored : Bool) (f : Option Refusal) → records ≡ true → f ≡ None → stored ≡ true → first_of (unless records ReservedStatus ∷ f ∷ unless stored BadState ∷ []) ≡ None
-no_built_fault true true None p q r = refl
-no_built_fault true true (Some e) p q r = cc
-no_built_fault true false f p q r = cc
-no_built_fault false stored f p q r = cc
 
 -- ---- the whole
 
@@ -85,10 +70,10 @@ judged format m known' told =
     let t = read.draft in
     let passed = all_pass _ _ _ read.sound in
     let is = master_of m t read.same in
-    let names : master_has_names (raw m t) ≡ true = and_from _ _ (and_from _ _ (and_from _ _ known'.name known'.workers) passed.names) (names_of m.records ∙ known'.names) in
-    let texts : master_has_texts (raw m t) ≡ true = and_from _ _ passed.texts (texts_of m.records ∙ known'.texts) in
+    let names : master_has_names (raw m t) ≡ true = and_from _ _ (and_from _ _ (and_from _ _ known'.name known'.workers) passed.names) (all_mapped record_has_names bare m.records ∙ known'.names) in
+    let texts : master_has_texts (raw m t) ≡ true = and_from _ _ passed.texts (all_mapped record_has_texts bare m.records ∙ known'.texts) in
     let stored : is_master (master_in (raw m t)) ≡ true = ap is_master is ∙ a_kept_master_is_stored m known'.kept in
-    let built : master_built_fault (raw m t) ≡ None = no_built_fault _ _ _ (all_bare m.records) passed.none stored in
+    let built : master_built_fault (raw m t) ≡ None = nothing _ _ _ (all_bare m.records) passed.none stored in
     ap judged_master (drafted_in format m t known'.names told read.there)
     ∙ ap (λ f. sound f (master_in (raw m t))) (nothing_wrong _ _ _ names texts built)
     ∙ ap (λ k. Ok k) is

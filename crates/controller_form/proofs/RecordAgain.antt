@@ -12,8 +12,8 @@ use Rattle.ticket_items.specs.declared.resource.Resource.{Resource}
 use Rattle.spawn.specs.declared.records.phase.Phase.{Phase}
 use Rattle.spawn.specs.declared.records.phase.Phase.TheVariants.{Out, Merged, Withdrawn}
 use Rattle.spawn.specs.declared.records.spawn_rec.SpawnRec.{SpawnRec}
-use Rattle.json_shapes.specs.Draft.{are_bare, resources_of}
-use Rattle.json_items.specs.Again.{list_again, marked_again, text_again}
+use Rattle.json_items.specs.TicketDraft.{are_bare, resources_of}
+use Rattle.json_items.proofs.Again.{list_again, marked_again, text_again}
 use Rattle.json_items.specs.Listed.{data_items, each, list_form, texts_data}
 use Rattle.json_items.specs.Resources.{all_showing, raw_data, resource_draft}
 use Rattle.json_items.specs.Shown.{nothing_shown}
@@ -69,7 +69,8 @@ pub number_valid : (r : SpawnRec) → spawn_has_names r ≡ true → is_spawn_nu
 unfolding spawn_has_names
 number_valid r names = (and_parts _ _ (and_parts _ _ (and_parts _ _ (and_parts _ _ names).0).0).0).0
 
-more_at : {X : Type 0} (o : Option X) (x : X) (rest : Option (List X)) (xs : List X) → o ≡ Some x → rest ≡ Some xs → (o >>= λ y. option_map (λ ys. y ∷ ys) rest) ≡ Some (x ∷ xs)
+-- one more item that is read
+pub more_at : {X : Type 0} (o : Option X) (x : X) (rest : Option (List X)) (xs : List X) → o ≡ Some x → rest ≡ Some xs → (o >>= λ y. option_map (λ ys. y ∷ ys) rest) ≡ Some (x ∷ xs)
 more_at o x rest xs e f = ap (λ p. p >>= λ y. option_map (λ ys. y ∷ ys) rest) e ∙ ap (option_map (λ ys. x ∷ ys)) f
 
 -- records in turn

@@ -35,23 +35,6 @@ record_plain r = or_from _ _ (pool_plain (all_showing nothing_shown r.ro)) (or_f
 pub master_plain : (m : master.Known) → IsWritableMaster m → has_float (master_state_data m) ≡ false
 master_plain m known = or_from _ _ (or_from _ _ (items_plain record_data record_plain m.records) (or_from _ _ known.plain (or_from _ _ (texts_plain m.workers) refl))) refl
 
-entry_plain : (s : ℕ) (phase : Stage) (part : Option Copied) (at : ℕ) → IfSome part IsWritablePart → has_float (entry_data written (record { spawn_id = s; phase = phase; part = part; at = at })) ≡ false
-entry_plain s Open None at known = refl
-entry_plain s Open (Some p) at known = or_from _ _ known.plain refl
-entry_plain s (Done how) None at known = refl
-entry_plain s (Done how) (Some p) at known = or_from _ _ known.plain refl
-entry_plain s (Closed how) None at known = refl
-entry_plain s (Closed how) (Some p) at known = or_from _ _ known.plain refl
-entry_plain s Declined None at known = refl
-entry_plain s Declined (Some p) at known = or_from _ _ known.plain refl
-
-entries_plain : (es : List Entry) → All IsWritableEntry es → items_have_float (data_items (entry_data written) es) ≡ false
-entries_plain [] known = refl
-entries_plain (e ∷ es) known = or_from _ _ (entry_plain e.spawn_id e.phase e.part e.at (All-head IsWritableEntry e es known).part) (entries_plain es (All-tail IsWritableEntry e es known))
-
-pub worker_plain : (w : worker.Known) → IsWritableWorker w → has_float (worker_state_data w) ≡ false
-worker_plain w known = or_from _ _ (or_from _ _ (entries_plain w.entries known.entries) refl) refl
-
 -- ---- depth
 
 texts_flat : (texts : List (List ℕ)) → items_depth (data_items string texts) ≤ 0
@@ -63,19 +46,27 @@ record_low r = omega (arith, pool_low (all_showing nothing_shown r.ro), texts_fl
 pub master_nests : (m : master.Known) → IsWritableMaster m → depth (master_state_data m) ≤ 127
 master_nests m known = omega (arith, items_low record_data 4 record_low m.records, texts_flat m.workers, known.low)
 
-entry_low : (s : ℕ) (phase : Stage) (part : Option Copied) (at : ℕ) → IfSome part IsWritablePart → depth (entry_data written (record { spawn_id = s; phase = phase; part = part; at = at })) ≤ 69
-entry_low s Open None at known = omega arith
-entry_low s Open (Some p) at known = omega (arith, known.low)
-entry_low s (Done how) None at known = omega arith
-entry_low s (Done how) (Some p) at known = omega (arith, known.low)
-entry_low s (Closed how) None at known = omega arith
-entry_low s (Closed how) (Some p) at known = omega (arith, known.low)
-entry_low s Declined None at known = omega arith
-entry_low s Declined (Some p) at known = omega (arith, known.low)
+-- ---- both, of a worker
 
-entries_low : (es : List Entry) → All IsWritableEntry es → items_depth (data_items (entry_data written) es) ≤ 69
-entries_low [] known = omega arith
-entries_low (e ∷ es) known = omega (arith, entry_low e.spawn_id e.phase e.part e.at (All-head IsWritableEntry e es known).part, entries_low es (All-tail IsWritableEntry e es known))
+entry_shape : (s : ℕ) (phase : Stage) (part : Option Copied) (at : ℕ) → IfSome part IsWritablePart → (has_float (entry_data written (record { spawn_id = s; phase = phase; part = part; at = at })) ≡ false) × (depth (entry_data written (record { spawn_id = s; phase = phase; part = part; at = at })) ≤ 69)
+entry_shape s Open None at known = (refl, omega arith)
+entry_shape s Open (Some p) at known = (or_from _ _ known.plain refl, omega (arith, known.low))
+entry_shape s (Done how) None at known = (refl, omega arith)
+entry_shape s (Done how) (Some p) at known = (or_from _ _ known.plain refl, omega (arith, known.low))
+entry_shape s (Closed how) None at known = (refl, omega arith)
+entry_shape s (Closed how) (Some p) at known = (or_from _ _ known.plain refl, omega (arith, known.low))
+entry_shape s Declined None at known = (refl, omega arith)
+entry_shape s Declined (Some p) at known = (or_from _ _ known.plain refl, omega (arith, known.low))
+
+entries_shape : (es : List Entry) → All IsWritableEntry es → (items_have_float (data_items (entry_data written) es) ≡ false) × (items_depth (data_items (entry_data written) es) ≤ 69)
+entries_shape [] known = (refl, omega arith)
+entries_shape (e ∷ es) known =
+    let first = entry_shape e.spawn_id e.phase e.part e.at (All-head IsWritableEntry e es known).part in
+    let rest = entries_shape es (All-tail IsWritableEntry e es known) in
+    (or_from _ _ first.0 rest.0, omega (arith, first.1, rest.1))
+
+pub worker_plain : (w : worker.Known) → IsWritableWorker w → has_float (worker_state_data w) ≡ false
+worker_plain w known = or_from _ _ (or_from _ _ ((entries_shape w.entries known.entries).0) refl) refl
 
 pub worker_nests : (w : worker.Known) → IsWritableWorker w → depth (worker_state_data w) ≤ 127
-worker_nests w known = omega (arith, entries_low w.entries known.entries)
+worker_nests w known = omega (arith, (entries_shape w.entries known.entries).1)

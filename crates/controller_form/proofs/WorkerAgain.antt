@@ -1,25 +1,24 @@
 -- A worker's state that a format tells is read again.
-use Rattle.std.proofs.Common.{◌≡◌, ◌∙◌, ◌==◌, ℕ, Bool, true, false, cond, List, [], ◌∷◌, map, Option, Some, None, Ok, IfSome, refl, ap}
+use Rattle.std.proofs.Common.{◌≡◌, ◌∙◌, ◌==◌, ℕ, true, false, cond, List, [], ◌∷◌, map, Option, Some, None, Ok, IfSome, refl, ap}
 use Rattle.std.proofs.lemmas.Bool.{and_from, and_parts, or_from}
 use Rattle.std.proofs.lemmas.List.Elements.{All-head, All-tail}
 use Rattle.std.specs.List.{All, list_all, list_any}
-use Rattle.std.specs.Option.{option_map, option_map_or}
+use Rattle.std.specs.Option.{option_map_or}
 use Rattle.std.specs.Prelude.{codes, is_some}
 use Rattle.std.specs.Str.{bytes_eq}
 use Rattle.serde_json.specs.Data.{Data, no_members, number, object, put, string, unsigned}
 use Rattle.ticket_items.specs.Refusal.{number_of}
 use Rattle.ticket_items.specs.SpawnId.{is_spawn_number, spawn_text}
 use Rattle.ticket_items.specs.declared.refusal.Refusal.{Refusal}
-use Rattle.ticket_items.specs.declared.refusal.Refusal.TheVariants.{BadState, DuplicateId, NotATree, ReservedStatus, TooDeep, UnresolvedLink}
-use Rattle.ticket_rows.specs.Ticket.{first_of, unless}
 use Rattle.ticket_tree.specs.Part.{Copied}
-use Rattle.json_shapes.specs.PartDraft.{RawPart, part_draft}
-use Rattle.json_shapes.specs.PartForm as part_form
-use Rattle.json_shapes.specs.PartForm.{copied}
+use Rattle.json_items.specs.PartDraft.{RawPart, part_draft}
+use Rattle.json_items.specs.PartForm as part_form
+use Rattle.json_items.specs.PartForm.{copied}
 use Rattle.json_items.specs.Judged.{sound}
 use Rattle.json_items.specs.Listed.{data_items, each}
 use Rattle.json_source.specs.Read.{◌>>=◌}
 use Rattle.json_text.specs.PartWritten.{part_data}
+use Rattle.spawn.proofs.Holding.{find_as}
 use Rattle.worker_core.proofs.KeptStored.{a_kept_worker_is_stored}
 use Rattle.worker_core.specs.Stored.{is_worker}
 use Rattle.worker_core.specs.Worker.{IsKeptEntry, IsKeptPart, Known, end_word, keeps_part, known}
@@ -33,6 +32,7 @@ use Rattle.controller_form.specs.Orders.SpawnNamed.{spawn_named}
 use Rattle.controller_form.specs.States.EntryForm.{RawEntry, closed_draft, declined_draft, entry_data, entry_draft, entry_fault}
 use Rattle.controller_form.specs.States.EntryForm.{entry_has_names, entry_has_texts, entry_in, held_draft, is_told_in}
 use Rattle.controller_form.specs.States.EntryForm.{stage_named, with_id}
+use Rattle.controller_form.specs.States.PartFaults.{part_faults}
 use Rattle.controller_form.specs.States.WorkerForm.{RawWorker, is_fault, judged_worker, parts_fault}
 use Rattle.controller_form.specs.States.WorkerForm.{worker_built_fault, worker_data, worker_draft}
 use Rattle.controller_form.specs.States.WorkerForm.{worker_has_names, worker_in}
@@ -41,7 +41,8 @@ use Rattle.controller_form.specs.States.Writable.{IsWritableEntry, IsWritablePar
 use Rattle.controller_form.specs.declared.states.format.Format.{Format}
 use Rattle.controller_form.specs.declared.states.format.Format.TheVariants.{First, Second}
 use Rattle.controller_form.proofs.Reading.{IsSoundDraft, all_pass, nothing_wrong, sound_draft}
-use Rattle.controller_form.proofs.RecordAgain.{number_again}
+use Rattle.controller_form.proofs.RecordAgain.{more_at, number_again}
+use Rattle.controller_form.proofs.Refusing.{nothing}
 
 -- ---- words
 
@@ -185,9 +186,6 @@ record AreRead (format : Format) (es : List Entry) : Type 0 where
   texts : list_all entry_has_texts raws ≡ true
   none : (f : Refusal) → list_any (is_fault f) raws ≡ false
 
-more_at : {X : Type 0} (o : Option X) (x : X) (rest : Option (List X)) (xs : List X) → o ≡ Some x → rest ≡ Some xs → (o >>= λ y. option_map (λ ys. y ∷ ys) rest) ≡ Some (x ∷ xs)
-more_at o x rest xs e f = ap (λ p. p >>= λ y. option_map (λ ys. y ∷ ys) rest) e ∙ ap (option_map (λ ys. x ∷ ys)) f
-
 no_fault : (f : Refusal) (raw : RawEntry) → entry_fault raw ≡ None → is_fault f raw ≡ false
 no_fault f raw none = ap (λ o. option_map_or (λ g. number_of g == number_of f) o false) none
 
@@ -219,18 +217,8 @@ all_told (e ∷ es) = all_told es
 
 -- ---- the worker
 
-if_none : (a : Bool) (e : Refusal) (o : Option Refusal) → a ≡ false → o ≡ None → cond a (Some e) o ≡ None
-if_none true e o p q = cc
-if_none false e o p q = q
-
 none_among : (raws : List RawEntry) → ((f : Refusal) → list_any (is_fault f) raws ≡ false) → parts_fault raws ≡ None
-none_among raws none =
-    if_none _ _ _ (none NotATree) (if_none _ _ _ (none ReservedStatus) (if_none _ _ _ (none DuplicateId) (if_none _ _ _ (none TooDeep) (if_none _ _ _ (none UnresolvedLink) refl))))
-
-no_built_fault : (f : Option Refusal) (stored : Bool) → f ≡ None → stored ≡ true → first_of (f ∷ unless stored BadState ∷ []) ≡ None
-no_built_fault None true p q = refl
-no_built_fault (Some e) stored p q = cc
-no_built_fault None false p q = cc
+none_among raws none = find_as (λ f. list_any (is_fault f) raws) (λ f. false) none part_faults
 
 abbrev raw : Known → List RawEntry → RawWorker
 raw w raws = record { name = w.name; master = w.master; entries = raws }
@@ -246,7 +234,7 @@ judged format w known' told =
     let is : worker_in (raw w raws) ≡ w = ap (known w.name w.master) read.same in
     let names : worker_has_names (raw w raws) ≡ true = and_from _ _ (and_from _ _ known'.name known'.master) read.names in
     let stored : is_worker (worker_in (raw w raws)) ≡ true = ap is_worker is ∙ a_kept_worker_is_stored w known'.kept in
-    let built : worker_built_fault (raw w raws) ≡ None = no_built_fault _ _ (none_among raws read.none) stored in
+    let built : worker_built_fault (raw w raws) ≡ None = nothing true _ _ refl (none_among raws read.none) stored in
     ap judged_worker (drafted format w raws read.there)
     ∙ ap (λ f. sound f (worker_in (raw w raws))) (nothing_wrong _ _ _ names read.texts built)
     ∙ ap (λ k. Ok k) is

@@ -9,8 +9,8 @@ use Rattle.ticket_items.specs.Ids.{are_distinct}
 use Rattle.ticket_items.specs.Names.{is_name}
 use Rattle.ticket_items.specs.declared.refusal.Refusal.{Refusal}
 use Rattle.ticket_items.specs.declared.refusal.Refusal.TheVariants.{SameName}
-use Rattle.json_shapes.specs.Draft.{RawTicket, ticket_draft}
-use Rattle.json_shapes.specs.Form as ticket_form
+use Rattle.json_items.specs.TicketDraft.{RawTicket, ticket_draft}
+use Rattle.json_items.specs.TicketForm as ticket_form
 use Rattle.json_items.specs.Listed.{list_form}
 use Rattle.json_source.specs.Read.{◌>>=◌, text_under}
 use Rattle.controller_form.specs.declared.openings.shop.Shop.{Shop}

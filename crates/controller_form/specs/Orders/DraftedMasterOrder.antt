@@ -4,7 +4,10 @@ use Rattle.master_core.specs.declared.order.Order.{Order}
 use Rattle.master_core.specs.declared.order.Order.TheVariants as orders
 use Rattle.controller_form.specs.Orders.SpawnNamed.{spawn_named}
 use Rattle.controller_form.specs.declared.orders.master_order.MasterOrderDraft.{MasterOrderDraft}
-use Rattle.controller_form.specs.declared.orders.master_order.MasterOrderDraft.TheVariants.{Edit, Spawn, Resend, Withdraw}
+use Rattle.controller_form.specs.declared.orders.master_order.MasterOrderDraft.TheVariants.{Edit}
+use Rattle.controller_form.specs.declared.orders.master_order.MasterOrderDraft.TheVariants.{Spawn}
+use Rattle.controller_form.specs.declared.orders.master_order.MasterOrderDraft.TheVariants.{Resend}
+use Rattle.controller_form.specs.declared.orders.master_order.MasterOrderDraft.TheVariants.{Withdraw}
 
 abbrev pub drafted_master_order : MasterOrderDraft → Order
 drafted_master_order (Edit edit) = orders.Edit (drafted_edit edit)

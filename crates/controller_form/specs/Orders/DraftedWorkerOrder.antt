@@ -4,7 +4,8 @@ use Rattle.worker_core.specs.declared.order.Order.{Order}
 use Rattle.worker_core.specs.declared.order.Order.TheVariants as orders
 use Rattle.controller_form.specs.Orders.SpawnNamed.{spawn_named}
 use Rattle.controller_form.specs.declared.orders.worker_order.WorkerOrderDraft.{WorkerOrderDraft}
-use Rattle.controller_form.specs.declared.orders.worker_order.WorkerOrderDraft.TheVariants.{Edit, Finish}
+use Rattle.controller_form.specs.declared.orders.worker_order.WorkerOrderDraft.TheVariants.{Edit}
+use Rattle.controller_form.specs.declared.orders.worker_order.WorkerOrderDraft.TheVariants.{Finish}
 use Rattle.controller_form.specs.declared.orders.worker_order.WorkerOrderDraft.TheVariants.{Resend}
 
 abbrev pub drafted_worker_order : WorkerOrderDraft → Order

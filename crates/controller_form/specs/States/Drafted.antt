@@ -1,7 +1,7 @@
 -- What drafts are as values.
 use Rattle.std.specs.Prelude.{List, map}
 use Rattle.std.specs.Option.{option_map}
-use Rattle.json_shapes.specs.Draft.{are_bare, resources_of}
+use Rattle.json_items.specs.TicketDraft.{are_bare, resources_of}
 use Rattle.json_items.specs.DraftedResources.{drafted_marked}
 use Rattle.json_reader.specs.DraftedPart.{drafted_part}
 use Rattle.json_reader.specs.DraftedTicket.{drafted_ticket}

@@ -9,8 +9,8 @@ use Rattle.serde_json.specs.Find.{get}
 use Rattle.ticket_items.specs.SpawnId.{is_spawn_number, spawn_text}
 use Rattle.ticket_items.specs.declared.refusal.Refusal.{Refusal}
 use Rattle.ticket_tree.specs.Part.{Copied}
-use Rattle.json_shapes.specs.PartDraft.{RawPart, part_draft}
-use Rattle.json_shapes.specs.PartForm as part_form
+use Rattle.json_items.specs.PartDraft.{RawPart, part_draft}
+use Rattle.json_items.specs.PartForm as part_form
 use Rattle.json_source.specs.Read.{◌>>=◌, provided, has_only, number_under, text_under}
 use Rattle.json_text.specs.PartWritten.{part_data}
 use Rattle.worker_core.specs.Worker.{end_word}

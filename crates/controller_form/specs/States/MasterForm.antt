@@ -11,8 +11,8 @@ use Rattle.ticket_items.specs.declared.refusal.Refusal.{Refusal}
 use Rattle.ticket_items.specs.declared.refusal.Refusal.TheVariants.{BadState}
 use Rattle.ticket_items.specs.declared.refusal.Refusal.TheVariants.{NotProfile, ReservedStatus}
 use Rattle.ticket_rows.specs.Ticket.{first_of, unless}
-use Rattle.json_shapes.specs.Draft.{RawTicket}
-use Rattle.json_shapes.specs.Form as ticket_form
+use Rattle.json_items.specs.TicketDraft.{RawTicket}
+use Rattle.json_items.specs.TicketForm as ticket_form
 use Rattle.json_items.specs.Judged.{checked_fault, sound}
 use Rattle.json_items.specs.Listed.{data_items, list_form, texts_data}
 use Rattle.json_source.specs.Read.{◌>>=◌, provided, has_only, text_under}

@@ -1,8 +1,9 @@
 -- What may be wrong with parts whose names and texts are valid.
-use Rattle.std.specs.Prelude.{ℕ, Bool, true, false, List, [], ◌∷◌, nat_le, if◌then◌else◌, Option}
-use Rattle.std.specs.Prelude.{Some, None}
+use Rattle.std.specs.Prelude.{◌==◌, Bool, List, [], ◌∷◌}
+use Rattle.std.specs.List.{list_any}
+use Rattle.ticket_items.specs.Refusal.{number_of}
 use Rattle.ticket_items.specs.declared.refusal.Refusal.{Refusal}
-use Rattle.ticket_items.specs.declared.refusal.Refusal.TheVariants.{DuplicateId, Memory, NotATree}
+use Rattle.ticket_items.specs.declared.refusal.Refusal.TheVariants.{DuplicateId, NotATree}
 use Rattle.ticket_items.specs.declared.refusal.Refusal.TheVariants.{ReservedStatus, TooDeep}
 use Rattle.ticket_items.specs.declared.refusal.Refusal.TheVariants.{UnresolvedLink}
 
@@ -10,24 +11,6 @@ use Rattle.ticket_items.specs.declared.refusal.Refusal.TheVariants.{UnresolvedLi
 abbrev pub part_faults : List Refusal
 part_faults = NotATree ∷ ReservedStatus ∷ DuplicateId ∷ TooDeep ∷ UnresolvedLink ∷ []
 
--- the place of a fault in that order
-abbrev pub rank : Refusal → ℕ
-rank NotATree = 0
-rank ReservedStatus = 1
-rank DuplicateId = 2
-rank TooDeep = 3
-rank _ = 4
-
--- the one of two faults that is looked for first
-abbrev pub earlier : Refusal → Refusal → Refusal
-earlier e f = if nat_le (rank e) (rank f) then e else f
-
--- the same, where the first may be none
-abbrev pub earliest : Option Refusal → Refusal → Refusal
-earliest None f = f
-earliest (Some e) f = earlier e f
-
--- whether a refusal says that memory ran out
-abbrev pub is_memory : Refusal → Bool
-is_memory Memory = true
-is_memory _ = false
+-- whether a fault is among those that were found
+abbrev pub is_among : List Refusal → Refusal → Bool
+is_among found e = list_any (λ f. number_of f == number_of e) found

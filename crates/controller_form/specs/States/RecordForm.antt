@@ -12,7 +12,7 @@ use Rattle.ticket_items.specs.SpawnId.{is_spawn_number, spawn_text}
 use Rattle.spawn.specs.declared.records.phase.Phase.{Phase}
 use Rattle.spawn.specs.declared.records.phase.Phase.TheVariants.{Out, Merged, Withdrawn}
 use Rattle.spawn.specs.declared.records.spawn_rec.SpawnRec.{SpawnRec}
-use Rattle.json_shapes.specs.Draft.{are_bare, resources_of}
+use Rattle.json_items.specs.TicketDraft.{are_bare, resources_of}
 use Rattle.json_items.specs.Listed.{data_items, list_form, texts_data}
 use Rattle.json_items.specs.Resources.{all_showing, raw_data, resource_draft}
 use Rattle.json_items.specs.Resources.{resource_has_names, resource_has_texts}

@@ -7,8 +7,8 @@ use Rattle.serde_json.specs.Written.{has_float}
 use Rattle.ticket_items.specs.Names.{is_name}
 use Rattle.ticket_items.specs.SpawnId.{is_spawn_number}
 use Rattle.ticket_tree.specs.Part.{Copied}
-use Rattle.json_shapes.specs.Form.{ticket_read}
-use Rattle.json_shapes.specs.PartForm.{part_read}
+use Rattle.json_items.specs.TicketForm.{ticket_read}
+use Rattle.json_items.specs.PartForm.{part_read}
 use Rattle.json_text.specs.PartWritten.{part_data}
 use Rattle.json_text.specs.Written.{ticket_data}
 use Rattle.master_core.specs.Master as master

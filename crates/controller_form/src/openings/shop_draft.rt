@@ -16,7 +16,8 @@ pub struct ShopDraft<'a> {
 }
 
 impl<'a> ShopDraft<'a> {
-    ghost use Rattle.std.specs.Prelude.{◌≡◌, ◌⊎◌, ◌&&◌, ◌∷◌, true, false, IfErr, IfOk, IsErrOf, OnOk};
+    ghost use Rattle.std.specs.Prelude.{◌≡◌, ◌⊎◌, ◌&&◌, ◌∷◌, true, false, IfErr, IfOk, IsErrOf};
+    ghost use Rattle.std.specs.Prelude.{OnOk};
     ghost use Rattle.std.specs.List.{list_all};
     ghost use Rattle.ticket_items.specs.Ids.{are_distinct};
     ghost use Rattle.ticket_items.specs.Names.{is_name};
@@ -82,6 +83,7 @@ impl<'a> Checked for ShopDraft<'a> {
 
     /// Refuses the first fault of its ticket, then `SameName`; `Memory` may come before any but
     /// what a resource shows of spawns.
+    #[tactic(auto, using(std::proofs::lemmas::Bool::and_parts))]
     fn build_known(&self, alloc: Global) -> Result<Shop, Refusal> {
         let ticket = self.ticket.build_known(alloc)?;
         let (master, workers) = self.build_names(alloc)?;

@@ -3,7 +3,7 @@
 ghost use Rattle.std.specs.Prelude.{◌≡◌, codes};
 ghost use Rattle.std.specs.Option.{option_and_then};
 ghost use Rattle.serde_json.specs.Find.{get};
-ghost use Rattle.json_shapes.specs.PartDraft.{part_draft};
+ghost use Rattle.json_items.specs.PartDraft.{part_draft};
 ghost use Rattle.json_reader.specs.DraftedPart.{drafted_part};
 ghost use Rattle.json_source.specs.Read.{Gives, has_only, provided};
 ghost use Rattle.controller_form.specs.States.EntryForm as form;

@@ -1,14 +1,15 @@
 //! The entries of a worker in turn, as they are read.
 
 ghost use Rattle.std.specs.Prelude.{◌≡◌, ◌⊎◌, None, Some, true, map, IfErr, IfOk, OnOk};
-ghost use Rattle.std.specs.List.{list_all};
+ghost use Rattle.std.specs.List.{find, list_all};
+ghost use Rattle.std.specs.Option.{option_copied};
 ghost use Rattle.serde_json.specs.View.{items_of};
 ghost use Rattle.json_items.specs.Listed.{each};
 ghost use Rattle.json_source.specs.Read.{Gives};
 ghost use Rattle.controller_form.specs.States.Drafted.{drafted_entries, drafted_entry};
 ghost use Rattle.controller_form.specs.States.EntryForm.{entry_draft, entry_has_names};
 ghost use Rattle.controller_form.specs.States.EntryForm.{entry_has_texts, entry_in};
-ghost use Rattle.controller_form.specs.States.PartFaults as faults;
+ghost use Rattle.controller_form.specs.States.PartFaults.{is_among};
 ghost use Rattle.controller_form.specs.States.WorkerForm as form;
 
 use crate::states::entry_draft::EntryDraft;
@@ -18,6 +19,15 @@ use json_source::Source;
 use std::alloc::Global;
 use ticket_tree::Refusal;
 use worker_core::Entry;
+
+/// What may be wrong with a part, in the order in which it is looked for.
+const PART_FAULTS: [Refusal; 5] = [
+    Refusal::NotATree,
+    Refusal::ReservedStatus,
+    Refusal::DuplicateId,
+    Refusal::TooDeep,
+    Refusal::UnresolvedLink,
+];
 
 /// The drafts that the items are in a format. Refuses `NotProfile`, and `Memory`.
 pub fn entry_drafts<'a, S: Source>(
@@ -50,42 +60,18 @@ pub fn have_texts(drafts: &[EntryDraft<'_>]) -> bool
     drafts.iter().all(|draft| draft.has_texts())
 }
 
-/// Whether a refusal says that memory ran out.
-fn is_memory(refusal: &Refusal) -> bool
-    ensures { result ≡ faults.is_memory refusal.now }
+/// Whether a fault is among those that were found.
+fn has_found(found: &[Refusal], fault: Refusal) -> bool
+    ensures { result ≡ is_among found.now fault }
 {
-    matches!(refusal, Refusal::Memory)
+    found.iter().any(|one| one.number() == fault.number())
 }
 
-/// The place of a fault of a part in the order in which these are looked for.
-fn rank(fault: &Refusal) -> u8
-    ensures { result ≡ faults.rank fault.now }
+/// The first of some faults that is among those that were found.
+fn first_among<'a>(found: &[Refusal], faults: &'a [Refusal]) -> Option<&'a Refusal>
+    ensures { option_copied result ≡ find (is_among found.now) faults.now }
 {
-    match fault {
-        Refusal::NotATree => 0,
-        Refusal::ReservedStatus => 1,
-        Refusal::DuplicateId => 2,
-        Refusal::TooDeep => 3,
-        _ => 4,
-    }
-}
-
-/// The one of two faults that is looked for first.
-fn earlier(one: Refusal, other: Refusal) -> Refusal
-    ensures { result ≡ faults.earlier one other }
-{
-    let is_first = rank(&one) <= rank(&other);
-    if is_first { one } else { other }
-}
-
-/// The same, where the first may be none.
-fn earliest(known: Option<Refusal>, fault: Refusal) -> Refusal
-    ensures { result ≡ faults.earliest known fault }
-{
-    match known {
-        None => fault,
-        Some(known) => earlier(known, fault),
-    }
+    faults.iter().find(|fault| has_found(found, **fault))
 }
 
 /// The entries of drafts whose names and texts are valid. Refuses the first fault of their parts,
@@ -100,20 +86,18 @@ pub fn build_entries(alloc: Global, drafts: &[EntryDraft<'_>]) -> Result<Vec<Ent
         ⊎ (form.parts_fault (drafted_entries drafts.now) ≡ Some e)) }
 {
     let mut entries = Vec::with_capacity(alloc, drafts.len())?;
-    let mut first = None;
+    let mut found = Vec::new(alloc);
     for draft in drafts {
         match draft.build_known(alloc) {
             Ok(entry) => entries.push(entry)?,
-            Err(refusal) => {
-                if is_memory(&refusal) {
-                    return Err(Refusal::Memory);
-                }
-                first = Some(earliest(first, refusal));
-            }
+            Err(fault) => match fault {
+                Refusal::Memory => return Err(fault),
+                _ => found.push(fault)?,
+            },
         }
     }
-    match first {
+    match first_among(&found, &PART_FAULTS) {
         None => Ok(entries),
-        Some(fault) => Err(fault),
+        Some(fault) => Err(*fault),
     }
 }

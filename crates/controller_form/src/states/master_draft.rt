@@ -155,6 +155,7 @@ impl<'a> Checked for MasterDraft<'a> {
 
     /// Refuses the first of `ReservedStatus`, `DuplicateId`, `TooDeep`, `UnresolvedLink` and
     /// `BadState` that stands in the draft; `Memory` may come before any but what copies show.
+    #[tactic(auto, using(json_items::proofs::Tests::all_mapped, std::proofs::lemmas::Bool::and_parts))]
     fn build_known(&self, alloc: Global) -> Result<Master, Refusal> {
         if !are_bare(self.records.as_slice()) {
             return Err(Refusal::ReservedStatus);

@@ -101,6 +101,7 @@ impl<'a> Checked for WorkerDraft<'a> {
 
     /// Refuses the first of `ReservedStatus`, `DuplicateId`, `TooDeep`, `UnresolvedLink` and
     /// `BadState` that stands in the draft; `Memory` may come before any.
+    #[tactic(auto, using(json_items::proofs::Tests::all_mapped, std::proofs::lemmas::Bool::and_parts))]
     fn build_known(&self, alloc: Global) -> Result<Worker, Refusal> {
         let entries = build_entries(alloc, self.entries.as_slice())?;
         let (name, master) = build_two(alloc, &self.name, &self.master)?;
