@@ -8,8 +8,8 @@ use Rattle.ticket_items.specs.declared.edit.Edit.{Edit}
 use Rattle.ticket_items.specs.declared.refusal.Refusal.{Refusal}
 use Rattle.ticket_items.specs.declared.refusal.Refusal.TheVariants.{BadId, BadText, Memory, NotProfile, ReservedStatus}
 use Rattle.ticket_rows.specs.Ticket.{Job, fault_of, first_of, unless}
-use Rattle.json_shapes.specs.Draft.{RawTicket}
-use Rattle.json_shapes.specs.Form.{built_fault}
+use Rattle.json_items.specs.TicketDraft.{RawTicket}
+use Rattle.json_items.specs.TicketForm.{built_fault}
 use Rattle.json_items.specs.Judged.{sound}
 use Rattle.json_source.specs.Read.{◌>>=◌, has_only, number_under, provided}
 use Rattle.json_reader.specs.Found.{Builds, IsFoundTicket, all_hold, both, first_failed, ticket_checks}

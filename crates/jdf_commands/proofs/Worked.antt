@@ -9,10 +9,10 @@ use Rattle.ticket_items.specs.declared.edit.Edit.{Edit}
 use Rattle.ticket_items.specs.declared.edit.Edit.TheVariants.{SetStatus, Note}
 use Rattle.ticket_items.specs.declared.node_row.NodeRow.{NodeRow}
 use Rattle.ticket_items.specs.declared.refusal.Refusal.TheVariants.{BadId, NotProfile}
-use Rattle.json_shapes.specs.Draft.{own_row, ticket_draft}
+use Rattle.json_items.specs.TicketDraft.{own_row, ticket_draft}
 use Rattle.json_items.specs.Edits.{edit_draft, adding_draft, setting_draft, set_status_draft}
 use Rattle.json_items.specs.Edits.{note_draft}
-use Rattle.json_shapes.specs.Form.{node_has_names, pools_have_names, row_has_texts}
+use Rattle.json_items.specs.TicketForm.{node_has_names, pools_have_names, row_has_texts}
 use Rattle.json_text.specs.Written.{edit_data, ticket_data}
 use Rattle.jdf_commands.specs.EditCommand.Document.{Document, document_draft, document_read}
 use Rattle.jdf_commands.specs.EditCommand.Run.{output_of, status_of, ticket_text}

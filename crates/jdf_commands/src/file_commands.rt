@@ -16,5 +16,4 @@ pub use ordered::Ordered;
 pub use ordering::{order_kept, order_output};
 pub use run::{call_output, run_file};
 pub use shown::{show_output, worker_text};
-pub use step::word_of;
 pub use taking::{take_kept, take_output};

@@ -13,11 +13,11 @@ use Rattle.worker_core.specs.Orders.{order_step}
 use Rattle.worker_core.specs.Worker.{Known}
 use Rattle.worker_core.specs.declared.order.Order.{Order}
 use Rattle.controller_form.specs.States.WorkerForm.{worker_state_read}
-use Rattle.stored_state.specs.Kept.{message_text}
+use Rattle.stored_state.specs.Message.{message_text}
 use Rattle.stored_state.specs.Step.{in_text}
 use Rattle.world.specs.Settling.{answer_without_step, number_of, with_sent}
 use Rattle.world_items.specs.declared.word.Word.TheVariants as word
-use Rattle.jdf_commands.specs.FileCommands.Step.{word_of}
+use Rattle.world_items.specs.Word.{word_of}
 use Rattle.master_core.specs.Master as master
 use Rattle.master_core.specs.Messages as master_messages
 use Rattle.controller_form.specs.States.MasterForm.{master_state_read}

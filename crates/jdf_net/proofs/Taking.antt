@@ -10,7 +10,7 @@ use Rattle.streams.specs.declared.refused.Refused.TheVariants as refusals
 use Rattle.ticket_items.specs.declared.refusal.Refusal.{Refusal}
 use Rattle.ticket_items.specs.declared.refusal.Refusal.TheVariants.{Memory}
 use Rattle.stored_state.specs.Held.{Held}
-use Rattle.stored_state.specs.Kept.{IsOfMessage, message_text}
+use Rattle.stored_state.specs.Message.{IsOfMessage, message_text}
 use Rattle.stored_state.specs.Opened.{AnyController}
 use Rattle.controller.specs.Step.{Step, leading}
 use Rattle.stored_state.specs.Step.{IsTaken, TextStep, in_text}

@@ -1,10 +1,10 @@
 pub mod Held
-pub mod Kept
 pub mod Kind
 pub mod Opened
 pub mod Step
 pub mod Message
 pub mod Resting
 pub mod Rested
+pub mod Cause
 pub mod Station
 pub mod Told

@@ -8,7 +8,7 @@ use Rattle.controller.specs.Step.{sending}
 use Rattle.controller.specs.declared.message.Message.{Message}
 use Rattle.json_profile.specs.ReadAs.{IsReadAs}
 use Rattle.stored_state.specs.Held.{Held}
-use Rattle.stored_state.specs.Kept.{IsOfMessage, message_text}
+use Rattle.stored_state.specs.Message.{IsOfMessage, message_text}
 
 -- a step that sends a text
 abbrev pub TextStep : Type 0 → Type 0

@@ -8,7 +8,7 @@ ghost use Rattle.controller.specs.Words.{may_be_sent};
 ghost use Rattle.keepers.specs.Keeper.{CountRose};
 ghost use Rattle.stored_state.specs.Held.{GivesNothing, HoldsSame, IsNotLoaded};
 ghost use Rattle.stored_state.specs.Held.{IsNotSaved, IsReadAs, StepGivesNothing};
-ghost use Rattle.stored_state.specs.Kept.{IsOfMessage, message_text};
+ghost use Rattle.stored_state.specs.Message.{IsOfMessage, message_text};
 ghost use Rattle.streams.specs.declared.refused.Refused.TheVariants.{Core, LoadFailed};
 ghost use Rattle.streams.specs.declared.refused.Refused.TheVariants.{SaveFailed, Stale};
 
@@ -16,13 +16,13 @@ use crate::order_bytes::OrderBytes;
 use crate::stored::Stored;
 use crate::storing::{load, save, save_step};
 use crate::taken_bytes::TakenBytes;
-use controller::{Done, Message, Outcome};
+use crate::told::told_of;
+use controller::{Message, Outcome};
 use jmf_message::decode;
 use keepers::Keep;
 use std::alloc::Global;
 use std::marker::Model;
 use streams::Refused;
-use ticket_tree::Refusal;
 
 /// A controller beside the keeper of its state (our own). Each step is saved before anything of it
 /// is given out. Once a step could not be saved it is stale: another state may be held than is
@@ -153,60 +153,9 @@ impl<C: Stored, K: Keep> Kept<C, K> {
             drop(order);
             return Err(Refused::Stale);
         }
-        match self.controller.order(alloc, order, at) {
-            Ok(done) => self.give_done(alloc, done),
-            Err(Refusal::Memory) => Err(Refused::Core(Refusal::Memory)),
-            Err(refusal) => self.give_refusal(alloc, refusal),
-        }
-    }
-
-    /// Saves the state after an order, and gives out what came of it.
-    fn give_done(&mut self, alloc: Global, done: Done) -> Result<OrderBytes, Refused>
-        requires { IfSome done.message (λ m. may_be_sent m.body ≡ true) }
-        ensures reply { IfOk result (λ given. given.reply ≡ Ok done.reply) }
-        ensures message { IfOk result (λ given. option_map (λ b. b.items) given.message
-            ≡ option_map message_text done.message) }
-        ensures controller { self.new.controller ≡ self.old.controller }
-        ensures fresh { OnOk result (self.new.stale ≡ false) }
-        ensures stale { OnErr result (self.new.stale ≡ true) }
-        ensures held { OnOk result (K.is_honest self.old.keep ≡ true →
-            K.held self.new.keep ≡ compact_text (C.state_data self.old.controller)) }
-        ensures again { OnOk result (K.is_honest self.old.keep ≡ true →
-            IsReadAs C.state_read (K.held self.new.keep) (Ok self.old.controller)) }
-        ensures honest { K.is_honest self.new.keep ≡ K.is_honest self.old.keep }
-        ensures counted { K.count self.old.keep ≤ K.count self.new.keep }
-        ensures refused { IfErr result (IsNotSaved K.is_honest K.held K.count K.save_fails
-            (compact_text (C.state_data self.old.controller)) self.old.keep self.new.keep) }
-    {
-        let Done { reply, message } = done;
-        let message = self.give_out(alloc, message)?;
-        Ok(OrderBytes {
-            reply: Ok(reply),
-            message,
-        })
-    }
-
-    /// Saves the state after an order that the controller refused, and gives out the refusal.
-    fn give_refusal(&mut self, alloc: Global, refusal: Refusal) -> Result<OrderBytes, Refused>
-        ensures reply { IfOk result (λ given. given.reply ≡ Err refusal) }
-        ensures message { IfOk result (λ given. option_map (λ b. b.items) given.message ≡ None) }
-        ensures controller { self.new.controller ≡ self.old.controller }
-        ensures fresh { OnOk result (self.new.stale ≡ false) }
-        ensures stale { OnErr result (self.new.stale ≡ true) }
-        ensures held { OnOk result (K.is_honest self.old.keep ≡ true →
-            K.held self.new.keep ≡ compact_text (C.state_data self.old.controller)) }
-        ensures again { OnOk result (K.is_honest self.old.keep ≡ true →
-            IsReadAs C.state_read (K.held self.new.keep) (Ok self.old.controller)) }
-        ensures honest { K.is_honest self.new.keep ≡ K.is_honest self.old.keep }
-        ensures counted { K.count self.old.keep ≤ K.count self.new.keep }
-        ensures refused { IfErr result (IsNotSaved K.is_honest K.held K.count K.save_fails
-            (compact_text (C.state_data self.old.controller)) self.old.keep self.new.keep) }
-    {
-        let message = self.give_out(alloc, None)?;
-        Ok(OrderBytes {
-            reply: Err(refusal),
-            message,
-        })
+        let Outcome { reply, answer } = told_of(self.controller.order(alloc, order, at))?;
+        let message = self.give_out(alloc, answer)?;
+        Ok(OrderBytes { reply, message })
     }
 
     /// Gives the controller the message that bytes are, at a time in seconds since 1970, and saves

@@ -1,6 +1,7 @@
 //! Controllers whose states are kept: each step is saved before anything of it is given out.
 #![tactic(auto)]
 
+mod cause;
 mod kept;
 mod kind;
 mod made;
@@ -13,6 +14,7 @@ mod storing;
 mod taken_bytes;
 mod told;
 
+pub use cause::Cause;
 pub use controller::Controller;
 pub use kept::Kept;
 pub use kind::{Kind, kind_of};

@@ -3,21 +3,21 @@ ghost use Rattle.serde_json.specs.Written.{compact_text};
 ghost use Rattle.json_profile.specs.ReadAs.{IsReadAs};
 ghost use Rattle.controller.specs.Step.{outcome_step};
 ghost use Rattle.controller.specs.Words.{may_be_sent};
+ghost use Rattle.stored_state.specs.Cause.{caused};
 ghost use Rattle.stored_state.specs.Station.{made_step};
 
+use crate::cause::{Cause, make};
 use crate::made::Made;
-use crate::resting::{is_abort, rests, rests_on};
 use crate::stored::Stored;
 use crate::storing::{controllers_of, message_text};
-use crate::told::told_of;
-use controller::{Message, Outcome};
+use controller::Outcome;
 use std::alloc::{AllocError, Global};
 use std::marker::Model;
 use std::mem;
 
 /// A controller beside the text of its state, from which it is started again (our own). Beside it
-/// may stand a second value of it, on which its next step is made, so that what is shown stays until
-/// all is done that may fail.
+/// may stand a second value of it, on which its next step is made, so that what is shown stays
+/// until all is done that may fail.
 #[derive(Drop)]
 pub struct Station<C: Stored> {
     controller: C,
@@ -119,7 +119,9 @@ impl<C: Stored> Station<C> {
         ensures state { self.new ≡ self.old }
     {
         let Outcome { reply, answer } = outcome;
-        let sent = message_text(alloc, &answer)?;
+        let text = message_text(alloc, &answer);
+        drop(answer);
+        let sent = text?;
         if is_same {
             self.spare = Some(next);
             return Ok(Made::of(None, reply, sent));
@@ -128,28 +130,19 @@ impl<C: Stored> Station<C> {
         Ok(Made::of(Some(next), reply, sent))
     }
 
-    /// Its step on an order, at a time in seconds since 1970, which isn't stored yet.
-    pub fn order(&mut self, alloc: Global, order: C::Order, at: u64) -> Result<Made<C>, AllocError>
-        ensures made { IfOk result
-            (λ made. made_step self.old made ≡ C.order_step order at self.old) }
+    /// Its step, at a time in seconds since 1970, which isn't stored yet.
+    pub fn step(
+        &mut self,
+        alloc: Global,
+        cause: Cause<C::Order>,
+        at: u64,
+    ) -> Result<Made<C>, AllocError>
+        ensures made { IfOk result (λ made. made_step self.old made
+            ≡ caused C.order_step C.take_step cause at self.old) }
         ensures state { self.new ≡ self.old }
     {
         let mut next = self.second(alloc)?;
-        let outcome = told_of(next.order(alloc, order, at))?;
-        let is_same = rests(&outcome.reply);
-        self.made(alloc, next, outcome, is_same)
-    }
-
-    /// Its step on a message, at a time in seconds since 1970, which isn't stored yet.
-    pub fn take(&mut self, alloc: Global, message: Message, at: u64) -> Result<Made<C>, AllocError>
-        ensures made { IfOk result
-            (λ made. made_step self.old made ≡ C.take_step message at self.old) }
-        ensures state { self.new ≡ self.old }
-    {
-        let mut next = self.second(alloc)?;
-        let gives_up = is_abort(&message.body);
-        let outcome = next.take(alloc, message, at)?;
-        let is_same = rests_on(gives_up, &outcome.reply);
+        let (outcome, is_same) = make(alloc, &mut next, cause, at)?;
         self.made(alloc, next, outcome, is_same)
     }
 
@@ -184,51 +177,26 @@ impl<C: Stored> Station<C> {
         controller
     }
 
-    /// Stores what its step on an order led to. The controller that it was makes the same step, and
-    /// is the second value then; where memory runs out there is none.
-    pub fn store_ordered(
+    /// Stores what a step led to. The controller that it was makes the same step, and is the second
+    /// value then; where memory runs out there is none.
+    pub fn store(
         &mut self,
         alloc: Global,
         next: Option<Station<C>>,
-        order: C::Order,
+        cause: Cause<C::Order>,
         at: u64,
     )
-        requires { (C.order_step order at self.old).next ≡ unwrap_or next self.old }
+        requires { (caused C.order_step C.take_step cause at self.old).next
+            ≡ unwrap_or next self.old }
         ensures { self.new ≡ unwrap_or next self.old }
     {
         let Some(next) = next else {
-            drop(order);
+            drop(cause);
             return;
         };
         let mut second = self.become_next(next);
-        match told_of(second.order(alloc, order, at)) {
-            Ok(outcome) => {
-                drop(outcome);
-                self.spare = Some(second);
-            }
-            Err(_) => drop(second),
-        }
-    }
-
-    /// Stores what its step on a message led to. The controller that it was makes the same step, and
-    /// is the second value then; where memory runs out there is none.
-    pub fn store_taken(
-        &mut self,
-        alloc: Global,
-        next: Option<Station<C>>,
-        message: Message,
-        at: u64,
-    )
-        requires { (C.take_step message at self.old).next ≡ unwrap_or next self.old }
-        ensures { self.new ≡ unwrap_or next self.old }
-    {
-        let Some(next) = next else {
-            drop(message);
-            return;
-        };
-        let mut second = self.become_next(next);
-        match second.take(alloc, message, at) {
-            Ok(outcome) => {
+        match make(alloc, &mut second, cause, at) {
+            Ok((outcome, _)) => {
                 drop(outcome);
                 self.spare = Some(second);
             }

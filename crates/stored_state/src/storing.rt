@@ -9,7 +9,7 @@ ghost use Rattle.controller.specs.Words.{may_be_sent};
 ghost use Rattle.keepers.specs.Keeper.{CountRose};
 ghost use Rattle.stored_state.specs.Held.{HoldsSame, IsNotLoaded, IsNotSaved};
 ghost use Rattle.stored_state.specs.Held.{IsReadAs, IsRefusalOf};
-ghost use Rattle.stored_state.specs.Kept.{message_text as text_sent};
+ghost use Rattle.stored_state.specs.Message.{message_text as text_sent};
 ghost use Rattle.streams.specs.declared.refused.Refused.TheVariants.{LoadFailed};
 
 use crate::stored::Stored;

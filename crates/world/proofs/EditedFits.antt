@@ -11,7 +11,8 @@ use Rattle.ticket_items.specs.declared.edit.Edit.{Edit}
 use Rattle.ticket_items.specs.declared.edit.Edit.TheVariants.{SetStatus, SetAttr, SetResStatus, SetResAttr, Note, AddNode, AddResource, AddLink}
 use Rattle.ticket_items.specs.declared.node_row.NodeRow.{NodeRow}
 use Rattle.ticket_items.specs.declared.resource.Resource.{Resource}
-use Rattle.ticket_rows.specs.Edit.{is_structural, node_after, resource_after}
+use Rattle.ticket_items.specs.Edit.{is_structural}
+use Rattle.ticket_rows.specs.Edit.{node_after, resource_after}
 use Rattle.ticket_rows.specs.Place.{fixed}
 use Rattle.ticket_rows.specs.Ticket.{Job}
 use Rattle.ticket_tree.specs.Part.{Copied, edited_part}

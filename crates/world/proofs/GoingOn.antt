@@ -9,7 +9,7 @@ use Rattle.ticket_items.specs.declared.audit.Audit.{Audit}
 use Rattle.ticket_items.specs.declared.audit.Audit.TheVariants as audit
 use Rattle.ticket_items.specs.declared.edit.Edit.{Edit}
 use Rattle.ticket_items.specs.declared.edit.Edit.TheVariants.{SetStatus, SetAttr, SetResStatus, SetResAttr, Note, AddNode, AddResource, AddLink}
-use Rattle.ticket_rows.specs.Edit.{added_id}
+use Rattle.ticket_items.specs.Edit.{added_id}
 use Rattle.ticket_rows.specs.Place.{Place, Row, nodes_in, resource_row, up}
 use Rattle.ticket_tree.specs.PlainEdit.{plain_changed, plain_rows, touch}
 use Rattle.world.proofs.MasterSpawns.{with_told}

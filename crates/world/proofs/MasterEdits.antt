@@ -13,7 +13,8 @@ use Rattle.ticket_items.specs.declared.node_row.NodeRow.{NodeRow}
 use Rattle.ticket_items.specs.declared.refusal.Refusal.{Refusal}
 use Rattle.ticket_rows.proofs.Alike.{later_alike, unknown_alike}
 use Rattle.ticket_rows.proofs.Reasons.{child_new, resource_new}
-use Rattle.ticket_rows.specs.Edit.{added_id, behind_last, edited_rows, lookups, refusal_of, target}
+use Rattle.ticket_items.specs.Edit.{added_id, target}
+use Rattle.ticket_rows.specs.Edit.{behind_last, edited_rows, lookups, refusal_of}
 use Rattle.ticket_rows.specs.EditRefusal.{later_refusal, unknown_refusal}
 use Rattle.ticket_rows.specs.Place.{Place, Row, place_at, places, row_in}
 use Rattle.ticket_rows.specs.Ticket.{IsValid, first_of, ids}

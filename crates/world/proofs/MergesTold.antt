@@ -10,7 +10,7 @@ use Rattle.ticket_items.specs.Ids.{mem}
 use Rattle.ticket_items.specs.declared.edit.Edit.{Edit}
 use Rattle.ticket_items.specs.declared.refusal.Refusal.TheVariants.{UnknownWorker}
 use Rattle.ticket_rows.proofs.Below.{mem-node_ids}
-use Rattle.ticket_rows.specs.Edit.{added_id}
+use Rattle.ticket_items.specs.Edit.{added_id}
 use Rattle.ticket_rows.specs.Place.{Place, node_places, nodes_in, parent, place_at, places, row_in, up}
 use Rattle.ticket_rows.specs.Ticket.{Job, has_node, ids}
 use Rattle.ticket_tree.proofs.LookUps.{stands_with_row}

@@ -37,7 +37,7 @@ use Rattle.world.specs.Messages.{IsInOrder}
 use Rattle.world.specs.Once.{AreMergedOnce, TellsMerge}
 use Rattle.world.specs.State.{IsKept, State, message_at}
 use Rattle.controller.specs.Step.{Step, Taking, answering, unless_refused}
-use Rattle.world.specs.Step.{word_of}
+use Rattle.world_items.specs.Word.{word_of}
 use Rattle.master_core.specs.Orders.{order_step as ordered_master}
 use Rattle.worker_core.specs.Orders.{order_step as ordered_worker}
 use Rattle.master_core.specs.Messages.{take_step as taken_by_master}

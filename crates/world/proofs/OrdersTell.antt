@@ -10,7 +10,7 @@ use Rattle.ticket_items.specs.declared.edit.Edit.{Edit}
 use Rattle.ticket_items.specs.declared.edit.Edit.TheVariants.{SetStatus, SetAttr, SetResStatus, SetResAttr, Note, AddNode, AddResource, AddLink}
 use Rattle.ticket_items.specs.declared.refusal.Refusal.{Refusal}
 use Rattle.ticket_items.specs.declared.refusal.Refusal.TheVariants.{IsRoot, NotForWorkers, NotInPart, NotLinked, NotOpen, ReadOnly, TooManySpawns, UnknownEntry, UnknownNode, UnknownResource, UnknownWorker}
-use Rattle.ticket_rows.specs.Edit.{added_id, is_structural}
+use Rattle.ticket_items.specs.Edit.{added_id, is_structural}
 use Rattle.ticket_rows.specs.EditRefusal.{later_refusal}
 use Rattle.ticket_rows.specs.Place.{nodes_in, resources_in, up}
 use Rattle.ticket_rows.specs.Ticket.{first_of, unless}
@@ -30,7 +30,7 @@ use Rattle.world.specs.Shop.{Done, Shop, SpawnState, has_number, is_open, next_n
 use Rattle.world.specs.ShopActs.{edited, finished, next_spawn, sent_out, spawned, spawned_audit, worked}
 use Rattle.world.specs.ShopSteps.{Abort, Return, Submit, Tag, back_refusal, edit_refusal, is_held, is_taken_by, is_to_read, master_does, not_held, replies, resend_refusal, sends, spawn_refusal, spawn_worked, work_refusal, worker_does}
 use Rattle.controller.specs.Step.{Step, refused, unless_refused}
-use Rattle.world.specs.Step.{word_of}
+use Rattle.world_items.specs.Word.{word_of}
 use Rattle.world_items.specs.declared.word.Word.TheVariants.{Did, Refused}
 
 -- a step of a shop tells of a merge in its audits as often as in its word

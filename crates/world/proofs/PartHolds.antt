@@ -9,7 +9,7 @@ use Rattle.ticket_items.specs.declared.node_row.NodeRow.{NodeRow}
 use Rattle.ticket_rows.proofs.Below.{mem-node_ids}
 use Rattle.ticket_rows.proofs.NodePlaces.{no_node_id}
 use Rattle.ticket_rows.specs.Copies.{with_copies}
-use Rattle.ticket_rows.specs.Edit.{is_of_node, target}
+use Rattle.ticket_items.specs.Edit.{is_of_node, target}
 use Rattle.ticket_rows.specs.Homes.{entry_of, has_resource, home_of}
 use Rattle.ticket_rows.specs.PartEdit.{AreApart}
 use Rattle.ticket_rows.specs.Place.{Place, below, is_below, node_places, nodes_in, place_at, places, resources_in}

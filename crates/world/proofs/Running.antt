@@ -5,7 +5,8 @@ use Rattle.std.specs.Option.{option_map}
 use Rattle.world.specs.Running.{Agrees, IsShownBy, Machine, RunsAgree, StepsAgree, after, after_all, answer_to, answers_to, settled, settled_word}
 use Rattle.world.specs.Settling.{answer_without_step, number_of, settled_answer, settled_messages, settled_state, with_sent}
 use Rattle.controller.specs.Step.{Step}
-use Rattle.world.specs.Step.{StepOrWord, word_of}
+use Rattle.world_items.specs.Word.{word_of}
+use Rattle.world.specs.Step.{StepOrWord}
 use Rattle.world_items.specs.declared.event.Event.{Event}
 use Rattle.world_items.specs.declared.stop.Stop.{Stop}
 use Rattle.world_items.specs.declared.stop.Stop.TheVariants.{Run, BeforeSave, BeforeSend}

@@ -18,7 +18,8 @@ use Rattle.world.specs.Happening.{master_takes, receiver_takes, settled_word, wo
 use Rattle.world.specs.Laws.{SentIsTaken}
 use Rattle.world.specs.Messages.{IsInOrder}
 use Rattle.world.specs.State.{IsKept, State}
-use Rattle.world.specs.Step.{StepOrWord, word_of}
+use Rattle.world_items.specs.Word.{word_of}
+use Rattle.world.specs.Step.{StepOrWord}
 use Rattle.worker_core.specs.Messages.{take_step as taken_by_worker}
 use Rattle.world.specs.Stepping.{worker_moved}
 use Rattle.world_items.specs.declared.stop.Stop.TheVariants.{Run}

@@ -9,7 +9,8 @@ use Rattle.world.specs.Happening.{settled, settled_word}
 use Rattle.world.specs.Settling.{answer_without_step, settled_answer, settled_messages, settled_state}
 use Rattle.world.specs.State.{State, state}
 use Rattle.controller.specs.Step.{Step}
-use Rattle.world.specs.Step.{StepOrWord, word_of}
+use Rattle.world_items.specs.Word.{word_of}
+use Rattle.world.specs.Step.{StepOrWord}
 use Rattle.world.specs.Stepping.{master_moved, worker_moved}
 use Rattle.world_items.specs.declared.stop.Stop.{Stop}
 use Rattle.world_items.specs.declared.stop.Stop.TheVariants.{Run, BeforeSave, BeforeSend}

@@ -8,7 +8,7 @@ use Rattle.ticket_items.specs.declared.edit.Edit.{Edit}
 use Rattle.ticket_items.specs.declared.edit.Edit.TheVariants.{SetStatus, SetAttr, SetResStatus, SetResAttr, Note, AddNode, AddResource, AddLink}
 use Rattle.ticket_items.specs.declared.refusal.Refusal.{Refusal}
 use Rattle.ticket_items.specs.declared.refusal.Refusal.TheVariants.{NotForWorkers, NotInPart, NotOpen, ReadOnly}
-use Rattle.ticket_rows.specs.Edit.{is_of_node, is_structural, target}
+use Rattle.ticket_items.specs.Edit.{is_of_node, is_structural, target}
 use Rattle.ticket_rows.specs.EditRefusal.{Lookups, later_refusal}
 use Rattle.ticket_rows.specs.PartEdit.{part_lookups}
 use Rattle.ticket_rows.specs.Place.{Row, nodes_in, places, resources_in}

@@ -5,7 +5,8 @@ use Rattle.std.specs.Option.{option_map}
 use Rattle.world.specs.Settling.{answer_without_step, settled_answer, settled_messages}
 use Rattle.world.specs.Settling.{settled_state}
 use Rattle.controller.specs.Step.{Step}
-use Rattle.world.specs.Step.{StepOrWord, word_of}
+use Rattle.world_items.specs.Word.{word_of}
+use Rattle.world.specs.Step.{StepOrWord}
 use Rattle.world_items.specs.declared.answer.Answer.{Answer}
 use Rattle.world_items.specs.declared.event.Event.{Event}
 use Rattle.world_items.specs.declared.stop.Stop.{Stop}

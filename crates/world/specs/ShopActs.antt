@@ -8,7 +8,7 @@ use Rattle.ticket_items.specs.declared.audit.Audit.{Audit}
 use Rattle.ticket_items.specs.declared.audit.Audit.TheVariants as audit
 use Rattle.ticket_items.specs.declared.edit.Edit.{Edit}
 use Rattle.ticket_items.specs.declared.edit.Edit.TheVariants.{SetStatus}
-use Rattle.ticket_rows.specs.Edit.{added_id}
+use Rattle.ticket_items.specs.Edit.{added_id}
 use Rattle.ticket_rows.specs.Place.{Place, nodes_in, place_at, places, row_in, up}
 use Rattle.ticket_rows.specs.Ticket.{Job}
 use Rattle.ticket_tree.specs.PlainEdit.{plain_places, plain_rows, stands, touch}

@@ -15,7 +15,7 @@ use Rattle.ticket_items.specs.declared.refusal.Refusal.TheVariants.{NotOut}
 use Rattle.ticket_items.specs.declared.refusal.Refusal.TheVariants.{UnknownEntry, NotOpen, NotDone}
 use Rattle.ticket_items.specs.declared.refusal.Refusal.TheVariants.{NotForWorkers, NotInPart}
 use Rattle.ticket_items.specs.declared.refusal.Refusal.TheVariants.{ReadOnly, Acknowledged}
-use Rattle.ticket_rows.specs.Edit.{is_of_node, is_structural, target}
+use Rattle.ticket_items.specs.Edit.{is_of_node, is_structural, target}
 use Rattle.ticket_rows.specs.EditRefusal.{later_refusal, unknown_refusal}
 use Rattle.ticket_rows.specs.Place.{nodes_in, resources_in, up}
 use Rattle.ticket_rows.specs.Ticket.{first_of, unless}

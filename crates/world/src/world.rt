@@ -6,7 +6,7 @@ use controller::Message;
 use master_core::Master;
 use std::alloc::{AllocError, Global};
 use std::marker::Model;
-use stored_state::Station;
+use stored_state::{Cause, Station};
 use ticket_tree::{Id, Ids, Refusal, Ticket};
 use worker_core::Worker;
 use world_items::{Answer, Event, Stop, What, Word};
@@ -33,13 +33,14 @@ impl Model for World {
 
 impl World {
     ghost use Rattle.std.specs.Prelude.{◌≡◌, ◌↔◌, ◌⊎◌, ◌∷◌, true, false, OnOk, OnErr, IfOk, IfErr};
-    ghost use Rattle.std.specs.Prelude.{◌<◌, ℕ, Err, List, length, map, take, IfSome, IsErrOf, IsOk};
+    ghost use Rattle.std.specs.Prelude.{◌<◌, ℕ, Err, List, length, map, take, IfSome, IsErrOf};
+    ghost use Rattle.std.specs.Prelude.{IsOk};
     ghost use Rattle.std.specs.List.{Contains};
     ghost use Rattle.std.specs.Option.{option_copied};
     ghost use Rattle.ticket_items.specs.Ids.{are_distinct};
     ghost use Rattle.ticket_rows.specs.Ticket.{Job};
     ghost use Rattle.spawn.specs.Marking.{marks};
-    ghost use Rattle.stored_state.specs.Kept.{message_text};
+    ghost use Rattle.stored_state.specs.Message.{message_text};
     ghost use Rattle.stored_state.specs.Message.{messages_in};
     ghost use Rattle.world.specs.Changing.{Changer, Holds, MayChange};
     ghost use Rattle.world.specs.Happening as happening;
@@ -151,7 +152,8 @@ impl World {
         ensures err { OnErr result (self.new ≡ self.old) }
         ensures kept { state.IsKept self.old }
     {
-        stepping::is_told(alloc, &mut self.master, &mut self.messages, order, at, stop)
+        let cause = Cause::Order(order);
+        stepping::steps(alloc, &mut self.master, &mut self.messages, cause, at, stop)
     }
 
     /// The worker of a name is told to do something.
@@ -180,7 +182,8 @@ impl World {
             }
             Some(place) => {
                 let stored = &mut self.workers[place];
-                stepping::is_told(alloc, stored, &mut self.messages, order, at, stop)
+                let cause = Cause::Order(order);
+                stepping::steps(alloc, stored, &mut self.messages, cause, at, stop)
             }
         }
     }
@@ -201,14 +204,8 @@ impl World {
             ≡ happening.settled stop self.old (happening.master_takes message at self.old)) }
         ensures err { OnErr result (self.new ≡ self.old) }
     {
-        stepping::takes(
-            alloc,
-            &mut self.master,
-            &mut self.messages,
-            message,
-            at,
-            stop,
-        )
+        let cause = Cause::Message(message);
+        stepping::steps(alloc, &mut self.master, &mut self.messages, cause, at, stop)
     }
 
     /// A message that was sent comes to the worker that it is for, if there is one.
@@ -233,7 +230,8 @@ impl World {
             }
             Some(place) => {
                 let stored = &mut self.workers[place];
-                stepping::takes(alloc, stored, &mut self.messages, message, at, stop)
+                let cause = Cause::Message(message);
+                stepping::steps(alloc, stored, &mut self.messages, cause, at, stop)
             }
         }
     }

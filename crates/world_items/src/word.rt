@@ -15,3 +15,18 @@ pub enum Word {
     /// No message has the number.
     NoMessage,
 }
+
+impl Word {
+    ghost use Rattle.std.specs.Prelude.{◌≡◌};
+    ghost use Rattle.world_items.specs.Word.{word_of};
+
+    /// What a controller replies, or why it refuses.
+    pub fn of(reply: Result<Reply, Refusal>) -> Word
+        ensures { result ≡ word_of reply }
+    {
+        match reply {
+            Ok(reply) => Word::Did(reply),
+            Err(refusal) => Word::Refused(refusal),
+        }
+    }
+}

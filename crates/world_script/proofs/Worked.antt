@@ -11,9 +11,9 @@ use Rattle.ticket_items.specs.declared.refusal.Refusal.{Refusal}
 use Rattle.ticket_items.specs.declared.refusal.Refusal.TheVariants.{BadId, BadText, DuplicateId}
 use Rattle.ticket_items.specs.declared.refusal.Refusal.TheVariants.{NotHeld, NotProfile, SameName}
 use Rattle.ticket_items.specs.declared.refusal.Refusal.TheVariants.{ReservedStatus, UnknownWorker}
-use Rattle.json_shapes.specs.Draft.{own_row, ticket_draft}
+use Rattle.json_items.specs.TicketDraft.{own_row, ticket_draft}
 use Rattle.controller_form.specs.Openings.ShopForm.{shop_draft}
-use Rattle.json_shapes.specs.Form.{node_has_names, pools_have_names, row_has_texts}
+use Rattle.json_items.specs.TicketForm.{node_has_names, pools_have_names, row_has_texts}
 use Rattle.json_items.specs.Edits.{edit_draft, adding_draft, note_draft}
 use Rattle.controller.specs.declared.reply.Reply.TheVariants as reply
 use Rattle.master_core.specs.declared.order.Order.TheVariants as master

@@ -8,7 +8,8 @@ use Rattle.controller.specs.Reply as replies
 use Rattle.controller.specs.declared.reply.Reply.{Reply}
 use Rattle.world_items.specs.declared.answer.Answer.{Answer}
 use Rattle.world_items.specs.declared.word.Word.{Word}
-use Rattle.world_items.specs.declared.word.Word.TheVariants.{Did, Refused, Stopped, Restarted, NoMessage}
+use Rattle.world_items.specs.declared.word.Word.TheVariants.{Did, Refused, Stopped, Restarted}
+use Rattle.world_items.specs.declared.word.Word.TheVariants.{NoMessage}
 
 -- a space and the id of a spawn, if there is one
 abbrev pub spawn_behind : Option ℕ → List ℕ

@@ -13,10 +13,10 @@ use Rattle.ticket_items.specs.declared.refusal.Refusal.{Refusal}
 use Rattle.ticket_items.specs.declared.refusal.Refusal.TheVariants.{BadId, BadText, NotJson}
 use Rattle.ticket_items.specs.declared.refusal.Refusal.TheVariants.{NotProfile, Memory}
 use Rattle.json_profile.specs.ReadAs as bytes
-use Rattle.json_shapes.specs.Draft.{RawTicket, ticket_draft}
+use Rattle.json_items.specs.TicketDraft.{RawTicket, ticket_draft}
 use Rattle.json_items.specs.Edits.{edit_draft}
 use Rattle.json_items.specs.Listed.{list_form}
-use Rattle.json_shapes.specs.Form.{has_names, has_texts, built_fault}
+use Rattle.json_items.specs.TicketForm.{has_names, has_texts, built_fault}
 use Rattle.json_items.specs.Edits.{edit_has_names, edit_has_texts}
 use Rattle.json_items.specs.Judged.{sound}
 use Rattle.json_source.specs.Read.{◌>>=◌, provided, has_only, number_under}

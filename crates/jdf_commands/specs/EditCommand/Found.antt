@@ -9,7 +9,8 @@ use Rattle.json_source.specs.Read.{Fails}
 use Rattle.json_reader.specs.Found.{IsFoundTicket, all_hold, both}
 use Rattle.json_reader.specs.declared.checks.Checks.{Checks}
 use Rattle.json_reader.specs.declared.found_ticket.FoundTicket.{FoundTicket}
-use Rattle.jdf_commands.specs.EditCommand.Document.{RawDocument, document_has_names, document_has_texts}
+use Rattle.jdf_commands.specs.EditCommand.Document.{RawDocument, document_has_names}
+use Rattle.jdf_commands.specs.EditCommand.Document.{document_has_texts}
 use Rattle.jdf_commands.specs.declared.edit_command.found_document.FoundDocument.{FoundDocument}
 use Rattle.jdf_commands.specs.declared.edit_command.found_edits.FoundEdits.{FoundEdits}
 

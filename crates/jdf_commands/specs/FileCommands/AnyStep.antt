@@ -40,9 +40,11 @@ held_in (opened.Worker kept) = held_as of_worker kept
 -- the step of a controller by the order that the bytes are, at a time
 abbrev pub IsOrdered : ℕ → List ℕ → AnyController → TextStep AnyController → Type 0
 IsOrdered at bytes (of_master m) step =
-    IsOfOrder master_order_read bytes (λ o. leading of_master (in_text (master_orders.order_step o at m))) step
+    IsOfOrder master_order_read bytes
+    (λ o. leading of_master (in_text (master_orders.order_step o at m))) step
 IsOrdered at bytes (of_worker w) step =
-    IsOfOrder worker_order_read bytes (λ o. leading of_worker (in_text (worker_orders.order_step o at w))) step
+    IsOfOrder worker_order_read bytes
+    (λ o. leading of_worker (in_text (worker_orders.order_step o at w))) step
 
 -- why the bytes are no order of a controller, or memory ran out
 abbrev pub IsNoOrder : List ℕ → AnyController → Refusal → Type 0

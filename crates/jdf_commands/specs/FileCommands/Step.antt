@@ -4,8 +4,7 @@ use Rattle.std.specs.Prelude.{Option, Some, None, Result, Ok, Err, is_ok}
 use Rattle.ticket_items.specs.declared.refusal.Refusal.{Refusal}
 use Rattle.ticket_items.specs.declared.refusal.Refusal.TheVariants.{Memory}
 use Rattle.controller.specs.declared.reply.Reply.{Reply}
-use Rattle.world_items.specs.declared.word.Word.{Word}
-use Rattle.world_items.specs.declared.word.Word.TheVariants.{Did, Refused}
+use Rattle.world_items.specs.Word.{word_of}
 use Rattle.world_script.specs.AnswerText.{answer_text}
 use Rattle.streams.specs.declared.refused.Refused.{Refused as CallRefused}
 use Rattle.streams.specs.declared.refused.Refused.TheVariants.{Core}
@@ -16,12 +15,7 @@ pub use Rattle.stored_state.specs.Step.{IsLeft, IsOfOrder, IsSaved, IsTaken, Tex
 
 -- ---- what is written
 
--- a reply or a refusal in a word
-abbrev pub word_of : Result Reply Refusal → Word
-word_of (Ok reply) = Did reply
-word_of (Err e) = Refused e
-
--- its line
+-- the line of a reply or a refusal
 abbrev pub reply_line : Result Reply Refusal → List ℕ
 reply_line reply = answer_text (record { word = word_of reply; number = None }) ++ 10 ∷ []
 

@@ -1,5 +1,5 @@
 ghost use Rattle.std.specs.Prelude.{◌≡◌, codes, Some, IfErr, IfOk};
-ghost use Rattle.json_shapes.specs.Draft.{RawTicket};
+ghost use Rattle.json_items.specs.TicketDraft.{RawTicket};
 ghost use Rattle.json_source.specs.Read as read;
 ghost use Rattle.json_source.specs.Read.{Fails, Gives};
 ghost use Rattle.json_reader.specs.Found.{IsFoundTicket};

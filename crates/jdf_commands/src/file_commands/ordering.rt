@@ -28,7 +28,8 @@ fn do_order<C: Ordered, K: Keep>(
 ) -> Result<Output, Fault>
     ensures ok { IfOk result (λ output. steps.GivesOut K.is_honest K.held
         (λ c. compact_text (C.state_data c))
-        (λ step. step ≡ in_text (C.order_step order at kept.old.controller)) kept.new output.text.items output.refused) }
+        (λ step. step ≡ in_text (C.order_step order at kept.old.controller)) kept.new
+        output.text.items output.refused) }
     ensures stale { kept.old.stale ≡ true → IsErr result }
     ensures honest { K.is_honest kept.new.keep ≡ K.is_honest kept.old.keep }
     ensures counted { K.count kept.old.keep ≤ K.count kept.new.keep }
@@ -56,14 +57,16 @@ pub fn order_kept<C: Ordered, K: Keep>(
 ) -> Result<Output, Fault>
     ensures ok { IfOk result (λ output. steps.GivesOut K.is_honest K.held
         (λ c. compact_text (C.state_data c))
-        (steps.IsOfOrder C.order_read input.now (λ order. in_text (C.order_step order at kept.old.controller)))
+        (steps.IsOfOrder C.order_read input.now
+        (λ order. in_text (C.order_step order at kept.old.controller)))
         kept.new output.text.items output.refused) }
     ensures stale { kept.old.stale ≡ true → IsErr result }
     ensures honest { K.is_honest kept.new.keep ≡ K.is_honest kept.old.keep }
     ensures counted { K.count kept.old.keep ≤ K.count kept.new.keep }
     ensures refused { IfErr result (steps.GivesNoOutput K.is_honest K.held K.count K.save_fails
         (λ c. compact_text (C.state_data c)) (IsRefusalOf C.order_read input.now)
-        (steps.IsOfOrder C.order_read input.now (λ order. in_text (C.order_step order at kept.old.controller)))
+        (steps.IsOfOrder C.order_read input.now
+        (λ order. in_text (C.order_step order at kept.old.controller)))
         kept.old kept.new) }
 {
     match order_in::<C>(alloc, input) {

@@ -14,22 +14,12 @@ use ticket_tree::Refusal;
 use world_items::{Answer, Word};
 use world_script::answer_text;
 
-/// A reply or a refusal in a word.
-pub fn word_of(reply: Result<Reply, Refusal>) -> Word
-    ensures { result ≡ steps.word_of reply }
-{
-    match reply {
-        Ok(reply) => Word::Did(reply),
-        Err(refusal) => Word::Refused(refusal),
-    }
-}
-
-/// Its line.
+/// The line of a reply or a refusal.
 fn reply_line(alloc: Global, reply: Result<Reply, Refusal>) -> Result<Vec<u8>, AllocError>
     ensures { IfOk result (λ line. line.items ≡ steps.reply_line reply) }
 {
     let answer = Answer {
-        word: word_of(reply),
+        word: Word::of(reply),
         number: None,
     };
     let mut line = answer_text(alloc, &answer)?.into_bytes();

@@ -31,13 +31,15 @@ pub fn take_kept<C: Stored, K: Keep>(
 ) -> Result<Output, Fault>
     ensures ok { IfOk result (λ output. steps.GivesOut K.is_honest K.held
         (λ c. compact_text (C.state_data c))
-        (steps.IsTaken input.now (λ m. in_text (C.take_step m at kept.old.controller))) kept.new output.text.items output.refused) }
+        (steps.IsTaken input.now (λ m. in_text (C.take_step m at kept.old.controller))) kept.new
+        output.text.items output.refused) }
     ensures stale { kept.old.stale ≡ true → IsErr result }
     ensures honest { K.is_honest kept.new.keep ≡ K.is_honest kept.old.keep }
     ensures counted { K.count kept.old.keep ≤ K.count kept.new.keep }
     ensures refused { IfErr result (steps.GivesNoOutput K.is_honest K.held K.count K.save_fails
         (λ c. compact_text (C.state_data c)) (IsRefusalOf input.now)
-        (steps.IsTaken input.now (λ m. in_text (C.take_step m at kept.old.controller))) kept.old kept.new) }
+        (steps.IsTaken input.now (λ m. in_text (C.take_step m at kept.old.controller)))
+        kept.old kept.new) }
 {
     match kept.take(alloc, input, at) {
         Ok(given) => step_output(alloc, given.reply, &given.answer),

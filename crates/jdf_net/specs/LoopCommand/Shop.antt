@@ -26,7 +26,7 @@ use Rattle.json_profile.specs.ReadAs.{IsReadAs}
 use Rattle.controller_form.specs.States.MasterForm.{master_state_data, master_state_read}
 use Rattle.controller_form.specs.States.WorkerForm.{worker_state_data, worker_state_read}
 use Rattle.stored_state.specs.Held.{Held}
-use Rattle.stored_state.specs.Kept.{IsOfMessage}
+use Rattle.stored_state.specs.Message.{IsOfMessage}
 use Rattle.stored_state.specs.Step.{IsSaved, TextStep, in_text}
 use Rattle.world.specs.Settling.{answer_without_step, number_of, with_sent}
 use Rattle.world.specs.State.{message_at, new_worker}

@@ -3,8 +3,8 @@ ghost use Rattle.std.specs.List.{All, position};
 ghost use Rattle.std.specs.Option.{option_map};
 ghost use Rattle.serde_json.specs.Written.{compact_text};
 ghost use Rattle.controller_form.specs.States.WorkerForm.{worker_state_read};
-ghost use Rattle.stored_state.specs.Kept.{IsOfMessage};
-ghost use Rattle.jdf_commands.specs.FileCommands.Step.{word_of as word_for};
+ghost use Rattle.stored_state.specs.Message.{IsOfMessage};
+ghost use Rattle.world_items.specs.Word.{word_of};
 ghost use Rattle.world.specs.Settling as settling;
 ghost use Rattle.world.specs.State.{new_worker};
 ghost use Rattle.jdf_net.specs.LoopCommand.EventLine as event_line;
@@ -18,7 +18,6 @@ use crate::loop_command::loopback::Loopback;
 use crate::loop_command::pushing::push;
 use crate::loop_command::sent_texts::SentTexts;
 use controller::{Message, Reply};
-use jdf_commands::word_of;
 use jmf_message::decode;
 use keepers::MemoryKeep;
 use master_core::Master;
@@ -105,7 +104,7 @@ fn place_of(workers: &[Kept<Worker, MemoryKeep>], name: &Id) -> Option<usize>
 /// What is told of an order, whose message is sent.
 fn ordered(messages: &mut SentTexts, given: OrderBytes) -> Result<EventLine, Refused>
     ensures line { IfOk result (λ line. line ≡ Answered (record {
-      word = word_for given.reply;
+      word = word_of given.reply;
       number = settling.number_of messages.old (option_map (λ b. b.items) given.message);
     })) }
     ensures sent { OnOk result (messages.new
@@ -114,7 +113,7 @@ fn ordered(messages: &mut SentTexts, given: OrderBytes) -> Result<EventLine, Ref
     let OrderBytes { reply, message } = given;
     let number = messages.push(message)?;
     Ok(EventLine::Answered(Answer {
-        word: word_of(reply),
+        word: Word::of(reply),
         number,
     }))
 }

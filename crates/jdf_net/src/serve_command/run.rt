@@ -25,8 +25,8 @@ fn announce<L: OpenListener, W: Write>(listener: &L, writer: &mut W) -> Result<(
     Ok(())
 }
 
-/// Whether a controller can be loaded of a file that is served. Of a folder nothing is read, so that
-/// many files cost nothing. Refuses as `check_file`.
+/// Whether a controller can be loaded of a file that is served. Of a folder nothing is read, so
+/// that many files cost nothing. Refuses as `check_file`.
 fn check<R: Locks>(rt: &R, alloc: Global, place: &Place<'_>) -> Result<(), Refused> {
     match place {
         Place::File(file) => check_file(rt, alloc, file),

@@ -6,7 +6,7 @@ use Rattle.ticket_items.specs.declared.refusal.Refusal.TheVariants.{Memory}
 use Rattle.controller.specs.declared.message.Message.{Message}
 use Rattle.jmf_message.specs.Decoded.{IsDecodedAs, IsRefusalOf as IsUndecoded}
 use Rattle.stored_state.specs.Held.{GivesNothing, Held, StepGivesNothing}
-use Rattle.stored_state.specs.Kept.{IsOfMessage}
+use Rattle.stored_state.specs.Message.{IsOfMessage}
 use Rattle.streams.specs.declared.refused.Refused.{Refused}
 use Rattle.streams.specs.declared.refused.Refused.TheVariants as refused
 use Rattle.stored_state.proofs.kept.Kept.take.Goals as goal

@@ -1,5 +1,5 @@
 use Rattle.std.proofs.Common.{◌∙◌, map, ap}
-use Rattle.stored_state.specs.Kept.{message_text}
+use Rattle.stored_state.specs.Message.{message_text}
 use Rattle.world.proofs.SentTexts.{texts_of_messages}
 use Rattle.world.proofs.sent.Sent.texts.Goals as goal
 

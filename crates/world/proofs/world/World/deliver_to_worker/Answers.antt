@@ -21,7 +21,7 @@ invariant_of-self c =
     let own = found_own workers name c.in-Some.place x here in
     let there = subst (λ (v : State). Contains v.messages c.args.message) (sym c.self.view_is) c.requires.sent in
     let keeps = worker_takes_keeps c.args.message c.args.at w x c.self.invariant own there (sym (name_of workers name c.in-Some.place x here)) in
-    kept_there c.takes.result c.args.stop w.controllers.master workers w.messages c.takes.new.messages name c.in-Some.place x c.takes.new.stored (taken_by_worker c.args.message c.args.at x) c.self.invariant here c.takes.ensures.stored c.takes.ensures.messages c.takes.ensures.err_stored c.takes.ensures.err_messages keeps
+    kept_there c.steps.result c.args.stop w.controllers.master workers w.messages c.steps.new.messages name c.in-Some.place x c.steps.new.stored (taken_by_worker c.args.message c.args.at x) c.self.invariant here c.steps.ensures.stored c.steps.ensures.messages c.steps.ensures.err_stored c.steps.ensures.err_messages keeps
 
 pub returns-in-None-clause-answer : goal.returns-in-None-clause-answer
 returns-in-None-clause-answer c =
@@ -43,8 +43,8 @@ returns-in-Some-clause-answer c =
     let name = c.args.message.receiver in
     let x = c.index_mut-stored.result.now in
     let here : StandsAt workers name c.in-Some.place x = stands_at workers c.as_slice.result.now name c.in-Some.place x c.as_slice.ensures.value (sym c.in-Some.ensures) c.index_mut-stored.ensures.value in
-    IfOk-weaker c.takes.result _ _ (λ a e. e ∙ found_answers c.args.stop w (taken_by_worker c.args.message c.args.at) (NoMessage) (worker_of workers name) x (taken_by_worker c.args.message c.args.at x) (found workers name c.in-Some.place x here) refl
-    ∙ ap (λ (v : State). settled_word c.args.stop v (worker_takes c.args.message c.args.at v)) c.self.view_is) c.takes.ensures.answer
+    IfOk-weaker c.steps.result _ _ (λ a e. e ∙ found_answers c.args.stop w (taken_by_worker c.args.message c.args.at) (NoMessage) (worker_of workers name) x (taken_by_worker c.args.message c.args.at x) (found workers name c.in-Some.place x here) refl
+    ∙ ap (λ (v : State). settled_word c.args.stop v (worker_takes c.args.message c.args.at v)) c.self.view_is) c.steps.ensures.answer
 
 pub returns-in-Some-clause-state : goal.returns-in-Some-clause-state
 returns-in-Some-clause-state c =
@@ -54,7 +54,7 @@ returns-in-Some-clause-state c =
     let x = c.index_mut-stored.result.now in
     let moved = taken_by_worker c.args.message c.args.at x in
     let here : StandsAt workers name c.in-Some.place x = stands_at workers c.as_slice.result.now name c.in-Some.place x c.as_slice.ensures.value (sym c.in-Some.ensures) c.index_mut-stored.ensures.value in
-    on_ok _ _ _ c.takes.result c.takes.ensures.stored c.takes.ensures.messages (λ is sent.
-    settled_there c.args.stop w.controllers.master workers w.messages c.takes.new.messages name c.in-Some.place x c.takes.new.stored moved c.self.invariant here is sent
+    on_ok _ _ _ c.steps.result c.steps.ensures.stored c.steps.ensures.messages (λ is sent.
+    settled_there c.args.stop w.controllers.master workers w.messages c.steps.new.messages name c.in-Some.place x c.steps.new.stored moved c.self.invariant here is sent
     ∙ found_settles c.args.stop w (taken_by_worker c.args.message c.args.at) (NoMessage) (worker_of workers name) x moved (found workers name c.in-Some.place x here) refl
     ∙ ap (λ (v : State). settled c.args.stop v (worker_takes c.args.message c.args.at v)) c.self.view_is)

@@ -24,7 +24,7 @@ invariant_of-self c =
     let here : StandsAt workers name c.in-Some.place x = stands_at workers c.as_slice.result.now name c.in-Some.place x c.as_slice.ensures.value (sym c.in-Some.ensures) c.index_mut-stored.ensures.value in
     let own = found_own workers name c.in-Some.place x here in
     let keeps = worker_order_keeps c.args.order c.args.at w x c.self.invariant own in
-    kept_there c.is_told.result c.args.stop w.controllers.master workers w.messages c.is_told.new.messages name c.in-Some.place x c.is_told.new.stored (ordered_worker c.args.order c.args.at x) c.self.invariant here c.is_told.ensures.stored c.is_told.ensures.messages c.is_told.ensures.err_stored c.is_told.ensures.err_messages keeps
+    kept_there c.steps.result c.args.stop w.controllers.master workers w.messages c.steps.new.messages name c.in-Some.place x c.steps.new.stored (ordered_worker c.args.order c.args.at x) c.self.invariant here c.steps.ensures.stored c.steps.ensures.messages c.steps.ensures.err_stored c.steps.ensures.err_messages keeps
 
 pub returns-in-None-clause-answer : goal.returns-in-None-clause-answer
 returns-in-None-clause-answer c =
@@ -46,8 +46,8 @@ returns-in-Some-clause-answer c =
     let name = c.args.name.now in
     let x = c.index_mut-stored.result.now in
     let here : StandsAt workers name c.in-Some.place x = stands_at workers c.as_slice.result.now name c.in-Some.place x c.as_slice.ensures.value (sym c.in-Some.ensures) c.index_mut-stored.ensures.value in
-    IfOk-weaker c.is_told.result _ _ (λ a e. e ∙ found_answers c.args.stop w (ordered_worker c.args.order c.args.at) (Refused UnknownWorker) (worker_of workers name) x (ordered_worker c.args.order c.args.at x) (found workers name c.in-Some.place x here) refl
-    ∙ ap (λ (v : State). settled_word c.args.stop v (worker_step c.args.name.now c.args.order c.args.at v)) c.self.view_is) c.is_told.ensures.answer
+    IfOk-weaker c.steps.result _ _ (λ a e. e ∙ found_answers c.args.stop w (ordered_worker c.args.order c.args.at) (Refused UnknownWorker) (worker_of workers name) x (ordered_worker c.args.order c.args.at x) (found workers name c.in-Some.place x here) refl
+    ∙ ap (λ (v : State). settled_word c.args.stop v (worker_step c.args.name.now c.args.order c.args.at v)) c.self.view_is) c.steps.ensures.answer
 
 pub returns-in-Some-clause-state : goal.returns-in-Some-clause-state
 returns-in-Some-clause-state c =
@@ -57,8 +57,8 @@ returns-in-Some-clause-state c =
     let x = c.index_mut-stored.result.now in
     let moved = ordered_worker c.args.order c.args.at x in
     let here : StandsAt workers name c.in-Some.place x = stands_at workers c.as_slice.result.now name c.in-Some.place x c.as_slice.ensures.value (sym c.in-Some.ensures) c.index_mut-stored.ensures.value in
-    on_ok _ _ _ c.is_told.result c.is_told.ensures.stored c.is_told.ensures.messages (λ is sent.
-    settled_there c.args.stop w.controllers.master workers w.messages c.is_told.new.messages name c.in-Some.place x c.is_told.new.stored moved c.self.invariant here is sent
+    on_ok _ _ _ c.steps.result c.steps.ensures.stored c.steps.ensures.messages (λ is sent.
+    settled_there c.args.stop w.controllers.master workers w.messages c.steps.new.messages name c.in-Some.place x c.steps.new.stored moved c.self.invariant here is sent
     ∙ found_settles c.args.stop w (ordered_worker c.args.order c.args.at) (Refused UnknownWorker) (worker_of workers name) x moved (found workers name c.in-Some.place x here) refl
     ∙ ap (λ (v : State). settled c.args.stop v (worker_step c.args.name.now c.args.order c.args.at v)) c.self.view_is)
 

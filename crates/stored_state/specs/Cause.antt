@@ -1,0 +1,13 @@
+-- A step, by what causes it.
+use Rattle.std.specs.Prelude.{ℕ}
+use Rattle.controller.specs.Step.{Step}
+use Rattle.controller.specs.declared.message.Message as messages
+use Rattle.stored_state.specs.declared.cause.Cause.{Cause}
+use Rattle.stored_state.specs.declared.cause.Cause.TheVariants.{Order, Message}
+
+-- the step that a controller makes at a time of what it is told, or of the message that comes to it
+abbrev pub caused : {O S : Type 0} → (O → ℕ → S → Step S messages.Message)
+    → (messages.Message → ℕ → S → Step S messages.Message) → Cause O → ℕ → S
+    → Step S messages.Message
+caused order take (Order o) at s = order o at s
+caused order take (Message m) at s = take m at s
