@@ -20,8 +20,8 @@ fn byte_of(high: u8, low: u8) -> Option<u8> {
     Some(digit(high)? * 16 + digit(low)?)
 }
 
-/// Appends what stands behind a `%`: the byte of its two digits, or the `%` where they are none, and
-/// what follows.
+/// Appends what stands behind a `%`: the byte of its two digits, or the `%` where they are none,
+/// and what follows.
 fn push_piece(bytes: &mut Vec<u8>, piece: &[u8]) -> Result<(), AllocError> {
     if let [high, low, behind @ ..] = piece {
         if let Some(byte) = byte_of(*high, *low) {

@@ -17,7 +17,7 @@ use Rattle.http_message.specs.Status.{done_status, status_of}
 use Rattle.http_message.specs.Texts.{response_text}
 use Rattle.http_message.specs.declared.kind.Kind.TheVariants as kinds
 use Rattle.stored_state.specs.Held.{GivesNothing, Held, IsReadAs}
-use Rattle.stored_state.specs.Kept.{IsOfMessage}
+use Rattle.stored_state.specs.Message.{IsOfMessage}
 use Rattle.stored_state.specs.Step.{IsSaved, IsTaken, TextStep}
 use Rattle.stored_state.specs.declared.taken_bytes.TakenBytes.{TakenBytes}
 use Rattle.http_edge.specs.declared.served.Served.{Served}

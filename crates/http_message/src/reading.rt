@@ -7,7 +7,8 @@ ghost use Rattle.streams.specs.Streams.{used};
 ghost use Rattle.streams.specs.declared.refused.Refused.TheVariants.{ReadFailed};
 ghost use Rattle.http_message.specs.Message.{Carries, HasTarget};
 ghost use Rattle.http_message.specs.Reading.{Grows, Has, HasFailedIn, HasHead, HasRead};
-ghost use Rattle.http_message.specs.Reading.{IsBodyFault, IsHeadFault, IsMoreFault, IsUnfailed, IsUnread};
+ghost use Rattle.http_message.specs.Reading.{IsBodyFault, IsHeadFault, IsMoreFault, IsUnfailed};
+ghost use Rattle.http_message.specs.Reading.{IsUnread};
 
 use crate::body::Body;
 use crate::kind::Kind;

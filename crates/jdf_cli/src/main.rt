@@ -1,6 +1,6 @@
 //! `jdf_cli edit`, `jdf_cli world` and `jdf_cli loop` work on what comes on standard input;
-//! `jdf_cli new`, `order`, `take` and `show` keep a controller in a file. `jdf_cli --help` shows
-//! each.
+//! `jdf_cli new`, `order`, `take` and `show` keep a controller in a file; `serve` and `send` are
+//! for messages. `jdf_cli --help` shows each.
 #![tactic(auto)]
 
 use jdf_net::{NO_CALL, run_words};

@@ -77,7 +77,8 @@ impl FailingKeep {
 
 impl Keep for FailingKeep {
     ghost use Rattle.std.specs.Prelude.{◌≡◌, ◌&&◌, not, true, IsErrOf};
-    ghost use Rattle.keepers.specs.Failing.{LoadFails, LoadsOrFails, SaveFails, SavesOrFails, is_due};
+    ghost use Rattle.keepers.specs.Failing.{LoadFails, LoadsOrFails, SaveFails, SavesOrFails};
+    ghost use Rattle.keepers.specs.Failing.{is_due};
     ghost use Rattle.keepers.specs.Keeper.{CountsFailure, Loads, Saves};
 
     ghost held = { λ keep. keep.held };

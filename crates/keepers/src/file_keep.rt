@@ -123,9 +123,9 @@ impl<'a, R: Locks> Keep for FileKeep<'a, R> {
 
     /// Writes the bytes to a file beside it, with `.new` behind its name and with its permissions,
     /// syncs that, renames it, and syncs the folder. A file that is to be made gets its name only
-    /// where nothing has that. What is left under the other name, as by a program that was ended, is
-    /// removed, once nobody has its lock; and so it is where the save fails. Refuses `Failed` also
-    /// where the path leads to no file, as one of a link, or to one that may not be written.
+    /// where nothing has that. What is left under the other name, as by a program that was ended,
+    /// is removed, once nobody has its lock; and so it is where the save fails. Refuses `Failed`
+    /// also where the path leads to no file, as one of a link, or to one that may not be written.
     fn save(&mut self, bytes: &[u8]) -> Result<(), KeepFault>
         ensures path { self.new.path ≡ self.old.path }
         ensures made { OnOk result (self.new.is_new ≡ false) }

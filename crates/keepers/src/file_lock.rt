@@ -20,8 +20,8 @@ pub struct FileLock<R: Locks> {
 
 impl<R: Locks> FileLock<R> {
     /// Waits for the lock of the file of this path, and takes it. Refuses `Failed` where the system
-    /// does, and where the path leads to no file, as one of a link or of a folder. It leaves nothing
-    /// behind.
+    /// does, and where the path leads to no file, as one of a link or of a folder. It leaves
+    /// nothing behind.
     pub fn take(rt: &R, path: &str) -> Result<FileLock<R>, KeepFault>
         ensures { IfErr result (λ fault. fault ≡ KeepFault.Failed) }
     {
@@ -45,8 +45,8 @@ pub(crate) fn lock_file<R: Locks>(rt: &R, path: &str) -> io::Result<R::File> {
     Err(ErrorKind::ResourceBusy.into())
 }
 
-/// Locks a file. Answers whether the path leads to it then, since another may have removed it or put
-/// another in its place before it was locked.
+/// Locks a file. Answers whether the path leads to it then, since another may have removed it or
+/// put another in its place before it was locked.
 pub(crate) fn lock_named<R: Locks>(rt: &R, path: &str, file: &R::File) -> io::Result<bool> {
     rt.lock(file)?;
     leads_to(rt, path, file)

@@ -13,8 +13,8 @@ use std::rt::Files;
 
 /// Puts a file of these bytes in the place of the one of this path, with its permissions. It is
 /// written beside that, with `.new` behind its name, synced, and then renamed, and its folder is
-/// synced. Refuses `Failed` where the system does, or interrupts a write or takes no byte of it, and
-/// where the path leads to no file or to one that may not be written; and `Memory`.
+/// synced. Refuses `Failed` where the system does, or interrupts a write or takes no byte of it,
+/// and where the path leads to no file or to one that may not be written; and `Memory`.
 pub(crate) fn replace_file<R: Locks>(
     rt: &R,
     alloc: Global,
@@ -36,8 +36,8 @@ pub(crate) fn replace_file<R: Locks>(
 
 /// Makes the file of this path, of these bytes. It is written beside that, with `.new` behind its
 /// name, synced, and then given its name, and its folder is synced. Refuses `Failed` where the
-/// system does, or interrupts a write or takes no byte of it, and where something is there under the
-/// path; and `Memory`.
+/// system does, or interrupts a write or takes no byte of it, and where something is there under
+/// the path; and `Memory`.
 pub(crate) fn make_file<R: Locks>(
     rt: &R,
     alloc: Global,

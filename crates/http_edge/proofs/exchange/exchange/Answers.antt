@@ -1,7 +1,7 @@
 use Rattle.std.proofs.Common.{◌≡◌, ◌∙◌, sym, subst, refl, inr}
 use Rattle.serde_json.specs.Written.{compact_text}
 use Rattle.jmf_message.specs.Decoded.{IsRefusalOf}
-use Rattle.stored_state.specs.Kept.{IsOfMessage}
+use Rattle.stored_state.specs.Message.{IsOfMessage}
 use Rattle.stored_state.specs.Step.{in_text}
 use Rattle.http_edge.specs.Exchange.{HasBody}
 use Rattle.http_edge.proofs.Exchanges.{fresh_of, never_unread, saved}
