@@ -86,9 +86,8 @@ pub fn outcome_of(
         Err(refusal) => Err(refusal.number()),
     };
     let answer = answer_to(alloc, name, message, at, told)?;
-    let reply = match taken {
-        Ok(taken) => Ok(taken.reply),
-        Err(refusal) => Err(refusal),
-    };
-    Ok(Outcome { reply, answer })
+    Ok(Outcome {
+        reply: taken.map(|taken| taken.reply),
+        answer,
+    })
 }

@@ -11,10 +11,9 @@ use Rattle.ticket_items.specs.declared.resource.Resource.{Resource}
 use Rattle.json_items.specs.TicketDraft.{RawRow, root_members, node_rows, resources_of, are_bare}
 use Rattle.json_items.specs.Listed.{each, items_under}
 use Rattle.json_items.specs.declared.resources.marked_form.Marked.{Marked}
-use Rattle.json_items.specs.Shown.{shows_nothing}
+use Rattle.json_items.specs.Shown.{shows_change, shows_nothing, shows_read}
 use Rattle.json_source.specs.Read.{◌>>=◌, provided, text_under}
 use Rattle.json_items.specs.Ancestors.{ancestor_draft}
-use Rattle.json_items.specs.Shown.{shows_change, shows_read}
 
 -- ---- the three groups of the resources of a part's root
 

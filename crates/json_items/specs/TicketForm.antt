@@ -11,10 +11,9 @@ use Rattle.ticket_items.specs.declared.edit.Edit.{Edit}
 use Rattle.ticket_items.specs.declared.refusal.Refusal.{Refusal}
 use Rattle.ticket_items.specs.declared.refusal.Refusal.TheVariants.{NotProfile}
 use Rattle.ticket_items.specs.declared.refusal.Refusal.TheVariants.{ReservedStatus}
-use Rattle.json_items.specs.Edits.{edit_has_names, edit_has_texts}
+use Rattle.json_items.specs.Edits.{edit_draft, edit_has_names, edit_has_texts}
 use Rattle.json_items.specs.Judged.{sound, judged, checked_fault, first_fault}
 use Rattle.json_items.specs.TicketDraft.{RawTicket, ticket_draft}
-use Rattle.json_items.specs.Edits.{edit_draft}
 use Rattle.json_items.specs.Resources.{resource_has_names, resource_has_texts}
 use Rattle.json_items.specs.Links.{link_has_names}
 use Rattle.json_items.specs.Audits.{audit_has_names, audit_has_texts}

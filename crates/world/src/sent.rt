@@ -1,8 +1,7 @@
 ghost use Rattle.std.specs.Prelude.{◌≡◌, [], map, None, Ok, IfOk, IfSome, IsOk, OnErr, OnOk};
 ghost use Rattle.std.specs.Prelude.{option_and_then, option_copied, option_map};
 ghost use Rattle.jmf_message.specs.Decoded.{IsDecodedAs};
-ghost use Rattle.stored_state.specs.Message.{message_text};
-ghost use Rattle.stored_state.specs.Message.{message_in, messages_in, IsMessageText};
+ghost use Rattle.stored_state.specs.Message.{IsMessageText, message_in, message_text, messages_in};
 ghost use Rattle.world.specs.Settling as settling;
 ghost use Rattle.world.specs.State as state;
 

@@ -40,8 +40,7 @@ impl World {
     ghost use Rattle.ticket_items.specs.Ids.{are_distinct};
     ghost use Rattle.ticket_rows.specs.Ticket.{Job};
     ghost use Rattle.spawn.specs.Marking.{marks};
-    ghost use Rattle.stored_state.specs.Message.{message_text};
-    ghost use Rattle.stored_state.specs.Message.{messages_in};
+    ghost use Rattle.stored_state.specs.Message.{message_text, messages_in};
     ghost use Rattle.world.specs.Changing.{Changer, Holds, MayChange};
     ghost use Rattle.world.specs.Happening as happening;
     ghost use Rattle.world.specs.MergeAudits.{AreToldAbove};
