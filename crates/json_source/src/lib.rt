@@ -2,6 +2,7 @@
 //! half the memory of a value.
 #![tactic(auto)]
 
+mod member;
 mod number;
 mod source;
 mod text;
@@ -9,5 +10,6 @@ mod tree_source;
 mod value_source;
 
 pub use json::{Scratch, Value as Tree};
+pub use member::member_alone;
 pub use source::Source;
 pub use text::tree_of;

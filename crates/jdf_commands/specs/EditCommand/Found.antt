@@ -2,6 +2,9 @@
 -- built of them as long as they are.
 use Rattle.std.specs.Prelude.{◌≡◌, ℕ, true, List, ◌++◌, Option, Some, Result, Ok, Err, ⊤}
 use Rattle.std.specs.List.{list_all}
+use Rattle.std.specs.Str.{IsUtf8}
+use Rattle.serde_json.specs.Data.{Data}
+use Rattle.serde_json.specs.Read.{read}
 use Rattle.ticket_items.specs.declared.edit.Edit.{Edit}
 use Rattle.ticket_items.specs.declared.refusal.Refusal.{Refusal}
 use Rattle.json_items.specs.Edits.{edit_has_names, edit_has_texts}
@@ -9,8 +12,8 @@ use Rattle.json_source.specs.Read.{Fails}
 use Rattle.json_reader.specs.Found.{IsFoundTicket, all_hold, both}
 use Rattle.json_reader.specs.declared.checks.Checks.{Checks}
 use Rattle.json_reader.specs.declared.found_ticket.FoundTicket.{FoundTicket}
-use Rattle.jdf_commands.specs.EditCommand.Document.{RawDocument, document_has_names}
-use Rattle.jdf_commands.specs.EditCommand.Document.{document_has_texts}
+use Rattle.jdf_commands.specs.EditCommand.Document.{RawDocument, document_draft}
+use Rattle.jdf_commands.specs.EditCommand.Document.{document_has_names, document_has_texts}
 use Rattle.jdf_commands.specs.declared.edit_command.found_document.FoundDocument.{FoundDocument}
 use Rattle.jdf_commands.specs.declared.edit_command.found_edits.FoundEdits.{FoundEdits}
 
@@ -58,3 +61,12 @@ pub record IsFoundDocument (doc : RawDocument) (found : FoundDocument) : Type 0 
   pub checks : found.checks ≡ document_checks doc
   pub edits : all_hold found.checks ≡ true → found.edits.items ≡ doc.edits
   pub ticket : IsFoundTicket doc.ticket found.ticket
+
+-- what was found of the document that the bytes are
+pub record IsFoundIn (bytes : List ℕ) (found : FoundDocument) : Type 0 where
+  pub data : Data
+  pub utf8 : IsUtf8 bytes
+  pub json : read bytes ≡ Some data
+  pub draft : RawDocument
+  pub form : document_draft data ≡ Some draft
+  pub is : IsFoundDocument draft found

@@ -2,9 +2,11 @@
 
 ghost use Rattle.std.specs.Prelude.{◌≡◌, ◌++◌, IfErr, IfOk, OnOk, Ok};
 ghost use Rattle.jdf_commands.specs.EditCommand.Document.{Document, IsReadAs, IsRefusalOf};
+ghost use Rattle.jdf_commands.specs.EditCommand.Found.{IsFoundIn};
 ghost use Rattle.jdf_commands.specs.EditCommand.OwnedDocument.{owned_document};
 ghost use Rattle.jdf_commands.specs.EditCommand.Run.{IsEdited, IsOutput, ticket_text};
 
+use crate::edit_command::found_document::FoundDocument;
 use crate::edit_command::owned_document::OwnedDocument;
 use crate::edit_command::run::run_edits;
 use json_profile::push_ticket_text;
@@ -47,25 +49,34 @@ fn edited_document(alloc: Global, document: OwnedDocument) -> Result<EditedTicke
     })
 }
 
-/// The document that an input is, or the first refusal of it.
-fn read_document(alloc: Global, input: &[u8]) -> Result<OwnedDocument, Refusal>
-    ensures done { IfOk result (λ o. IsReadAs input.now (Ok (owned_document o))) }
+/// What is found of the document that an input is. Refuses `NotJson`, `NotProfile` and `Memory`.
+fn found_in(alloc: Global, input: &[u8]) -> Result<FoundDocument, Refusal>
+    ensures found { IfOk result (IsFoundIn input.now) }
     ensures refused { IfErr result (IsRefusalOf input.now) }
 {
     let mut scratch = Scratch::new(alloc);
     let tree = tree_of(alloc, input, &mut scratch)?;
-    OwnedDocument::of(alloc, &tree)
+    FoundDocument::of(alloc, tree)
 }
 
-/// The edited ticket of an input, or the first refusal of it. The input is given back once its
-/// document is built, before the edits are done.
+/// The document that an input is, or the first refusal of it. The input is given back once all is
+/// found of it, before the rows of its ticket are looked at together.
+fn read_document(alloc: Global, input: Vec<u8>) -> Result<OwnedDocument, Refusal>
+    ensures done { IfOk result (λ o. IsReadAs input.items (Ok (owned_document o))) }
+    ensures refused { IfErr result (IsRefusalOf input.items) }
+{
+    let found = found_in(alloc, input.as_slice())?;
+    drop(input);
+    OwnedDocument::of(alloc, found)
+}
+
+/// The edited ticket of an input, or the first refusal of it.
 fn edited_ticket(alloc: Global, input: Vec<u8>) -> Result<EditedTicket, Refusal>
     ensures done { IfOk result (λ o. (document : Document) × IsReadAs input.items (Ok document)
         × IsEdited document o.lines.items o.ticket o.refused) }
     ensures refused { IfErr result (IsRefusalOf input.items) }
 {
-    let document = read_document(alloc, input.as_slice())?;
-    drop(input);
+    let document = read_document(alloc, input)?;
     edited_document(alloc, document)
 }
 

@@ -9,7 +9,7 @@ ghost use Rattle.jdf_commands.specs.EditCommand.Document.{ticket_under};
 use crate::edit_command::found_edits::FoundEdits;
 use json_items::number_under;
 use json_profile::{Checks, FoundTicket};
-use json_source::{Source, Tree};
+use json_source::{Source, Tree, member_alone};
 use std::alloc::Global;
 use ticket_tree::{Edit, Refusal};
 
@@ -32,14 +32,15 @@ fn time_in(tree: &Tree<'_>) -> Result<u64, Refusal>
     number_under(tree, "At").ok_or(Refusal::NotProfile)
 }
 
-/// What is found of the ticket of a document. Refuses `NotProfile`, and `Memory`.
-fn ticket_in(alloc: Global, tree: &Tree<'_>) -> Result<FoundTicket, Refusal>
+/// What is found of the ticket of a document, all else of which is given back before. Refuses
+/// `NotProfile`, and `Memory`.
+fn ticket_in(alloc: Global, tree: Tree<'_>) -> Result<FoundTicket, Refusal>
     ensures ok { IfOk result (λ found. (draft : RawTicket)
-        × (ticket_under (tree_data tree.now) ≡ Some draft) × IsFoundTicket draft found) }
-    ensures err { IfErr result (λ e. Fails e (ticket_under (tree_data tree.now))) }
+        × (ticket_under (tree_data tree.entry) ≡ Some draft) × IsFoundTicket draft found) }
+    ensures err { IfErr result (λ e. Fails e (ticket_under (tree_data tree.entry))) }
 {
-    match tree.member("Ticket") {
-        Some(ticket) => FoundTicket::of(alloc, ticket),
+    match member_alone(tree, "Ticket") {
+        Some(ticket) => FoundTicket::of(alloc, &ticket),
         None => Err(Refusal::NotProfile),
     }
 }
@@ -53,16 +54,16 @@ impl FoundDocument {
 
     /// What is found of the document that a tree is. Refuses `NotProfile`, and `Memory`.
     #[tactic(auto, unfolding(crate::specs::EditCommand::Document::document_draft))]
-    pub fn of(alloc: Global, tree: &Tree<'_>) -> Result<FoundDocument, Refusal>
+    pub fn of(alloc: Global, tree: Tree<'_>) -> Result<FoundDocument, Refusal>
         ensures ok { IfOk result (λ found. (doc : RawDocument)
-            × (document_draft (tree_data tree.now) ≡ Some doc) × IsFoundDocument doc found) }
-        ensures err { IfErr result (λ e. Fails e (document_draft (tree_data tree.now))) }
+            × (document_draft (tree_data tree.entry) ≡ Some doc) × IsFoundDocument doc found) }
+        ensures err { IfErr result (λ e. Fails e (document_draft (tree_data tree.entry))) }
     {
         if !tree.has_only(&["At", "Edits", "Ticket"]) {
             return Err(Refusal::NotProfile);
         }
-        let at = time_in(tree)?;
-        let edits = FoundEdits::of(alloc, tree)?;
+        let at = time_in(&tree)?;
+        let edits = FoundEdits::of(alloc, &tree)?;
         let ticket = ticket_in(alloc, tree)?;
         Ok(FoundDocument::joined(at, edits, ticket))
     }

@@ -1,5 +1,4 @@
 use crate::edit_command::found_document::FoundDocument;
-use json_source::Tree;
 use std::alloc::Global;
 use ticket_tree::{Edit, Refusal, Ticket};
 
@@ -13,19 +12,19 @@ pub struct OwnedDocument {
 }
 
 impl OwnedDocument {
-    ghost use Rattle.std.specs.Prelude.{◌≡◌, ◌⊎◌, IfErr, IfOk, Err, Ok};
-    ghost use Rattle.json_source.specs.Tree.{tree_data};
-    ghost use Rattle.jdf_commands.specs.EditCommand.Document.{document_read};
+    ghost use Rattle.std.specs.Prelude.{ℕ, List, IfErr, IfOk, Ok};
+    ghost use Rattle.jdf_commands.specs.EditCommand.Document.{IsReadAs, IsRefusalOf};
+    ghost use Rattle.jdf_commands.specs.EditCommand.Found.{IsFoundIn};
     ghost use Rattle.jdf_commands.specs.EditCommand.OwnedDocument.{owned_document};
 
-    /// The document that a tree is, or its first refusal.
-    pub fn of(alloc: Global, tree: &Tree<'_>) -> Result<OwnedDocument, Refusal>
-        ensures done { IfOk result
-            (λ document. document_read (tree_data tree.now) ≡ Ok (owned_document document)) }
-        ensures refused { IfErr result
-            (λ e. (e ≡ Refusal.Memory) ⊎ (document_read (tree_data tree.now) ≡ Err e)) }
+    /// The document of which this was found, or its first refusal.
+    pub fn of(alloc: Global, found: FoundDocument) -> Result<OwnedDocument, Refusal>
+        requires { (input : List ℕ) × IsFoundIn input found }
+        ensures done { (input : List ℕ) → IsFoundIn input found
+            → IfOk result (λ document. IsReadAs input (Ok (owned_document document))) }
+        ensures refused { (input : List ℕ) → IsFoundIn input found
+            → IfErr result (IsRefusalOf input) }
     {
-        let found = FoundDocument::of(alloc, tree)?;
         found.checks.passed()?;
         let FoundDocument {
             at,
