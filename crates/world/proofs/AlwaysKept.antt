@@ -43,7 +43,10 @@ use Rattle.world.proofs.Receivers.{worker_receives}
 use Rattle.world.proofs.Sending.{IsNew, IsTaken, answer_is_new}
 use Rattle.world.proofs.WorkerSteps as worker_steps
 use Rattle.world.specs.Controllers.{entry_at, is_named, worker_of}
-use Rattle.world.specs.Happening.{after, after_all, master_takes, receiver_takes, settled, step_of, worker_takes}
+use Rattle.stored_state.specs.Cause.{caused}
+use Rattle.stored_state.specs.declared.cause.Cause.{Cause}
+use Rattle.stored_state.specs.declared.cause.Cause.TheVariants as causes
+use Rattle.world.specs.Happening.{ComesTo, after, after_all, master_step, receiver_takes, settled, step_of, worker_step}
 use Rattle.world.specs.Messages.{AreRecorded, IsInOrder, TellsEntry, entry_for}
 use Rattle.world.specs.State.{IsKept, State, message_at}
 use Rattle.controller.specs.Step.{Step, Taking, unless_refused}
@@ -65,7 +68,7 @@ keeps_unless_refused : (r : Option Refusal) (w : State) (v : Step master.Known M
 keeps_unless_refused None w v ok go = go refl
 keeps_unless_refused (Some e) w v ok go = record { stored = ok; sent = tt }
 
-pub master_order_keeps : (o : master_order.Order) (at : ℕ) (w : State) → IsKept w → Keeps w (master_moved w.controllers (ordered_master o at w.controllers.master))
+master_order_keeps : (o : master_order.Order) (at : ℕ) (w : State) → IsKept w → Keeps w (master_moved w.controllers (ordered_master o at w.controllers.master))
 master_order_keeps o at w ok =
     let c = w.controllers in
     let next = (master_orders.ordered o at c.master).next in
@@ -90,7 +93,7 @@ taken_back w m at (Return p) says ok own h later =
       returned_in m at c.master p h.spawn later.spawn says none (ap (λ b. master.record_of c.master.records (spawn_in b)) (sym says) ∙ h.recorded) (ap (λ b. master.record_of (master_messages.take_step m at c.master).next.records (spawn_in b)) (sym says) ∙ later.recorded),
     )
 
-pub master_takes_keeps : (m : Message) (at : ℕ) (w : State) → IsKept w → Contains w.messages m → m.receiver ≡ w.controllers.master.name → Keeps w (master_moved w.controllers (taken_by_master m at w.controllers.master))
+master_takes_keeps : (m : Message) (at : ℕ) (w : State) → IsKept w → Contains w.messages m → m.receiver ≡ w.controllers.master.name → Keeps w (master_moved w.controllers (taken_by_master m at w.controllers.master))
 master_takes_keeps m at w ok there own =
     let c = w.controllers in
     let next = (master_messages.take_step m at c.master).next in
@@ -106,6 +109,11 @@ master_takes_keeps m at w ok there own =
       sent = subst (λ o. IfSome o (IsNew d w.messages)) (answering_tells c.master.name m at why c.master t)
           (answer_is_new d w.messages c.master.name m.sender m.receiver m.at at m.body (told_by why t.told) stored.messages.each own good_later (taken_back w m at m.body refl ok own good good_later));
     }
+
+-- whatever it is told, and whatever comes to it
+pub master_keeps : (cause : Cause master_order.Order) (at : ℕ) (w : State) → IsKept w → ComesTo w.controllers.master.name w.messages cause → Keeps w (master_moved w.controllers (caused ordered_master taken_by_master cause at w.controllers.master))
+master_keeps (causes.Order o) at w ok comes = master_order_keeps o at w ok
+master_keeps (causes.Message m) at w ok comes = master_takes_keeps m at w ok comes.0 comes.1
 
 -- ---- a worker
 
@@ -132,7 +140,7 @@ keeps_unless_worker_refused (Some e) w v moved ok found go =
     let is = is_there w v ok found in
     record { stored = worker_stored c v v w.messages ok is.knows is.kept (record { own = refl; masters = refl }) (worker_steps.worker_later c v v found refl (λ s x here ended. (x, here, inl refl))) is.recorded; sent = tt }
 
-pub worker_order_keeps : (o : worker_order.Order) (at : ℕ) (w : State) (v : worker.Known) → IsKept w → worker_of w.controllers.workers v.name ≡ Some v → Keeps w (worker_moved w.controllers v (ordered_worker o at v))
+worker_order_keeps : (o : worker_order.Order) (at : ℕ) (w : State) (v : worker.Known) → IsKept w → worker_of w.controllers.workers v.name ≡ Some v → Keeps w (worker_moved w.controllers v (ordered_worker o at v))
 worker_order_keeps o at w v ok found =
     let c = w.controllers in
     let next = (worker_orders.ordered o at v).next in
@@ -189,7 +197,7 @@ taken_so w v m at (Abort s) says own ok found is h later =
     subst (λ o. IsSomeAnd o (TellsEntry (told_by (worker_messages.take_refusal m v) (worker_messages.taken m.body at v).told))) (sym entered)
     (subst (λ t. IsSomeAnd (worker.entry_of entries s) (TellsEntry t)) (sym told) (given_up (worker.entry_of v.entries s) s at v refl))
 
-pub worker_takes_keeps : (m : Message) (at : ℕ) (w : State) (v : worker.Known) → IsKept w → worker_of w.controllers.workers v.name ≡ Some v → Contains w.messages m → m.receiver ≡ v.name → Keeps w (worker_moved w.controllers v (taken_by_worker m at v))
+worker_takes_keeps : (m : Message) (at : ℕ) (w : State) (v : worker.Known) → IsKept w → worker_of w.controllers.workers v.name ≡ Some v → Contains w.messages m → m.receiver ≡ v.name → Keeps w (worker_moved w.controllers v (taken_by_worker m at v))
 worker_takes_keeps m at w v ok found there own =
     let c = w.controllers in
     let next = (worker_messages.take_step m at v).next in
@@ -209,6 +217,11 @@ worker_takes_keeps m at w v ok found there own =
           (answer_is_new d w.messages v.name m.sender m.receiver m.at at m.body (told_by why t.told) stored.messages.each own good_later (taken_so w v m at m.body refl own ok found is good good_later));
     }
 
+-- whatever it is told, and whatever comes to it
+pub worker_keeps : (cause : Cause worker_order.Order) (at : ℕ) (w : State) (v : worker.Known) → IsKept w → worker_of w.controllers.workers v.name ≡ Some v → ComesTo v.name w.messages cause → Keeps w (worker_moved w.controllers v (caused ordered_worker taken_by_worker cause at v))
+worker_keeps (causes.Order o) at w v ok found comes = worker_order_keeps o at w v ok found
+worker_keeps (causes.Message m) at w v ok found comes = worker_takes_keeps m at w v ok found comes.0 comes.1
+
 -- ---- one event
 
 found_step : (w : State) (stop : Stop) (f : worker.Known → Step worker.Known Message) (word : Word) (name : List ℕ) (found : Option worker.Known) → worker_of w.controllers.workers name ≡ found → IsKept w
@@ -223,17 +236,17 @@ pub message_there : (messages : List Message) (k : ℕ) (m : Message) → messag
 message_there messages zero m found = cc
 message_there messages (suc k) m found = (k, slice_get_within messages k m found, get_or_from_slice_get messages k m m found)
 
-receiver_kept : (mine : Bool) (m : Message) (at : ℕ) (stop : Stop) (w : State) → IsKept w → Contains w.messages m → bytes_eq m.receiver w.controllers.master.name ≡ mine → IsKept (settled stop w (cond mine (master_takes m at w) (worker_takes m at w)))
-receiver_kept true m at stop w ok there mine = settled_kept stop w _ ok (master_takes_keeps m at w ok there ((bytes_eq-Decides m.receiver w.controllers.master.name).0 mine))
-receiver_kept false m at stop w ok there other = found_step w stop (taken_by_worker m at) NoMessage m.receiver (worker_of w.controllers.workers m.receiver) refl ok (λ v named found. worker_takes_keeps m at w v ok found there (sym named))
+receiver_kept : (mine : Bool) (m : Message) (at : ℕ) (stop : Stop) (w : State) → IsKept w → Contains w.messages m → bytes_eq m.receiver w.controllers.master.name ≡ mine → IsKept (settled stop w (cond mine (master_step (causes.Message m) at w) (worker_step m.receiver NoMessage (causes.Message m) at w)))
+receiver_kept true m at stop w ok there mine = settled_kept stop w _ ok (master_keeps (causes.Message m) at w ok (there, (bytes_eq-Decides m.receiver w.controllers.master.name).0 mine))
+receiver_kept false m at stop w ok there other = found_step w stop (taken_by_worker m at) NoMessage m.receiver (worker_of w.controllers.workers m.receiver) refl ok (λ v named found. worker_keeps (causes.Message m) at w v ok found (there, sym named))
 
 delivered_kept : (found : Option Message) (k at : ℕ) (stop : Stop) (w : State) → message_at w.messages k ≡ found → IsKept w → IsKept (settled stop w (option_map_or (receiver_takes at w) found (Err NoMessage)))
 delivered_kept None k at stop w is ok = ok
 delivered_kept (Some m) k at stop w is ok = receiver_kept (bytes_eq m.receiver w.controllers.master.name) m at stop w ok (message_there w.messages k m is) refl
 
 what_kept : (what : What) (at : ℕ) (stop : Stop) (w : State) → IsKept w → IsKept (settled stop w (step_of what at w))
-what_kept (MasterOrder o) at stop w ok = settled_kept stop w _ ok (master_order_keeps o at w ok)
-what_kept (WorkerOrder name o) at stop w ok = found_step w stop (ordered_worker o at) (Refused UnknownWorker) name (worker_of w.controllers.workers name) refl ok (λ v named found. worker_order_keeps o at w v ok found)
+what_kept (MasterOrder o) at stop w ok = settled_kept stop w _ ok (master_keeps (causes.Order o) at w ok tt)
+what_kept (WorkerOrder name o) at stop w ok = found_step w stop (ordered_worker o at) (Refused UnknownWorker) name (worker_of w.controllers.workers name) refl ok (λ v named found. worker_keeps (causes.Order o) at w v ok found tt)
 what_kept (Deliver k) at stop w ok = delivered_kept (message_at w.messages k) k at stop w refl ok
 what_kept (Restart name) at stop w ok = ok
 

@@ -34,6 +34,7 @@ use Rattle.world.proofs.WorkerEdits.{worker_edits}
 use Rattle.world.proofs.WorkerFinishes.{worker_finishes}
 use Rattle.world.proofs.WorkerResends.{worker_resends}
 use Rattle.world.specs.Controllers.{worker_of}
+use Rattle.stored_state.specs.declared.cause.Cause.TheVariants as causes
 use Rattle.world.specs.Happening as world
 use Rattle.world.specs.Laws.{EventsAreReplayed}
 use Rattle.world.specs.Messages.{IsInOrder}
@@ -65,12 +66,12 @@ WorkerAgrees w name v o at = Agrees (worker_moved w.controllers v (ordered_worke
 
 -- ---- who receives a message
 
-by_master : (w : State) (m : Message) (at : ℕ) (plain : StepOrWord Shop shop.Tag) → bytes_eq m.receiver w.controllers.master.name ≡ true → StepsAgree (world.master_takes m at w) plain → StepsAgree (world.receiver_takes at w m) plain
-by_master w m at plain mine agree = subst (λ b. StepsAgree (cond b (world.master_takes m at w) (world.worker_takes m at w)) plain) (sym mine) agree
+by_master : (w : State) (m : Message) (at : ℕ) (plain : StepOrWord Shop shop.Tag) → bytes_eq m.receiver w.controllers.master.name ≡ true → StepsAgree (world.master_step (causes.Message m) at w) plain → StepsAgree (world.receiver_takes at w m) plain
+by_master w m at plain mine agree = subst (λ b. StepsAgree (cond b (world.master_step (causes.Message m) at w) (world.worker_step m.receiver NoMessage (causes.Message m) at w)) plain) (sym mine) agree
 
 by_worker : (w : State) (m : Message) (at : ℕ) (plain : StepOrWord Shop shop.Tag) → (is : IsReceived w m) → StepsAgree (Ok (worker_moved w.controllers is.by (taken_by_worker m at is.by))) plain → StepsAgree (world.receiver_takes at w m) plain
 by_worker w m at plain is agree =
-    subst (λ b. StepsAgree (cond b (world.master_takes m at w) (world.worker_takes m at w)) plain) (sym is.other)
+    subst (λ b. StepsAgree (cond b (world.master_step (causes.Message m) at w) (world.worker_step m.receiver NoMessage (causes.Message m) at w)) plain) (sym is.other)
     (subst (λ o. StepsAgree (option_map_or (λ v. Ok (worker_moved w.controllers v (taken_by_worker m at v))) o (Err NoMessage)) plain) (sym is.found) agree)
 
 -- the tag of a number is that of the message

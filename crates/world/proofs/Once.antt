@@ -31,7 +31,8 @@ use Rattle.worker_core.specs.declared.order.Order.TheVariants as worker_orders_a
 use Rattle.world.proofs.AlwaysKept.{kept_after, message_there}
 use Rattle.world.proofs.Stored.{and_found, found_and}
 use Rattle.world.specs.Controllers.{Controllers, worker_of}
-use Rattle.world.specs.Happening.{after, after_all, answer_to, answers_to, master_takes, receiver_takes, settled, settled_word, step_of, worker_takes}
+use Rattle.stored_state.specs.declared.cause.Cause.TheVariants as causes
+use Rattle.world.specs.Happening.{after, after_all, answer_to, answers_to, master_step, receiver_takes, settled, settled_word, step_of, worker_step}
 use Rattle.world.specs.Laws.{EachIsMergedOnce}
 use Rattle.world.specs.Messages.{IsInOrder}
 use Rattle.world.specs.Once.{AreMergedOnce, TellsMerge}
@@ -76,7 +77,7 @@ found_has : (found : Option worker.Known) (f : worker.Known → Step worker.Know
 found_has None f word stop w s r has = has
 found_has (Some v) f word stop w s r has = settled_has stop w (worker_moved w.controllers v (f v)) s r has has
 
-receiver_has : (mine : Bool) (m : Message) (at : ℕ) (stop : Stop) (w : State) (s : ℕ) (r : SpawnRec) → Has w.controllers s r → is_out r ≡ false → Has (settled stop w (cond mine (master_takes m at w) (worker_takes m at w))).controllers s r
+receiver_has : (mine : Bool) (m : Message) (at : ℕ) (stop : Stop) (w : State) (s : ℕ) (r : SpawnRec) → Has w.controllers s r → is_out r ≡ false → Has (settled stop w (cond mine (master_step (causes.Message m) at w) (worker_step m.receiver NoMessage (causes.Message m) at w))).controllers s r
 receiver_has true m at stop w s r has isn't = settled_has stop w (master_moved w.controllers (taken_by_master m at w.controllers.master)) s r has ((in_stays_in w.controllers.master s r has isn't).1 m at)
 receiver_has false m at stop w s r has isn't = found_has (worker_of w.controllers.workers m.receiver) (taken_by_worker m at) NoMessage stop w s r has
 
@@ -182,13 +183,13 @@ taken_merges m at w next s (Some r) ok good has told is =
       ]
     ]
 
-receiver_merges : (mine : Bool) (m : Message) (at : ℕ) (stop : Stop) (w : State) (s : ℕ) → IsKept w → IsInOrder w.controllers m → TellsMerge s (settled_word stop w (cond mine (master_takes m at w) (worker_takes m at w)))
-    → Merges w (settled stop w (cond mine (master_takes m at w) (worker_takes m at w))) s
+receiver_merges : (mine : Bool) (m : Message) (at : ℕ) (stop : Stop) (w : State) (s : ℕ) → IsKept w → IsInOrder w.controllers m → TellsMerge s (settled_word stop w (cond mine (master_step (causes.Message m) at w) (worker_step m.receiver NoMessage (causes.Message m) at w)))
+    → Merges w (settled stop w (cond mine (master_step (causes.Message m) at w) (worker_step m.receiver NoMessage (causes.Message m) at w))) s
 receiver_merges true m at stop w s ok good tells =
     let step = settled_tells stop w (master_moved w.controllers (taken_by_master m at w.controllers.master)) s tells in
     let x = w.controllers.master in
     let told = (told_reply (master_messages.take_refusal m x) x.name m at x (master_messages.taken m.body at x) s step.0).0 in
-    taken_merges m at w (settled stop w (master_takes m at w)) s (record_of w.controllers.master.records s) ok good refl told step.1
+    taken_merges m at w (settled stop w (master_step (causes.Message m) at w)) s (record_of w.controllers.master.records s) ok good refl told step.1
 receiver_merges false m at stop w s ok good tells =
     absurd (no_found (worker_of w.controllers.workers m.receiver) (taken_by_worker m at) NoMessage stop w s (λ v. no_worker_take m at v s) (λ e. cc) tells)
 

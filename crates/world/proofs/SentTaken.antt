@@ -14,7 +14,8 @@ use Rattle.world.proofs.Doors.{master_refuses_nothing, worker_refuses_nothing}
 use Rattle.world.proofs.Receivers.{master_receives, worker_receives}
 use Rattle.world.specs.Controllers.{Controllers}
 use Rattle.world.specs.Controllers.{worker_of}
-use Rattle.world.specs.Happening.{master_takes, receiver_takes, settled_word, worker_takes}
+use Rattle.stored_state.specs.declared.cause.Cause.TheVariants as causes
+use Rattle.world.specs.Happening.{master_step, receiver_takes, settled_word, worker_step}
 use Rattle.world.specs.Laws.{SentIsTaken}
 use Rattle.world.specs.Messages.{IsInOrder}
 use Rattle.world.specs.State.{IsKept, State}
@@ -31,21 +32,21 @@ Said w step = (reply : Reply) × ((settled_word Run w step).word ≡ Did reply)
 
 -- ---- what it says
 
-master_said : (m : Message) (at : ℕ) (w : State) → master_messages.take_refusal m w.controllers.master ≡ None → Said w (master_takes m at w)
+master_said : (m : Message) (at : ℕ) (w : State) → master_messages.take_refusal m w.controllers.master ≡ None → Said w (master_step (causes.Message m) at w)
 master_said m at w none =
     let x = w.controllers.master in
     let t = master_messages.taken m.body at x in
     (t.reply, ap (λ o. word_of (answering x.name m at o x t).reply) none)
 
-worker_said : (m : Message) (at : ℕ) (w : State) (v : worker.Known) → worker_of w.controllers.workers m.receiver ≡ Some v → worker_messages.take_refusal m v ≡ None → Said w (worker_takes m at w)
+worker_said : (m : Message) (at : ℕ) (w : State) (v : worker.Known) → worker_of w.controllers.workers m.receiver ≡ Some v → worker_messages.take_refusal m v ≡ None → Said w (worker_step m.receiver NoMessage (causes.Message m) at w)
 worker_said m at w v found none = (
   (worker_messages.taken m.body at v).reply,
   ap (λ o. (settled_word Run w (option_map_or (λ u. Ok (worker_moved w.controllers u (taken_by_worker m at u))) o (Err NoMessage))).word) found ∙ ap (λ o. word_of (answering v.name m at o v (worker_messages.taken m.body at v)).reply) none,
 )
 
 -- who takes it is told by its receiver
-by_receiver : (mine : Bool) (m : Message) (at : ℕ) (w : State) → bytes_eq m.receiver w.controllers.master.name ≡ mine → Said w (cond mine (master_takes m at w) (worker_takes m at w)) → Said w (receiver_takes at w m)
-by_receiver mine m at w is said = subst (λ b. Said w (cond b (master_takes m at w) (worker_takes m at w))) (sym is) said
+by_receiver : (mine : Bool) (m : Message) (at : ℕ) (w : State) → bytes_eq m.receiver w.controllers.master.name ≡ mine → Said w (cond mine (master_step (causes.Message m) at w) (worker_step m.receiver NoMessage (causes.Message m) at w)) → Said w (receiver_takes at w m)
+by_receiver mine m at w is said = subst (λ b. Said w (cond b (master_step (causes.Message m) at w) (worker_step m.receiver NoMessage (causes.Message m) at w))) (sym is) said
 
 taken_by : (theirs : Bool) (m : Message) (at : ℕ) (w : State) → worker_messages.is_for_workers m.body ≡ theirs → IsKept w → IsInOrder w.controllers m → Said w (receiver_takes at w m)
 taken_by false m at w mine ok h = by_receiver true m at w (master_receives w m h mine) (master_said m at w (master_refuses_nothing w.controllers m ok.recorded ok.back mine h))

@@ -11,7 +11,8 @@ use Rattle.world.proofs.AlwaysKept.{message_there}
 use Rattle.world.proofs.Cases.{split, when_false, when_true}
 use Rattle.world.proofs.Receivers.{master_receives, worker_receives}
 use Rattle.world.specs.Controllers.{Controllers}
-use Rattle.world.specs.Happening.{delivery_step, is_reached, master_takes, receiver_takes, worker_takes}
+use Rattle.stored_state.specs.declared.cause.Cause.TheVariants as causes
+use Rattle.world.specs.Happening.{delivery_step, is_reached, master_step, receiver_takes, worker_step}
 use Rattle.world.specs.Messages.{IsInOrder}
 use Rattle.world.specs.State.{IsKept, State, message_at}
 use Rattle.world.specs.Step.{StepOrWord}
@@ -34,9 +35,9 @@ is_received w k at m ok found =
     ∙ split (is_for_workers m.body)
     (λ theirs.
     let by = worker_receives w m ok h theirs in
-    ap is_ok (when_false mine (master_takes m at w) (worker_takes m at w) by.other)
+    ap is_ok (when_false mine (master_step (causes.Message m) at w) (worker_step m.receiver NoMessage (causes.Message m) at w) by.other)
     ∙ ap (λ (o : Option worker.Known). is_ok (option_map_or (λ v. Ok (worker_moved c v (taken_by_worker m at v))) o (Err NoMessage))) by.found)
-    (λ masters. ap is_ok (when_true mine (master_takes m at w) (worker_takes m at w) (master_receives w m h masters)))
+    (λ masters. ap is_ok (when_true mine (master_step (causes.Message m) at w) (worker_step m.receiver NoMessage (causes.Message m) at w) (master_receives w m h masters)))
 
 -- so it comes to a controller
 pub comes : {P : Type 0} (w : State) (k at : ℕ) (m : Message) → IsKept w → message_at w.messages k ≡ Some m → is_reached (delivery_step k at w) ≡ false → P

@@ -1,11 +1,15 @@
 -- What happens at an event: which step is made, and what is left of it.
-use Rattle.std.specs.Prelude.{ℕ, Bool, true, false, List, if◌then◌else◌, Ok, Err}
+use Rattle.std.specs.Prelude.{◌≡◌, ℕ, Bool, true, false, List, if◌then◌else◌, Ok, Err}
+use Rattle.std.specs.List.{Contains}
 use Rattle.std.specs.Option.{option_map_or}
 use Rattle.std.specs.Str.{bytes_eq}
 use Rattle.ticket_items.specs.declared.refusal.Refusal.TheVariants.{UnknownWorker}
 use Rattle.controller.specs.declared.message.Message.{Message}
 use Rattle.master_core.specs.declared.order.Order as master
 use Rattle.worker_core.specs.declared.order.Order as worker
+use Rattle.stored_state.specs.Cause.{caused}
+use Rattle.stored_state.specs.declared.cause.Cause.{Cause}
+use Rattle.stored_state.specs.declared.cause.Cause.TheVariants as causes
 use Rattle.world.specs.Running as running
 use Rattle.world.specs.Running.{Machine}
 use Rattle.world.specs.State.{Controllers, State, is_controller, message_at, worker_of}
@@ -27,31 +31,31 @@ use Rattle.world_items.specs.declared.word.Word.TheVariants.{NoMessage, Refused,
 
 -- ---- one step
 
--- the master's on an order
-abbrev pub master_step : master.Order → ℕ → State → StepOrWord Controllers Message
-master_step o at w = Ok (master_moved w.controllers (ordered_master o at w.controllers.master))
+-- the master's, of an order or of a message
+abbrev pub master_step : Cause master.Order → ℕ → State → StepOrWord Controllers Message
+master_step cause at w =
+    Ok (master_moved w.controllers
+    (caused ordered_master taken_by_master cause at w.controllers.master))
 
--- the one of the worker of a name, if there is one
-abbrev pub worker_step : List ℕ → worker.Order → ℕ → State → StepOrWord Controllers Message
-worker_step name o at w =
-    option_map_or (λ v. Ok (worker_moved w.controllers v (ordered_worker o at v)))
-    (worker_of w.controllers.workers name) (Err (Refused UnknownWorker))
+-- the one of the worker of a name, if there is one, or else this word
+abbrev pub worker_step : List ℕ → Word → Cause worker.Order → ℕ → State
+    → StepOrWord Controllers Message
+worker_step name none cause at w =
+    option_map_or (λ v. Ok (worker_moved w.controllers v
+    (caused ordered_worker taken_by_worker cause at v)))
+    (worker_of w.controllers.workers name) (Err none)
 
--- the master's on a message
-abbrev pub master_takes : Message → ℕ → State → StepOrWord Controllers Message
-master_takes m at w = Ok (master_moved w.controllers (taken_by_master m at w.controllers.master))
-
--- the one of the worker that a message is for, if there is one
-abbrev pub worker_takes : Message → ℕ → State → StepOrWord Controllers Message
-worker_takes m at w =
-    option_map_or (λ v. Ok (worker_moved w.controllers v (taken_by_worker m at v)))
-    (worker_of w.controllers.workers m.receiver) (Err NoMessage)
+-- a message that comes to the controller of a name was sent to it. It may be told anything
+abbrev pub ComesTo : {O : Type 0} → List ℕ → List Message → Cause O → Type 0
+ComesTo name messages (causes.Order o) = ⊤
+ComesTo name messages (causes.Message m) = Contains messages m × (m.receiver ≡ name)
 
 -- the one of the receiver of a message
 abbrev pub receiver_takes : ℕ → State → Message → StepOrWord Controllers Message
 receiver_takes at w m =
     if bytes_eq m.receiver w.controllers.master.name
-    then master_takes m at w else worker_takes m at w
+    then master_step (causes.Message m) at w
+    else worker_step m.receiver NoMessage (causes.Message m) at w
 
 -- the one of the receiver of the message of a number, if there is one
 abbrev pub delivery_step : ℕ → ℕ → State → StepOrWord Controllers Message
@@ -65,8 +69,8 @@ restart_word name w =
 
 -- that of what happens
 abbrev pub step_of : What → ℕ → State → StepOrWord Controllers Message
-step_of (MasterOrder o) at w = master_step o at w
-step_of (WorkerOrder name o) at w = worker_step name o at w
+step_of (MasterOrder o) at w = master_step (causes.Order o) at w
+step_of (WorkerOrder name o) at w = worker_step name (Refused UnknownWorker) (causes.Order o) at w
 step_of (Deliver k) at w = delivery_step k at w
 step_of (Restart name) at w = Err (restart_word name w)
 

@@ -2,7 +2,6 @@ use crate::apart::are_names_apart;
 use crate::sent::Sent;
 use crate::stepping;
 use crate::workers::{new_workers, place_of, station_of};
-use controller::Message;
 use master_core::Master;
 use std::alloc::{AllocError, Global};
 use std::marker::Model;
@@ -34,8 +33,8 @@ impl Model for World {
 impl World {
     ghost use Rattle.std.specs.Prelude.{◌≡◌, ◌↔◌, ◌⊎◌, ◌∷◌, true, false, OnOk, OnErr, IfOk, IfErr};
     ghost use Rattle.std.specs.Prelude.{◌<◌, ℕ, Err, List, length, map, take, IfSome, IsErrOf};
-    ghost use Rattle.std.specs.Prelude.{IsOk};
-    ghost use Rattle.std.specs.List.{Contains};
+    ghost use Rattle.std.specs.Prelude.{IsOk, is_some};
+    ghost use Rattle.std.specs.List.{position};
     ghost use Rattle.std.specs.Option.{option_copied};
     ghost use Rattle.ticket_items.specs.Ids.{are_distinct};
     ghost use Rattle.ticket_rows.specs.Ticket.{Job};
@@ -136,100 +135,58 @@ impl World {
         self.messages.texts()
     }
 
-    /// The master is told to do something.
-    fn order_master(
+    /// The master is told to do something, or a message that was sent to it comes to it.
+    fn tell_master(
         &mut self,
         alloc: Global,
-        order: master_core::Order,
+        cause: Cause<master_core::Order>,
         at: u64,
         stop: Stop,
     ) -> Result<Answer, AllocError>
+        requires { happening.ComesTo self.old.controllers.master.name self.old.messages cause }
         ensures answer { IfOk result (λ a. a
-            ≡ happening.settled_word stop self.old (happening.master_step order at self.old)) }
+            ≡ happening.settled_word stop self.old (happening.master_step cause at self.old)) }
         ensures state { OnOk result (self.new
-            ≡ happening.settled stop self.old (happening.master_step order at self.old)) }
+            ≡ happening.settled stop self.old (happening.master_step cause at self.old)) }
         ensures err { OnErr result (self.new ≡ self.old) }
         ensures kept { state.IsKept self.old }
     {
-        let cause = Cause::Order(order);
         stepping::steps(alloc, &mut self.master, &mut self.messages, cause, at, stop)
     }
 
-    /// The worker of a name is told to do something.
-    fn order_worker(
+    /// The worker that stands at a place is told to do something, or a message that was sent to it
+    /// comes to it. With no place no step is made, which is answered by this word.
+    fn tell_worker(
         &mut self,
         alloc: Global,
-        name: &Id,
-        order: worker_core::Order,
+        place: Option<usize>,
+        none: Word,
+        cause: Cause<worker_core::Order>,
         at: u64,
         stop: Stop,
     ) -> Result<Answer, AllocError>
-        ensures answer { IfOk result (λ a. a
-            ≡ happening.settled_word stop self.old
-            (happening.worker_step name.now order at self.old)) }
-        ensures state { OnOk result (self.new
-            ≡ happening.settled stop self.old (happening.worker_step name.now order at self.old)) }
+        requires { (name : List ℕ)
+            × (position (state.is_named name) self.old.controllers.workers ≡ place)
+            × happening.ComesTo name self.old.messages cause }
+        ensures answer { (name : List ℕ)
+            → position (state.is_named name) self.old.controllers.workers ≡ place
+            → IfOk result (λ a. a ≡ happening.settled_word stop self.old
+            (happening.worker_step name none cause at self.old)) }
+        ensures state { (name : List ℕ)
+            → position (state.is_named name) self.old.controllers.workers ≡ place
+            → OnOk result (self.new ≡ happening.settled stop self.old
+            (happening.worker_step name none cause at self.old)) }
         ensures err { OnErr result (self.new ≡ self.old) }
-        ensures unmade { happening.is_reached (happening.worker_step name.now order at self.old)
-            ≡ false → IsOk result }
+        ensures unmade { is_some place ≡ false → IsOk result }
         ensures kept { state.IsKept self.old }
     {
-        match place_of(self.workers.as_slice(), name) {
+        match place {
             None => {
-                drop(order);
-                Ok(Answer::without_step(Word::Refused(Refusal::UnknownWorker)))
+                drop(cause);
+                Ok(Answer::without_step(none))
             }
             Some(place) => {
                 let stored = &mut self.workers[place];
-                let cause = Cause::Order(order);
-                stepping::steps(alloc, stored, &mut self.messages, cause, at, stop)
-            }
-        }
-    }
-
-    /// A message that was sent to the master comes to it.
-    fn deliver_to_master(
-        &mut self,
-        alloc: Global,
-        message: Message,
-        at: u64,
-        stop: Stop,
-    ) -> Result<Answer, AllocError>
-        requires sent { Contains self.old.messages message }
-        requires own { message.receiver ≡ self.old.controllers.master.name }
-        ensures answer { IfOk result (λ a. a
-            ≡ happening.settled_word stop self.old (happening.master_takes message at self.old)) }
-        ensures state { OnOk result (self.new
-            ≡ happening.settled stop self.old (happening.master_takes message at self.old)) }
-        ensures err { OnErr result (self.new ≡ self.old) }
-    {
-        let cause = Cause::Message(message);
-        stepping::steps(alloc, &mut self.master, &mut self.messages, cause, at, stop)
-    }
-
-    /// A message that was sent comes to the worker that it is for, if there is one.
-    fn deliver_to_worker(
-        &mut self,
-        alloc: Global,
-        message: Message,
-        at: u64,
-        stop: Stop,
-    ) -> Result<Answer, AllocError>
-        requires sent { Contains self.old.messages message }
-        ensures answer { IfOk result (λ a. a
-            ≡ happening.settled_word stop self.old (happening.worker_takes message at self.old)) }
-        ensures state { OnOk result (self.new
-            ≡ happening.settled stop self.old (happening.worker_takes message at self.old)) }
-        ensures err { OnErr result (self.new ≡ self.old) }
-    {
-        match place_of(self.workers.as_slice(), &message.receiver) {
-            None => {
-                drop(message);
-                Ok(Answer::without_step(Word::NoMessage))
-            }
-            Some(place) => {
-                let stored = &mut self.workers[place];
-                let cause = Cause::Message(message);
                 stepping::steps(alloc, stored, &mut self.messages, cause, at, stop)
             }
         }
@@ -256,10 +213,10 @@ impl World {
             return Ok(Answer::without_step(Word::NoMessage));
         };
         if message.receiver == *self.master.controller().name() {
-            self.deliver_to_master(alloc, message, at, stop)
-        } else {
-            self.deliver_to_worker(alloc, message, at, stop)
+            return self.tell_master(alloc, Cause::Message(message), at, stop);
         }
+        let place = place_of(self.workers.as_slice(), &message.receiver);
+        self.tell_worker(alloc, place, Word::NoMessage, Cause::Message(message), at, stop)
     }
 
     /// The controller of a name stops, and is started again from the text of its state.
@@ -309,8 +266,12 @@ impl World {
     {
         let Event { what, at, stop } = event;
         match what {
-            What::MasterOrder(order) => self.order_master(alloc, order, at, stop),
-            What::WorkerOrder(name, order) => self.order_worker(alloc, &name, order, at, stop),
+            What::MasterOrder(order) => self.tell_master(alloc, Cause::Order(order), at, stop),
+            What::WorkerOrder(name, order) => {
+                let place = place_of(self.workers.as_slice(), &name);
+                let none = Word::Refused(Refusal::UnknownWorker);
+                self.tell_worker(alloc, place, none, Cause::Order(order), at, stop)
+            }
             What::Deliver(number) => self.deliver(alloc, number, at, stop),
             What::Restart(name) => self.restart(alloc, &name),
         }

@@ -1,21 +1,28 @@
+use Rattle.std.proofs.Common.{◌∙◌, ap, sym}
+use Rattle.std.specs.List.{position}
 use Rattle.world.proofs.Changing.{alone, by_holders, kept_then}
 use Rattle.world.proofs.Replayed.{said_so, shown_so}
+use Rattle.world.specs.State.{State, is_named}
 use Rattle.world_items.specs.declared.what.What.TheVariants.{MasterOrder, WorkerOrder, Deliver, Restart}
 use Rattle.world.proofs.world.World.step.Goals as goal
 
 -- ---- what is answered, and what is shown then
 
 pub returns-in-MasterOrder-clause-said : goal.returns-in-MasterOrder-clause-said
-returns-in-MasterOrder-clause-said c = said_so c.order_master.result c.args.event (MasterOrder c.in-MasterOrder.order) c.args.self.now c.order_master.ensures.kept c.in-MasterOrder.is c.order_master.ensures.answer
+returns-in-MasterOrder-clause-said c = said_so c.tell_master.result c.args.event (MasterOrder c.in-MasterOrder.order) c.args.self.now c.tell_master.ensures.kept c.in-MasterOrder.is c.tell_master.ensures.answer
 
 pub returns-in-MasterOrder-clause-shown : goal.returns-in-MasterOrder-clause-shown
-returns-in-MasterOrder-clause-shown c = shown_so c.order_master.result c.args.event (MasterOrder c.in-MasterOrder.order) c.args.self.now c.order_master.new.self c.order_master.ensures.kept c.in-MasterOrder.is c.order_master.ensures.state
+returns-in-MasterOrder-clause-shown c = shown_so c.tell_master.result c.args.event (MasterOrder c.in-MasterOrder.order) c.args.self.now c.tell_master.new.self c.tell_master.ensures.kept c.in-MasterOrder.is c.tell_master.ensures.state
 
 pub returns-in-WorkerOrder-clause-said : goal.returns-in-WorkerOrder-clause-said
-returns-in-WorkerOrder-clause-said c = said_so c.order_worker.result c.args.event (WorkerOrder c.in-WorkerOrder.name c.in-WorkerOrder.order) c.args.self.now c.order_worker.ensures.kept c.in-WorkerOrder.is c.order_worker.ensures.answer
+returns-in-WorkerOrder-clause-said c =
+    let place = sym (c.place_of.ensures ∙ ap (position (is_named c.in-WorkerOrder.name)) (c.as_slice.ensures.value ∙ ap (λ (v : State). v.controllers.workers) c.self.view_is)) in
+    said_so c.tell_worker.result c.args.event (WorkerOrder c.in-WorkerOrder.name c.in-WorkerOrder.order) c.args.self.now c.tell_worker.ensures.kept c.in-WorkerOrder.is (c.tell_worker.ensures.answer c.in-WorkerOrder.name place)
 
 pub returns-in-WorkerOrder-clause-shown : goal.returns-in-WorkerOrder-clause-shown
-returns-in-WorkerOrder-clause-shown c = shown_so c.order_worker.result c.args.event (WorkerOrder c.in-WorkerOrder.name c.in-WorkerOrder.order) c.args.self.now c.order_worker.new.self c.order_worker.ensures.kept c.in-WorkerOrder.is c.order_worker.ensures.state
+returns-in-WorkerOrder-clause-shown c =
+    let place = sym (c.place_of.ensures ∙ ap (position (is_named c.in-WorkerOrder.name)) (c.as_slice.ensures.value ∙ ap (λ (v : State). v.controllers.workers) c.self.view_is)) in
+    shown_so c.tell_worker.result c.args.event (WorkerOrder c.in-WorkerOrder.name c.in-WorkerOrder.order) c.args.self.now c.tell_worker.new.self c.tell_worker.ensures.kept c.in-WorkerOrder.is (c.tell_worker.ensures.state c.in-WorkerOrder.name place)
 
 pub returns-in-Deliver-clause-said : goal.returns-in-Deliver-clause-said
 returns-in-Deliver-clause-said c = said_so c.deliver.result c.args.event (Deliver c.in-Deliver.number) c.args.self.now c.deliver.ensures.kept c.in-Deliver.is c.deliver.ensures.answer
@@ -32,16 +39,20 @@ returns-in-Restart-clause-shown c = shown_so c.restart.result c.args.event (Rest
 -- ---- who may change what then
 
 pub returns-in-MasterOrder-clause-alone : goal.returns-in-MasterOrder-clause-alone
-returns-in-MasterOrder-clause-alone c = alone c.order_master.new.self (kept_then c.order_master.result (MasterOrder c.in-MasterOrder.order) c.args.event.at c.args.event.stop c.args.self.now c.order_master.new.self c.order_master.ensures.kept c.order_master.ensures.state c.order_master.ensures.err)
+returns-in-MasterOrder-clause-alone c = alone c.tell_master.new.self (kept_then c.tell_master.result (MasterOrder c.in-MasterOrder.order) c.args.event.at c.args.event.stop c.args.self.now c.tell_master.new.self c.tell_master.ensures.kept c.tell_master.ensures.state c.tell_master.ensures.err)
 
 pub returns-in-MasterOrder-clause-held : goal.returns-in-MasterOrder-clause-held
-returns-in-MasterOrder-clause-held c = by_holders c.order_master.new.self (kept_then c.order_master.result (MasterOrder c.in-MasterOrder.order) c.args.event.at c.args.event.stop c.args.self.now c.order_master.new.self c.order_master.ensures.kept c.order_master.ensures.state c.order_master.ensures.err)
+returns-in-MasterOrder-clause-held c = by_holders c.tell_master.new.self (kept_then c.tell_master.result (MasterOrder c.in-MasterOrder.order) c.args.event.at c.args.event.stop c.args.self.now c.tell_master.new.self c.tell_master.ensures.kept c.tell_master.ensures.state c.tell_master.ensures.err)
 
 pub returns-in-WorkerOrder-clause-alone : goal.returns-in-WorkerOrder-clause-alone
-returns-in-WorkerOrder-clause-alone c = alone c.order_worker.new.self (kept_then c.order_worker.result (WorkerOrder c.in-WorkerOrder.name c.in-WorkerOrder.order) c.args.event.at c.args.event.stop c.args.self.now c.order_worker.new.self c.order_worker.ensures.kept c.order_worker.ensures.state c.order_worker.ensures.err)
+returns-in-WorkerOrder-clause-alone c =
+    let place = sym (c.place_of.ensures ∙ ap (position (is_named c.in-WorkerOrder.name)) (c.as_slice.ensures.value ∙ ap (λ (v : State). v.controllers.workers) c.self.view_is)) in
+    alone c.tell_worker.new.self (kept_then c.tell_worker.result (WorkerOrder c.in-WorkerOrder.name c.in-WorkerOrder.order) c.args.event.at c.args.event.stop c.args.self.now c.tell_worker.new.self c.tell_worker.ensures.kept (c.tell_worker.ensures.state c.in-WorkerOrder.name place) c.tell_worker.ensures.err)
 
 pub returns-in-WorkerOrder-clause-held : goal.returns-in-WorkerOrder-clause-held
-returns-in-WorkerOrder-clause-held c = by_holders c.order_worker.new.self (kept_then c.order_worker.result (WorkerOrder c.in-WorkerOrder.name c.in-WorkerOrder.order) c.args.event.at c.args.event.stop c.args.self.now c.order_worker.new.self c.order_worker.ensures.kept c.order_worker.ensures.state c.order_worker.ensures.err)
+returns-in-WorkerOrder-clause-held c =
+    let place = sym (c.place_of.ensures ∙ ap (position (is_named c.in-WorkerOrder.name)) (c.as_slice.ensures.value ∙ ap (λ (v : State). v.controllers.workers) c.self.view_is)) in
+    by_holders c.tell_worker.new.self (kept_then c.tell_worker.result (WorkerOrder c.in-WorkerOrder.name c.in-WorkerOrder.order) c.args.event.at c.args.event.stop c.args.self.now c.tell_worker.new.self c.tell_worker.ensures.kept (c.tell_worker.ensures.state c.in-WorkerOrder.name place) c.tell_worker.ensures.err)
 
 pub returns-in-Deliver-clause-alone : goal.returns-in-Deliver-clause-alone
 returns-in-Deliver-clause-alone c = alone c.deliver.new.self (kept_then c.deliver.result (Deliver c.in-Deliver.number) c.args.event.at c.args.event.stop c.args.self.now c.deliver.new.self c.deliver.ensures.kept c.deliver.ensures.state c.deliver.ensures.err)
