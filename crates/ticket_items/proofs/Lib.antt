@@ -1,5 +1,6 @@
 pub mod Apart
 pub mod AtKey
+pub mod AttrPlaces
 pub mod KeyPlaces
 pub mod Ordered
 pub mod Places

@@ -1,6 +1,7 @@
 pub mod Names
 pub mod Refusal
 pub mod Attrs
+pub mod AttrPlaces
 pub mod Ids
 pub mod SpawnId
 pub mod SpawnStatus

@@ -4,9 +4,11 @@
 
 mod ancestor;
 mod attrs;
+mod attrs_iter;
 mod audit;
 mod duplicate;
 mod edit;
+mod few_attrs;
 mod id;
 mod items;
 mod link;
@@ -25,6 +27,7 @@ mod usage;
 
 pub use ancestor::Ancestor;
 pub use attrs::Attrs;
+pub use attrs_iter::AttrsIter;
 pub use audit::Audit;
 pub use duplicate::{Duplicate, copies};
 pub use edit::Edit;
