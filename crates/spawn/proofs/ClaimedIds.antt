@@ -96,7 +96,7 @@ some_passes_at false f y xs e any go =
     let later = go any in
     (later.0, or_right (bytes_eq y later.0) (mem later.0 xs) later.1, later.2)
 
-some_passes : (f : List ℕ → Bool) (xs : List (List ℕ)) → list_any f xs ≡ true
+pub some_passes : (f : List ℕ → Bool) (xs : List (List ℕ)) → list_any f xs ≡ true
     → (x : List ℕ) × (mem x xs ≡ true) × (f x ≡ true)
 some_passes f [] any = absurd (true≢false (sym any))
 some_passes f (y ∷ xs) any = some_passes_at (f y) f y xs refl any (some_passes f xs)
@@ -107,7 +107,7 @@ passes_there_at : (here : Bool) (f : List ℕ → Bool) (y x : List ℕ) (xs : L
 passes_there_at true f y x xs e there own go = or_left (f y) (list_any f xs) (ap f ((bytes_eq-Decides y x).0 e) ∙ own)
 passes_there_at false f y x xs e there own go = or_right (f y) (list_any f xs) (go there)
 
-passes_there : (f : List ℕ → Bool) (xs : List (List ℕ)) (x : List ℕ) → mem x xs ≡ true
+pub passes_there : (f : List ℕ → Bool) (xs : List (List ℕ)) (x : List ℕ) → mem x xs ≡ true
     → f x ≡ true → list_any f xs ≡ true
 passes_there f [] x there own = absurd (true≢false (sym there))
 passes_there f (y ∷ xs) x there own = passes_there_at (bytes_eq y x) f y x xs refl there own (λ later. passes_there f xs x later own)

@@ -17,7 +17,7 @@ use Rattle.spawn.proofs.Ended.{find_set, holds_nothing, none_holds}
 use Rattle.spawn.proofs.Holdings.{held_given}
 use Rattle.spawn.proofs.KeptApart.{free, wanted_too}
 use Rattle.spawn.proofs.Standing.{named}
-use Rattle.spawn.proofs.Winner.{none_held}
+use Rattle.spawn.proofs.NoneHeld.{none_held}
 use Rattle.spawn.specs.Claim.{is_claimed}
 use Rattle.spawn.specs.Holdings.{Holdings, IsTable, claim_given, held_by}
 use Rattle.spawn.specs.HoldingsLaws.{EndKeepsTable, SpawnKeepsTable}

@@ -115,7 +115,7 @@ nodes_around rows n at =
     let mid = at.root ∷ at.inner in
     ap node_ids at.whole ∙ map-append (λ r. r.id) (at.front ++ mid) at.back ∙ ap (λ is. is ++ node_ids at.back) (map-append (λ r. r.id) at.front mid) ∙ append_assoc (node_ids at.front) (node_ids mid) (node_ids at.back)
 
-only_at : (b : Bool) (x : List ℕ) (xs ys : List (List ℕ)) → are_distinct (xs ++ ys) ≡ true
+pub only_at : (b : Bool) (x : List ℕ) (xs ys : List (List ℕ)) → are_distinct (xs ++ ys) ≡ true
     → mem x xs ≡ b → mem x ys ≡ true → b ≡ false
 only_at false x xs ys apart e there = refl
 only_at true x xs ys apart e there = absurd (true≢false (sym there ∙ apart_lists x xs ys apart e))

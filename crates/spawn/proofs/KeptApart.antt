@@ -19,7 +19,7 @@ use Rattle.ticket_items.specs.declared.refusal.Refusal.TheVariants.{NotHeld, Too
 use Rattle.spawn.proofs.Among.{kept_keys}
 use Rattle.spawn.proofs.NewRecord.{good_stays, new_is_good}
 use Rattle.spawn.proofs.PartKept.{allowed}
-use Rattle.spawn.proofs.Winner.{none_held, winner}
+use Rattle.spawn.proofs.NoneHeld.{none_held, first_holding}
 use Rattle.spawn.specs.Claim.{is_claimed, linked_outside}
 use Rattle.spawn.specs.Laws.{SpawnKeepsApart}
 use Rattle.spawn.specs.Records.{IsGood}
@@ -75,8 +75,8 @@ no_holder (Some r) e = cc
 
 pub free : (rows : List NodeRow) (recs : List SpawnRec) (number : ℕ) (n : List ℕ) (ids : List (List ℕ))
     → spawn_refusal rows recs number n ids ≡ None
-    → winner (is_claimed n ids) recs (places rows) ≡ None
-free rows recs number n ids none = no_holder (winner (is_claimed n ids) recs (places rows)) (unheld (has_node rows n) (is_some (up (node_places rows) n)) _ _ _ (is_spawn_number number) none)
+    → first_holding (is_claimed n ids) recs (places rows) ≡ None
+free rows recs number n ids none = no_holder (first_holding (is_claimed n ids) recs (places rows)) (unheld (has_node rows n) (is_some (up (node_places rows) n)) _ _ _ (is_spawn_number number) none)
 
 wider : (a b c : Bool) → (a || b) ≡ true → (b ≡ true → c ≡ true) → (a || c) ≡ true
 wider true b c h go = refl

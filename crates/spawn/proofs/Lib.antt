@@ -16,7 +16,7 @@ pub mod Sorting
 pub mod OutSteps
 pub mod Shown
 mod Worked
-pub mod Winner
+pub mod NoneHeld
 pub mod PartFor
 pub mod LinkedOutside
 pub mod Chosen
@@ -43,4 +43,5 @@ pub mod Holdings
 pub mod HoldingsEdited
 pub mod Ended
 pub mod HoldingsKept
-pub mod HoldingsHeld
+pub mod InFront
+pub mod FirstHeld

@@ -219,7 +219,7 @@ swaps rows n changes reads valid at copies q l linked res =
           ∙ within (mem some.0 q) (bytes_eq n some.0) (mem some.0 at.up) (sym (mem-append some.0 q (n ∷ at.up)) ∙ on) (not_above rows n some.0 valid at stands.1)
     ]
 
-resolved-append : (all : List NodeRow) (before : Path) (xs ys : List NodeRow)
+pub resolved-append : (all : List NodeRow) (before : Path) (xs ys : List NodeRow)
     → are_resolved_from all before (xs ++ ys) ≡ true
     → (are_resolved_from all before xs ≡ true)
     × (are_resolved_from all (path_after before xs) ys ≡ true)

@@ -1,14 +1,13 @@
 -- Who holds what, id by id: the table of holders as a list that is kept in step with a ticket and
 -- its records.
-use Rattle.std.specs.Prelude.{◌≡◌, ℕ, ◌-◌, Bool, false, List, length, map, take, Option}
+use Rattle.std.specs.Prelude.{◌≡◌, ℕ, ◌-◌, Bool, List, length, map, take, Option}
 use Rattle.std.specs.Prelude.{if◌then◌else◌}
 use Rattle.std.specs.Map.{lookup}
-use Rattle.std.specs.Option.{option_map_or}
 use Rattle.std.specs.Str.{bytes_eq}
 use Rattle.ticket_rows.specs.Place.{places}
 use Rattle.ticket_items.specs.declared.node_row.NodeRow.{NodeRow}
 use Rattle.spawn.specs.Stored.{claims_id}
-use Rattle.spawn.specs.Table.{holder_at, holder_of, is_masters}
+use Rattle.spawn.specs.Table.{holder_at, holder_of}
 use Rattle.spawn.specs.declared.tables.holder.Holder.{Holder}
 use Rattle.spawn.specs.declared.tables.holder.Holder.TheVariants.{Master}
 use Rattle.spawn.specs.declared.records.spawn_rec.SpawnRec.{SpawnRec}
@@ -20,10 +19,6 @@ Holdings = List (List ℕ × Holder)
 -- the holder of an id, if it stands there
 abbrev pub held_by : Holdings → List ℕ → Option Holder
 held_by h x = lookup (bytes_eq x) h
-
--- whether the master holds an id
-abbrev pub has_master : Holdings → List ℕ → Bool
-has_master h x = option_map_or is_masters (held_by h x) false
 
 -- the ids
 abbrev pub held_ids : Holdings → List (List ℕ)

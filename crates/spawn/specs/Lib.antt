@@ -4,7 +4,7 @@ pub mod Table
 pub mod Parts
 pub mod Spawning
 pub mod Marking
-pub mod Bounds
+pub mod FirstHeld
 pub mod IdSet
 pub mod Laws
 pub mod Stored

@@ -1,5 +1,5 @@
 -- Who holds what: the one table of holders, by the records of the spawns that are out.
-use Rattle.std.specs.Prelude.{ℕ, ◌&&◌, Bool, true, false, List, Option, Some, if◌then◌else◌}
+use Rattle.std.specs.Prelude.{ℕ, ◌&&◌, Bool, true, false, List, Option, Some, None, if◌then◌else◌}
 use Rattle.std.specs.List.{find}
 use Rattle.std.specs.Option.{option_map, option_map_or}
 use Rattle.ticket_rows.specs.Homes.{home_of}
@@ -36,3 +36,8 @@ holder_of rows recs x = option_map (holder_at recs) (place_at (places rows) x)
 abbrev pub is_masters : Holder → Bool
 is_masters Master = true
 is_masters (Spawn s) = false
+
+-- the spawn that this holder is, if it isn't the master
+abbrev pub as_spawn : Holder → Option ℕ
+as_spawn Master = None
+as_spawn (Spawn s) = Some s

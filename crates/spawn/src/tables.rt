@@ -1,6 +1,6 @@
-pub mod first_holding;
 pub mod holder;
 pub mod holders;
 pub mod holding;
+pub mod known;
 pub mod marking;
 pub mod table;

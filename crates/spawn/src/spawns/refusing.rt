@@ -1,22 +1,21 @@
 //! Why a spawn is refused: the first reason that holds.
 
-ghost use Rattle.std.specs.Prelude.{◌≡◌, ◌++◌, ◌∷◌, [], true, false, Some, None, is_some};
+ghost use Rattle.std.specs.Prelude.{◌≡◌, ◌∷◌, [], true, Some, None, is_some};
 ghost use Rattle.std.specs.Prelude.{IfSome, MatchResult};
 ghost use Rattle.std.specs.List.{list_all};
 ghost use Rattle.ticket_rows.specs.Homes.{has_resource};
 ghost use Rattle.ticket_items.specs.Ids.{mem};
 ghost use Rattle.ticket_rows.specs.Place.{node_places, places, up};
-ghost use Rattle.ticket_rows.specs.Ticket.{IsValid, first_of, has_node, ids, unless};
+ghost use Rattle.ticket_rows.specs.Ticket.{IsValid, first_of, has_node, unless};
 ghost use Rattle.ticket_tree.specs.At.{rows_below};
 ghost use Rattle.spawn.specs.Claim.{ids_of, linked_outside};
-ghost use Rattle.spawn.specs.Holdings.{IsTable, has_master};
+ghost use Rattle.spawn.specs.Holdings.{IsTable};
 ghost use Rattle.spawn.specs.Spawning as spawning;
 
-use crate::claims::claim::Claim;
 use crate::claims::links_outside::is_linked_outside;
 use crate::records::spawn_rec::SpawnRec;
-use crate::tables::first_holding::first_holding;
 use crate::tables::holders::Holders;
+use crate::tables::known::Known;
 use ticket_tree::{Id, NodeRow, Refusal, SpawnId, Ticket};
 
 /// The rows of a node that stands below another and of those below it, or `UnknownNode`, then
@@ -65,19 +64,6 @@ fn are_linked_outside(ticket: &Ticket, node: &Id, below: &[NodeRow], ids: &[Id])
     true
 }
 
-/// Whether the master is known to hold all of a node, below which are these rows, and of these
-/// resources.
-fn is_known_held(holders: Option<&Holders>, below: &[NodeRow], rw: &[Id]) -> bool
-    ensures held { result ≡ true
-        → IfSome holders.entry (λ h. list_all (has_master h.now) (ids below.now ++ rw.now) ≡ true) }
-    ensures some { result ≡ true → is_some holders.entry ≡ true }
-{
-    match holders {
-        None => false,
-        Some(holders) => holders.has_all(below, rw),
-    }
-}
-
 /// Whether the master holds all that a spawn would claim, or `NotHeld` with the spawn that holds
 /// the first that it doesn't. It is told by who holds what, where that is known, and else by the
 /// records.
@@ -85,24 +71,25 @@ fn check_held(
     ticket: &Ticket,
     records: &[SpawnRec],
     holders: Option<&Holders>,
-    below: &[NodeRow],
     node: &Id,
     rw: &[Id],
 ) -> Result<(), Refusal>
-    requires valid { IsValid ticket.now.rows }
-    requires rows { below.now ≡ rows_below ticket.now.rows node.now }
+    requires known { has_node ticket.now.rows node.now ≡ true }
+    requires linked { list_all
+        (λ x. mem x (ids_of (linked_outside (places ticket.now.rows) node.now))) rw.now ≡ true }
     requires table { IfSome holders (λ h. IsTable ticket.now.rows records.now h.now) }
     ensures { MatchResult result
         (λ _. spawning.not_held (places ticket.now.rows) records.now node.now rw.now ≡ None)
         (λ e. spawning.not_held (places ticket.now.rows) records.now node.now rw.now ≡ Some e) }
 {
-    if is_known_held(holders, below, rw) {
-        return Ok(());
-    }
-    let claim = Claim::of(ticket, node, rw);
-    match first_holding(ticket, &claim, records) {
+    let known = Known {
+        ticket,
+        records,
+        holders,
+    };
+    match known.first_holding(node, rw) {
         None => Ok(()),
-        Some(spawn) => Err(Refusal::NotHeld(spawn.id)),
+        Some(spawn) => Err(Refusal::NotHeld(spawn)),
     }
 }
 
@@ -127,7 +114,7 @@ pub(crate) fn check_spawn(
     if !are_linked_outside(ticket, node, below, rw) {
         return Err(Refusal::NotLinked);
     }
-    check_held(ticket, records, holders, below, node, rw)?;
+    check_held(ticket, records, holders, node, rw)?;
     SpawnId::new(number)?;
     Ok(())
 }

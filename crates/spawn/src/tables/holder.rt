@@ -1,3 +1,6 @@
+ghost use Rattle.std.specs.Prelude.{◌≡◌};
+ghost use Rattle.spawn.specs.Table as table;
+
 use ticket_tree::SpawnId;
 
 /// Who may change a node or a resource.
@@ -6,4 +9,16 @@ pub enum Holder {
     Master,
     /// The controller to which this spawn went.
     Spawn(SpawnId),
+}
+
+impl Holder {
+    /// The spawn, if it isn't the master.
+    pub(crate) fn as_spawn(self) -> Option<SpawnId>
+        ensures { result ≡ table.as_spawn self }
+    {
+        match self {
+            Holder::Master => None,
+            Holder::Spawn(spawn) => Some(spawn),
+        }
+    }
 }

@@ -1,14 +1,13 @@
 //! The table of holders, looked up by id.
 
 ghost use Rattle.std.specs.Prelude.{◌≡◌, ◌++◌, ◌∷◌, [], List, None, true, IfErr, IfOk, OnErr, OnOk};
-ghost use Rattle.std.specs.List.{list_all};
 ghost use Rattle.std.specs.Str.{bytes_eq};
 ghost use Rattle.ticket_items.specs.Ids.{are_distinct, mem};
 ghost use Rattle.ticket_items.specs.Resource.{resource_ids};
 ghost use Rattle.ticket_rows.specs.Ticket.{IsValid, ids, ids_of};
 ghost use Rattle.spawn.specs.Holdings as holdings;
 ghost use Rattle.spawn.specs.Holdings.{IsTable, claim_given, given, held_by, held_ids, masters};
-ghost use Rattle.spawn.specs.Holdings.{has_master, without_last};
+ghost use Rattle.spawn.specs.Holdings.{without_last};
 ghost use Rattle.spawn.specs.declared.records.spawn_rec.SpawnRec.{SpawnRec};
 
 use crate::records::spawn_rec::SpawnRec;
@@ -58,52 +57,6 @@ impl Holders {
         ensures { result ≡ held_by self.now id.now }
     {
         self.holders.get(id).copied()
-    }
-
-    /// Whether the master holds an id.
-    fn is_masters(&self, id: &Id) -> bool
-        ensures { result ≡ has_master self.now id.now }
-    {
-        match self.get(id) {
-            Some(Holder::Master) => true,
-            Some(Holder::Spawn(_)) => false,
-            None => false,
-        }
-    }
-
-    /// Whether the master holds each resource of a pool.
-    fn has_pool(&self, pool: &[Resource]) -> bool
-        ensures { result ≡ list_all (λ x. has_master self.now x.id) pool.now }
-    {
-        pool.iter().all(|resource| self.is_masters(&resource.id))
-    }
-
-    /// Whether the master holds a node and each resource of its pool.
-    fn has_row(&self, row: &NodeRow) -> bool
-        ensures { result ≡ list_all (has_master self.now) (ids_of row.now) }
-    {
-        self.is_masters(&row.id) && self.has_pool(row.resources.as_slice())
-    }
-
-    /// Whether the master holds these nodes, with the resources at home there.
-    fn has_rows(&self, rows: &[NodeRow]) -> bool
-        ensures { result ≡ list_all (λ r. list_all (has_master self.now) (ids_of r)) rows.now }
-    {
-        rows.iter().all(|row| self.has_row(row))
-    }
-
-    /// Whether the master holds these ids.
-    fn has_ids(&self, ids: &[Id]) -> bool
-        ensures { result ≡ list_all (has_master self.now) ids.now }
-    {
-        ids.iter().all(|id| self.is_masters(id))
-    }
-
-    /// Whether the master holds these nodes, with the resources at home there, and these ids.
-    pub(crate) fn has_all(&self, rows: &[NodeRow], more: &[Id]) -> bool
-        ensures { result ≡ list_all (has_master self.now) (ids rows.now ++ more.now) }
-    {
-        self.has_rows(rows) && self.has_ids(more)
     }
 
     /// Adds a new id, behind all others, which the master holds. Refuses `Memory`, and then changes

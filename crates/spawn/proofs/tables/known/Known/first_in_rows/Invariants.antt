@@ -1,0 +1,10 @@
+use Rattle.std.proofs.Common.{◌≡◌, drop}
+use Rattle.ticket_rows.specs.Ticket.{ids}
+use Rattle.spawn.specs.FirstHeld.{asked, first_answer}
+use Rattle.spawn.proofs.tables.known.Known.first_in_rows.Given as goal
+
+-- no spawn holds what is asked for of those so far
+abbrev pub invariant-loop-row : goal.invariant-loop-row
+invariant-loop-row l =
+    first_answer (asked l.self.ticket.now.rows l.self.records.now l.some) (ids l.rows)
+    ≡ first_answer (asked l.self.ticket.now.rows l.self.records.now l.some) (ids (drop l.row-index l.rows))
