@@ -1,6 +1,6 @@
 -- The form of resources (JDF 1.5, 3.8). Their ids, names and texts may be any bytes.
 use Rattle.std.specs.Prelude.{ℕ, ◌&&◌, Bool, List, [], ◌∷◌, codes, map, Option, Some}
-use Rattle.serde_json.specs.Data.{Data, Members, no_members, member, boolean, string, object}
+use Rattle.serde_json.specs.Data.{Data, no_members, member, boolean, string, object}
 use Rattle.serde_json.specs.Find.{get}
 use Rattle.ticket_items.specs.Names.{is_name}
 use Rattle.ticket_items.specs.declared.resource.Resource.{Resource}

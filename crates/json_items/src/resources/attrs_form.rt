@@ -77,7 +77,7 @@ fn build_attrs(alloc: Global, pairs: &[(&str, &str)]) -> Result<Attrs, Refusal>
     ensures ok { IfOk result (λ attrs. attrs ≡ lent_pairs pairs.now) }
     ensures memory { IfErr result (λ e. e ≡ Refusal.Memory) }
 {
-    let mut attrs = Attrs::new(alloc);
+    let mut attrs = Attrs::with_capacity(alloc, pairs.len())?;
     for (name, text) in pairs {
         set_attr(alloc, &mut attrs, name, text)?;
     }

@@ -4,4 +4,4 @@ use Rattle.json_items.proofs.resources.attrs_form.build_attrs.Given as goal
 
 -- the pairs so far are set
 abbrev pub invariant-loop-name : goal.invariant-loop-name
-invariant-loop-name l = l.attrs ≡ lent_pairs (take l.name-index l.pairs)
+invariant-loop-name l = l.attrs ≡ take l.name-index (lent_pairs l.pairs)

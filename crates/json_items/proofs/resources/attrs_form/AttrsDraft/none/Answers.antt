@@ -1,7 +1,7 @@
 use Rattle.std.proofs.Common.{ap, sym, subst}
 use Rattle.ticket_items.specs.Attrs.{IsInOrder}
 use Rattle.json_source.specs.Read.{lent_pairs}
-use Rattle.json_items.proofs.Pairs.{none_in_order}
+use Rattle.ticket_items.proofs.Ordered.{none_in_order}
 use Rattle.json_items.proofs.resources.attrs_form.AttrsDraft.none.Goals as goal
 
 pub invariant_of-result : goal.invariant_of-result
