@@ -51,7 +51,7 @@ pub some_look : {V : Type 0} (ls : List (List ℕ × V)) (y : List ℕ)
 some_look {V = V} ls y =
     mapped_some (λ (l : List ℕ × V). l.1) (find (λ l. bytes_eq l.0 y) ls) ∙ is_some-find (λ (l : List ℕ × V). bytes_eq l.0 y) ls ∙ any_key (λ (l : List ℕ × V). l.0) y ls
 
-none_of : {X : Type 0} (o : Option X) → is_some o ≡ false → o ≡ None
+pub none_of : {X : Type 0} (o : Option X) → is_some o ≡ false → o ≡ None
 none_of None h = refl
 none_of (Some x) h = cc
 

@@ -21,7 +21,7 @@ use Rattle.spawn.proofs.Among.{apart_lists, distinct_back, out_of_both}
 use Rattle.spawn.proofs.Chosen.{AllOwn, all_own}
 use Rattle.spawn.proofs.AroundAt.{shows}
 use Rattle.spawn.proofs.ClaimedIds.{below_rows, passes_there, some_passes}
-use Rattle.spawn.proofs.Entries.{or_none, some_first}
+use Rattle.spawn.proofs.Entries.{none_of, or_none, some_first}
 use Rattle.spawn.proofs.HomesBelow.{ids-append, only_at, or_right}
 use Rattle.spawn.proofs.InFront.{in_front, one_passes}
 use Rattle.spawn.proofs.SoundPart.{false_by}
@@ -145,10 +145,6 @@ around_node rows recs n rw a valid at =
 
 -- ---- where no spawn holds one of the resources
 
-pub no_spawn : (o : Option ℕ) → is_some o ≡ false → o ≡ None
-no_spawn None e = refl
-no_spawn (Some s) e = cc
-
 none_at : (b : Bool) (o : Option ℕ) → (b ≡ true → o ≡ None) → cond b o None ≡ None
 none_at true o none = none refl
 none_at false o none = refl
@@ -156,7 +152,7 @@ none_at false o none = refl
 none_among : (h : List ℕ → Option ℕ) (rw xs : List (List ℕ))
     → list_any (λ x. is_some (h x)) rw ≡ false → first_answer (among h rw) xs ≡ None
 none_among h rw xs none =
-    ap (λ ys. slice_get ys 0) (no_answers (among h rw) xs (λ x. none_at (mem x rw) (h x) (λ there. no_spawn (h x) (false_by (is_some (h x)) (λ some. true≢false (sym (passes_there (λ y. is_some (h y)) rw x there some) ∙ none))))))
+    ap (λ ys. slice_get ys 0) (no_answers (among h rw) xs (λ x. none_at (mem x rw) (h x) (λ there. none_of (h x) (false_by (is_some (h x)) (λ some. true≢false (sym (passes_there (λ y. is_some (h y)) rw x there some) ∙ none))))))
 
 -- then the first is one of those below the node
 pub first_below : (rows : List NodeRow) (recs : List SpawnRec) (n : List ℕ) (rw : List (List ℕ))

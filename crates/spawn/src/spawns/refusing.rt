@@ -65,8 +65,7 @@ fn are_linked_outside(ticket: &Ticket, node: &Id, below: &[NodeRow], ids: &[Id])
 }
 
 /// Whether the master holds all that a spawn would claim, or `NotHeld` with the spawn that holds
-/// the first that it doesn't. It is told by who holds what, where that is known, and else by the
-/// records.
+/// the first that it doesn't.
 fn check_held(
     ticket: &Ticket,
     records: &[SpawnRec],

@@ -73,7 +73,7 @@ impl Known<'_> {
         }
     }
 
-    /// The spawn that holds the first resource of a pool that is asked for and a spawn holds.
+    /// Of what is asked for in a pool, the first that a spawn holds: that spawn.
     fn first_in_pool(&self, some: Option<&[Id]>, pool: &[Resource]) -> Option<SpawnId>
         requires { IsKnown self.now }
         ensures { result ≡ first_answer
@@ -89,7 +89,7 @@ impl Known<'_> {
         None
     }
 
-    /// The same of a node and the resources of its pool.
+    /// The same of a node and its pool.
     fn first_in_row(&self, some: Option<&[Id]>, row: &NodeRow) -> Option<SpawnId>
         requires { IsKnown self.now }
         ensures { result ≡ first_answer
@@ -101,7 +101,7 @@ impl Known<'_> {
         }
     }
 
-    /// The same of nodes and the resources of their pools.
+    /// The same of nodes and their pools.
     fn first_in_rows(&self, some: Option<&[Id]>, rows: &[NodeRow]) -> Option<SpawnId>
         requires { IsKnown self.now }
         ensures { result ≡ first_answer
@@ -116,9 +116,9 @@ impl Known<'_> {
         None
     }
 
-    /// The spawn that holds the first, in ticket order, of what a spawn of a node with copies of
-    /// these resources to change would claim and a spawn holds. The resources are at home above the
-    /// node, and so in front of it.
+    /// Of what a spawn of a node with copies of these resources to change would claim, the first in
+    /// ticket order that a spawn holds: that spawn. The resources are at home above the node, so
+    /// they come first; the rows in front are gone through only where a spawn holds one of them.
     pub fn first_holding(&self, node: &Id, rw: &[Id]) -> Option<SpawnId>
         requires table { IsKnown self.now }
         requires known { has_node self.now.ticket.now.rows node.now ≡ true }

@@ -1,8 +1,8 @@
 use Rattle.std.proofs.Common.{◌∙◌, ◌+◌, drop, sym, ap}
 use Rattle.std.specs.Option.{option_or}
 use Rattle.ticket_rows.specs.Ticket.{ids}
-use Rattle.spawn.proofs.Entries.{some_first}
-use Rattle.spawn.proofs.FirstHeld.{next_row, no_spawn}
+use Rattle.spawn.proofs.Entries.{none_of, some_first}
+use Rattle.spawn.proofs.FirstHeld.{next_row}
 use Rattle.spawn.specs.FirstHeld.{asked, first_answer}
 use Rattle.spawn.proofs.tables.known.Known.first_in_rows.Goals as goal
 
@@ -24,4 +24,4 @@ loop-row-preserved c =
     let i = c.loop-row.row-index in
     let later = first_answer h (ids (drop (i + 1) rows)) in
     c.loop-row.invariant ∙ next_row h rows i c.row-item.result c.loop-row-test.true c.row-item.is
-    ∙ ap (λ o. option_or o later) (sym c.first_in_row-found.ensures ∙ no_spawn c.first_in_row-found.result (sym c.is_some.ensures ∙ c.if-is_some.false))
+    ∙ ap (λ o. option_or o later) (sym c.first_in_row-found.ensures ∙ none_of c.first_in_row-found.result (sym c.is_some.ensures ∙ c.if-is_some.false))
