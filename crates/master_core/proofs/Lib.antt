@@ -14,8 +14,7 @@ pub mod FitTests
 pub mod NextNumbers
 pub mod Merging
 pub mod Passing
-pub mod HoldersKept
-pub mod Kept
+pub mod InStep
 pub mod KeptStored
 pub mod NeverMemory
 pub mod Sends

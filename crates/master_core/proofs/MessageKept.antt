@@ -64,7 +64,7 @@ phase_recorded ph s rows later records same recorded =
 
 -- ---- a part put in
 
-merged_kept : (p : Copied) (at : ℕ) (w : Known) (r : SpawnRec) → IsValid (with_copies p.rows p.rw p.ro) → IsKept w → Placed w.records r → is_out r ≡ true → Fits w.ticket r p → IsKept (merged p at w r)
+pub merged_kept : (p : Copied) (at : ℕ) (w : Known) (r : SpawnRec) → IsValid (with_copies p.rows p.rw p.ro) → IsKept w → Placed w.records r → is_out r ≡ true → Fits w.ticket r p → IsKept (merged p at w r)
 merged_kept p at w r valid kept place out fits =
     let good = kept.apart.good place.place r place.there out in
     record {
@@ -86,7 +86,7 @@ taken_kept p at w r valid kept found none =
 
 -- ---- a spawn withdrawn
 
-freed_kept : (at : ℕ) (w : Known) (r : SpawnRec) → IsKept w → Placed w.records r → is_out r ≡ true → IsKept (freed at w r)
+pub freed_kept : (at : ℕ) (w : Known) (r : SpawnRec) → IsKept w → Placed w.records r → is_out r ≡ true → IsKept (freed at w r)
 freed_kept at w r kept place out =
     let rows = w.ticket.rows in
     let above = parent_of rows r.node in

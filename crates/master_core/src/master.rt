@@ -1,11 +1,8 @@
 use crate::names::are_apart;
 use crate::order::Order;
-use crate::ordering::do_order;
 use crate::stored::is_master;
-use crate::taking;
-use crate::taking::take_unless;
 use controller::answering::outcome_of;
-use controller::{Body, Done, Message, Outcome, Taken};
+use controller::{Done, Message, Outcome};
 use spawn::{Holder, Holders, SpawnRec, marked};
 use std::alloc::{AllocError, Global};
 use std::marker::Model;
@@ -17,9 +14,9 @@ use ticket_tree::{Id, Ids, Marks, Refusal, Ticket};
 pub struct Master {
     name: Id,
     workers: Ids,
-    ticket: Ticket,
-    records: Vec<SpawnRec>,
-    holders: Holders,
+    pub(crate) ticket: Ticket,
+    pub(crate) records: Vec<SpawnRec>,
+    pub(crate) holders: Holders,
 }
 
 impl Model for Master {
@@ -34,7 +31,7 @@ impl Model for Master {
 }
 
 impl Master {
-    ghost use Rattle.std.specs.Prelude.{◌≡◌, ◌⊎◌, ◌∷◌, ℕ, true, false, [], Err, OnOk, OnErr};
+    ghost use Rattle.std.specs.Prelude.{◌≡◌, ◌⊎◌, ◌∷◌, true, false, [], Err, OnOk, OnErr};
     ghost use Rattle.std.specs.Prelude.{IfOk, IfErr, IsErrOf, IsOk};
     ghost use Rattle.ticket_items.specs.Ids.{are_distinct};
     ghost use Rattle.controller.specs.Reply.{is_answer, is_freed};
@@ -190,25 +187,7 @@ impl Master {
         ensures memory { IfOk (orders.order_step order at self.old).reply
             (λ _. IfErr result (λ e. e ≡ Refusal.Memory)) }
     {
-        do_order(
-            alloc,
-            &self.name,
-            self.workers.as_slice(),
-            &mut self.ticket,
-            &mut self.records,
-            &mut self.holders,
-            order,
-            at,
-        )
-    }
-
-    /// What it takes a message as, and what a command is told, unless it refuses it. Needs no
-    /// memory.
-    pub fn taken_as(&self, body: &Body) -> Taken
-        ensures reply { (at : ℕ) → result.reply ≡ (messages.taken body.now at self.now).reply }
-        ensures told { (at : ℕ) → result.told ≡ (messages.taken body.now at self.now).told }
-    {
-        taking::taken_as(self, body)
+        self.do_order(alloc, order, at)
     }
 
     /// Takes a message, whoever sent it and whatever it says, at a time in seconds since 1970. The
@@ -228,21 +207,13 @@ impl Master {
             → IfOk (messages.take_step message at self.old).reply (λ r. is_freed r ≡ false)
             → IsOk result }
     {
-        let taken = taking::judged(self, &message);
+        let taken = self.judged(&message);
         let refused = taken.is_err();
-        match outcome_of(alloc, self.name(), &message, at, taken) {
-            Ok(outcome) => {
-                let ticket = &mut self.ticket;
-                let records = &mut self.records;
-                let holders = &mut self.holders;
-                take_unless(refused, alloc, ticket, records, holders, message.body, at).and(Ok(
-                    outcome,
-                ))
-            }
-            Err(error) => {
-                drop(message);
-                Err(error)
-            }
+        let outcome = outcome_of(alloc, self.name(), &message, at, taken)?;
+        if refused {
+            return Ok(outcome);
         }
+        self.take_body(alloc, message.body, at)?;
+        Ok(outcome)
     }
 }

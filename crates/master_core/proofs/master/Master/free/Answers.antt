@@ -1,0 +1,42 @@
+use Rattle.std.proofs.Common.{◌≡◌, ◌∙◌, ◌<◌, true, length, sym, ap, subst}
+use Rattle.master_core.proofs.InStep.{free_in_step}
+use Rattle.master_core.proofs.Merging.{free_is, free_there}
+use Rattle.master_core.proofs.RecordPlaces.{OutThere, out_read, out_there}
+use Rattle.master_core.specs.Master.{is_spawn_out, known}
+use Rattle.master_core.specs.Messages.{declined}
+use Rattle.master_core.proofs.master.Master.free.Goals as goal
+use Rattle.master_core.proofs.master.Master.free.Goals.{After-index_mut-record}
+
+-- the record, where it stands
+own : (c : After-index_mut-record) → OutThere c.self.inside.records.items c.args.spawn c.place_of.result c.index_mut-record.result.now
+own c =
+    let out : is_spawn_out c.self.inside.records.items c.args.spawn ≡ true = ap (λ rs. is_spawn_out rs c.args.spawn) (sym c.as_slice.ensures.value) ∙ sym c.is_spawn_out.ensures ∙ c.if-not-is_spawn_out.false in
+    out_read c.self.inside.records.items c.args.spawn c.place_of.result c.index_mut-record.result.now c.self.invariant.kept.numbered c.place_of.ensures out c.index_mut-record.ensures.value
+
+pub index_mut-record-requires : goal.index_mut-record-requires
+index_mut-record-requires c =
+    let out : is_spawn_out c.self.inside.records.items c.args.spawn ≡ true = ap (λ rs. is_spawn_out rs c.args.spawn) (sym c.as_slice.ensures.value) ∙ sym c.is_spawn_out.ensures ∙ c.if-not-is_spawn_out.false in
+    subst (λ n. c.place_of.result < n) (ap length (sym c.as_slice.ensures.value) ∙ c.as_slice.ensures.len) (out_there c.self.inside.records.items c.args.spawn c.place_of.result c.self.invariant.kept.numbered c.place_of.ensures out).1.within
+
+pub withdraw-requires-clause-out : goal.withdraw-requires-clause-out
+withdraw-requires-clause-out c = (own (goal.at.withdraw-requires-clause-out c).After-index_mut-record).out
+
+pub withdraw-requires-clause-good : goal.withdraw-requires-clause-good
+withdraw-requires-clause-good c =
+    let here = own (goal.at.withdraw-requires-clause-good c).After-index_mut-record in
+    c.self.invariant.kept.apart.good c.place_of.result c.index_mut-record.result.now here.there here.out
+
+pub invariant_of-self : goal.invariant_of-self
+invariant_of-self c =
+    let w = known c.self.inside.name c.self.inside.workers c.self.inside.ticket c.self.inside.records.items in
+    let here = own (goal.at.invariant_of-self c).After-index_mut-record in
+    rw (c.set.ensures, c.in-Ok.ensures.withdrawn, c.in-Ok.ensures.phase) (free_in_step w c.self.inside.holders c.args.spawn c.args.at c.place_of.result c.index_mut-record.result.now c.self.invariant here)
+
+pub returns-in-Ok-clause-ok : goal.returns-in-Ok-clause-ok
+returns-in-Ok-clause-ok c =
+    let w = known c.self.inside.name c.self.inside.workers c.self.inside.ticket c.self.inside.records.items in
+    let here = own (goal.at.returns-in-Ok-clause-ok c).After-index_mut-record in
+    rw (c.in-Ok.ensures.withdrawn, c.in-Ok.ensures.phase)
+    (free_there w c.args.spawn c.args.at c.place_of.result c.index_mut-record.result.now c.self.invariant.kept.numbered here
+    ∙ free_is w c.args.spawn c.args.at c.place_of.result c.index_mut-record.result.now here
+    ∙ ap (λ v. (declined c.args.spawn c.args.at v).next) c.self.view_is)

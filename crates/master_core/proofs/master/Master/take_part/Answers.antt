@@ -1,0 +1,56 @@
+use Rattle.std.proofs.Common.{◌≡◌, ◌∙◌, ◌<◌, true, length, sym, ap, subst}
+use Rattle.merge.proofs.Fitting.{part_fits}
+use Rattle.merge.specs.Alike.{is_fit}
+use Rattle.merge.specs.Shape.{Fits}
+use Rattle.master_core.proofs.InStep.{put_in_step}
+use Rattle.master_core.proofs.Merging.{put_is, put_there}
+use Rattle.master_core.proofs.RecordPlaces.{OutThere, out_read, out_there}
+use Rattle.master_core.specs.Master.{Known, is_spawn_out, known, record_of}
+use Rattle.master_core.specs.Messages.{returned}
+use Rattle.master_core.proofs.master.Master.take_part.Goals as goal
+use Rattle.master_core.proofs.master.Master.take_part.Goals.{After-index_mut-record}
+
+-- the record, where it stands
+own : (c : After-index_mut-record) → OutThere c.self.inside.records.items c.args.part.spawn_id c.place_of.result c.index_mut-record.result.now
+own c =
+    let records = c.self.inside.records.items in
+    let s = c.args.part.spawn_id in
+    let out : is_spawn_out records s ≡ true = ap (λ rs. is_spawn_out rs s) (sym c.as_slice.ensures.value) ∙ ap (is_spawn_out c.as_slice.result.now) (sym c.spawn_id-spawn.ensures.id) ∙ sym c.is_spawn_out.ensures ∙ c.if-not-is_spawn_out.false in
+    out_read records s c.place_of.result c.index_mut-record.result.now c.self.invariant.kept.numbered (c.place_of.ensures ∙ c.spawn_id-spawn.ensures.id) out c.index_mut-record.ensures.value
+
+-- its part fits
+fitting : (c : After-index_mut-record) → Fits c.self.inside.ticket c.index_mut-record.result.now c.args.part
+fitting c =
+    let r = c.index_mut-record.result.now in
+    let s = c.args.part.spawn_id in
+    part_fits c.self.inside.ticket r c.args.part (ap (λ (w : Known). is_fit w.ticket r c.args.part) c.self.view_is ∙ c.requires r (ap (λ (w : Known). record_of w.records s) (sym c.self.view_is) ∙ (own c).found) (own c).out)
+
+pub index_mut-record-requires : goal.index_mut-record-requires
+index_mut-record-requires c =
+    let records = c.self.inside.records.items in
+    let s = c.args.part.spawn_id in
+    let out : is_spawn_out records s ≡ true = ap (λ rs. is_spawn_out rs s) (sym c.as_slice.ensures.value) ∙ ap (is_spawn_out c.as_slice.result.now) (sym c.spawn_id-spawn.ensures.id) ∙ sym c.is_spawn_out.ensures ∙ c.if-not-is_spawn_out.false in
+    subst (λ n. c.place_of.result < n) (ap length (sym c.as_slice.ensures.value) ∙ c.as_slice.ensures.len) (out_there records s c.place_of.result c.self.invariant.kept.numbered (c.place_of.ensures ∙ c.spawn_id-spawn.ensures.id) out).1.within
+
+pub merge_fitting-requires-clause-good : goal.merge_fitting-requires-clause-good
+merge_fitting-requires-clause-good c =
+    let here = own (goal.at.merge_fitting-requires-clause-good c).After-index_mut-record in
+    c.self.invariant.kept.apart.good c.place_of.result c.index_mut-record.result.now here.there here.out
+
+pub merge_fitting-requires-clause-fits : goal.merge_fitting-requires-clause-fits
+merge_fitting-requires-clause-fits c = fitting (goal.at.merge_fitting-requires-clause-fits c).After-index_mut-record
+
+pub invariant_of-self : goal.invariant_of-self
+invariant_of-self c =
+    let w = known c.self.inside.name c.self.inside.workers c.self.inside.ticket c.self.inside.records.items in
+    let at = (goal.at.invariant_of-self c).After-index_mut-record in
+    rw (c.set.ensures, c.in-Ok.ensures.merged, c.in-Ok.ensures.phase) (put_in_step w c.self.inside.holders c.args.part c.args.at c.place_of.result c.index_mut-record.result.now c.self.invariant (own at) (fitting at) c.spawn_id-spawn.ensures.valid)
+
+pub returns-in-Ok-clause-ok : goal.returns-in-Ok-clause-ok
+returns-in-Ok-clause-ok c =
+    let w = known c.self.inside.name c.self.inside.workers c.self.inside.ticket c.self.inside.records.items in
+    let here = own (goal.at.returns-in-Ok-clause-ok c).After-index_mut-record in
+    rw (c.in-Ok.ensures.merged, c.in-Ok.ensures.phase)
+    (put_there w c.args.part c.args.at c.place_of.result c.index_mut-record.result.now c.self.invariant.kept.numbered here
+    ∙ put_is w c.args.part c.args.at c.place_of.result c.index_mut-record.result.now here
+    ∙ ap (λ v. (returned c.args.part c.args.at v).next) c.self.view_is)
