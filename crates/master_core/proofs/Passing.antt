@@ -1,6 +1,6 @@
 -- What is told of a refusal, as it is passed on.
-use Rattle.std.proofs.Common.{◌≡◌, ◌∙◌, ℕ, Bool, true, false, [], ◌∷◌, Option, Some, None, Result, Ok, Err, IfOk, IfSome, is_some, refl, sym, ap}
-use Rattle.std.specs.Result.{IsErrAnd}
+use Rattle.std.proofs.Common.{◌≡◌, ◌∙◌, ℕ, Bool, true, false, [], ◌∷◌, Option, Some, None, Result, Ok, Err, IfOk, IfSome, OnErr, OnOk, is_some, refl, sym, ap}
+use Rattle.std.specs.Result.{IsErrAnd, result_or}
 use Rattle.ticket_items.specs.declared.refusal.Refusal.{Refusal}
 use Rattle.ticket_rows.specs.Ticket.{first_of, unless}
 use Rattle.controller.specs.Reply.{is_freed}
@@ -20,6 +20,16 @@ refused_through (Some r) inner (Err q) e told was is =
 pub went_free : {X : Type 0} (o : Option Refusal) (x : X) → IfSome o (λ (r : Refusal). Ok x ≡ Err r) → o ≡ None
 went_free None x told = refl
 went_free (Some r) x told = cc
+
+-- what follows where it went well holds where that was passed on
+pub went : {X E F P : Type 0} (first : Result X E) (told : Result X F) (f : F) (x : X) → told ≡ result_or first (Err f) → told ≡ Ok x → OnOk first P → P
+went (Ok y) told f x is ok p = p
+went (Err e) told f x is ok p = cc
+
+-- and where it didn't
+pub failed : {X E F P : Type 0} (first : Result X E) (told : Result X F) (f e : F) → told ≡ result_or first (Err f) → told ≡ Err e → OnErr first P → P
+failed (Ok y) told f e is bad p = cc
+failed (Err q) told f e is bad p = p
 
 -- one refusal alone, behind a test that is passed
 pub behind_test : (b : Bool) (r : Refusal) (o : Option Refusal) → b ≡ true → first_of (unless b r ∷ o ∷ []) ≡ o

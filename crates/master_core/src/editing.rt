@@ -58,10 +58,7 @@ impl Master {
     fn not_held(&self, id: &Id) -> Option<Refusal>
         ensures { result ≡ orders.not_held self.now id.now }
     {
-        match self.holder_of(id) {
-            None => None,
-            Some(holder) => held_refusal(holder),
-        }
+        held_refusal(self.holder_of(id)?)
     }
 
     /// Why an edit is refused: the first reason that holds. Needs no memory.

@@ -23,12 +23,8 @@ impl Master {
             return Ok(());
         }
         let record = &mut self.records[place_of(spawn)];
-        match withdraw(alloc, &mut self.ticket, record, at) {
-            Ok(()) => {
-                self.holders.set(&self.ticket, record, Holder::Master);
-                Ok(())
-            }
-            Err(_) => Err(AllocError),
-        }
+        withdraw(alloc, &mut self.ticket, record, at).or(Err(AllocError))?;
+        self.holders.set(&self.ticket, record, Holder::Master);
+        Ok(())
     }
 }

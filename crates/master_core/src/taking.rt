@@ -210,13 +210,9 @@ impl Master {
             return Ok(());
         }
         let record = &mut self.records[place_of(spawn)];
-        match merge_fitting(alloc, &mut self.ticket, record, part, at) {
-            Ok(()) => {
-                self.holders.set(&self.ticket, record, Holder::Master);
-                Ok(())
-            }
-            Err(_) => Err(AllocError),
-        }
+        merge_fitting(alloc, &mut self.ticket, record, part, at).or(Err(AllocError))?;
+        self.holders.set(&self.ticket, record, Holder::Master);
+        Ok(())
     }
 
     /// Takes the answer to a command, at a time. It takes no memory unless it frees its spawn.

@@ -1,6 +1,7 @@
 use Rattle.std.proofs.Common.{◌≡◌, ◌∙◌, ◌<◌, true, length, sym, ap, subst}
 use Rattle.master_core.proofs.InStep.{free_in_step}
 use Rattle.master_core.proofs.Merging.{free_is, free_there}
+use Rattle.master_core.proofs.Passing.{went}
 use Rattle.master_core.proofs.RecordPlaces.{OutThere, out_read, out_there}
 use Rattle.master_core.specs.Master.{is_spawn_out, known}
 use Rattle.master_core.specs.Messages.{declined}
@@ -26,17 +27,21 @@ withdraw-requires-clause-good c =
     let here = own (goal.at.withdraw-requires-clause-good c).After-index_mut-record in
     c.self.invariant.kept.apart.good c.place_of.result c.index_mut-record.result.now here.there here.out
 
-pub invariant_of-self : goal.invariant_of-self
-invariant_of-self c =
+pub invariant_of-self-2 : goal.invariant_of-self-2
+invariant_of-self-2 c =
     let w = known c.self.inside.name c.self.inside.workers c.self.inside.ticket c.self.inside.records.items in
-    let here = own (goal.at.invariant_of-self c).After-index_mut-record in
-    rw (c.set.ensures, c.in-Ok.ensures.withdrawn, c.in-Ok.ensures.phase) (free_in_step w c.self.inside.holders c.args.spawn c.args.at c.place_of.result c.index_mut-record.result.now c.self.invariant here)
+    let here = own (goal.at.invariant_of-self-2 c).After-index_mut-record in
+    let ticket = went c.withdraw.result c.or.result _ _ c.or.ensures c.in_ok-or.was c.withdraw.ensures.withdrawn in
+    let phase = went c.withdraw.result c.or.result _ _ c.or.ensures c.in_ok-or.was c.withdraw.ensures.phase in
+    rw (c.set.ensures, ticket, phase) (free_in_step w c.self.inside.holders c.args.spawn c.args.at c.place_of.result c.index_mut-record.result.now c.self.invariant here)
 
-pub returns-in-Ok-clause-ok : goal.returns-in-Ok-clause-ok
-returns-in-Ok-clause-ok c =
+pub returns-clause-ok : goal.returns-clause-ok
+returns-clause-ok c =
     let w = known c.self.inside.name c.self.inside.workers c.self.inside.ticket c.self.inside.records.items in
-    let here = own (goal.at.returns-in-Ok-clause-ok c).After-index_mut-record in
-    rw (c.in-Ok.ensures.withdrawn, c.in-Ok.ensures.phase)
+    let here = own (goal.at.returns-clause-ok c).After-index_mut-record in
+    let ticket = went c.withdraw.result c.or.result _ _ c.or.ensures c.in_ok-or.was c.withdraw.ensures.withdrawn in
+    let phase = went c.withdraw.result c.or.result _ _ c.or.ensures c.in_ok-or.was c.withdraw.ensures.phase in
+    rw (ticket, phase)
     (free_there w c.args.spawn c.args.at c.place_of.result c.index_mut-record.result.now c.self.invariant.kept.numbered here
     ∙ free_is w c.args.spawn c.args.at c.place_of.result c.index_mut-record.result.now here
     ∙ ap (λ v. (declined c.args.spawn c.args.at v).next) c.self.view_is)

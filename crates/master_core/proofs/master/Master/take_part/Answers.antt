@@ -1,9 +1,11 @@
-use Rattle.std.proofs.Common.{◌≡◌, ◌∙◌, ◌<◌, true, length, sym, ap, subst}
+use Rattle.std.proofs.Common.{◌≡◌, ◌∙◌, ◌<◌, true, length, slice_set, sym, ap, subst}
+use Rattle.std.proofs.lemmas.List.{set-get_or}
 use Rattle.merge.proofs.Fitting.{part_fits}
 use Rattle.merge.specs.Alike.{is_fit}
 use Rattle.merge.specs.Shape.{Fits}
 use Rattle.master_core.proofs.InStep.{put_in_step}
 use Rattle.master_core.proofs.Merging.{put_is, put_there}
+use Rattle.master_core.proofs.Passing.{failed, went}
 use Rattle.master_core.proofs.RecordPlaces.{OutThere, out_read, out_there}
 use Rattle.master_core.specs.Master.{Known, is_spawn_out, known, record_of}
 use Rattle.master_core.specs.Messages.{returned}
@@ -42,15 +44,28 @@ merge_fitting-requires-clause-fits c = fitting (goal.at.merge_fitting-requires-c
 
 pub invariant_of-self : goal.invariant_of-self
 invariant_of-self c =
-    let w = known c.self.inside.name c.self.inside.workers c.self.inside.ticket c.self.inside.records.items in
-    let at = (goal.at.invariant_of-self c).After-index_mut-record in
-    rw (c.set.ensures, c.in-Ok.ensures.merged, c.in-Ok.ensures.phase) (put_in_step w c.self.inside.holders c.args.part c.args.at c.place_of.result c.index_mut-record.result.now c.self.invariant (own at) (fitting at) c.spawn_id-spawn.ensures.valid)
+    let records = c.self.inside.records.items in
+    let k = c.place_of.result in
+    let ticket = failed c.merge_fitting.result c.or.result _ _ c.or.ensures c.in_err-or.was c.merge_fitting.ensures.ticket in
+    let spawn = failed c.merge_fitting.result c.or.result _ _ c.or.ensures c.in_err-or.was c.merge_fitting.ensures.spawn in
+    let still : slice_set records k c.merge_fitting.new.spawn ≡ records = ap (slice_set records k) (spawn ∙ c.index_mut-record.ensures.value) ∙ set-get_or records k c.index_mut-record.result.now in
+    rw (ticket, still) c.self.invariant
 
-pub returns-in-Ok-clause-ok : goal.returns-in-Ok-clause-ok
-returns-in-Ok-clause-ok c =
+pub invariant_of-self-2 : goal.invariant_of-self-2
+invariant_of-self-2 c =
     let w = known c.self.inside.name c.self.inside.workers c.self.inside.ticket c.self.inside.records.items in
-    let here = own (goal.at.returns-in-Ok-clause-ok c).After-index_mut-record in
-    rw (c.in-Ok.ensures.merged, c.in-Ok.ensures.phase)
+    let at = (goal.at.invariant_of-self-2 c).After-index_mut-record in
+    let ticket = went c.merge_fitting.result c.or.result _ _ c.or.ensures c.in_ok-or.was c.merge_fitting.ensures.merged in
+    let phase = went c.merge_fitting.result c.or.result _ _ c.or.ensures c.in_ok-or.was c.merge_fitting.ensures.phase in
+    rw (c.set.ensures, ticket, phase) (put_in_step w c.self.inside.holders c.args.part c.args.at c.place_of.result c.index_mut-record.result.now c.self.invariant (own at) (fitting at) c.spawn_id-spawn.ensures.valid)
+
+pub returns-clause-ok : goal.returns-clause-ok
+returns-clause-ok c =
+    let w = known c.self.inside.name c.self.inside.workers c.self.inside.ticket c.self.inside.records.items in
+    let here = own (goal.at.returns-clause-ok c).After-index_mut-record in
+    let ticket = went c.merge_fitting.result c.or.result _ _ c.or.ensures c.in_ok-or.was c.merge_fitting.ensures.merged in
+    let phase = went c.merge_fitting.result c.or.result _ _ c.or.ensures c.in_ok-or.was c.merge_fitting.ensures.phase in
+    rw (ticket, phase)
     (put_there w c.args.part c.args.at c.place_of.result c.index_mut-record.result.now c.self.invariant.kept.numbered here
     ∙ put_is w c.args.part c.args.at c.place_of.result c.index_mut-record.result.now here
     ∙ ap (λ v. (returned c.args.part c.args.at v).next) c.self.view_is)
