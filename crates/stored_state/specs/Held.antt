@@ -49,16 +49,6 @@ IsNotSaved is_honest held count save_fails text old new SaveFailed =
     FailsToSave is_honest held count save_fails text old new
 IsNotSaved is_honest held count save_fails text old new other = ⊥
 
--- why a step of a controller gives nothing out, by the text of the state that was to be saved:
--- memory ran out in the step, which changes nothing; or once it was done, or the save failed, and
--- then it is stale from then on
-abbrev pub StepGivesNothing : {C K : Type 0} → (K → Bool) → (K → List ℕ) → (K → ℕ)
-    → (K → List ℕ → K → Type 0) → List ℕ → Held C K → Held C K → Refused → Type 0
-StepGivesNothing is_honest held count save_fails text old new e =
-    ((e ≡ Core Memory) × (new ≡ old))
-    ⊎ ((new.stale ≡ true)
-    × IsNotSaved is_honest held count save_fails text old.keep new.keep e)
-
 -- why a step gives nothing out, and what that leaves. `Refuses` tells the refusals that change
 -- nothing, `IsText` the text of the state that was to be saved. Where memory ran out once the step
 -- was done, or the save failed, it is stale from then on

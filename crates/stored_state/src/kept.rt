@@ -6,17 +6,18 @@ ghost use Rattle.ticket_items.specs.declared.refusal.Refusal.TheVariants.{Memory
 ghost use Rattle.jmf_message.specs.Decoded.{IsRefusalOf as IsUndecoded};
 ghost use Rattle.controller.specs.Words.{may_be_sent};
 ghost use Rattle.keepers.specs.Keeper.{CountRose};
+ghost use Rattle.stored_state.specs.Cause.{caused};
 ghost use Rattle.stored_state.specs.Held.{GivesNothing, HoldsSame, IsNotLoaded};
-ghost use Rattle.stored_state.specs.Held.{IsNotSaved, IsReadAs, StepGivesNothing};
+ghost use Rattle.stored_state.specs.Held.{IsNotSaved, IsReadAs};
 ghost use Rattle.stored_state.specs.Message.{IsOfMessage, message_text};
 ghost use Rattle.streams.specs.declared.refused.Refused.TheVariants.{Core, LoadFailed};
 ghost use Rattle.streams.specs.declared.refused.Refused.TheVariants.{SaveFailed, Stale};
 
+use crate::cause::{Cause, make};
 use crate::order_bytes::OrderBytes;
 use crate::stored::Stored;
 use crate::storing::{load, save, save_step};
 use crate::taken_bytes::TakenBytes;
-use crate::told::told_of;
 use controller::{Message, Outcome};
 use jmf_message::decode;
 use keepers::Keep;
@@ -124,6 +125,36 @@ impl<C: Stored, K: Keep> Kept<C, K> {
         given
     }
 
+    /// Makes a step, saves the state that it leads to, and gives out what comes of it.
+    fn step(
+        &mut self,
+        alloc: Global,
+        cause: Cause<C::Order>,
+        at: u64,
+    ) -> Result<OrderBytes, Refused>
+        ensures reply { IfOk result (λ given. given.reply
+            ≡ (caused C.order_step C.take_step cause at self.old.controller).reply) }
+        ensures message { IfOk result (λ given. option_map (λ b. b.items) given.message
+            ≡ option_map message_text
+            (caused C.order_step C.take_step cause at self.old.controller).sent) }
+        ensures state { OnOk result (self.new.controller
+            ≡ (caused C.order_step C.take_step cause at self.old.controller).next) }
+        ensures fresh { OnOk result (self.new.stale ≡ false) }
+        ensures held { OnOk result (K.is_honest self.old.keep ≡ true →
+            K.held self.new.keep ≡ compact_text (C.state_data self.new.controller)) }
+        ensures again { OnOk result (K.is_honest self.old.keep ≡ true →
+            IsReadAs C.state_read (K.held self.new.keep) (Ok self.new.controller)) }
+        ensures honest { K.is_honest self.new.keep ≡ K.is_honest self.old.keep }
+        ensures counted { K.count self.old.keep ≤ K.count self.new.keep }
+        ensures refused { IfErr result (GivesNothing K.is_honest K.held K.count K.save_fails
+            (λ e. e ≡ Memory) (λ text. text ≡ compact_text (C.state_data
+            (caused C.order_step C.take_step cause at self.old.controller).next)) self.old self.new) }
+    {
+        let (Outcome { reply, answer }, _) = make(alloc, &mut self.controller, cause, at)?;
+        let message = self.give_out(alloc, answer)?;
+        Ok(OrderBytes { reply, message })
+    }
+
     /// Tells the controller an order, at a time in seconds since 1970, and saves its state, also
     /// where the controller refuses the order and so stays as it was. Gives out what it replies and
     /// the text of the message that goes out. Refuses `Stale` while it is stale, and where memory
@@ -153,9 +184,7 @@ impl<C: Stored, K: Keep> Kept<C, K> {
             drop(order);
             return Err(Refused::Stale);
         }
-        let Outcome { reply, answer } = told_of(self.controller.order(alloc, order, at))?;
-        let message = self.give_out(alloc, answer)?;
-        Ok(OrderBytes { reply, message })
+        self.step(alloc, Cause::Order(order), at)
     }
 
     /// Gives the controller the message that bytes are, at a time in seconds since 1970, and saves
@@ -187,36 +216,11 @@ impl<C: Stored, K: Keep> Kept<C, K> {
             return Err(Refused::Stale);
         }
         let message = decode(alloc, bytes)?;
-        self.take_message(alloc, message, at)
-    }
-
-    /// Gives the controller a message and saves its state.
-    fn take_message(
-        &mut self,
-        alloc: Global,
-        message: Message,
-        at: u64,
-    ) -> Result<TakenBytes, Refused>
-        ensures state { OnOk result
-            (self.new.controller ≡ (C.take_step message at self.old.controller).next) }
-        ensures reply { IfOk result
-            (λ given. given.reply ≡ (C.take_step message at self.old.controller).reply) }
-        ensures answer { IfOk result (λ given. option_map (λ b. b.items) given.answer
-            ≡ option_map message_text (C.take_step message at self.old.controller).sent) }
-        ensures fresh { OnOk result (self.new.stale ≡ false) }
-        ensures held { OnOk result (K.is_honest self.old.keep ≡ true →
-            K.held self.new.keep ≡ compact_text (C.state_data self.new.controller)) }
-        ensures again { OnOk result (K.is_honest self.old.keep ≡ true →
-            IsReadAs C.state_read (K.held self.new.keep) (Ok self.new.controller)) }
-        ensures honest { K.is_honest self.new.keep ≡ K.is_honest self.old.keep }
-        ensures counted { K.count self.old.keep ≤ K.count self.new.keep }
-        ensures refused { IfErr result (StepGivesNothing K.is_honest K.held K.count K.save_fails
-            (compact_text (C.state_data (C.take_step message at self.old.controller).next))
-            self.old self.new) }
-    {
-        let Outcome { reply, answer } = self.controller.take(alloc, message, at)?;
-        let answer = self.give_out(alloc, answer)?;
-        Ok(TakenBytes { reply, answer })
+        let given = self.step(alloc, Cause::Message(message), at)?;
+        Ok(TakenBytes {
+            reply: given.reply,
+            answer: given.message,
+        })
     }
 
     /// Loads the controller again, whose state its keeper holds; it isn't stale then. Refuses

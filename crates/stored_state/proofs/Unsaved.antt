@@ -1,0 +1,23 @@
+-- Steps that give nothing out.
+use Rattle.std.proofs.Common.{◌≡◌, ℕ, Bool, List, Result, Ok, Err, IfErr, IsErrAnd, ap, inl, inr, subst, sym}
+use Rattle.ticket_items.specs.declared.refusal.Refusal.{Refusal}
+use Rattle.stored_state.specs.Held.{GivesNothing, Held}
+use Rattle.streams.specs.declared.refused.Refused.{Refused}
+use Rattle.streams.specs.declared.refused.Refused.TheVariants as refused
+
+-- the controller as another, beside the same keeper
+abbrev pub held_as : {C D K : Type 0} → (C → D) → Held C K → Held D K
+held_as seen kept = record { controller = seen kept.controller; keep = kept.keep; stale = kept.stale }
+
+-- why nothing is given out, told by other words and of the controller as another
+pub nothing_of : {C D K : Type 0} (seen : C → D) (is_honest : K → Bool) (held : K → List ℕ) (count : K → ℕ) (save_fails : K → List ℕ → K → Type 0) (R S : Refusal → Type 0) (T U : List ℕ → Type 0) (old new : Held C K) → ((x : Refusal) → R x → S x) → ((t : List ℕ) → T t → U t) → (e : Refused) → GivesNothing is_honest held count save_fails R T old new e → GivesNothing is_honest held count save_fails S U (held_as seen old) (held_as seen new) e
+nothing_of seen h l n sf R S T U old new f g (refused.Core x) (inl why) = inl (f x why.0, ap (held_as seen) why.1)
+nothing_of seen h l n sf R S T U old new f g (refused.Core x) (inr why) =
+    inr (why.0, why.1, (why.2.0, g why.2.0 why.2.1), why.3)
+nothing_of seen h l n sf R S T U old new f g refused.SaveFailed why = (why.0, (why.1.0, g why.1.0 why.1.1, why.1.2))
+nothing_of seen h l n sf R S T U old new f g refused.Stale why = (why.0, ap (held_as seen) why.1)
+nothing_of seen h l n sf R S T U old new f g e why = why
+
+pub err_as : {A E : Type 0} (P : E → Type 0) (r : Result A E) (e : E) → IsErrAnd r (λ f. f ≡ e) → P e → IfErr r P
+err_as P (Ok a) e same p = tt
+err_as P (Err f) e same p = subst P (sym same) p
