@@ -1,3 +1,4 @@
+mod AnySteps
 pub mod Loading
 pub mod MessageTexts
 mod Unsaved

@@ -2,6 +2,7 @@ pub mod Held
 pub mod Kind
 pub mod Opened
 pub mod Step
+pub mod AnyStep
 pub mod Message
 pub mod Resting
 pub mod Rested

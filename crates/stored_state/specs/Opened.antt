@@ -7,6 +7,7 @@ use Rattle.master_core.specs.Master as master
 use Rattle.worker_core.specs.Worker as worker
 use Rattle.controller_form.specs.States.MasterForm.{master_state_read}
 use Rattle.controller_form.specs.States.WorkerForm.{worker_state_read}
+use Rattle.stored_state.specs.Held.{Held}
 use Rattle.stored_state.specs.Kind.{kind_in}
 use Rattle.stored_state.specs.declared.kind.Kind.{Kind}
 use Rattle.stored_state.specs.declared.kind.Kind.TheVariants as kinds
@@ -41,3 +42,7 @@ keep_in (opened.Worker kept) = kept.keep
 abbrev pub is_stale_in : {K : Type 0} → Opened K → Bool
 is_stale_in (opened.Master kept) = kept.stale
 is_stale_in (opened.Worker kept) = kept.stale
+
+abbrev pub held_in : {K : Type 0} → Opened K → Held AnyController K
+held_in opened =
+    record { controller = controller_in opened; keep = keep_in opened; stale = is_stale_in opened }

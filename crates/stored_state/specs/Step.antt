@@ -1,11 +1,12 @@
 -- Steps of a controller in text: with the text of what is sent, by the bytes of what comes, and as
 -- they are saved.
-use Rattle.std.specs.Prelude.{◌≡◌, ℕ, Bool, false, true, List, Result, Ok}
+use Rattle.std.specs.Prelude.{◌≡◌, ℕ, Bool, false, true, List, Option, Result, Ok}
 use Rattle.serde_json.specs.Data.{Data}
 use Rattle.ticket_items.specs.declared.refusal.Refusal.{Refusal}
 pub use Rattle.controller.specs.Step.{Step}
 use Rattle.controller.specs.Step.{sending}
 use Rattle.controller.specs.declared.message.Message.{Message}
+use Rattle.controller.specs.declared.reply.Reply.{Reply}
 use Rattle.json_profile.specs.ReadAs.{IsReadAs}
 use Rattle.stored_state.specs.Held.{Held}
 use Rattle.stored_state.specs.Message.{IsOfMessage, message_text}
@@ -37,6 +38,20 @@ pub record IsSaved {C K : Type 0} (is_honest : K → Bool) (held : K → List �
   pub after : new.controller ≡ step.next
   pub fresh : new.stale ≡ false
   pub holds : is_honest new.keep ≡ true → held new.keep ≡ state_text step.next
+
+-- such a step was done, and is saved
+pub record SavesStep {C K : Type 0} (is_honest : K → Bool) (held : K → List ℕ)
+    (state_text : C → List ℕ) (IsStep : TextStep C → Type 0) (new : Held C K) : Type 0 where
+  pub step : TextStep C
+  pub is_step : IsStep step
+  pub saved : IsSaved is_honest held state_text step new
+
+-- the same, of which this is given out: what is replied, and the text that goes out
+abbrev pub GivesStep : {C K : Type 0} → (K → Bool) → (K → List ℕ) → (C → List ℕ)
+    → (TextStep C → Type 0) → Held C K → Result Reply Refusal → Option (List ℕ) → Type 0
+GivesStep is_honest held state_text IsStep new reply sent =
+    SavesStep is_honest held state_text
+    (λ step. IsStep step × (reply ≡ step.reply) × (sent ≡ step.sent)) new
 
 -- the text is that of the state that such a step leaves
 pub record IsLeft {C : Type 0} (state_text : C → List ℕ) (IsStep : TextStep C → Type 0)

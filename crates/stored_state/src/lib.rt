@@ -7,6 +7,7 @@ mod kind;
 mod made;
 mod opened;
 mod order_bytes;
+mod orders;
 mod resting;
 mod station;
 mod stored;

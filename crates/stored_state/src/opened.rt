@@ -1,12 +1,20 @@
-ghost use Rattle.std.specs.Prelude.{◌≡◌, Ok, false, true, IfOk, IfErr, IsErrOf};
+ghost use Rattle.std.specs.Prelude.{◌≡◌, ◌≤◌, Ok, false, true, IfOk, IfErr, IsErr, IsErrOf};
+ghost use Rattle.std.specs.Option.{option_map};
+ghost use Rattle.jmf_message.specs.Decoded.{IsRefusalOf as IsUndecoded};
 ghost use Rattle.streams.specs.declared.refused.Refused.TheVariants.{LoadFailed};
 ghost use Rattle.keepers.specs.Keeper.{CountRose};
-ghost use Rattle.stored_state.specs.Held.{HoldsSame, IsNotLoaded, IsReadAs};
-ghost use Rattle.stored_state.specs.Opened.{any_state_read, controller_in, is_stale_in, keep_in};
+ghost use Rattle.stored_state.specs.AnyStep.{IsHanded, IsNoOrder, IsOrdered, text_of};
+ghost use Rattle.stored_state.specs.Held.{GivesNothing, HoldsSame, IsNotLoaded, IsReadAs};
+ghost use Rattle.stored_state.specs.Opened.{any_state_read, controller_in, held_in, is_stale_in};
+ghost use Rattle.stored_state.specs.Opened.{keep_in};
+ghost use Rattle.stored_state.specs.Step.{GivesStep, IsLeft};
 
 use crate::kept::Kept;
 use crate::kind::{Kind, kind_of};
+use crate::order_bytes::OrderBytes;
+use crate::orders::{master_order, worker_order};
 use crate::storing::load_bytes;
+use crate::taken_bytes::TakenBytes;
 use controller_form::StateForm;
 use json_source::{Scratch, tree_of};
 use keepers::Keep;
@@ -22,6 +30,55 @@ pub enum Opened<K: Keep> {
     Master(Kept<Master, K>),
     /// It works on parts of its master's ticket.
     Worker(Kept<Worker, K>),
+}
+
+impl<K: Keep> Opened<K> {
+    /// Tells the controller the order that bytes are, at a time in seconds since 1970, and saves
+    /// its state. Refuses what the bytes are refused for, which changes nothing; else as
+    /// `Kept::order` does.
+    pub fn order(&mut self, alloc: Global, bytes: &[u8], at: u64) -> Result<OrderBytes, Refused>
+        ensures ok { IfOk result (λ given. GivesStep K.is_honest K.held text_of
+            (IsOrdered at bytes.now (controller_in self.old)) (held_in self.new)
+            given.reply (option_map (λ b. b.items) given.message)) }
+        ensures stale { is_stale_in self.old ≡ true → IsErr result }
+        ensures honest { K.is_honest (keep_in self.new) ≡ K.is_honest (keep_in self.old) }
+        ensures counted { K.count (keep_in self.old) ≤ K.count (keep_in self.new) }
+        ensures refused { IfErr result (GivesNothing K.is_honest K.held K.count K.save_fails
+            (IsNoOrder bytes.now (controller_in self.old))
+            (IsLeft text_of (IsOrdered at bytes.now (controller_in self.old)))
+            (held_in self.old) (held_in self.new)) }
+    {
+        match self {
+            Opened::Master(kept) => {
+                let order = master_order(alloc, bytes)?;
+                kept.order(alloc, order, at)
+            }
+            Opened::Worker(kept) => {
+                let order = worker_order(alloc, bytes)?;
+                kept.order(alloc, order, at)
+            }
+        }
+    }
+
+    /// Gives the controller the message that bytes are, at a time in seconds since 1970, and saves
+    /// its state. Refuses as `Kept::take` does.
+    pub fn take(&mut self, alloc: Global, bytes: &[u8], at: u64) -> Result<TakenBytes, Refused>
+        ensures ok { IfOk result (λ given. GivesStep K.is_honest K.held text_of
+            (IsHanded at bytes.now (controller_in self.old)) (held_in self.new)
+            given.reply (option_map (λ b. b.items) given.answer)) }
+        ensures stale { is_stale_in self.old ≡ true → IsErr result }
+        ensures honest { K.is_honest (keep_in self.new) ≡ K.is_honest (keep_in self.old) }
+        ensures counted { K.count (keep_in self.old) ≤ K.count (keep_in self.new) }
+        ensures refused { IfErr result (GivesNothing K.is_honest K.held K.count K.save_fails
+            (IsUndecoded bytes.now)
+            (IsLeft text_of (IsHanded at bytes.now (controller_in self.old)))
+            (held_in self.old) (held_in self.new)) }
+    {
+        match self {
+            Opened::Master(kept) => kept.take(alloc, bytes, at),
+            Opened::Worker(kept) => kept.take(alloc, bytes, at),
+        }
+    }
 }
 
 /// The controller whose state a keeper holds, whichever it is, beside the keeper, which holds it
