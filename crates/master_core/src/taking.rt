@@ -227,8 +227,9 @@ impl Master {
         ensures ok { OnOk result
             (self.new ≡ (messages.taken (Body.Answer asked spawn told) at self.old).next) }
         ensures err { OnErr result (self.new ≡ self.old) }
-        ensures noted { replies.is_freed (messages.taken (Body.Answer asked spawn told) at self.old).reply
-            ≡ false → IsOk result }
+        ensures noted { replies.is_freed
+            (messages.taken (Body.Answer asked spawn told) at self.old).reply ≡ false
+            → IsOk result }
     {
         if is_declined(asked, told) {
             self.free(alloc, spawn, at)
