@@ -1,9 +1,11 @@
 -- Events that come to no controller.
-use Rattle.std.proofs.Common.{◌≡◌, ◌∙◌, ℕ, true, false, Option, Some, None, Ok, Err, is_ok, refl, sym, ap}
+use Rattle.std.proofs.Common.{◌≡◌, ◌∙◌, ℕ, true, false, List, Option, Some, None, Ok, Err, is_ok, is_some, refl, sym, ap}
 use Rattle.std.proofs.lemmas.Bool.{true≢false}
 use Rattle.std.proofs.lemmas.List.Elements.{All-contains}
+use Rattle.std.specs.List.{position}
 use Rattle.std.specs.Option.{option_map_or}
 use Rattle.std.specs.Str.{bytes_eq}
+use Rattle.ticket_items.proofs.Places.{found_at_position}
 use Rattle.controller.specs.declared.message.Message.{Message}
 use Rattle.worker_core.specs.Messages.{is_for_workers}
 use Rattle.worker_core.specs.Worker as worker
@@ -11,19 +13,32 @@ use Rattle.world.proofs.AlwaysKept.{message_there}
 use Rattle.world.proofs.Cases.{split, when_false, when_true}
 use Rattle.world.proofs.Receivers.{master_receives, worker_receives}
 use Rattle.world.specs.Controllers.{Controllers}
+use Rattle.worker_core.specs.Orders.{order_step as ordered_worker}
+use Rattle.worker_core.specs.declared.order.Order.{Order}
+use Rattle.stored_state.specs.Cause.{caused}
+use Rattle.stored_state.specs.declared.cause.Cause.{Cause}
 use Rattle.stored_state.specs.declared.cause.Cause.TheVariants as causes
 use Rattle.world.specs.Happening.{delivery_step, is_reached, master_step, receiver_takes, worker_step}
 use Rattle.world.specs.Messages.{IsInOrder}
-use Rattle.world.specs.State.{IsKept, State, message_at}
+use Rattle.world.specs.State.{IsKept, State, is_named, message_at}
 use Rattle.world.specs.Step.{StepOrWord}
 use Rattle.worker_core.specs.Messages.{take_step as taken_by_worker}
 use Rattle.world.specs.Stepping.{worker_moved}
+use Rattle.world_items.specs.declared.word.Word.{Word}
 use Rattle.world_items.specs.declared.word.Word.TheVariants.{NoMessage}
 
 -- a step comes to a controller
 pub is_made : {P : Type 0} (step : StepOrWord Controllers Message) → is_ok step ≡ true → is_reached step ≡ false → P
 is_made (Ok moved) there unmade = absurd (true≢false unmade)
 is_made (Err word) there unmade = absurd (true≢false (sym there))
+
+-- one of a worker that has no place comes to none
+pub unplaced : (name : List ℕ) (word : Word) (cause : Cause Order) (at : ℕ) (w : State) (place : Option ℕ) → position (is_named name) w.controllers.workers ≡ place → is_reached (worker_step name word cause at w) ≡ false → is_some place ≡ false
+unplaced name word cause at w None is unmade = refl
+unplaced name word cause at w (Some k) is unmade =
+    let found = found_at_position (is_named name) w.controllers.workers k is in
+    is_made (worker_step name word cause at w)
+    (ap (λ (o : Option worker.Known). is_ok (option_map_or (λ v. Ok (worker_moved w.controllers v (caused ordered_worker taken_by_worker cause at v))) o (Err word))) found.1) unmade
 
 -- a message that was sent has a receiver
 pub is_received : (w : State) (k at : ℕ) (m : Message) → IsKept w → message_at w.messages k ≡ Some m → is_ok (delivery_step k at w) ≡ true

@@ -216,7 +216,14 @@ impl World {
             return self.tell_master(alloc, Cause::Message(message), at, stop);
         }
         let place = place_of(self.workers.as_slice(), &message.receiver);
-        self.tell_worker(alloc, place, Word::NoMessage, Cause::Message(message), at, stop)
+        self.tell_worker(
+            alloc,
+            place,
+            Word::NoMessage,
+            Cause::Message(message),
+            at,
+            stop,
+        )
     }
 
     /// The controller of a name stops, and is started again from the text of its state.

@@ -18,9 +18,9 @@ invariant_of-self c =
     let workers = w.controllers.workers in
     let name = c.requires.0 in
     let x = c.index_mut-stored.result.now in
-    let place : position (is_named name) workers ≡ Some c.in-Some.place = ap (λ (v : State). position (is_named name) v.controllers.workers) c.self.view_is ∙ c.requires.1.0 ∙ c.in-Some.is in
+    let place : position (is_named name) workers ≡ Some c.in-Some.place = ap (λ (v : State). position (is_named name) v.controllers.workers) c.self.view_is ∙ c.requires.1 ∙ c.in-Some.is in
     let here : StandsAt workers name c.in-Some.place x = record { place = place; at = c.index_mut-stored.ensures.value } in
-    let comes = subst (λ n. ComesTo n w.messages c.args.cause) (sym (name_of workers name c.in-Some.place x here)) (subst (λ (v : State). ComesTo name v.messages c.args.cause) (sym c.self.view_is) c.requires.1.1) in
+    let comes = subst (λ n. ComesTo n w.messages c.args.cause) (sym (name_of workers name c.in-Some.place x here)) (subst (λ (v : State). ComesTo name v.messages c.args.cause) (sym c.self.view_is) c.requires.2) in
     let keeps = worker_keeps c.args.cause c.args.at w x c.self.invariant (found_own workers name c.in-Some.place x here) comes in
     kept_there c.steps.result c.args.stop w.controllers.master workers w.messages c.steps.new.messages name c.in-Some.place x c.steps.new.stored (caused ordered_worker taken_by_worker c.args.cause c.args.at x) c.self.invariant here c.steps.ensures.stored c.steps.ensures.messages c.steps.ensures.err_stored c.steps.ensures.err_messages keeps
 
