@@ -148,7 +148,8 @@ impl<C: Stored, K: Keep> Kept<C, K> {
         ensures counted { K.count self.old.keep ≤ K.count self.new.keep }
         ensures refused { IfErr result (GivesNothing K.is_honest K.held K.count K.save_fails
             (λ e. e ≡ Memory) (λ text. text ≡ compact_text (C.state_data
-            (caused C.order_step C.take_step cause at self.old.controller).next)) self.old self.new) }
+            (caused C.order_step C.take_step cause at self.old.controller).next))
+            self.old self.new) }
     {
         let (Outcome { reply, answer }, _) = make(alloc, &mut self.controller, cause, at)?;
         let message = self.give_out(alloc, answer)?;
