@@ -5,6 +5,4 @@ mod Worked
 pub mod ScriptLines
 pub mod Names
 pub mod StepLines
-pub mod Steps
-pub mod AnySteps
 pub mod Commands

@@ -16,7 +16,7 @@ use Rattle.jdf_commands.specs.EditCommand.Document as edit_document
 use Rattle.jdf_commands.specs.EditCommand.Run as edit_run
 use Rattle.jdf_commands.specs.WorldCommand.Run as world_run
 use Rattle.world_script.specs.Script as world_script
-use Rattle.jdf_commands.specs.FileCommands.AnyStep.{IsHanded, IsNoOrder, IsOrdered}
+use Rattle.stored_state.specs.AnyStep.{IsHanded, IsNoOrder, IsOrdered}
 use Rattle.jdf_commands.specs.FileCommands.Commands.{Begins, BeginsNone, DoesNoStep, DoesStep}
 use Rattle.jdf_commands.specs.FileCommands.Commands.{Shows, ShowsNone, Steps}
 

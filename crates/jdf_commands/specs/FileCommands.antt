@@ -1,5 +1,4 @@
 pub mod Step
-pub mod AnyStep
 pub mod Shown
 pub mod Pictured
 pub mod Opening

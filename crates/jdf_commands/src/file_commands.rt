@@ -3,7 +3,6 @@
 
 mod beginning;
 mod opening;
-mod ordered;
 mod ordering;
 mod pictured;
 mod run;
@@ -12,8 +11,8 @@ mod step;
 mod taking;
 
 pub use beginning::{begin, new_output};
-pub use ordered::Ordered;
-pub use ordering::{order_kept, order_output};
+pub use ordering::order_output;
 pub use run::{call_output, run_file};
 pub use shown::{show_output, worker_text};
-pub use taking::{take_kept, take_output};
+pub use step::step_output;
+pub use taking::take_output;

@@ -1,61 +1,22 @@
--- A message whose step is saved.
-use Rattle.std.proofs.Common.{◌≡◌, ◌≢◌, ◌==◌, ◌∙◌, ℕ, Bool, true, false, List, Option, Some, Result, Ok, Err, IfOk, OnOk, String, string_bytes, ap, inl, inr, ⊎_elim, refl, subst, sym}
+-- What is told of a message whose step is saved.
+use Rattle.std.proofs.Common.{◌≡◌, ◌≢◌, ◌==◌, ◌∙◌, ℕ, Bool, true, false, List, Option, Some, Result, Ok, Err, IfOk, String, string_bytes, ap, inl, inr, ⊎_elim, refl, subst, sym}
 use Rattle.std.proofs.lemmas.Bool.{true≢false}
 use Rattle.std.specs.Option.{option_map}
 use Rattle.std.specs.Borrow.{Bor}
 use Rattle.std.specs.declared.alloc.Global.{Global}
-use Rattle.controller.specs.declared.message.Message.{Message}
 use Rattle.streams.specs.declared.refused.Refused.{Refused}
 use Rattle.streams.specs.declared.refused.Refused.TheVariants as refusals
 use Rattle.ticket_items.specs.declared.refusal.Refusal.{Refusal}
 use Rattle.ticket_items.specs.declared.refusal.Refusal.TheVariants.{Memory}
-use Rattle.stored_state.specs.Held.{Held}
-use Rattle.stored_state.specs.Message.{IsOfMessage, message_text}
-use Rattle.stored_state.specs.Opened.{AnyController}
-use Rattle.controller.specs.Step.{Step, leading}
-use Rattle.stored_state.specs.Step.{IsTaken, TextStep, in_text}
 use Rattle.stored_state.specs.declared.taken_bytes.TakenBytes.{TakenBytes}
 use Rattle.http_message.specs.Status.{core_status, done_status, status_of}
 use Rattle.http_edge.specs.Exchange.{HasBody, told_of}
 use Rattle.http_edge.specs.declared.edge_fault.EdgeFault.{EdgeFault}
 use Rattle.http_edge.specs.declared.served.Served.{Served}
-use Rattle.jdf_commands.specs.FileCommands.AnyStep.{held_as}
-use Rattle.jdf_net.specs.ServeCommand.{Answers, IsAimed, IsDoneByStep, IsFor, IsMissing, IsSavedAs, TakesInFile, TakesRequest, Tells, TellsCame, TellsIn, TellsInFolder, missing_told}
+use Rattle.jdf_net.specs.ServeCommand.{Answers, IsAimed, IsDoneByStep, IsFor, IsMissing, TakesInFile, TakesRequest, Tells, TellsCame, TellsIn, TellsInFolder, missing_told}
 use Rattle.jdf_net.specs.Targets.{named_file}
 use Rattle.jdf_net.specs.declared.serve_command.place.Place.{Place}
 use Rattle.jdf_net.specs.declared.serve_command.place.Place.TheVariants as places
-
-pub saved_as : {C K : Type 0} (is_honest : K → Bool) (held : K → List ℕ) (state_text : C → List ℕ) (does : Message → Step C Message) (body : List ℕ) (new : Held C K) (was_honest : Bool) (r : Result TakenBytes Refused)
-    → IfOk r (λ given. IsOfMessage body (λ m. (new.controller ≡ (does m).next) × (given.reply ≡ (does m).reply)
-    × (option_map (λ b. b.items) given.answer ≡ option_map message_text (does m).sent)))
-    → OnOk r (new.stale ≡ false) → is_honest new.keep ≡ was_honest
-    → OnOk r (was_honest ≡ true → held new.keep ≡ state_text new.controller)
-    → IfOk r (IsSavedAs is_honest held state_text (IsTaken body (λ m. in_text (does m))) new)
-saved_as is_honest held state_text does body new was_honest (Err e) of fresh honest holds = tt
-saved_as is_honest held state_text does body new was_honest (Ok given) of fresh honest holds =
-    record {
-      step = in_text (does of.message);
-      is_step = record { message = of.message; decoded = of.decoded; holds = refl };
-      saved = record { after = of.holds.0; fresh = fresh; holds = λ h. holds (sym honest ∙ h) ∙ ap state_text of.holds.0 };
-      reply = of.holds.1;
-      answer = of.holds.2;
-    }
-
--- the same of a controller of any kind
-pub any_saved_as : {C K : Type 0} (any : C → AnyController) (is_honest : K → Bool) (held : K → List ℕ) (t : C → List ℕ) (u : AnyController → List ℕ) (P : TextStep C → Type 0) (Q : TextStep AnyController → Type 0) (new : Held C K) (r : Result TakenBytes Refused)
-    → ((c : C) → t c ≡ u (any c)) → ((s : TextStep C) → P s → Q (leading any s))
-    → IfOk r (IsSavedAs is_honest held t P new) → IfOk r (IsSavedAs is_honest held u Q (held_as any new))
-any_saved_as any h l t u P Q new (Err e) same f saved = tt
-any_saved_as any h l t u P Q new (Ok given) same f is =
-    record {
-      step = leading any is.step;
-      is_step = f is.step is.is_step;
-      saved = record { after = ap any is.saved.after; fresh = is.saved.fresh; holds = λ honest. is.saved.holds honest ∙ same is.step.next };
-      reply = is.reply;
-      answer = is.answer;
-    }
-
--- ---- what is told of it
 
 abbrev is_done : ℕ → Bool
 is_done status = status == done_status

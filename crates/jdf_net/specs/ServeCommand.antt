@@ -4,9 +4,10 @@ use Rattle.std.specs.Prelude.{◌≡◌, ◌⊎◌, ℕ, Bool, List, Option, Som
 use Rattle.std.specs.Prelude.{Result, Ok, Err, IfOk}
 use Rattle.std.specs.Option.{option_map}
 use Rattle.keepers.specs.InFile.{InFile}
+use Rattle.stored_state.specs.AnyStep.{IsHanded, text_of}
 use Rattle.stored_state.specs.Held.{Held}
 use Rattle.stored_state.specs.Opened.{AnyController}
-use Rattle.stored_state.specs.Step.{IsSaved, TextStep}
+use Rattle.stored_state.specs.Step.{GivesStep}
 use Rattle.stored_state.specs.declared.taken_bytes.TakenBytes.{TakenBytes}
 use Rattle.streams.specs.declared.refused.Refused.{Refused}
 use Rattle.streams.specs.declared.refused.Refused.TheVariants.{Core}
@@ -17,21 +18,10 @@ use Rattle.http_message.specs.declared.kind.Kind.TheVariants as kinds
 use Rattle.http_edge.specs.Exchange.{HasBody, told_of}
 use Rattle.http_edge.specs.declared.served.Served.{Served}
 use Rattle.jdf_commands.specs.Calls.{held, is_honest, kept_in}
-use Rattle.jdf_commands.specs.FileCommands.AnyStep.{IsHanded, text_of}
 use Rattle.jdf_commands.specs.FileCommands.Opening.{IsLoaded}
 use Rattle.jdf_net.specs.Targets.{named_file}
 use Rattle.jdf_net.specs.declared.serve_command.place.Place.{Place}
 use Rattle.jdf_net.specs.declared.serve_command.place.Place.TheVariants as places
-
--- what is given out is that of such a step, and the state that the step leaves is held
-pub record IsSavedAs {C K : Type 0} (is_honest : K → Bool) (held : K → List ℕ)
-    (state_text : C → List ℕ) (IsStep : TextStep C → Type 0) (new : Held C K)
-    (given : TakenBytes) : Type 0 where
-  pub step : TextStep C
-  pub is_step : IsStep step
-  pub saved : IsSaved is_honest held state_text step new
-  pub reply : given.reply ≡ step.reply
-  pub answer : option_map (λ text. text.items) given.answer ≡ step.sent
 
 -- the controller that a keeper held made the step of the message that the body is, at a time; what
 -- is given out is that of the step, and the state that it leaves is held
@@ -39,7 +29,8 @@ pub record TakesHeld {K : Type 0} (is_honest : K → Bool) (held : K → List �
     (body : List ℕ) (keep : K) (after : Held AnyController K) (given : TakenBytes) : Type 0 where
   pub before : Held AnyController K
   pub loaded : IsLoaded is_honest held keep before
-  pub saved : IsSavedAs is_honest held text_of (IsHanded at body before.controller) after given
+  pub gives : GivesStep is_honest held text_of (IsHanded at body before.controller) after
+      given.reply (option_map (λ text. text.items) given.answer)
   pub honest : is_honest after.keep ≡ is_honest keep
 
 -- the same of the file of this path, at some time

@@ -6,13 +6,12 @@
 use super::lent::Lent;
 use super::loads;
 use super::texts::{ABORT, CLOSED_AND_DECLINED, NO_ENTRY, RETURN_TAKEN, SUBMIT};
-use jdf_commands::{order_kept, take_kept};
+use jdf_commands::step_output;
 use keepers::{FailingKeep, Keep};
 use std::alloc::Global;
 use std::test::Fail;
-use stored_state::{Kept, Refused};
+use stored_state::{Opened, Refused, open_any};
 use streams::{Fault, Output};
-use worker_core::Worker;
 
 /// A step of the worker: an order, or else a message, and what is written of it; and what is where
 /// the step was saved already.
@@ -64,59 +63,65 @@ static STEPS: [Step; 5] = [
 ];
 
 /// The worker beside a keeper that is lent.
-type Lending<'a> = Kept<Worker, Lent<'a, FailingKeep>>;
+type Lending<'a> = Opened<Lent<'a, FailingKeep>>;
 
-fn do_step(alloc: Global, kept: &mut Lending<'_>, step: &Step) -> Result<Output, Fault> {
-    if step.is_order {
-        order_kept(alloc, kept, step.text.as_bytes(), step.at)
+/// The output of a step, which memory suffices for.
+fn do_step(alloc: Global, opened: &mut Lending<'_>, step: &Step) -> Result<Output, Refused> {
+    let bytes = step.text.as_bytes();
+    let (reply, sent) = if step.is_order {
+        let given = opened.order(alloc, bytes, step.at)?;
+        (given.reply, given.message)
     } else {
-        take_kept(alloc, kept, step.text.as_bytes(), step.at)
-    }
+        let given = opened.take(alloc, bytes, step.at)?;
+        (given.reply, given.answer)
+    };
+    step_output(alloc, reply, &sent).map_err(|fault| match fault {
+        Fault::Input(refused) | Fault::Device(refused) => refused,
+    })
 }
 
 /// Whether a step comes to this line.
-fn comes_to(alloc: Global, kept: &mut Lending<'_>, step: &Step, line: &str) -> bool {
-    match do_step(alloc, kept, step) {
+fn comes_to(alloc: Global, opened: &mut Lending<'_>, step: &Step, line: &str) -> bool {
+    match do_step(alloc, opened, step) {
         Ok(output) => output.text.as_slice().starts_with(line.as_bytes()),
         Err(_) => false,
     }
 }
 
-/// Whether the fault is this one of the device.
-fn is_of_device(fault: Fault, refused: Refused) -> bool {
-    fault == Fault::Device(refused)
+/// Whether a step is refused so.
+fn is_refused(alloc: Global, opened: &mut Lending<'_>, step: &Step, refused: Refused) -> bool {
+    do_step(alloc, opened, step).err() == Some(refused)
 }
 
-/// Whether a step is refused so.
-fn is_refused(alloc: Global, kept: &mut Lending<'_>, step: &Step, refused: Refused) -> bool {
-    match do_step(alloc, kept, step).err() {
-        Some(fault) => is_of_device(fault, refused),
-        None => false,
+/// Whether the worker is stale, and is loaded again.
+fn is_reloaded(alloc: Global, opened: &mut Lending<'_>) -> bool {
+    match opened {
+        Opened::Master(_) => false,
+        Opened::Worker(kept) => kept.is_stale() && kept.reload(alloc).is_ok(),
     }
 }
 
 /// Whether a step of which the save fails is told so, and once more until the state is loaded, and
 /// comes then to the line of a step that was saved, or wasn't.
-fn comes_again(alloc: Global, kept: &mut Lending<'_>, step: &Step, was_saved: bool) -> bool {
+fn comes_again(alloc: Global, opened: &mut Lending<'_>, step: &Step, was_saved: bool) -> bool {
     let line = if was_saved { step.again } else { step.line };
-    is_refused(alloc, kept, step, Refused::SaveFailed)
-        && is_refused(alloc, kept, step, Refused::Stale)
-        && kept.is_stale()
-        && kept.reload(alloc).is_ok()
-        && comes_to(alloc, kept, step, line)
+    is_refused(alloc, opened, step, Refused::SaveFailed)
+        && is_refused(alloc, opened, step, Refused::Stale)
+        && is_reloaded(alloc, opened)
+        && comes_to(alloc, opened, step, line)
 }
 
 /// Whether all steps are done beside a keeper of which the k-th call fails, a save that leaves the
 /// new value or the old.
 fn does_all(alloc: Global, keep: &mut FailingKeep, k: usize, leaves_new: bool) -> bool {
-    let Ok(mut kept) = Kept::open(alloc, Lent::new(keep)) else {
+    let Ok(mut opened) = open_any(alloc, Lent::new(keep)) else {
         return false;
     };
     for (index, step) in STEPS.iter().enumerate() {
         let done = if index + 2 == k {
-            comes_again(alloc, &mut kept, step, leaves_new)
+            comes_again(alloc, &mut opened, step, leaves_new)
         } else {
-            comes_to(alloc, &mut kept, step, step.line)
+            comes_to(alloc, &mut opened, step, step.line)
         };
         if !done {
             return false;
@@ -127,8 +132,7 @@ fn does_all(alloc: Global, keep: &mut FailingKeep, k: usize, leaves_new: bool) -
 
 /// Why nothing is opened beside a keeper of which the load fails.
 fn not_opened(alloc: Global, keep: &mut FailingKeep) -> Option<Refused> {
-    let opened: Result<Lending<'_>, Refused> = Kept::open(alloc, Lent::new(keep));
-    opened.err()
+    open_any(alloc, Lent::new(keep)).err()
 }
 
 #[test]

@@ -10,7 +10,7 @@ use Rattle.controller_form.specs.declared.openings.opening.Opening.{Opening}
 use Rattle.controller_form.specs.declared.openings.opening.Opening.TheVariants as opening
 use Rattle.stored_state.specs.Held.{Held}
 use Rattle.stored_state.specs.Opened.{AnyController, of_master, of_worker}
-use Rattle.jdf_commands.specs.FileCommands.AnyStep.{text_of}
+use Rattle.stored_state.specs.AnyStep.{text_of}
 
 -- the controller of an opening
 abbrev pub controller_of : Opening → AnyController

@@ -9,12 +9,13 @@ use Rattle.streams.specs.Ends.{IsUnread}
 use Rattle.streams.specs.Streams.{IsInput, IsUntouched, Use}
 use Rattle.stored_state.specs.Held.{Held}
 use Rattle.stored_state.specs.Opened.{AnyController, of_master, of_worker}
-use Rattle.jdf_commands.specs.FileCommands.AnyStep.{text_of}
+use Rattle.stored_state.specs.AnyStep.{text_of}
 use Rattle.jdf_commands.specs.FileCommands.Beginning.{IsBegunAs, IsNotBegun}
 use Rattle.jdf_commands.specs.FileCommands.Opening.{IsLoaded, IsNotLoaded}
 use Rattle.jdf_commands.specs.FileCommands.Pictured.{picture_text}
 use Rattle.jdf_commands.specs.FileCommands.Shown.{master_text, worker_text}
-use Rattle.jdf_commands.specs.FileCommands.Step.{GivesNoOutput, GivesOut, TextStep}
+use Rattle.jdf_commands.specs.FileCommands.Step.{GivesNoOutput, GivesOut}
+use Rattle.stored_state.specs.Step.{TextStep}
 
 -- which step the bytes are for a controller
 abbrev pub Steps : Type 1

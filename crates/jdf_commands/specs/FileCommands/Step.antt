@@ -11,7 +11,7 @@ use Rattle.streams.specs.declared.refused.Refused.TheVariants.{Core}
 use Rattle.streams.specs.declared.fault.Fault.{Fault}
 use Rattle.streams.specs.declared.fault.Fault.TheVariants.{Input, Device}
 use Rattle.stored_state.specs.Held.{GivesNothing, Held}
-pub use Rattle.stored_state.specs.Step.{IsLeft, IsOfOrder, IsSaved, IsTaken, TextStep, in_text}
+use Rattle.stored_state.specs.Step.{IsLeft, SavesStep, TextStep}
 
 -- ---- what is written
 
@@ -30,27 +30,17 @@ step_lines step = reply_line step.reply ++ text_line step.sent
 
 -- ---- steps that are saved
 
--- such a step was saved, its lines are written, and this tells whether it was refused
-pub record GivesOut {C K : Type 0} (is_honest : K → Bool) (held : K → List ℕ)
-    (state_text : C → List ℕ) (IsStep : TextStep C → Type 0) (new : Held C K) (text : List ℕ)
-    (refused : Bool) : Type 0 where
-  pub step : TextStep C
-  pub is_step : IsStep step
-  pub saved : IsSaved is_honest held state_text step new
-  pub lines : text ≡ step_lines step
-  pub status : refused ≡ not (is_ok step.reply)
+-- such a step is saved, its lines are written, and this tells whether it was refused
+abbrev pub GivesOut : {C K : Type 0} → (K → Bool) → (K → List ℕ) → (C → List ℕ)
+    → (TextStep C → Type 0) → Held C K → List ℕ → Bool → Type 0
+GivesOut is_honest held state_text IsStep new text refused =
+    SavesStep is_honest held state_text
+    (λ step. IsStep step × (text ≡ step_lines step) × (refused ≡ not (is_ok step.reply))) new
 
 -- the fault that a refusal of a step is: what was given is refused, or the keeper failed
 abbrev pub fault_of : CallRefused → Fault
 fault_of (Core e) = Input (Core e)
 fault_of other = Device other
-
--- such a step was saved, and then memory ran out for its lines
-pub record IsUntold {C K : Type 0} (is_honest : K → Bool) (held : K → List ℕ)
-    (state_text : C → List ℕ) (IsStep : TextStep C → Type 0) (new : Held C K) : Type 0 where
-  pub step : TextStep C
-  pub is_step : IsStep step
-  pub saved : IsSaved is_honest held state_text step new
 
 -- why nothing is given out of such a step, and what that leaves: what is given is refused, which
 -- changes nothing; or memory ran out, or the keeper failed, in the step; or memory ran out once it
@@ -62,4 +52,4 @@ GivesNoOutput is_honest held count save_fails state_text Refuses IsStep old new 
     ((refused : CallRefused) × (fault ≡ fault_of refused)
     × GivesNothing is_honest held count save_fails Refuses (IsLeft state_text IsStep)
     old new refused)
-    ⊎ ((fault ≡ Input (Core Memory)) × IsUntold is_honest held state_text IsStep new)
+    ⊎ ((fault ≡ Input (Core Memory)) × SavesStep is_honest held state_text IsStep new)

@@ -2,7 +2,7 @@
 
 ghost use Rattle.std.specs.Prelude.{IfOk, IfErr};
 ghost use Rattle.serde_json.specs.Written.{compact_text};
-ghost use Rattle.jdf_commands.specs.FileCommands.AnyStep.{held_in};
+ghost use Rattle.stored_state.specs.Opened.{held_in};
 ghost use Rattle.jdf_commands.specs.FileCommands.Beginning as begins;
 ghost use Rattle.jdf_commands.specs.FileCommands.Commands.{Begins, BeginsNone};
 ghost use Rattle.streams.specs.Streams.{used};

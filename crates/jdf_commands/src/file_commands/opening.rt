@@ -1,7 +1,7 @@
 //! The controller that a keeper holds.
 
 ghost use Rattle.std.specs.Prelude.{IfOk, IfErr};
-ghost use Rattle.jdf_commands.specs.FileCommands.AnyStep.{held_in};
+ghost use Rattle.stored_state.specs.Opened.{held_in};
 ghost use Rattle.jdf_commands.specs.FileCommands.Opening.{IsLoaded, IsNotLoaded};
 
 use keepers::Keep;

@@ -2,21 +2,18 @@
 
 ghost use Rattle.std.specs.Prelude.{◌≡◌, ◌++◌, map, string_bytes, IfOk, OnOk};
 ghost use Rattle.std.specs.List.{flat_map};
-ghost use Rattle.jdf_commands.specs.FileCommands.AnyStep.{held_in};
 ghost use Rattle.jdf_commands.specs.FileCommands.Pictured as pictured;
 ghost use Rattle.job_picture.specs.Picture.{picture_of};
 
 use crate::file_commands::shown::stage_words;
 use job_picture::{entry_line, heading, push_part, push_picture, push_svg};
-use keepers::Keep;
 use master_core::Master;
 use std::alloc::{AllocError, Global};
-use stored_state::Opened;
 use ticket_tree::Part;
 use worker_core::{Entry, Worker};
 
 /// The picture of a master.
-fn master_picture(alloc: Global, master: &Master) -> Result<Vec<u8>, AllocError>
+pub(crate) fn master_picture(alloc: Global, master: &Master) -> Result<Vec<u8>, AllocError>
     ensures { IfOk result (λ text. text.items ≡ picture_of master.now) }
 {
     let mut text = Vec::new(alloc);
@@ -84,7 +81,7 @@ fn worker_title(alloc: Global, worker: &Worker) -> Result<String, AllocError>
 }
 
 /// The picture of a worker.
-fn worker_picture(alloc: Global, worker: &Worker) -> Result<Vec<u8>, AllocError>
+pub(crate) fn worker_picture(alloc: Global, worker: &Worker) -> Result<Vec<u8>, AllocError>
     ensures { IfOk result (λ text. text.items ≡ pictured.worker_picture worker.now) }
 {
     let title = worker_title(alloc, worker)?;
@@ -92,15 +89,4 @@ fn worker_picture(alloc: Global, worker: &Worker) -> Result<Vec<u8>, AllocError>
     let mut text = Vec::new(alloc);
     push_svg(alloc, &mut text, title.as_str(), lines.as_slice())?;
     Ok(text)
-}
-
-/// The picture of a controller.
-pub fn controller_picture<K: Keep>(alloc: Global, opened: &Opened<K>) -> Result<Vec<u8>, AllocError>
-    ensures { IfOk result (λ text. text.items
-        ≡ pictured.picture_text (held_in opened.now).controller) }
-{
-    match opened {
-        Opened::Master(kept) => master_picture(alloc, kept.controller()),
-        Opened::Worker(kept) => worker_picture(alloc, kept.controller()),
-    }
 }

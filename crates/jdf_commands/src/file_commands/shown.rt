@@ -1,14 +1,13 @@
 //! What `show` writes of a controller.
 
 ghost use Rattle.std.specs.Prelude.{◌≡◌, ◌++◌, string_bytes, IfOk, IfErr, OnOk};
-ghost use Rattle.jdf_commands.specs.FileCommands.AnyStep.{held_in};
+ghost use Rattle.stored_state.specs.Opened.{held_in};
 ghost use Rattle.jdf_commands.specs.FileCommands.Commands.{Shows, ShowsNone, shown_as};
-ghost use Rattle.jdf_commands.specs.FileCommands.Commands.{shown_text};
 ghost use Rattle.jdf_commands.specs.FileCommands.Shown as shown;
 ghost use Rattle.ticket_items.specs.declared.refusal.Refusal.TheVariants.{Memory};
 
 use crate::file_commands::opening::opened;
-use crate::file_commands::pictured::controller_picture;
+use crate::file_commands::pictured::{master_picture, worker_picture};
 use crate::file_commands::step::unrefused;
 use crate::shown_master::push_shown;
 use json_profile::push_part_text;
@@ -97,27 +96,17 @@ pub fn worker_text(alloc: Global, worker: &Worker) -> Result<Vec<u8>, AllocError
     Ok(text)
 }
 
-/// What a controller shows. Refuses `Memory` alone.
-fn controller_text<K: Keep>(alloc: Global, opened: &Opened<K>) -> Result<Vec<u8>, Refusal>
-    ensures ok { IfOk result (λ text. text.items ≡ shown_text (held_in opened.now).controller) }
-    ensures memory { IfErr result (λ e. e ≡ Memory) }
-{
-    match opened {
-        Opened::Master(kept) => Ok(master_text(alloc, kept.controller())?),
-        Opened::Worker(kept) => Ok(worker_text(alloc, kept.controller())?),
-    }
-}
-
 /// What a controller shows, or its picture. Refuses `Memory` alone.
 fn text_shown<K: Keep>(alloc: Global, opened: &Opened<K>, picture: bool) -> Result<Vec<u8>, Refusal>
     ensures ok { IfOk result
         (λ text. text.items ≡ shown_as picture (held_in opened.now).controller) }
     ensures memory { IfErr result (λ e. e ≡ Memory) }
 {
-    if picture {
-        Ok(controller_picture(alloc, opened)?)
-    } else {
-        controller_text(alloc, opened)
+    match opened {
+        Opened::Master(kept) if picture => Ok(master_picture(alloc, kept.controller())?),
+        Opened::Worker(kept) if picture => Ok(worker_picture(alloc, kept.controller())?),
+        Opened::Master(kept) => master_text(alloc, kept.controller()),
+        Opened::Worker(kept) => Ok(worker_text(alloc, kept.controller())?),
     }
 }
 

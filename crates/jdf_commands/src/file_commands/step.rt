@@ -43,7 +43,7 @@ fn push_text(lines: &mut Vec<u8>, text: &Option<Vec<u8>>) -> Result<(), AllocErr
 }
 
 /// The line of a reply, and the text that goes out on a line of its own. Refuses `Memory` alone.
-pub(crate) fn step_output(
+pub fn step_output(
     alloc: Global,
     reply: Result<Reply, Refusal>,
     message: &Option<Vec<u8>>,

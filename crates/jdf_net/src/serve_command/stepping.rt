@@ -1,11 +1,9 @@
 //! The step of a message, under the lock of the file.
 
-ghost use Rattle.std.specs.Prelude.{◌≡◌, IfOk};
-ghost use Rattle.serde_json.specs.Written.{compact_text};
-ghost use Rattle.stored_state.specs.Step.{IsTaken, in_text};
-ghost use Rattle.jdf_commands.specs.FileCommands.AnyStep.{IsHanded, held_in, text_of};
+ghost use Rattle.std.specs.Prelude.{IfOk};
+ghost use Rattle.stored_state.specs.Opened.{held_in};
 ghost use Rattle.jdf_commands.specs.FileCommands.Opening.{IsLoaded};
-ghost use Rattle.jdf_net.specs.ServeCommand.{IsSavedAs, TakesHeld, TakesInFile};
+ghost use Rattle.jdf_net.specs.ServeCommand.{TakesHeld, TakesInFile};
 
 use keepers::{FileKeep, FileLock, Keep, Locks};
 use std::alloc::Global;
@@ -13,7 +11,7 @@ use std::fs;
 use std::io::ErrorKind;
 use std::rt::Files;
 use std::time::{Clock, SystemTime};
-use stored_state::{Kept, Opened, Stored, TakenBytes, open_any};
+use stored_state::{Opened, TakenBytes, open_any};
 use streams::Refused;
 
 /// The time, in whole seconds since 1970, where the clock tells one.
@@ -21,39 +19,6 @@ pub(crate) fn now<R: Clock>(clock: &R) -> Option<u64> {
     let now = SystemTime::now(clock).ok()?;
     let since = now.duration_since(SystemTime::UNIX_EPOCH).ok()?;
     Some(since.as_secs())
-}
-
-/// Hands a controller beside its keeper the message that a body is, at a time in seconds since
-/// 1970, and saves its state. What it gives out is that of the step whose state is held then.
-/// Refuses as `Kept::take` does.
-fn take_kept<C: Stored, K: Keep>(
-    alloc: Global,
-    kept: &mut Kept<C, K>,
-    body: &[u8],
-    at: u64,
-) -> Result<TakenBytes, Refused>
-    ensures saved { IfOk result (IsSavedAs K.is_honest K.held (λ c. compact_text (C.state_data c))
-        (IsTaken body.now (λ m. in_text (C.take_step m at kept.old.controller))) kept.new) }
-    ensures honest { K.is_honest kept.new.keep ≡ K.is_honest kept.old.keep }
-{
-    kept.take(alloc, body, at)
-}
-
-/// `take_kept` for a controller of any kind.
-fn take_opened<K: Keep>(
-    alloc: Global,
-    opened: &mut Opened<K>,
-    body: &[u8],
-    at: u64,
-) -> Result<TakenBytes, Refused>
-    ensures saved { IfOk result (IsSavedAs K.is_honest K.held text_of
-        (IsHanded at body.now (held_in opened.old).controller) (held_in opened.new)) }
-    ensures honest { K.is_honest (held_in opened.new).keep ≡ K.is_honest (held_in opened.old).keep }
-{
-    match opened {
-        Opened::Master(kept) => take_kept(alloc, kept, body, at),
-        Opened::Worker(kept) => take_kept(alloc, kept, body, at),
-    }
 }
 
 /// The controller whose state a keeper holds, beside the keeper. Refuses `LoadFailed` where none is
@@ -80,7 +45,7 @@ fn take_body<K: Keep>(
         (held_in taken.1) taken.0) }
 {
     let mut opened = loaded(alloc, keep)?;
-    let given = take_opened(alloc, &mut opened, body, at)?;
+    let given = opened.take(alloc, body, at)?;
     Ok((given, opened))
 }
 

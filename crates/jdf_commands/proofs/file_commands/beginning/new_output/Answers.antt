@@ -1,6 +1,6 @@
 use Rattle.std.proofs.Common.{◌≡◌, ◌∙◌, subst, sym}
 use Rattle.streams.specs.Streams.{IsInput, used}
-use Rattle.jdf_commands.specs.FileCommands.AnyStep.{held_in}
+use Rattle.stored_state.specs.Opened.{held_in}
 use Rattle.jdf_commands.proofs.file_commands.beginning.new_output.Goals as goal
 
 pub returns-clause-ok : goal.returns-clause-ok

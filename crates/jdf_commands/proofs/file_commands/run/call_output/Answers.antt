@@ -3,7 +3,7 @@ use Rattle.jmf_message.specs.Decoded.{IsRefusalOf}
 use Rattle.keepers.specs.InFile.{Fails}
 use Rattle.streams.specs.Streams.{used}
 use Rattle.jdf_commands.specs.Calls.{DoesNone, IsFaultOfCall, held, is_honest, kept_in, save_fails}
-use Rattle.jdf_commands.specs.FileCommands.AnyStep.{IsHanded, IsNoOrder, IsOrdered}
+use Rattle.stored_state.specs.AnyStep.{IsHanded, IsNoOrder, IsOrdered}
 use Rattle.jdf_commands.specs.FileCommands.Commands.{DoesNoStep}
 use Rattle.jdf_commands.proofs.Commands.{fault_as}
 use Rattle.jdf_commands.proofs.file_commands.run.call_output.Goals as goal

@@ -1,5 +1,5 @@
 use Rattle.std.proofs.Common.{◌∙◌}
-use Rattle.jdf_commands.specs.FileCommands.AnyStep.{held_in}
+use Rattle.stored_state.specs.Opened.{held_in}
 use Rattle.jdf_commands.proofs.file_commands.shown.show_output.Goals as goal
 
 pub returns-clause-ok : goal.returns-clause-ok

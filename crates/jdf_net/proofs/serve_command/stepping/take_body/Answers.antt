@@ -1,5 +1,5 @@
 use Rattle.std.proofs.Common.{◌∙◌}
-use Rattle.jdf_commands.specs.FileCommands.AnyStep.{held_in}
+use Rattle.stored_state.specs.Opened.{held_in}
 use Rattle.jdf_net.proofs.serve_command.stepping.take_body.Goals as goal
 
 pub returns : goal.returns
@@ -7,6 +7,6 @@ returns g c =
     record {
       before = held_in c.in_ok-opened.opened;
       loaded = c.in_ok-opened.ensures;
-      saved = c.in_ok-given.ensures.saved;
-      honest = c.take_opened.ensures.honest ∙ c.in_ok-opened.ensures.honest;
+      gives = c.in_ok-given.ensures.ok;
+      honest = c.take.ensures.honest ∙ c.in_ok-opened.ensures.honest;
     }

@@ -1,7 +1,7 @@
 use Rattle.std.proofs.Common.{subst}
 use Rattle.keepers.specs.InFile.{InFile}
 use Rattle.jdf_commands.specs.Calls.{held, is_honest}
-use Rattle.jdf_commands.specs.FileCommands.AnyStep.{held_in}
+use Rattle.stored_state.specs.Opened.{held_in}
 use Rattle.jdf_net.specs.ServeCommand.{TakesHeld}
 use Rattle.jdf_net.proofs.serve_command.stepping.take_in_file.Goals as goal
 
