@@ -64,9 +64,9 @@ pub record IsFoundDocument (doc : RawDocument) (found : FoundDocument) : Type 0 
 
 -- what was found of the document that the bytes are
 pub record IsFoundIn (bytes : List ℕ) (found : FoundDocument) : Type 0 where
-  pub data : Data
+  pub value : Data
   pub utf8 : IsUtf8 bytes
-  pub json : read bytes ≡ Some data
+  pub json : read bytes ≡ Some value
   pub draft : RawDocument
-  pub form : document_draft data ≡ Some draft
+  pub form : document_draft value ≡ Some draft
   pub is : IsFoundDocument draft found
