@@ -3,7 +3,7 @@ use Rattle.std.specs.Prelude.{ℕ, Bool, false, true, List, Option, None, Some}
 use Rattle.std.specs.List.{flat_map, list_any}
 use Rattle.controller.specs.declared.reply.Reply.{Reply}
 use Rattle.world_items.specs.Word.{word_of}
-use Rattle.jdf_commands.specs.FileCommands.Step.{TextStep}
+use Rattle.stored_state.specs.Step.{TextStep}
 use Rattle.jdf_commands.specs.WorldCommand.Run as world_run
 use Rattle.streams.specs.Fault.{refused_line}
 use Rattle.streams.specs.declared.refused.Refused.{Refused as CallRefused}
