@@ -10,7 +10,7 @@ use jdf_commands::step_output;
 use keepers::{FailingKeep, Keep};
 use std::alloc::Global;
 use std::test::Fail;
-use stored_state::{Opened, Refused, open_any};
+use stored_state::{Opened, OrderBytes, Refused, TakenBytes, open_any};
 use streams::{Fault, Output};
 
 /// A step of the worker: an order, or else a message, and what is written of it; and what is where
@@ -65,19 +65,49 @@ static STEPS: [Step; 5] = [
 /// The worker beside a keeper that is lent.
 type Lending<'a> = Opened<Lent<'a, FailingKeep>>;
 
-/// The output of a step, which memory suffices for.
-fn do_step(alloc: Global, opened: &mut Lending<'_>, step: &Step) -> Result<Output, Refused> {
-    let bytes = step.text.as_bytes();
-    let (reply, sent) = if step.is_order {
-        let given = opened.order(alloc, bytes, step.at)?;
-        (given.reply, given.message)
-    } else {
-        let given = opened.take(alloc, bytes, step.at)?;
-        (given.reply, given.answer)
-    };
-    step_output(alloc, reply, &sent).map_err(|fault| match fault {
-        Fault::Input(refused) | Fault::Device(refused) => refused,
+/// The output of what was given out, which memory suffices for.
+fn output_of(alloc: Global, given: OrderBytes) -> Result<Output, Fault> {
+    let OrderBytes { reply, message } = given;
+    step_output(alloc, reply, &message)
+}
+
+/// What is given out of an order.
+fn ordered<K: Keep>(
+    alloc: Global,
+    opened: &mut Opened<K>,
+    step: &Step,
+) -> Result<OrderBytes, Refused> {
+    opened.order(alloc, step.text.as_bytes(), step.at)
+}
+
+/// What is given out of a message.
+fn taken<K: Keep>(
+    alloc: Global,
+    opened: &mut Opened<K>,
+    step: &Step,
+) -> Result<OrderBytes, Refused> {
+    let TakenBytes { reply, answer } = opened.take(alloc, step.text.as_bytes(), step.at)?;
+    Ok(OrderBytes {
+        reply,
+        message: answer,
     })
+}
+
+/// The output of what is given out, or why nothing is.
+fn told(alloc: Global, given: Result<OrderBytes, Refused>) -> Result<Output, Fault> {
+    match given {
+        Ok(given) => output_of(alloc, given),
+        Err(refused) => Err(Fault::Device(refused)),
+    }
+}
+
+/// The output of a step, or why there is none.
+fn do_step(alloc: Global, opened: &mut Lending<'_>, step: &Step) -> Result<Output, Fault> {
+    if step.is_order {
+        told(alloc, ordered(alloc, opened, step))
+    } else {
+        told(alloc, taken(alloc, opened, step))
+    }
 }
 
 /// Whether a step comes to this line.
@@ -88,9 +118,17 @@ fn comes_to(alloc: Global, opened: &mut Lending<'_>, step: &Step, line: &str) ->
     }
 }
 
+/// Whether the fault is this one of the device.
+fn is_of_device(fault: Fault, refused: Refused) -> bool {
+    fault == Fault::Device(refused)
+}
+
 /// Whether a step is refused so.
 fn is_refused(alloc: Global, opened: &mut Lending<'_>, step: &Step, refused: Refused) -> bool {
-    do_step(alloc, opened, step).err() == Some(refused)
+    match do_step(alloc, opened, step).err() {
+        Some(fault) => is_of_device(fault, refused),
+        None => false,
+    }
 }
 
 /// Whether the worker is stale, and is loaded again.
