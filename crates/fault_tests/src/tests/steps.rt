@@ -11,7 +11,7 @@ use keepers::{FailingKeep, Keep};
 use std::alloc::Global;
 use std::test::Fail;
 use stored_state::{Opened, OrderBytes, Refused, TakenBytes, open_any};
-use streams::{Fault, Output};
+use streams::Output;
 
 /// A step of the worker: an order, or else a message, and what is written of it; and what is where
 /// the step was saved already.
@@ -65,10 +65,10 @@ static STEPS: [Step; 5] = [
 /// The worker beside a keeper that is lent.
 type Lending<'a> = Opened<Lent<'a, FailingKeep>>;
 
-/// The output of what was given out, which memory suffices for.
-fn output_of(alloc: Global, given: OrderBytes) -> Result<Output, Fault> {
+/// The output of what was given out, as far as memory suffices for it.
+fn output_of(alloc: Global, given: OrderBytes) -> Option<Output> {
     let OrderBytes { reply, message } = given;
-    step_output(alloc, reply, &message)
+    step_output(alloc, reply, &message).ok()
 }
 
 /// What is given out of an order.
@@ -93,16 +93,20 @@ fn taken<K: Keep>(
     })
 }
 
-/// The output of what is given out, or why nothing is.
-fn told(alloc: Global, given: Result<OrderBytes, Refused>) -> Result<Output, Fault> {
+/// The output of what is given out, as far as memory suffices for it; or why nothing is.
+fn told(alloc: Global, given: Result<OrderBytes, Refused>) -> Result<Option<Output>, Refused> {
     match given {
-        Ok(given) => output_of(alloc, given),
-        Err(refused) => Err(Fault::Device(refused)),
+        Ok(given) => Ok(output_of(alloc, given)),
+        Err(refused) => Err(refused),
     }
 }
 
 /// The output of a step, or why there is none.
-fn do_step(alloc: Global, opened: &mut Lending<'_>, step: &Step) -> Result<Output, Fault> {
+fn do_step(
+    alloc: Global,
+    opened: &mut Lending<'_>,
+    step: &Step,
+) -> Result<Option<Output>, Refused> {
     if step.is_order {
         told(alloc, ordered(alloc, opened, step))
     } else {
@@ -113,20 +117,16 @@ fn do_step(alloc: Global, opened: &mut Lending<'_>, step: &Step) -> Result<Outpu
 /// Whether a step comes to this line.
 fn comes_to(alloc: Global, opened: &mut Lending<'_>, step: &Step, line: &str) -> bool {
     match do_step(alloc, opened, step) {
-        Ok(output) => output.text.as_slice().starts_with(line.as_bytes()),
+        Ok(Some(output)) => output.text.as_slice().starts_with(line.as_bytes()),
+        Ok(None) => false,
         Err(_) => false,
     }
-}
-
-/// Whether the fault is this one of the device.
-fn is_of_device(fault: Fault, refused: Refused) -> bool {
-    fault == Fault::Device(refused)
 }
 
 /// Whether a step is refused so.
 fn is_refused(alloc: Global, opened: &mut Lending<'_>, step: &Step, refused: Refused) -> bool {
     match do_step(alloc, opened, step).err() {
-        Some(fault) => is_of_device(fault, refused),
+        Some(found) => found == refused,
         None => false,
     }
 }
