@@ -1,9 +1,9 @@
 -- What is written is read again.
-use Rattle.std.specs.Prelude.{◌≡◌, ℕ, Bool, List, [], ◌∷◌, Option, Some, refl}
+use Rattle.std.specs.Prelude.{◌≡◌, ℕ, List, [], ◌∷◌, Option, Some, refl}
 use Rattle.std.specs.Option.{option_map}
 use Rattle.std.proofs.Common.{ap, ◌∙◌}
-use Rattle.serde_json.specs.Data.{Data, array, boolean, number, unsigned, string}
-use Rattle.serde_json.specs.Find.{as_bool, as_str}
+use Rattle.serde_json.specs.Data.{Data, array, number, unsigned, string}
+use Rattle.serde_json.specs.Find.{as_str}
 use Rattle.ticket_items.specs.Attrs.{Pairs}
 use Rattle.ticket_items.specs.declared.ancestor.Ancestor.{Ancestor}
 use Rattle.ticket_items.specs.declared.audit.Audit.{Audit}
@@ -32,7 +32,7 @@ use Rattle.json_items.specs.Listed.{data_items, each, list_form, pool_draft, tex
 use Rattle.json_source.specs.Read.{◌>>=◌, number_of, attrs_draft, text_pairs}
 use Rattle.json_items.specs.Resources.{own_resource, resource_draft, resource_data, raw_data}
 use Rattle.json_items.specs.Shown.{shown_draft, spawn_status_form, spawn_status_data}
-use Rattle.json_items.specs.declared.resources.marked_form.Marked.{Marked}
+use Rattle.json_items.specs.Resources.{Marked}
 use Rattle.json_items.specs.declared.resources.shown_form.Shown.{Shown}
 
 pub text_again : (text : List ℕ) → as_str (string text) ≡ Some text
@@ -40,9 +40,6 @@ text_again text = refl
 
 pub number_again : (n : ℕ) → number_of (number (unsigned n)) ≡ Some n
 number_again n = refl
-
-pub switch_again : (b : Bool) → as_bool (boolean b) ≡ Some b
-switch_again b = refl
 
 more_at : {X : Type 0} (o : Option X) (x : X) (rest : Option (List X)) (xs : List X) → o ≡ Some x
     → rest ≡ Some xs → (o >>= λ y. option_map (λ ys. y ∷ ys) rest) ≡ Some (x ∷ xs)

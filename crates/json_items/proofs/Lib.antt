@@ -1,5 +1,6 @@
 pub mod Again
 pub mod Attributes
+pub mod Faults
 pub mod ListLemmas
 pub mod Tests
 pub mod Wholes

@@ -1,30 +1,17 @@
 -- Lists that are read item by item.
-use Rattle.std.proofs.Common.{◌≡◌, ℕ, zero, suc, ◌<◌, List, [], ◌∷◌, ◌++◌, ◌+◌, length, get_or, map, take, Option, Some, None, Result, Ok, Err, refl, sym, ap, ◌∙◌, subst, arith}
-use Rattle.std.proofs.lemmas.List.{take_more, map-append}
+use Rattle.std.proofs.Common.{◌≡◌, ℕ, zero, suc, ◌<◌, List, [], ◌∷◌, ◌++◌, ◌+◌, length, get_or, map, take, Option, Some, None, Result, Ok, Err, refl, sym, ap, ◌∙◌, subst, arith, Bool}
+use Rattle.std.proofs.lemmas.List.{take_more}
 use Rattle.std.specs.Option.{option_map}
 use Rattle.std.specs.Prelude.{IsErrAnd}
 use Rattle.serde_json.specs.Data.{Data}
 use Rattle.serde_json.specs.View.{items_of}
 use Rattle.ticket_items.specs.declared.refusal.Refusal.{Refusal}
 use Rattle.ticket_items.specs.declared.refusal.Refusal.TheVariants.{Memory, NotProfile}
-use Rattle.json_items.specs.Listed.{each}
-use Rattle.json_source.specs.Read.{◌>>=◌, Fails, Gives}
+use Rattle.json_items.specs.Judged.{Reads}
+use Rattle.json_items.specs.Listed.{each, one_more}
+use Rattle.json_source.specs.Read.{◌>>=◌, Fails}
 
 -- ---- read
-
-more_at : {Y : Type 0} (o : Option Y) (y : Y) (rest : Option (List Y)) (ys : List Y) → o ≡ Some y → rest ≡ Some ys → (o >>= λ z. option_map (λ zs. z ∷ zs) rest) ≡ Some (y ∷ ys)
-more_at o y rest ys e f = ap (λ p. p >>= λ z. option_map (λ zs. z ∷ zs) rest) e ∙ ap (option_map (λ zs. y ∷ zs)) f
-
--- each value is what was read of it
-pub each-all : {V X Y : Type 0} (content : V → Data) (form : Data → Option Y) (seen : X → Y) (vs : List V) (xs : List X) → map (λ v. form (content v)) vs ≡ map (λ x. Some (seen x)) xs
-    → each form (items_of (map content vs)) ≡ Some (map seen xs)
-each-all content form seen [] [] e = refl
-each-all content form seen [] (x ∷ xs) e = cc
-each-all content form seen (v ∷ vs) [] e = cc
-each-all content form seen (v ∷ vs) (x ∷ xs) e =
-    let first : form (content v) ≡ Some (seen x) = cc in
-    let rest : map (λ w. form (content w)) vs ≡ map (λ y. Some (seen y)) xs = cc in
-    more_at (form (content v)) (seen x) _ _ first (each-all content form seen vs xs rest)
 
 none_later : {Y : Type 0} (o : Option Y) (rest : Option (List Y)) → rest ≡ None → (o >>= λ z. option_map (λ zs. z ∷ zs) rest) ≡ None
 none_later None rest e = refl
@@ -46,24 +33,32 @@ pub Fails-each : {V Y : Type 0} (content : V → Data) (e : Refusal) (form : Dat
 Fails-each content e form vs i v within is fails =
     Fails-weaker e (form (content v)) (each form (items_of (map content vs))) (λ none. each-none content form vs i v within (ap (λ w. form (content w)) (sym is) ∙ none)) fails
 
--- a refusal that is handed on
-pub Gives-failed : {X Y : Type 0} (seen : X → Y) (r : Result X Refusal) (e : Refusal) (o : Option Y) → IsErrAnd r (λ f. f ≡ e) → Fails e o → Gives seen r o
-Gives-failed seen (Ok x) e o same fails = absurd same
-Gives-failed seen (Err f) e o same fails = subst (λ g. Fails g o) (sym same) fails
+-- ---- found
 
--- ---- built
+one_first : {X : Type 0} (o : Option X) → (o >>= λ x. option_map (λ xs. x ∷ xs) (Some [])) ≡ one_more (Some []) o
+one_first None = refl
+one_first (Some x) = refl
 
--- one more is made of its item
-pub map-more : {X Y : Type 0} (made : X → Y) (xs : List X) (i : ℕ) (x : X) (y : Y) (before after : List Y) → i < length xs → x ≡ get_or xs i x → y ≡ made x → before ≡ map made (take i xs) → after ≡ before ++ y ∷ [] → after ≡ map made (take (i + 1) xs)
-map-more made xs i x y before after within is same so_far pushed =
-    let item = take_more xs i x within in
-    let joined = map-append made (take i xs) (get_or xs i x ∷ []) in
-    cc
+one_behind : {X : Type 0} (o : Option X) (rest : Option (List X)) (next : Option X) → (o >>= λ x. option_map (λ xs. x ∷ xs) (one_more rest next)) ≡ one_more (o >>= λ x. option_map (λ xs. x ∷ xs) rest) next
+one_behind None rest next = refl
+one_behind (Some x) None next = refl
+one_behind (Some x) (Some xs) None = refl
+one_behind (Some x) (Some xs) (Some y) = refl
 
--- one more is read of its item
-pub map-more_both : {X Y Z : Type 0} (read : X → Z) (seen : Y → Z) (xs : List X) (i : ℕ) (x : X) (y : Y) (before after : List Y) → i < length xs → x ≡ get_or xs i x → read x ≡ seen y → map read (take i xs) ≡ map seen before → after ≡ before ++ y ∷ [] → map read (take (i + 1) xs) ≡ map seen after
-map-more_both read seen xs i x y before after within is same so_far pushed =
-    let item = take_more xs i x within in
-    let joined = map-append read (take i xs) (get_or xs i x ∷ []) in
-    let seen_joined = map-append seen before (y ∷ []) in
-    cc
+each-behind : {V X : Type 0} (content : V → Data) (form : Data → Option X) (vs : List V) (v : V) → each form (items_of (map content (vs ++ v ∷ []))) ≡ one_more (each form (items_of (map content vs))) (form (content v))
+each-behind content form [] v = one_first (form (content v))
+each-behind content form (w ∷ vs) v =
+    ap (λ rest. form (content w) >>= λ x. option_map (λ xs. x ∷ xs) rest) (each-behind content form vs v)
+    ∙ one_behind (form (content w)) (each form (items_of (map content vs))) (form (content v))
+
+-- one more is read behind those so far
+pub each-more : {V X : Type 0} (content : V → Data) (form : Data → Option X) (vs : List V) (i : ℕ) (v : V) → i < length vs → v ≡ get_or vs i v
+    → each form (items_of (map content (take (i + 1) vs))) ≡ one_more (each form (items_of (map content (take i vs)))) (form (content v))
+each-more content form vs i v within is =
+    ap (λ us. each form (items_of (map content us))) (take_more vs i v within ∙ ap (λ u. take i vs ++ u ∷ []) (sym is))
+    ∙ each-behind content form (take i vs) v
+
+-- a refusal in place of what is found
+pub Reads-failed : {X : Type 0} (names texts : X → Bool) (r : Result (Result X Refusal) Refusal) (e : Refusal) (o : Option X) → IsErrAnd r (λ f. f ≡ e) → Fails e o → Reads names texts r o
+Reads-failed names texts (Ok x) e o same fails = absurd same
+Reads-failed names texts (Err f) e o same fails = subst (λ g. Fails g o) (sym same) fails

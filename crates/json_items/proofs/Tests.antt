@@ -32,3 +32,7 @@ pub list_all-more : {X : Type 0} (p : X → Bool) (xs : List X) (i : ℕ) (x : X
 list_all-more p xs i x within is here before =
     let next : list_all p (get_or xs i x ∷ []) ≡ true = ap (λ b. b && true) (ap p (sym is) ∙ here) in
     ap (list_all p) (take_more xs i x within) ∙ list_all-append p (take i xs) (get_or xs i x ∷ []) ∙ and_from _ _ before next
+
+pub and_true : (b : Bool) → (b && true) ≡ b
+and_true true = refl
+and_true false = refl

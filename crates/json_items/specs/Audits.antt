@@ -65,9 +65,9 @@ audit_draft d = do
 -- all ids, and the Status
 unfoldable pub audit_has_names : Audit → Bool
 audit_has_names (Notification time text) = true
-audit_has_names (Spawned time jref spawn_id ro rw status) = is_name jref && is_name spawn_id
-    && list_all is_name ro && list_all is_name rw && is_name status
-audit_has_names (Merged time jref merge_id overwritten) = is_name jref && is_name merge_id
+audit_has_names (Spawned time jref spawn_id ro rw status) = is_name spawn_id && is_name status
+    && is_name jref && list_all is_name ro && list_all is_name rw
+audit_has_names (Merged time jref merge_id overwritten) = is_name merge_id && is_name jref
     && list_all is_name overwritten
 
 -- the text of a note

@@ -1,5 +1,5 @@
 -- The form of edits. Their ids, names and texts may be any bytes.
-use Rattle.std.specs.Prelude.{ℕ, ◌&&◌, Bool, true, false, List, [], ◌∷◌, codes, if◌then◌else◌}
+use Rattle.std.specs.Prelude.{ℕ, ◌&&◌, Bool, true, List, [], ◌∷◌, codes, if◌then◌else◌}
 use Rattle.std.specs.Prelude.{Option, Some, None}
 use Rattle.std.specs.Str.{bytes_eq}
 use Rattle.serde_json.specs.Data.{Data, no_members, member, string, object}
@@ -133,8 +133,8 @@ edit_has_names (SetAttr node name value) = is_name node && is_name name
 edit_has_names (SetResStatus resource status) = is_name resource && is_name status
 edit_has_names (SetResAttr resource name value) = is_name resource && is_name name
 edit_has_names (Note node text) = is_name node
-edit_has_names (AddNode node id kind job_part status) = is_name node && is_name id && is_name kind
-    && is_name job_part && is_name status
+edit_has_names (AddNode node id kind job_part status) = is_name id && is_name job_part
+    && is_name node && is_name status && is_name kind
 edit_has_names (AddResource node resource) = is_name node && resource_has_names resource
 edit_has_names (AddLink node link) = is_name node && link_has_names link
 
@@ -147,17 +147,6 @@ edit_has_texts (Note node text) = is_text text
 edit_has_texts (AddNode node id kind job_part status) = true
 edit_has_texts (AddResource node resource) = resource_has_texts resource
 edit_has_texts (AddLink node link) = true
-
--- whether it changes what is there
-abbrev pub is_setting : Edit → Bool
-is_setting (SetStatus node status) = true
-is_setting (SetAttr node name value) = true
-is_setting (SetResStatus resource status) = true
-is_setting (SetResAttr resource name value) = true
-is_setting (Note node text) = false
-is_setting (AddNode node id kind job_part status) = false
-is_setting (AddResource node resource) = false
-is_setting (AddLink node link) = false
 
 -- ---- written
 

@@ -3,15 +3,12 @@ pub mod Members
 pub mod Judged
 pub mod Ancestors
 pub mod Audits
-pub mod DraftedAudits
 pub mod Links
 pub mod Attributes
 pub mod Shown
 pub mod Resources
-pub mod DraftedResources
 pub mod Edits
-pub mod DraftedEdits
-pub mod Texts
+pub mod Spawns
 pub mod TicketDraft
 pub mod TicketForm
 pub mod PartDraft

@@ -1,5 +1,5 @@
 -- Lists in JSON data: each item by its form.
-use Rattle.std.specs.Prelude.{ℕ, List, [], ◌∷◌, map, Option, Some, None}
+use Rattle.std.specs.Prelude.{ℕ, List, [], ◌∷◌, ◌++◌, map, Option, Some, None}
 use Rattle.std.specs.Option.{option_map, option_and_then}
 use Rattle.serde_json.specs.Data.{Data, Items, no_items, item, string, array}
 use Rattle.serde_json.specs.Find.{get, as_str, as_array}
@@ -12,6 +12,13 @@ use Rattle.json_source.specs.Read.{◌>>=◌}
 abbrev pub each : {X : Type 0} → (Data → Option X) → Items → Option (List X)
 each form no_items = Some []
 each form (item d ds) = form d >>= λ x. option_map (λ xs. x ∷ xs) (each form ds)
+
+-- a list with one more behind it
+abbrev pub one_more : {X : Type 0} → Option (List X) → Option X → Option (List X)
+one_more read next = do
+  xs ← read
+  x ← next
+  Some (xs ++ x ∷ [])
 
 -- a list, each item by its form
 abbrev pub list_form : {X : Type 0} → (Data → Option X) → Data → Option (List X)

@@ -10,10 +10,11 @@ use Rattle.ticket_items.specs.declared.node_row.NodeRow.{NodeRow}
 use Rattle.ticket_items.specs.declared.resource.Resource.{Resource}
 use Rattle.json_items.specs.TicketDraft.{RawRow, root_members, node_rows, resources_of, are_bare}
 use Rattle.json_items.specs.Listed.{each, items_under}
-use Rattle.json_items.specs.declared.resources.marked_form.Marked.{Marked}
+use Rattle.json_items.specs.Resources.{Marked}
 use Rattle.json_items.specs.Shown.{shows_change, shows_nothing, shows_read}
 use Rattle.json_source.specs.Read.{◌>>=◌, provided, text_under}
 use Rattle.json_items.specs.Ancestors.{ancestor_draft}
+use Rattle.json_items.specs.Spawns.{spawn_named}
 
 -- ---- the three groups of the resources of a part's root
 
@@ -77,10 +78,10 @@ ancestors_under name d = items_under name d >>= each ancestor_draft
 
 -- ---- parts
 
--- a part, with the text of its spawn's id
+-- a part, with the number of its spawn, 0 where the text of the spawn's id names none
 pub record RawPart : Type 0 where
   pub job_id : List ℕ
-  pub spawn : List ℕ
+  pub spawn : ℕ
   pub ancestors : List Ancestor
   pub rows : List NodeRow
   pub rw : List Resource
@@ -91,7 +92,7 @@ abbrev pub part_members : List (List ℕ)
 part_members = codes "AncestorPool" ∷ codes "SpawnID" ∷ root_members
 
 -- the part of these rows and copies
-abbrev pub raw_part : List ℕ → List ℕ → List Ancestor → Taken → RawPart
+abbrev pub raw_part : List ℕ → ℕ → List Ancestor → Taken → RawPart
 raw_part job spawn ancestors t =
     record {
       job_id = job;
@@ -109,4 +110,4 @@ part_draft d = do
   ancestors ← ancestors_under (codes "AncestorPool") d
   raws ← node_rows part_members 1 d
   t ← taken spawn raws
-  Some (raw_part job spawn ancestors t)
+  Some (raw_part job (spawn_named spawn) ancestors t)

@@ -1,13 +1,13 @@
 -- The part that JSON data is, or the first refusal of it: `NotProfile`, `BadId`, `BadText`, and
 -- then what is wrong with its rows, with the copies as resources of the root.
-use Rattle.std.specs.Prelude.{◌&&◌, Bool, List, Option, Result, Err, is_some, unwrap_or}
+use Rattle.std.specs.Prelude.{◌&&◌, Bool, List, Option, Result, Err}
 use Rattle.std.specs.List.{list_all}
 use Rattle.std.specs.Option.{option_map_or}
 use Rattle.serde_json.specs.Data.{Data}
 use Rattle.ticket_items.specs.Names.{is_name}
 use Rattle.ticket_tree.specs.Part.{Copied}
 use Rattle.ticket_rows.specs.Copies.{with_copies}
-use Rattle.ticket_items.specs.SpawnId.{spawn_of}
+use Rattle.ticket_items.specs.SpawnId.{is_spawn_number}
 use Rattle.ticket_rows.specs.Ticket.{fault_of}
 use Rattle.ticket_items.specs.declared.node_row.NodeRow.{NodeRow}
 use Rattle.ticket_items.specs.declared.refusal.Refusal.{Refusal}
@@ -28,9 +28,9 @@ abbrev pub copies_have_texts : List Resource → List Resource → Bool
 copies_have_texts changes reads = list_all resource_has_texts changes
     && list_all resource_has_texts reads
 
--- whether the job's id is such, and the spawn's, which has a form of its own
+-- whether the job's id is such, and the spawn's number is one
 abbrev pub has_ids : RawPart → Bool
-has_ids p = is_name p.job_id && is_some (spawn_of p.spawn)
+has_ids p = is_name p.job_id && is_spawn_number p.spawn
 
 -- and those of the ancestors with their names
 abbrev pub has_outer_names : RawPart → Bool
@@ -64,7 +64,7 @@ part_fault p = checked_fault (has_names p) (has_texts p) (built_fault p)
 abbrev pub copied : RawPart → Copied
 copied p = record {
   job_id = p.job_id;
-  spawn_id = unwrap_or (spawn_of p.spawn) 0;
+  spawn_id = p.spawn;
   ancestors = p.ancestors;
   rows = p.rows;
   rw = p.rw;

@@ -8,7 +8,6 @@ use Rattle.json_items.specs.Attributes.{attrs_have_names, attrs_have_texts, attr
 use Rattle.json_items.specs.Listed.{texts_data}
 use Rattle.json_source.specs.Read.{◌>>=◌, provided, has_only, text_under, attrs_of}
 use Rattle.json_items.specs.Shown.{shown_draft, spawn_status_data}
-use Rattle.json_items.specs.declared.resources.marked_form.Marked.{Marked}
 use Rattle.json_items.specs.declared.resources.shown_form.Shown.{Shown}
 
 -- ---- read
@@ -28,7 +27,11 @@ abbrev pub resource_members : List (List ℕ)
 resource_members = codes "Attr" ∷ codes "Class" ∷ codes "ID" ∷ codes "Locked" ∷ codes "Name"
     ∷ codes "SpawnIDs" ∷ codes "SpawnStatus" ∷ codes "Status" ∷ []
 
--- a resource, and what it shows of spawns
+-- a resource with what it shows of spawns
+pub record Marked : Type 0 where
+  pub resource : Resource
+  pub shown : Shown
+
 unfoldable pub resource_draft : Data → Option Marked
 resource_draft d = do
   _ ← provided (has_only resource_members d)
@@ -40,18 +43,11 @@ resource_draft d = do
 
 -- the id, the names and the names of the attributes
 unfoldable pub resource_has_names : Resource → Bool
-resource_has_names r = is_name r.id && is_name r.name && is_name r.class && is_name r.status
+resource_has_names r = is_name r.class && is_name r.id && is_name r.name && is_name r.status
     && attrs_have_names r.attrs
 
 unfoldable pub resource_has_texts : Resource → Bool
 resource_has_texts r = attrs_have_texts r.attrs
-
--- the ids of spawns may be any texts
-abbrev pub marked_has_names : Marked → Bool
-marked_has_names m = resource_has_names m.resource
-
-abbrev pub marked_has_texts : Marked → Bool
-marked_has_texts m = resource_has_texts m.resource
 
 -- ---- written
 

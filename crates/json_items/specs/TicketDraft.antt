@@ -15,7 +15,7 @@ use Rattle.ticket_items.specs.declared.resource.Resource.{Resource}
 use Rattle.ticket_items.specs.declared.node_row.NodeRow.{NodeRow}
 use Rattle.json_items.specs.Audits.{audit_draft}
 use Rattle.json_items.specs.Listed.{pool_draft}
-use Rattle.json_items.specs.declared.resources.marked_form.Marked.{Marked}
+use Rattle.json_items.specs.Resources.{Marked}
 use Rattle.json_items.specs.Resources.{resource_draft}
 use Rattle.json_items.specs.Links.{link_draft}
 use Rattle.json_items.specs.Shown.{shows_nothing}

@@ -1,2 +1,1 @@
-pub mod drafts;
 pub mod items_form;

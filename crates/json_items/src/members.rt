@@ -1,2 +1,2 @@
+pub mod found_members;
 pub mod member;
-pub mod one_member;

@@ -1,4 +1,3 @@
 pub mod attrs_form;
-pub mod marked_form;
 pub mod resource_form;
 pub mod shown_form;

@@ -1,5 +1,5 @@
 pub mod any_text;
-pub mod borrowed;
 pub mod id_form;
 pub mod name_form;
+pub mod spawn_id_form;
 pub mod text_form;

@@ -1,6 +1,4 @@
 pub mod number_form;
-pub mod plain;
 pub mod spawn_status_form;
 pub mod switch_form;
 pub mod usage_form;
-pub mod word;

@@ -1,8 +1,58 @@
-ghost use Rattle.std.specs.List.{list_all};
-ghost use Rattle.json_items.specs.Listed.{list_form};
+//! Lists, each item by its form.
 
-use crate::Form;
-use ticket_items::Items;
+ghost use Rattle.std.specs.Prelude.{Bool, List, Option, map, OnOk};
+ghost use Rattle.std.specs.List.{list_all};
+ghost use Rattle.serde_json.specs.View.{items_of};
+ghost use Rattle.json_items.specs.Judged.{Finds, Reads, first_fault};
+ghost use Rattle.json_items.specs.Listed.{each, list_form, one_more};
+
+use crate::members::found_members::first_of_two;
+use crate::{Form, Judged};
+use json_source::Source;
+use std::alloc::{AllocError, Global};
+use ticket_items::{Items, Refusal};
+
+/// Appends what was found to a list that was found.
+pub fn push_found<T: Drop>(found: &mut Judged<Items<T>>, next: Judged<T>) -> Result<(), AllocError>
+    ensures { OnOk result ((names : T → Bool) (texts : T → Bool) (read : Option (List T))
+        (next_read : Option T)
+        → Finds (first_fault (list_all names) (list_all texts)) found.old read
+        → Finds (first_fault names texts) next next_read
+        → Finds (first_fault (list_all names) (list_all texts)) found.new
+        (one_more read next_read)) }
+{
+    match next {
+        Ok(item) => {
+            if let Ok(items) = found {
+                items.push(item)?;
+            }
+        }
+        Err(refusal) => {
+            let first = match found {
+                Ok(_) => refusal,
+                Err(before) => first_of_two(*before, Some(refusal)),
+            };
+            *found = Err(first);
+        }
+    }
+    Ok(())
+}
+
+/// What is found of each item. Refuses what the first refused item is refused for, and `Memory`.
+pub fn find_each<T: Form, S: Source>(
+    alloc: Global,
+    items: &[S],
+) -> Result<Judged<Items<T>>, Refusal>
+    ensures { Reads (list_all T.has_names) (list_all T.has_texts) result
+        (each T.form (items_of (map S.content items.now))) }
+{
+    let mut found = Ok(Items::new(Vec::with_capacity(alloc, items.len())?));
+    for item in items {
+        let next = T::find(alloc, item)?;
+        push_found(&mut found, next)?;
+    }
+    Ok(found)
+}
 
 impl<T: Form> Form for Items<T> {
     ghost form = { list_form T.form };
@@ -10,4 +60,9 @@ impl<T: Form> Form for Items<T> {
     ghost has_names = { list_all T.has_names };
 
     ghost has_texts = { list_all T.has_texts };
+
+    fn find<S: Source>(alloc: Global, value: &S) -> Result<Judged<Items<T>>, Refusal> {
+        let items = value.items().ok_or(Refusal::NotProfile)?;
+        find_each(alloc, items)
+    }
 }

@@ -1,45 +1,20 @@
 //! Attributes: texts by their names.
 
-ghost use Rattle.std.specs.Prelude.{◌≡◌, [], true, IfOk, IfErr, OnOk};
+ghost use Rattle.std.specs.Prelude.{◌≡◌, [], codes, true, IfOk, IfErr, OnOk};
 ghost use Rattle.std.specs.List.{list_all};
+ghost use Rattle.serde_json.specs.Find.{get};
 ghost use Rattle.ticket_items.specs.Attrs.{IsInOrder, with_attr};
 ghost use Rattle.ticket_items.specs.Names as names;
 ghost use Rattle.json_items.specs.Attributes as attributes;
-ghost use Rattle.json_source.specs.Read.{attrs_draft, lent_pairs};
+ghost use Rattle.json_items.specs.Judged.{Reads};
+ghost use Rattle.json_source.specs.Read.{attrs_draft, attrs_of, lent_pairs};
 
-use crate::{Draft, Form, Read, Word};
+use crate::members::found_members::find_or;
+use crate::{Form, Judged};
 use json_source::Source;
 use std::alloc::Global;
 use std::marker::Model;
 use ticket_items::{Attrs, Name, Refusal, Text, is_name, is_text};
-
-/// Attributes by their kinds alone, in the byte order of their names: any texts with any texts.
-#[derive(Drop)]
-pub struct AttrsDraft<'a> {
-    pairs: Vec<(&'a str, &'a str)>,
-}
-
-impl<'a> Model for AttrsDraft<'a> {
-    ghost use Rattle.json_source.specs.Read.{lent_pairs};
-    ghost use Rattle.ticket_items.specs.Attrs.{IsInOrder, Pairs};
-
-    ghost Value = { Pairs };
-
-    ghost view = { λ a. lent_pairs a.pairs.items };
-
-    ghost invariant = { λ a. IsInOrder (lent_pairs a.pairs.items) };
-}
-
-impl<'a> AttrsDraft<'a> {
-    /// No attribute.
-    pub fn none(alloc: Global) -> AttrsDraft<'a>
-        ensures { result ≡ [] }
-    {
-        AttrsDraft {
-            pairs: Vec::new(alloc),
-        }
-    }
-}
 
 /// Whether each first part is a name.
 fn are_names(pairs: &[(&str, &str)]) -> bool
@@ -90,32 +65,25 @@ impl Form for Attrs {
     ghost has_names = { attributes.attrs_have_names };
 
     ghost has_texts = { attributes.attrs_have_texts };
-}
 
-impl<'a> Read<'a> for AttrsDraft<'a> {
-    type Whole = Attrs;
-
-    ghost drafted = { λ attrs. attrs };
-
-    fn of<S: Source>(alloc: Global, value: &'a S) -> Result<AttrsDraft<'a>, Refusal> {
+    #[tactic(auto, using(crate::proofs::Tests::all_mapped))]
+    fn find<S: Source>(alloc: Global, value: &S) -> Result<Judged<Attrs>, Refusal> {
         let pairs = value.texts(alloc)?;
-        Ok(AttrsDraft { pairs })
+        if !are_names(pairs.as_slice()) {
+            return Ok(Err(Refusal::BadId));
+        }
+        if !are_texts(pairs.as_slice()) {
+            return Ok(Err(Refusal::BadText));
+        }
+        Ok(Ok(build_attrs(alloc, pairs.as_slice())?))
     }
 }
 
-impl<'a> Draft<'a> for AttrsDraft<'a> {
-    #[tactic(auto, using(crate::proofs::Tests::all_mapped))]
-    fn has_names(&self) -> bool {
-        are_names(self.pairs.as_slice())
-    }
-
-    #[tactic(auto, using(crate::proofs::Tests::all_mapped))]
-    fn has_texts(&self) -> bool {
-        are_texts(self.pairs.as_slice())
-    }
-
-    #[tactic(auto, using(crate::proofs::Tests::all_mapped))]
-    fn build(&self, alloc: Global) -> Result<Attrs, Refusal> {
-        build_attrs(alloc, self.pairs.as_slice())
-    }
+/// What is found of the attributes under `Attr`, none where nothing stands there. Refuses
+/// `NotProfile` where something else does, and `Memory`.
+pub fn find_attrs<S: Source>(alloc: Global, value: &S) -> Result<Judged<Attrs>, Refusal>
+    ensures { Reads attributes.attrs_have_names attributes.attrs_have_texts result
+        (attrs_of (get (codes "Attr") (S.content value.now))) }
+{
+    find_or(alloc, value, "Attr", Attrs::new(alloc))
 }

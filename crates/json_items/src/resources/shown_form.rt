@@ -1,10 +1,10 @@
 //! What resources show of the spawns that copied them.
 
 ghost use Rattle.std.specs.Prelude.{◌≡◌, ◌∷◌, [], true, IfOk};
-ghost use Rattle.json_items.specs.DraftedResources.{drafted_shown};
 ghost use Rattle.json_items.specs.Shown as shown;
 
-use crate::{AnyText, Borrowed, Drafts, Form, Read, under_or};
+use crate::members::found_members::find_or;
+use crate::{AnyText, Form, Judged, find_pool};
 use json_source::Source;
 use std::alloc::{AllocError, Global};
 use ticket_items::{Items, Refusal, SpawnStatus};
@@ -19,20 +19,19 @@ pub struct Shown {
     pub spawn_status: SpawnStatus,
 }
 
-/// What a resource shows by the kinds of its members alone, which are texts for the ids of spawns.
-#[derive(Drop)]
-pub struct ShownDraft<'a> {
-    pub locked: bool,
-    pub spawn_ids: Drafts<Borrowed<'a, AnyText>>,
-    pub spawn_status: SpawnStatus,
-}
-
 /// This text alone.
 fn one_text(alloc: Global, text: &str) -> Result<Items<AnyText>, AllocError>
     ensures { IfOk result (λ texts. texts ≡ text.now ∷ []) }
 {
     let texts = vec![in alloc; AnyText::new(alloc, text)?]?;
     Ok(Items::new(texts))
+}
+
+/// Whether they are this text once, and nothing else.
+fn are_only(texts: &[AnyText], text: &str) -> bool
+    ensures { result ≡ shown.are_only text.now texts.now }
+{
+    texts.len() == 1 && texts.iter().all(|other| other.as_str() == text)
 }
 
 impl Shown {
@@ -68,19 +67,10 @@ impl Shown {
             spawn_status: SpawnStatus::SpawnedRO,
         })
     }
-}
 
-/// Whether they are this text once, and nothing else.
-fn are_only(texts: &[Borrowed<'_, AnyText>], text: &str) -> bool
-    ensures { result ≡ shown.are_only text.now texts.now }
-{
-    texts.len() == 1 && texts.iter().all(|other| other.as_str() == text)
-}
-
-impl<'a> ShownDraft<'a> {
     /// Whether it is nothing.
     pub fn shows_nothing(&self) -> bool
-        ensures { result ≡ shown.shows_nothing (drafted_shown self.now) }
+        ensures { result ≡ shown.shows_nothing self.now }
     {
         !self.locked
             && self.spawn_ids.as_slice().is_empty()
@@ -89,7 +79,7 @@ impl<'a> ShownDraft<'a> {
 
     /// Whether it is what a copy shows that may be changed, of the spawn of this text.
     pub fn is_change(&self, spawn: &str) -> bool
-        ensures { result ≡ shown.shows_change spawn.now (drafted_shown self.now) }
+        ensures { result ≡ shown.shows_change spawn.now self.now }
     {
         !self.locked
             && are_only(self.spawn_ids.as_slice(), spawn)
@@ -98,7 +88,7 @@ impl<'a> ShownDraft<'a> {
 
     /// Whether it is what a copy shows that may be read alone, of the spawn of this text.
     pub fn is_read(&self, spawn: &str) -> bool
-        ensures { result ≡ shown.shows_read spawn.now (drafted_shown self.now) }
+        ensures { result ≡ shown.shows_read spawn.now self.now }
     {
         self.locked
             && are_only(self.spawn_ids.as_slice(), spawn)
@@ -112,19 +102,13 @@ impl Form for Shown {
     ghost has_names = { λ _. true };
 
     ghost has_texts = { λ _. true };
-}
 
-impl<'a> Read<'a> for ShownDraft<'a> {
-    type Whole = Shown;
-
-    ghost drafted = { drafted_shown };
-
-    #[tactic(auto, unfolding(crate::specs::Shown::shown_draft), using(crate::proofs::Tests::themselves))]
-    fn of<S: Source>(alloc: Global, value: &'a S) -> Result<ShownDraft<'a>, Refusal> {
-        Ok(ShownDraft {
-            locked: under_or(alloc, value, "Locked", false)?,
-            spawn_ids: Drafts::under(alloc, value, "SpawnIDs")?,
-            spawn_status: under_or(alloc, value, "SpawnStatus", SpawnStatus::NotSpawned)?,
-        })
+    #[tactic(auto, unfolding(crate::specs::Shown::shown_draft), using(crate::proofs::Tests::all_true))]
+    fn find<S: Source>(alloc: Global, value: &S) -> Result<Judged<Shown>, Refusal> {
+        Ok(Ok(Shown {
+            locked: find_or(alloc, value, "Locked", false)??,
+            spawn_ids: find_pool(alloc, value, "SpawnIDs")??,
+            spawn_status: find_or(alloc, value, "SpawnStatus", SpawnStatus::NotSpawned)??,
+        }))
     }
 }

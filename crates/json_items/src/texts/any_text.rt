@@ -1,8 +1,7 @@
 ghost use Rattle.std.specs.Prelude.{◌≡◌, true, IfOk};
 ghost use Rattle.serde_json.specs.Find.{as_str};
-ghost use Rattle.json_items.specs.Texts.{text_itself};
 
-use crate::{Form, Read, Word};
+use crate::{Form, Judged};
 use json_source::Source;
 use std::alloc::{AllocError, Global};
 use std::marker::Model;
@@ -55,33 +54,9 @@ impl Form for AnyText {
     ghost has_names = { λ _. true };
 
     ghost has_texts = { λ _. true };
-}
 
-impl Word for AnyText {
-    ghost word = { λ text. text };
-
-    fn are_names(_text: &str) -> bool {
-        true
-    }
-
-    fn are_texts(_text: &str) -> bool {
-        true
-    }
-
-    fn known(alloc: Global, text: &str) -> Result<AnyText, Refusal> {
-        Ok(AnyText::new(alloc, text)?)
-    }
-
-    ghost read = { text_itself };
-}
-
-impl<'a> Read<'a> for AnyText {
-    type Whole = AnyText;
-
-    ghost drafted = { λ text. text };
-
-    fn of<S: Source>(alloc: Global, value: &'a S) -> Result<AnyText, Refusal> {
+    fn find<S: Source>(alloc: Global, value: &S) -> Result<Judged<AnyText>, Refusal> {
         let text = value.text().ok_or(Refusal::NotProfile)?;
-        Ok(AnyText::new(alloc, text)?)
+        Ok(Ok(AnyText::new(alloc, text)?))
     }
 }

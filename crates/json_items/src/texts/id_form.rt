@@ -1,9 +1,9 @@
 ghost use Rattle.std.specs.Prelude.{true};
 ghost use Rattle.serde_json.specs.Find.{as_str};
 ghost use Rattle.ticket_items.specs.Names as names;
-ghost use Rattle.json_items.specs.Texts.{text_itself};
 
-use crate::{Form, Word};
+use crate::{Form, Judged};
+use json_source::Source;
 use std::alloc::Global;
 use ticket_items::{Id, Refusal, is_name};
 
@@ -13,22 +13,12 @@ impl Form for Id {
     ghost has_names = { names.is_name };
 
     ghost has_texts = { λ _. true };
-}
 
-impl Word for Id {
-    ghost word = { λ text. text };
-
-    fn are_names(text: &str) -> bool {
-        is_name(text)
+    fn find<S: Source>(alloc: Global, value: &S) -> Result<Judged<Id>, Refusal> {
+        let text = value.text().ok_or(Refusal::NotProfile)?;
+        if !is_name(text) {
+            return Ok(Err(Refusal::BadId));
+        }
+        Ok(Ok(Id::known(alloc, text)?))
     }
-
-    fn are_texts(_text: &str) -> bool {
-        true
-    }
-
-    fn known(alloc: Global, text: &str) -> Result<Id, Refusal> {
-        Ok(Id::known(alloc, text)?)
-    }
-
-    ghost read = { text_itself };
 }

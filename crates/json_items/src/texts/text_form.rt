@@ -1,9 +1,9 @@
 ghost use Rattle.std.specs.Prelude.{true};
 ghost use Rattle.serde_json.specs.Find.{as_str};
 ghost use Rattle.ticket_items.specs.Names as names;
-ghost use Rattle.json_items.specs.Texts.{text_itself};
 
-use crate::{Form, Word};
+use crate::{Form, Judged};
+use json_source::Source;
 use std::alloc::Global;
 use ticket_items::{Refusal, Text, is_text};
 
@@ -13,22 +13,12 @@ impl Form for Text {
     ghost has_names = { λ _. true };
 
     ghost has_texts = { names.is_text };
-}
 
-impl Word for Text {
-    ghost word = { λ text. text };
-
-    fn are_names(_text: &str) -> bool {
-        true
+    fn find<S: Source>(alloc: Global, value: &S) -> Result<Judged<Text>, Refusal> {
+        let text = value.text().ok_or(Refusal::NotProfile)?;
+        if !is_text(text) {
+            return Ok(Err(Refusal::BadText));
+        }
+        Ok(Ok(Text::known(alloc, text)?))
     }
-
-    fn are_texts(text: &str) -> bool {
-        is_text(text)
-    }
-
-    fn known(alloc: Global, text: &str) -> Result<Text, Refusal> {
-        Ok(Text::known(alloc, text)?)
-    }
-
-    ghost read = { text_itself };
 }

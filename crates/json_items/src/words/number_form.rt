@@ -1,8 +1,10 @@
 ghost use Rattle.std.specs.Prelude.{true};
 ghost use Rattle.json_source.specs.Read.{number_of};
 
-use crate::{Form, Plain};
+use crate::{Form, Judged};
 use json_source::Source;
+use std::alloc::Global;
+use ticket_items::Refusal;
 
 impl Form for u64 {
     ghost form = { number_of };
@@ -10,10 +12,8 @@ impl Form for u64 {
     ghost has_names = { λ _. true };
 
     ghost has_texts = { λ _. true };
-}
 
-impl Plain for u64 {
-    fn read<S: Source>(value: &S) -> Option<u64> {
-        value.whole_number()
+    fn find<S: Source>(_alloc: Global, value: &S) -> Result<Judged<u64>, Refusal> {
+        Ok(Ok(value.whole_number().ok_or(Refusal::NotProfile)?))
     }
 }

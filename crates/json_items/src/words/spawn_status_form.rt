@@ -3,9 +3,10 @@
 ghost use Rattle.std.specs.Prelude.{◌≡◌, true};
 ghost use Rattle.json_items.specs.Shown as shown;
 
-use crate::{Form, Plain};
+use crate::{Form, Judged};
 use json_source::Source;
-use ticket_items::SpawnStatus;
+use std::alloc::Global;
+use ticket_items::{Refusal, SpawnStatus};
 
 impl Form for SpawnStatus {
     ghost form = { shown.spawn_status_form };
@@ -13,15 +14,13 @@ impl Form for SpawnStatus {
     ghost has_names = { λ _. true };
 
     ghost has_texts = { λ _. true };
-}
 
-impl Plain for SpawnStatus {
-    fn read<S: Source>(value: &S) -> Option<SpawnStatus> {
-        match value.text()? {
-            "NotSpawned" => Some(SpawnStatus::NotSpawned),
-            "SpawnedRO" => Some(SpawnStatus::SpawnedRO),
-            "SpawnedRW" => Some(SpawnStatus::SpawnedRW),
-            _ => None,
+    fn find<S: Source>(_alloc: Global, value: &S) -> Result<Judged<SpawnStatus>, Refusal> {
+        match value.text().ok_or(Refusal::NotProfile)? {
+            "NotSpawned" => Ok(Ok(SpawnStatus::NotSpawned)),
+            "SpawnedRO" => Ok(Ok(SpawnStatus::SpawnedRO)),
+            "SpawnedRW" => Ok(Ok(SpawnStatus::SpawnedRW)),
+            _ => Err(Refusal::NotProfile),
         }
     }
 }

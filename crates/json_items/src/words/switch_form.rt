@@ -1,8 +1,10 @@
 ghost use Rattle.std.specs.Prelude.{true};
 ghost use Rattle.serde_json.specs.Find.{as_bool};
 
-use crate::{Form, Plain};
+use crate::{Form, Judged};
 use json_source::Source;
+use std::alloc::Global;
+use ticket_items::Refusal;
 
 impl Form for bool {
     ghost form = { as_bool };
@@ -10,10 +12,8 @@ impl Form for bool {
     ghost has_names = { λ _. true };
 
     ghost has_texts = { λ _. true };
-}
 
-impl Plain for bool {
-    fn read<S: Source>(value: &S) -> Option<bool> {
-        value.truth()
+    fn find<S: Source>(_alloc: Global, value: &S) -> Result<Judged<bool>, Refusal> {
+        Ok(Ok(value.truth().ok_or(Refusal::NotProfile)?))
     }
 }

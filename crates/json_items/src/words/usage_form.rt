@@ -3,9 +3,10 @@
 ghost use Rattle.std.specs.Prelude.{◌≡◌, true};
 ghost use Rattle.json_items.specs.Links as links;
 
-use crate::{Form, Plain};
+use crate::{Form, Judged};
 use json_source::Source;
-use ticket_items::Usage;
+use std::alloc::Global;
+use ticket_items::{Refusal, Usage};
 
 impl Form for Usage {
     ghost form = { links.usage_form };
@@ -13,14 +14,12 @@ impl Form for Usage {
     ghost has_names = { λ _. true };
 
     ghost has_texts = { λ _. true };
-}
 
-impl Plain for Usage {
-    fn read<S: Source>(value: &S) -> Option<Usage> {
-        match value.text()? {
-            "Input" => Some(Usage::Input),
-            "Output" => Some(Usage::Output),
-            _ => None,
+    fn find<S: Source>(_alloc: Global, value: &S) -> Result<Judged<Usage>, Refusal> {
+        match value.text().ok_or(Refusal::NotProfile)? {
+            "Input" => Ok(Ok(Usage::Input)),
+            "Output" => Ok(Ok(Usage::Output)),
+            _ => Err(Refusal::NotProfile),
         }
     }
 }

@@ -1,0 +1,44 @@
+use Rattle.std.proofs.Common.{◌≡◌, true, Option, List, ℕ, Some, refl}
+use Rattle.std.specs.Prelude.{codes}
+use Rattle.std.specs.Option.{option_map}
+use Rattle.serde_json.specs.Data.{Data}
+use Rattle.ticket_items.specs.Names.{is_name}
+use Rattle.ticket_items.specs.declared.edit.Edit.{Edit}
+use Rattle.ticket_items.specs.declared.edit.Edit.TheVariants.{AddResource}
+use Rattle.ticket_items.specs.declared.refusal.Refusal.{Refusal}
+use Rattle.ticket_items.specs.declared.resource.Resource.{Resource}
+use Rattle.json_source.specs.Read.{has_only, provided, text_under}
+use Rattle.json_items.proofs.Faults.{made_err, made_ok, two_together}
+use Rattle.json_items.specs.Edits.{add_resource_draft, add_resource_members, edit_has_names, edit_has_texts}
+use Rattle.json_items.specs.Judged.{both_read, first_fault, on_both}
+use Rattle.json_items.specs.Resources.{own_resource, resource_has_names, resource_has_texts}
+use Rattle.json_items.proofs.edit_form.add_resource.Goals as goal
+
+abbrev make : List ℕ × Resource → Edit
+make p = AddResource p.0 p.1
+
+abbrev fault : List ℕ × Resource → Option Refusal
+fault = first_fault (on_both is_name resource_has_names) (on_both (λ _. true) resource_has_texts)
+
+abbrev edit_fault : Edit → Option Refusal
+edit_fault = first_fault edit_has_names edit_has_texts
+
+abbrev parts : Data → Option (List ℕ × Resource)
+parts d = both_read (text_under (codes "Node") d) (own_resource d)
+
+in_parts : (d : Data) → provided (has_only add_resource_members d) ≡ Some tt → add_resource_draft d ≡ option_map make (parts d)
+unfolding add_resource_draft
+in_parts d passed = two_together AddResource (provided (has_only add_resource_members d)) (text_under (codes "Node") d) (own_resource d) passed
+
+pub returns : goal.returns
+returns g c =
+    let d = g.S.Source.content c.args.value.now in
+    made_ok fault edit_fault make (parts d) (add_resource_draft d) c.both.result c.in-Ok.found _ (in_parts d c.in_ok-only.ensures) (λ p. refl) c.in-Ok.is
+    (c.both.ensures is_name (λ _. true) (text_under (codes "Node") d) resource_has_names resource_has_texts (own_resource d) c.in_ok-node.ensures c.in_ok-resource.ensures)
+    refl
+
+pub returns-in-Err : goal.returns-in-Err
+returns-in-Err g c =
+    let d = g.S.Source.content c.args.value.now in
+    made_err fault edit_fault make (parts d) (add_resource_draft d) c.both.result _ (in_parts d c.in_ok-only.ensures) (λ p. refl) c.in-Err.is
+    (c.both.ensures is_name (λ _. true) (text_under (codes "Node") d) resource_has_names resource_has_texts (own_resource d) c.in_ok-node.ensures c.in_ok-resource.ensures)
