@@ -17,7 +17,7 @@ use Rattle.json_items.specs.Audits.{audit_draft}
 use Rattle.json_items.specs.TicketDraft.{RawRow, RawTicket, resources_of, are_bare, raw_ticket, own_row, node_rows, item_rows, next_depth, node_members, root_members, ticket_draft}
 use Rattle.json_items.specs.Listed.{pool_draft, data_items}
 use Rattle.json_items.specs.PartDraft.{part_members}
-use Rattle.json_items.specs.declared.resources.marked_form.Marked.{Marked}
+use Rattle.json_items.specs.Resources.{Marked}
 use Rattle.json_items.specs.Resources.{resource_draft}
 use Rattle.json_items.specs.Links.{link_draft}
 use Rattle.json_items.specs.Attributes.{attr_members}

@@ -3,7 +3,7 @@ use Rattle.std.proofs.Common.{◌≡◌, ℕ, suc, ◌≤◌, true, List, [], �
 use Rattle.std.proofs.lemmas.Bool.{and_from, le-leb}
 use Rattle.std.proofs.lemmas.List.{map-append}
 use Rattle.std.specs.Bool.{⊤}
-use Rattle.std.specs.Option.{IfSome, option_map}
+use Rattle.std.specs.Option.{IfSome, option_map, option_map_or}
 use Rattle.std.specs.Cmp.Lexicographic.{slice_cmp}
 use Rattle.std.specs.Ordering.{nat_cmp, match_ordering}
 use Rattle.std.proofs.Common.{◌==◌, ◌⊎◌, inl, inr, Bool, false, Ordering, Less, Equal, Greater, codes, Result, Ok, Err, IfErr}
@@ -17,16 +17,16 @@ use Rattle.ticket_items.specs.declared.link.Link.{Link}
 use Rattle.ticket_items.specs.declared.node_row.NodeRow.{NodeRow}
 use Rattle.json_items.specs.Audits.{audit_draft}
 use Rattle.json_items.specs.Listed.{pool_draft}
-use Rattle.json_items.specs.declared.resources.marked_form.Marked.{Marked}
+use Rattle.json_items.specs.Resources.{Marked}
 use Rattle.json_items.specs.Resources.{resource_draft}
 use Rattle.json_items.specs.Links.{link_draft}
 use Rattle.json_items.specs.TicketDraft.{RawRow, RawTicket, resources_of, raw_ticket, own_row, node_rows, child_rows, list_rows, item_rows, next_depth, node_members, root_members, ticket_draft}
 use Rattle.json_profile.proofs.Again.{raw_depths}
 use Rattle.ticket_items.specs.Ids.{are_distinct}
 use Rattle.ticket_items.specs.declared.refusal.Refusal.{Refusal}
-use Rattle.ticket_items.specs.declared.refusal.Refusal.TheVariants.{BadId, DuplicateId, TooDeep, ReservedStatus, BadText, NotATree, UnresolvedLink, Memory}
+use Rattle.ticket_items.specs.declared.refusal.Refusal.TheVariants.{BadId, DuplicateId, TooDeep, ReservedStatus, BadText, NotATree, NotProfile, UnresolvedLink, Memory}
 use Rattle.json_items.specs.Judged.{Answers, sound}
-use Rattle.json_items.specs.TicketForm.{has_names, has_texts, built_fault, ticket_fault}
+use Rattle.json_items.specs.TicketForm.{has_names, has_texts, built_fault, ticket_fault, ticket_read}
 use Rattle.json_source.specs.Read.{◌>>=◌, provided, has_only, text_under, attrs_of}
 
 -- ---- a node's own row
@@ -212,7 +212,11 @@ pub memory_or : {X : Type 0} (e : Refusal) (read : Result X Refusal) → IfErr r
 memory_or e read h (inl m) = subst IsOther (sym m) tt
 memory_or e read h (inr r) = subst (λ x. IfErr x IsOther) r h
 
--- the ticket of a draft is never refused for rows that are no tree
-pub never_no_tree : (d : Data) (t : RawTicket) (result : Result Job Refusal) → ticket_draft d ≡ Some t → Answers result (sound (ticket_fault t) t.job) → IfErr result (λ e. e ≡ NotATree → ⊥)
-never_no_tree d t (Ok x) is h = tt
-never_no_tree d t (Err e) is h = λ same. subst IsOther same (memory_or e (sound (ticket_fault t) t.job) (ticket_other t (subst (λ o. IfSome o (λ t. is_outline (depths t.job.rows) ≡ true)) is (draft_is_outline d))) h)
+read_other : (read : Option RawTicket) → IfSome read (λ t. is_outline (depths t.job.rows) ≡ true) → IfErr (option_map_or (λ t. sound (ticket_fault t) t.job) read (Err NotProfile)) IsOther
+read_other None h = tt
+read_other (Some t) h = ticket_other t h
+
+-- a ticket is never refused for rows that are no tree
+pub never_no_tree : (d : Data) (result : Result Job Refusal) → Answers result (ticket_read d) → IfErr result (λ e. e ≡ NotATree → ⊥)
+never_no_tree d (Ok x) h = tt
+never_no_tree d (Err e) h = λ same. subst IsOther same (memory_or e (ticket_read d) (read_other (ticket_draft d) (draft_is_outline d)) h)

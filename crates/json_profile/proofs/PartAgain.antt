@@ -1,5 +1,5 @@
 -- A part that was written is read again.
-use Rattle.std.proofs.Common.{◌≡◌, ℕ, ◌+◌, ◌&&◌, Bool, true, false, cond, List, [], ◌∷◌, ◌++◌, length, map, Option, Some, Ok, Err, is_some, unwrap_or, refl, sym, ap, ◌∙◌, arith, append_assoc}
+use Rattle.std.proofs.Common.{◌≡◌, ℕ, ◌+◌, ◌&&◌, Bool, true, false, cond, List, [], ◌∷◌, ◌++◌, length, map, Option, Some, Ok, Err, unwrap_or, refl, sym, ap, ◌∙◌, arith, append_assoc}
 use Rattle.std.proofs.lemmas.Bool.{true≢false, and_from, and_parts, eqb-true}
 use Rattle.std.proofs.lemmas.List.{map-append, take_at, drop_at}
 use Rattle.std.specs.List.{list_all, prefix_len, take_while}
@@ -10,7 +10,7 @@ use Rattle.ticket_items.proofs.SpawnTexts.{spawn_of-spawn_text}
 use Rattle.ticket_items.specs.Names.{is_name}
 use Rattle.ticket_tree.specs.Part.{Copied}
 use Rattle.ticket_rows.specs.Copies.{with_copies}
-use Rattle.ticket_items.specs.SpawnId.{is_spawn_number, spawn_of, spawn_text}
+use Rattle.ticket_items.specs.SpawnId.{is_spawn_number, spawn_text}
 use Rattle.ticket_rows.specs.Ticket.{IsValid}
 use Rattle.ticket_items.specs.declared.ancestor.Ancestor.{Ancestor}
 use Rattle.ticket_items.specs.declared.node_row.NodeRow.{NodeRow}
@@ -24,17 +24,17 @@ use Rattle.json_items.specs.Ancestors.{ancestor_draft}
 use Rattle.json_items.proofs.Again.{each_again, ancestor_again}
 use Rattle.json_items.specs.Ancestors.{ancestor_has_names}
 use Rattle.json_items.specs.PartForm.{copies_have_names, copies_have_texts, has_names, part_fault, copied, part_read}
-use Rattle.json_items.specs.declared.resources.marked_form.Marked.{Marked}
+use Rattle.json_items.specs.Resources.{Marked}
 use Rattle.json_items.specs.Shown.{nothing_shown}
 use Rattle.json_items.specs.Resources.{all_showing}
 use Rattle.json_source.specs.Read.{◌>>=◌, provided}
-use Rattle.json_reader.proofs.Faults.{no_fault}
+use Rattle.json_items.specs.Spawns.{spawn_named}
 use Rattle.json_text.specs.Marked.{no_marks, marked_rows}
 use Rattle.json_text.specs.PartWritten.{ancestor_data, copies_pool, root_pool, part_root_data, copied_root, rows_data, part_data}
 use Rattle.json_text.specs.Written.{children, trees}
 use Rattle.json_profile.proofs.Again.{node_rows-part_root_data, item_rows-marked, unmarked_rows, unmarked_bare}
 use Rattle.json_profile.proofs.PoolAgain.{resources_of-all_showing}
-use Rattle.json_profile.proofs.RoundTrip.{three}
+use Rattle.json_profile.proofs.RoundTrip.{no_fault, three}
 use Rattle.ticket_items.specs.declared.refusal.Refusal.TheVariants.{NotProfile}
 
 -- ---- the groups of a pool
@@ -146,13 +146,13 @@ part_taken spawn r rows changes reads =
 -- ---- parts
 
 part_draft-rows_data : (job spawn : List ℕ) (ancestors : List Ancestor) (rows : List NodeRow) (changes reads : List Resource) → IsValid (with_copies rows changes reads)
-    → part_draft (rows_data job spawn ancestors rows changes reads) ≡ Some (record { job_id = job; spawn = spawn; ancestors = ancestors; rows = rows; rw = changes; ro = reads })
+    → part_draft (rows_data job spawn ancestors rows changes reads) ≡ Some (record { job_id = job; spawn = spawn_named spawn; ancestors = ancestors; rows = rows; rw = changes; ro = reads })
 unfolding part_draft
 part_draft-rows_data job spawn ancestors [] changes reads valid = absurd (true≢false (sym valid.tree))
 part_draft-rows_data job spawn ancestors (r ∷ rows) changes reads valid =
-    ap (λ o. o >>= λ above. node_rows part_members 1 (rows_data job spawn ancestors (r ∷ rows) changes reads) >>= λ raws. taken spawn raws >>= λ t. Some (raw_part job spawn above t)) (each_again ancestor_draft ancestor_data ancestor_again ancestors)
-    ∙ ap (λ o. o >>= λ raws. taken spawn raws >>= λ t. Some (raw_part job spawn ancestors t)) (part_rows job spawn ancestors r rows changes reads valid)
-    ∙ ap (λ o. o >>= λ t. Some (raw_part job spawn ancestors t)) (part_taken spawn r rows changes reads)
+    ap (λ o. o >>= λ above. node_rows part_members 1 (rows_data job spawn ancestors (r ∷ rows) changes reads) >>= λ raws. taken spawn raws >>= λ t. Some (raw_part job (spawn_named spawn) above t)) (each_again ancestor_draft ancestor_data ancestor_again ancestors)
+    ∙ ap (λ o. o >>= λ raws. taken spawn raws >>= λ t. Some (raw_part job (spawn_named spawn) ancestors t)) (part_rows job spawn ancestors r rows changes reads valid)
+    ∙ ap (λ o. o >>= λ t. Some (raw_part job (spawn_named spawn) ancestors t)) (part_taken spawn r rows changes reads)
 
 -- what is known of a part whose names and texts are such
 pub record IsKnown (p : Copied) : Type 0 where
@@ -166,18 +166,18 @@ pub record IsKnown (p : Copied) : Type 0 where
   pub copy_texts : copies_have_texts p.rw p.ro ≡ true
 
 abbrev raw_of : Copied → RawPart
-raw_of p = record { job_id = p.job_id; spawn = spawn_text p.spawn_id; ancestors = p.ancestors; rows = p.rows; rw = p.rw; ro = p.ro }
+raw_of p = record { job_id = p.job_id; spawn = p.spawn_id; ancestors = p.ancestors; rows = p.rows; rw = p.rw; ro = p.ro }
 
 names_of : (p : Copied) → IsKnown p → has_names (raw_of p) ≡ true
-names_of p known =
-    let named : is_some (spawn_of (spawn_text p.spawn_id)) ≡ true = ap is_some (spawn_of-spawn_text p.spawn_id known.number) in
-    and_from _ _ (and_from _ _ (and_from _ _ (and_from _ _ known.job named) known.ancestors) known.names) known.copy_names
+names_of p known = and_from _ _ (and_from _ _ (and_from _ _ (and_from _ _ known.job known.number) known.ancestors) known.names) known.copy_names
 
-copied-raw_of : (p : Copied) → is_spawn_number p.spawn_id ≡ true → copied (raw_of p) ≡ p
-copied-raw_of p number = ap (λ o. record { job_id = p.job_id; spawn_id = unwrap_or o 0; ancestors = p.ancestors; rows = p.rows; rw = p.rw; ro = p.ro }) (spawn_of-spawn_text p.spawn_id number)
+-- the text of its spawn names it
+part_read_raw : (p : Copied) → IsKnown p → part_draft (part_data p) ≡ Some (raw_of p)
+part_read_raw p known =
+    part_draft-rows_data p.job_id (spawn_text p.spawn_id) p.ancestors p.rows p.rw p.ro known.valid
+    ∙ ap (λ o. Some (record (raw_of p) { spawn = unwrap_or o 0 })) (spawn_of-spawn_text p.spawn_id known.number)
 
 pub part_again : (p : Copied) → IsKnown p → part_read (part_data p) ≡ Ok p
 part_again p known =
-    ap (λ o. option_map_or (λ raw. sound (part_fault raw) (copied raw)) o (Err NotProfile)) (part_draft-rows_data p.job_id (spawn_text p.spawn_id) p.ancestors p.rows p.rw p.ro known.valid)
-    ∙ ap (λ f. sound f (copied (raw_of p))) (three _ _ _ (names_of p known) (and_from _ _ known.texts known.copy_texts) (no_fault (with_copies p.rows p.rw p.ro) known.valid))
-    ∙ ap Ok (copied-raw_of p known.number)
+    ap (λ o. option_map_or (λ raw. sound (part_fault raw) (copied raw)) o (Err NotProfile)) (part_read_raw p known)
+    ∙ ap (λ f. sound f p) (three _ _ _ (names_of p known) (and_from _ _ known.texts known.copy_texts) (no_fault (with_copies p.rows p.rw p.ro) known.valid))

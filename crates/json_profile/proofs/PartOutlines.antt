@@ -2,7 +2,7 @@
 use Rattle.std.proofs.Common.{◌≡◌, ℕ, true, List, [], ◌∷◌, Option, Some, None, Result, Ok, Err, IfErr, ap, ◌∙◌, subst, codes}
 use Rattle.std.specs.Bool.{⊤}
 use Rattle.std.specs.List.{list_all}
-use Rattle.std.specs.Option.{IfSome}
+use Rattle.std.specs.Option.{IfSome, option_map_or}
 use Rattle.serde_json.specs.Data.{Data}
 use Rattle.ticket_rows.specs.Outline.{is_outline}
 use Rattle.ticket_tree.specs.Part.{Copied}
@@ -10,11 +10,12 @@ use Rattle.ticket_rows.specs.Copies.{with_copies}
 use Rattle.ticket_rows.specs.Ticket.{depths}
 use Rattle.ticket_items.specs.declared.ancestor.Ancestor.{Ancestor}
 use Rattle.ticket_items.specs.declared.refusal.Refusal.{Refusal}
-use Rattle.ticket_items.specs.declared.refusal.Refusal.TheVariants.{NotATree}
+use Rattle.ticket_items.specs.declared.refusal.Refusal.TheVariants.{NotATree, NotProfile}
 use Rattle.json_items.specs.TicketDraft.{RawRow, are_bare, node_rows}
 use Rattle.json_items.specs.Judged.{Answers, sound}
 use Rattle.json_items.specs.PartDraft.{Groups, RawPart, Taken, grouped, taken, taken_groups, ancestors_under, part_members, part_draft, raw_part}
-use Rattle.json_items.specs.PartForm.{has_names, has_texts, built_fault, part_fault, copied}
+use Rattle.json_items.specs.PartForm.{has_names, has_texts, built_fault, part_fault, part_read, copied}
+use Rattle.json_items.specs.Spawns.{spawn_named}
 use Rattle.json_source.specs.Read.{◌>>=◌, provided, text_under}
 use Rattle.json_profile.proofs.Again.{raw_depths}
 use Rattle.json_profile.proofs.Outlines.{root_is_tree, depths-raw, IsOther, fault_of-outline, draft_fault, judged_other, memory_or}
@@ -32,17 +33,17 @@ taken_tree : (spawn : List ℕ) (raws : List RawRow) → is_outline (raw_depths 
 taken_tree spawn [] h = tt
 taken_tree spawn (root ∷ raws) h = groups_tree root raws (provided (list_all (λ r. are_bare r.pool) raws)) (grouped spawn root.pool) h
 
-rows_tree : (job spawn : List ℕ) (ancestors : List Ancestor) (t : Option Taken) → IfSome t IsTree → IfSome {T = RawPart} (t >>= λ x. Some (raw_part job spawn ancestors x)) (λ p. is_outline (depths (with_copies p.rows p.rw p.ro)) ≡ true)
+rows_tree : (job : List ℕ) (spawn : ℕ) (ancestors : List Ancestor) (t : Option Taken) → IfSome t IsTree → IfSome {T = RawPart} (t >>= λ x. Some (raw_part job spawn ancestors x)) (λ p. is_outline (depths (with_copies p.rows p.rw p.ro)) ≡ true)
 rows_tree job spawn ancestors None h = tt
 rows_tree job spawn ancestors (Some t) h = h
 
 part_made : (job spawn : Option (List ℕ)) (ancestors : Option (List Ancestor)) (rows : Option (List RawRow)) → IfSome rows (λ raws. is_outline (raw_depths raws) ≡ true)
-    → IfSome {T = RawPart} (job >>= λ j. spawn >>= λ s. ancestors >>= λ a. rows >>= λ raws. taken s raws >>= λ t. Some (raw_part j s a t)) (λ p. is_outline (depths (with_copies p.rows p.rw p.ro)) ≡ true)
+    → IfSome {T = RawPart} (job >>= λ j. spawn >>= λ s. ancestors >>= λ a. rows >>= λ raws. taken s raws >>= λ t. Some (raw_part j (spawn_named s) a t)) (λ p. is_outline (depths (with_copies p.rows p.rw p.ro)) ≡ true)
 part_made None spawn ancestors rows h = tt
 part_made (Some j) None ancestors rows h = tt
 part_made (Some j) (Some s) None rows h = tt
 part_made (Some j) (Some s) (Some a) None h = tt
-part_made (Some j) (Some s) (Some a) (Some raws) h = rows_tree j s a (taken s raws) (taken_tree s raws h)
+part_made (Some j) (Some s) (Some a) (Some raws) h = rows_tree j (spawn_named s) a (taken s raws) (taken_tree s raws h)
 
 part_is_outline : (d : Data) → IfSome (part_draft d) (λ p. is_outline (depths (with_copies p.rows p.rw p.ro)) ≡ true)
 unfolding part_draft
@@ -52,8 +53,11 @@ part_is_outline d =
 part_other : (p : RawPart) → is_outline (depths (with_copies p.rows p.rw p.ro)) ≡ true → IfErr (sound (part_fault p) (copied p)) IsOther
 part_other p h = judged_other (part_fault p) (copied p) (draft_fault (has_names p) (has_texts p) (built_fault p) (fault_of-outline (with_copies p.rows p.rw p.ro) h))
 
--- the part of a draft is never refused for rows that are no tree
-pub never_no_part_tree : (d : Data) (p : RawPart) (result : Result Copied Refusal) → part_draft d ≡ Some p → Answers result (sound (part_fault p) (copied p)) → IfErr result (λ e. e ≡ NotATree → ⊥)
-never_no_part_tree d p (Ok x) is h = tt
-never_no_part_tree d p (Err e) is h =
-    λ same. subst IsOther same (memory_or e (sound (part_fault p) (copied p)) (part_other p (subst (λ o. IfSome o (λ q. is_outline (depths (with_copies q.rows q.rw q.ro)) ≡ true)) is (part_is_outline d))) h)
+read_other : (read : Option RawPart) → IfSome read (λ p. is_outline (depths (with_copies p.rows p.rw p.ro)) ≡ true) → IfErr (option_map_or (λ p. sound (part_fault p) (copied p)) read (Err NotProfile)) IsOther
+read_other None h = tt
+read_other (Some p) h = part_other p h
+
+-- a part is never refused for rows that are no tree
+pub never_no_part_tree : (d : Data) (result : Result Copied Refusal) → Answers result (part_read d) → IfErr result (λ e. e ≡ NotATree → ⊥)
+never_no_part_tree d (Ok x) h = tt
+never_no_part_tree d (Err e) h = λ same. subst IsOther same (memory_or e (part_read d) (read_other (part_draft d) (part_is_outline d)) h)

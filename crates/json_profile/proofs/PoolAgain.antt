@@ -9,7 +9,7 @@ use Rattle.json_items.specs.declared.resources.shown_form.Shown.{Shown}
 use Rattle.json_items.specs.Audits.{audit_draft}
 use Rattle.json_items.specs.TicketDraft.{resources_of}
 use Rattle.json_items.specs.Listed.{pool_draft, data_items}
-use Rattle.json_items.specs.declared.resources.marked_form.Marked.{Marked}
+use Rattle.json_items.specs.Resources.{Marked}
 use Rattle.json_items.specs.Resources.{resource_draft}
 use Rattle.json_items.specs.Links.{link_draft}
 use Rattle.json_items.specs.Resources.{raw_data, all_showing}

@@ -1,21 +1,35 @@
 -- A written ticket is read as what it was, and a written edit nests little.
-use Rattle.std.proofs.Common.{◌≡◌, ◌≤◌, Bool, true, false, [], ◌∷◌, Option, Some, None, Ok, Err, refl, ap, ◌∙◌, arith}
+use Rattle.std.proofs.Common.{◌≡◌, ◌≤◌, Bool, true, false, List, [], ◌∷◌, Option, Some, None, Ok, Err, refl, ap, ◌∙◌, arith}
 use Rattle.std.proofs.lemmas.Bool.{or_from}
 use Rattle.std.specs.Option.{option_map_or}
 use Rattle.serde_json.specs.Data.{depth}
 use Rattle.serde_json.specs.Written.{has_float}
 use Rattle.ticket_rows.specs.Ticket.{Job, IsValid, fault_of, unless, first_of}
 use Rattle.ticket_items.specs.declared.edit.Edit.{Edit}
+use Rattle.ticket_items.specs.declared.node_row.NodeRow.{NodeRow}
 use Rattle.ticket_items.specs.declared.edit.Edit.TheVariants.{SetStatus, SetAttr, SetResStatus, SetResAttr, Note, AddNode, AddResource, AddLink}
 use Rattle.ticket_items.specs.declared.refusal.Refusal.{Refusal}
-use Rattle.ticket_items.specs.declared.refusal.Refusal.TheVariants.{NotProfile, ReservedStatus, BadId, BadText}
+use Rattle.ticket_items.specs.declared.refusal.Refusal.TheVariants.{NotProfile, NotATree, ReservedStatus, DuplicateId, TooDeep, UnresolvedLink, BadId, BadText}
 use Rattle.json_items.specs.TicketForm.{job_has_names, job_has_texts, ticket_fault, ticket_read}
 use Rattle.json_items.specs.Judged.{sound}
-use Rattle.json_reader.proofs.Faults.{no_fault}
 use Rattle.json_text.specs.Written.{ticket_data, edit_data}
 use Rattle.json_profile.proofs.Again.{ticket_draft-ticket_data}
 use Rattle.json_text.proofs.Plain.{attrs_plain}
 use Rattle.json_profile.proofs.PoolShape.{attrs_flat}
+
+five : (a b c d e : Bool) → a ≡ true → b ≡ true → c ≡ true → d ≡ true → e ≡ true
+    → first_of (unless a NotATree ∷ unless b ReservedStatus ∷ unless c DuplicateId ∷ unless d TooDeep ∷ unless e UnresolvedLink ∷ []) ≡ None
+five true true true true true p q r s t = refl
+five false b c d e p q r s t = cc
+five true false c d e p q r s t = cc
+five true true false d e p q r s t = cc
+five true true true false e p q r s t = cc
+five true true true true false p q r s t = cc
+
+-- valid rows have no fault
+pub no_fault : (rows : List NodeRow) → IsValid rows → fault_of rows ≡ None
+no_fault rows valid =
+    five _ _ _ _ _ valid.tree valid.unreserved valid.distinct valid.shallow valid.resolved
 
 no_built_fault : (bare : Bool) (o : Option Refusal) → bare ≡ true → o ≡ None → first_of (unless bare ReservedStatus ∷ o ∷ []) ≡ None
 no_built_fault true None p q = refl

@@ -85,7 +85,7 @@ written : part_data printing ≡ whole
 unfolding digits
 written = refl
 
-drafted : part_draft whole ≡ Some (record { job_id = codes "J1"; spawn = codes "S1"; ancestors = printing.ancestors; rows = printing_row ∷ []; rw = component ∷ []; ro = media ∷ [] })
+drafted : part_draft whole ≡ Some (record { job_id = codes "J1"; spawn = 1; ancestors = printing.ancestors; rows = printing_row ∷ []; rw = component ∷ []; ro = media ∷ [] })
 unfolding part_draft own_row resource_draft own_resource shown_draft link_draft ancestor_draft
 drafted = refl
 

@@ -4,11 +4,9 @@ use Rattle.std.specs.Prelude.{codes}
 use Rattle.serde_json.specs.Data.{Data, no_items, item, no_members, member, boolean, number, string}
 use Rattle.serde_json.specs.Data.{array, object, unsigned}
 use Rattle.ticket_rows.specs.Ticket.{Job}
-use Rattle.ticket_items.specs.declared.edit.Edit.{Edit}
 use Rattle.ticket_items.specs.declared.edit.Edit.TheVariants.{SetStatus, AddLink}
 use Rattle.ticket_items.specs.declared.link.Link.{Link}
 use Rattle.ticket_items.specs.declared.node_row.NodeRow.{NodeRow}
-use Rattle.ticket_items.specs.declared.refusal.Refusal.{Refusal}
 use Rattle.ticket_items.specs.declared.refusal.Refusal.TheVariants.{NotProfile, BadId}
 use Rattle.ticket_items.specs.declared.resource.Resource.{Resource}
 use Rattle.ticket_items.specs.declared.usage.Usage.TheVariants.{Input, Output}

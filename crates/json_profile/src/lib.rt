@@ -6,8 +6,8 @@ mod read;
 mod text;
 mod write;
 
-pub use json_items::{EditDraft, number_under, text_under};
-pub use json_reader::{Checks, FoundTicket, PartDraft, TicketDraft};
+pub use json_items::{number_under, text_under};
+pub use json_reader::{FoundPool, RawPart, RawTicket};
 pub use json_source::Source;
 pub use print::{print_part, print_ticket, push_part_text, push_shown_text, push_ticket_text};
 pub use read::{edit_of, part_of, ticket_of};

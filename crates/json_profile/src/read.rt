@@ -6,8 +6,8 @@ ghost use Rattle.json_items.specs.Judged.{Answers};
 ghost use Rattle.json_items.specs.TicketForm.{edit_read, ticket_read};
 ghost use Rattle.json_items.specs.PartForm.{part_read};
 
-use json_items::{Checked, EditDraft, whole_of};
-use json_reader::{PartDraft, TicketDraft};
+use json_items::{Raw, whole_in};
+use json_reader::{RawPart, RawTicket};
 use serde_json::Value;
 use std::alloc::Global;
 use ticket_tree::{Edit, Part, Refusal, Ticket};
@@ -20,8 +20,7 @@ pub fn ticket_of(alloc: Global, value: &Value) -> Result<Ticket, Refusal>
     ensures answers { Answers result (ticket_read (view value.now)) }
     ensures tree { IfErr result (λ e. e ≡ Refusal.NotATree → ⊥) }
 {
-    let draft = TicketDraft::of(alloc, value)?;
-    draft.build(alloc)
+    RawTicket::whole(alloc, value)
 }
 
 /// The part that a value is. Refuses the first of `NotProfile` (also where the resources of the
@@ -32,8 +31,7 @@ pub fn part_of(alloc: Global, value: &Value) -> Result<Part, Refusal>
     ensures answers { Answers result (part_read (view value.now)) }
     ensures tree { IfErr result (λ e. e ≡ Refusal.NotATree → ⊥) }
 {
-    let draft = PartDraft::of(alloc, value)?;
-    draft.build(alloc)
+    RawPart::whole(alloc, value)
 }
 
 /// The edit that a value is. Refuses the first of `NotProfile`, `BadId` and `BadText` that stands
@@ -41,5 +39,5 @@ pub fn part_of(alloc: Global, value: &Value) -> Result<Part, Refusal>
 pub fn edit_of(alloc: Global, value: &Value) -> Result<Edit, Refusal>
     ensures { Answers result (edit_read (view value.now)) }
 {
-    whole_of::<EditDraft<'_>, _>(alloc, value)
+    whole_in(alloc, value)
 }

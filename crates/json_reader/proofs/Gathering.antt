@@ -1,6 +1,6 @@
 -- What nodes are gathered in: one and those below it, and the nodes of a list.
 use Rattle.std.proofs.Common.{◌≡◌, ◌∙◌, ℕ, ◌+◌, ◌<◌, ◌≤◌, List, [], ◌∷◌, ◌++◌, length, get_or, drop, map, codes, Option, Some, None, Result, Ok, Err, IfErr, OnOk, refl, sym, ap, subst, append_assoc, append-nil}
-use Rattle.std.proofs.lemmas.List.{drop_more, drop_all, map_push}
+use Rattle.std.proofs.lemmas.List.{drop_more, drop_all}
 use Rattle.std.specs.Option.{option_map}
 use Rattle.std.specs.Prelude.{⊤, IsErrAnd}
 use Rattle.serde_json.specs.Data.{Data, Items, null, boolean, number, string, array, object}
@@ -11,10 +11,8 @@ use Rattle.ticket_items.specs.declared.refusal.Refusal.TheVariants.{Memory}
 use Rattle.json_items.specs.TicketDraft.{RawRow, item_rows, list_rows, next_depth, node_members, node_rows, own_row}
 use Rattle.json_source.specs.Read.{◌>>=◌, Fails}
 use Rattle.json_items.proofs.ListLemmas.{Fails-weaker}
-use Rattle.json_reader.proofs.Nodes.{node_rows-get, rows_under}
-use Rattle.json_reader.specs.Drafted.{drafted_raw, drafted_rows}
-use Rattle.json_reader.specs.Gathered.{AreDrafted, Gathers}
-use Rattle.json_reader.specs.declared.node_draft.NodeDraft.{NodeDraft}
+use Rattle.json_reader.proofs.Nodes.{node_rows-get}
+use Rattle.json_reader.specs.Gathered.{Gathers, rows_under}
 
 -- ---- nothing to read
 
@@ -28,16 +26,6 @@ own_first (Some row) below = refl
 whole_node : (names : List (List ℕ)) (n : ℕ) (d : Data)
     → (option_map (λ r. r ∷ []) (own_row names n d) >>= λ rows. option_map (λ more. rows ++ more) (rows_under (next_depth n) (get (codes "JDF") d))) ≡ node_rows names n d
 whole_node names n d = own_first (own_row names n d) _ ∙ sym (node_rows-get names n d)
-
--- ---- drafts of nodes
-
--- one draft more
-pub drafted_more : (old new : List NodeDraft) (d : NodeDraft) (own : Option RawRow) → own ≡ Some (drafted_raw d) → new ≡ old ++ d ∷ [] → Gathers AreDrafted old new (Ok tt) (option_map (λ r. r ∷ []) own)
-drafted_more old new d own read is = (
-  drafted_raw d ∷ [],
-  ap (option_map (λ r. r ∷ [])) read,
-  λ before drafted. ap drafted_rows is ∙ map_push drafted_raw old d ∙ ap (λ raws. raws ++ drafted_raw d ∷ []) drafted,
-)
 
 -- ---- the nodes of a list
 

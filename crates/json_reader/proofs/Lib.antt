@@ -1,7 +1,10 @@
 pub mod Depths
-pub mod Faults
-pub mod FoundTickets
-pub mod Gathering
 pub mod Nodes
-pub mod PartFaults
-pub mod PartPools
+pub mod Gathering
+pub mod Findings
+pub mod Pools
+pub mod Rows
+pub mod Trees
+pub mod Tickets
+pub mod Parts
+pub mod PartNames

@@ -1,17 +1,13 @@
 -- The rows of a node, its own and its children's.
-use Rattle.std.proofs.Common.{◌≡◌, ℕ, List, [], ◌∷◌, codes, Option, Some, None, Ordering, Less, Equal, Greater, refl, ap}
+use Rattle.std.proofs.Common.{◌≡◌, ℕ, List, ◌∷◌, codes, Option, Some, Ordering, Less, Equal, Greater, refl, ap}
 use Rattle.std.specs.Cmp.Lexicographic.{slice_cmp}
 use Rattle.std.specs.Option.{option_map}
 use Rattle.std.specs.Ordering.{nat_cmp, match_ordering}
 use Rattle.serde_json.specs.Data.{Data, Members, no_members, member, null, boolean, number, string, array, object}
 use Rattle.serde_json.specs.Find.{get, get_member}
 use Rattle.json_items.specs.TicketDraft.{RawRow, own_row, node_rows, child_rows, list_rows, next_depth}
+use Rattle.json_reader.specs.Gathered.{rows_under}
 use Rattle.json_source.specs.Read.{◌>>=◌}
-
--- the children, by what stands under `JDF`
-abbrev pub rows_under : ℕ → Option Data → Option (List RawRow)
-rows_under depth None = Some []
-rows_under depth (Some d) = list_rows depth d
 
 under_at : (o : Ordering) (depth : ℕ) (d : Data) (rest : Option Data) (rows : Option (List RawRow)) → rows ≡ rows_under depth rest → match_ordering o rows (list_rows depth d) rows ≡ rows_under depth (match_ordering o rest (Some d) rest)
 under_at Less depth d rest rows e = e

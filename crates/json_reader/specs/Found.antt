@@ -1,96 +1,72 @@
--- What is found of nodes and tickets as they are read: whether they are valid, and what is built of
--- them as long as they are.
-use Rattle.std.specs.Prelude.{◌≡◌, ◌⊎◌, ◌&&◌, Bool, true, List, [], ◌∷◌, ◌++◌, map, Option, Some}
-use Rattle.std.specs.Prelude.{None, Result, Ok, Err, IfErr, IfOk, OnOk, ⊤, if◌then◌else◌, is_some}
-use Rattle.std.specs.Prelude.{ℕ}
+-- What is found of pools, of nodes and of trees of nodes: what may be invalid is judged, and what
+-- resources show of spawns is known also where names or texts are invalid.
+use Rattle.std.specs.Prelude.{◌≡◌, List, ◌∷◌, map, Option, Some, Result, Ok, Err}
 use Rattle.std.specs.List.{list_all}
-use Rattle.ticket_items.specs.Names.{is_name}
 use Rattle.ticket_items.specs.declared.refusal.Refusal.{Refusal}
-use Rattle.ticket_items.specs.declared.refusal.Refusal.TheVariants.{BadId, BadText, Memory}
-use Rattle.ticket_items.specs.declared.refusal.Refusal.TheVariants.{ReservedStatus}
-use Rattle.ticket_rows.specs.Ticket.{IsValid, Job, first_of, unless}
-use Rattle.json_items.specs.TicketDraft.{RawRow, RawTicket, are_bare}
-use Rattle.json_items.specs.TicketForm.{built_fault, has_names, has_texts, row_has_names}
-use Rattle.json_items.specs.TicketForm.{row_has_texts}
+use Rattle.ticket_items.specs.declared.resource.Resource.{Resource}
+use Rattle.json_items.specs.Judged.{Finds, first_fault}
+use Rattle.json_items.specs.Resources.{resource_has_names, resource_has_texts}
+use Rattle.json_items.specs.TicketDraft.{RawRow, are_bare, resources_of}
+use Rattle.json_items.specs.TicketForm.{row_has_names, row_has_texts}
+use Rattle.json_items.specs.Resources.{Marked}
+use Rattle.json_items.specs.declared.resources.shown_form.Shown.{Shown}
 use Rattle.json_source.specs.Read.{Fails}
-use Rattle.json_reader.specs.declared.checks.Checks.{Checks}
+use Rattle.json_reader.specs.Nodes.{Pools, RawPools, pools_have_names, pools_have_texts}
 use Rattle.json_reader.specs.declared.found_nodes.FoundNodes.{FoundNodes}
-use Rattle.json_reader.specs.declared.found_ticket.FoundTicket.{FoundTicket}
+use Rattle.json_reader.specs.declared.found_pool.FoundPool.{FoundPool}
+use Rattle.json_reader.specs.declared.found_row.FoundRow.{FoundRow}
+use Rattle.json_reader.specs.declared.found_tree.FoundTree.{FoundTree}
 
--- ---- checks
+-- what was found is of what is read; or nothing is read, unless memory ran out
+abbrev pub FindsAs : {X Y : Type 0} → (X → Y → Type 0) → Result Y Refusal → Option X → Type 0
+FindsAs {X = X} is_of (Ok found) read = (x : X) × (read ≡ Some x) × is_of x found
+FindsAs is_of (Err e) read = Fails e read
 
--- whether nothing of it failed
-abbrev pub all_hold : Checks → Bool
-all_hold c = c.names && c.texts && c.bare
+-- ---- resources
 
--- of two things together
-abbrev pub both : Checks → Checks → Checks
-both a b =
-    record {
-      names = a.names && b.names;
-      texts = a.texts && b.texts;
-      bare = a.bare && b.bare;
-    }
+-- what resources show of spawns
+abbrev pub shown_by : List Marked → List Shown
+shown_by pool = map (λ m. m.shown) pool
 
--- the first that failed
-abbrev pub first_failed : Checks → Option Refusal
-first_failed c =
-    first_of (unless c.names BadId ∷ unless c.texts BadText ∷ unless c.bare ReservedStatus ∷ [])
+-- a resource, and what it shows
+pub record IsMarked (m : Marked) (found : Result Resource Refusal × Shown) : Type 0 where
+  pub resource : Finds (first_fault resource_has_names resource_has_texts) found.0 (Some m.resource)
+  pub shown : found.1 ≡ m.shown
 
--- of a node
-abbrev pub row_checks : RawRow → Checks
-row_checks raw =
-    record {
-      names = row_has_names raw.row;
-      texts = row_has_texts raw.row;
-      bare = are_bare raw.pool;
-    }
-
--- of nodes
-abbrev pub node_checks : List RawRow → Checks
-node_checks raws =
-    record {
-      names = list_all (λ r. row_has_names r.row) raws;
-      texts = list_all (λ r. row_has_texts r.row) raws;
-      bare = list_all (λ r. are_bare r.pool) raws;
-    }
-
--- of a ticket
-abbrev pub ticket_checks : RawTicket → Checks
-ticket_checks t = record { names = has_names t; texts = has_texts t; bare = t.bare }
+-- the resources of a pool, and what each shows
+pub record IsPool (pool : List Marked) (found : FoundPool) : Type 0 where
+  pub resources : Finds (first_fault (list_all resource_has_names) (list_all resource_has_texts))
+      found.resources (Some (resources_of pool))
+  pub shown : found.shown ≡ shown_by pool
 
 -- ---- nodes
 
--- what was found of these nodes: whether they are valid, and their rows while they are
+-- the pools of a node, and what its resources show
+pub record IsPools (raw : RawPools) (found : Result Pools Refusal × List Shown) : Type 0 where
+  pub pools : Finds (first_fault pools_have_names pools_have_texts) found.0
+      (Some ((resources_of raw.resources, raw.links), raw.audits))
+  pub shown : found.1 ≡ shown_by raw.resources
+
+-- a node, and what its resources show
+pub record IsRow (raw : RawRow) (found : FoundRow) : Type 0 where
+  pub row : Finds (first_fault row_has_names row_has_texts) found.row (Some raw.row)
+  pub pool : raw.row.resources ≡ resources_of raw.pool
+  pub shown : found.shown ≡ shown_by raw.pool
+
+-- these nodes, and whether their resources show nothing
 pub record IsFound (raws : List RawRow) (found : FoundNodes) : Type 0 where
-  pub checks : found.checks ≡ node_checks raws
-  pub rows : all_hold found.checks ≡ true → found.rows.items ≡ map (λ r. r.row) raws
+  pub rows : Finds (first_fault (list_all row_has_names) (list_all row_has_texts)) found.rows
+      (Some (map (λ r. r.row) raws))
+  pub bare : found.bare ≡ list_all (λ r. are_bare r.pool) raws
 
--- ---- tickets
-
--- the name that a text is, if it is valid
-abbrev pub name_in : List ℕ → Option (List ℕ)
-name_in text = if is_name text then Some text else None
-
--- of a job, if its id is valid, and of nodes together
-abbrev pub found_ticket : Option (List ℕ) → FoundNodes → FoundTicket
-found_ticket job nodes =
-    record {
-      checks = both (record { names = is_some job; texts = true; bare = true }) nodes.checks;
-      job = job;
-      rows = nodes.rows;
-    }
-
--- what was found of a ticket: whether it is valid, and its job and rows while it is
-pub record IsFoundTicket (draft : RawTicket) (found : FoundTicket) : Type 0 where
-  pub checks : found.checks ≡ ticket_checks draft
-  pub job : all_hold found.checks ≡ true → found.job ≡ Some draft.job.job_id
-  pub rows : all_hold found.checks ≡ true → found.rows.items ≡ draft.job.rows
-
--- what is built of a ticket that is valid so far: it, if its rows are valid, or else what is wrong
--- with them
-pub record Builds (result : Result Job Refusal) (draft : RawTicket) : Type 0 where
-  pub ok : IfOk result (λ t. t ≡ draft.job)
-  pub valid : OnOk result (IsValid draft.job.rows)
-  pub sound : OnOk result (built_fault draft ≡ None)
-  pub err : IfErr result (λ e. (e ≡ Memory) ⊎ (built_fault draft ≡ Some e))
+-- all nodes of a ticket or a part, what the root's resources show, and whether the other nodes'
+-- show nothing
+pub record IsTree (raws : List RawRow) (found : FoundTree) : Type 0 where
+  pub root : RawRow
+  pub below : List RawRow
+  pub are : raws ≡ root ∷ below
+  pub pool : root.row.resources ≡ resources_of root.pool
+  pub rows : Finds (first_fault (list_all row_has_names) (list_all row_has_texts)) found.rows
+      (Some (map (λ r. r.row) raws))
+  pub shown : found.shown ≡ shown_by root.pool
+  pub bare : found.bare ≡ list_all (λ r. are_bare r.pool) below

@@ -1,6 +1,4 @@
-pub mod Drafted
-pub mod DraftedPool
-pub mod DraftedTicket
-pub mod DraftedPart
+pub mod Nodes
 pub mod Found
 pub mod Gathered
+pub mod Groups

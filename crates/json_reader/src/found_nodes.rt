@@ -1,42 +1,51 @@
-use crate::checks::Checks;
-use crate::node_draft::NodeDraft;
-use std::alloc::Global;
-use ticket_tree::{NodeRow, Refusal};
+ghost use Rattle.std.specs.Prelude.{◌≡◌, ◌&&◌};
 
-/// What was found of nodes: whether they are valid, and their rows in preorder as long as they are.
+use json_items::{Judged, push_found};
+use std::alloc::Global;
+use ticket_tree::{Items, NodeRow, Refusal};
+
+/// What is found of nodes: their rows in preorder, or the first of `BadId` and `BadText` that
+/// stands in them, and whether their resources show nothing of spawns.
 #[derive(Drop)]
 pub struct FoundNodes {
-    pub checks: Checks,
-    pub rows: Vec<NodeRow>,
+    pub rows: Judged<Items<NodeRow>>,
+    pub bare: bool,
+}
+
+/// Whether nodes so far and the next one show nothing.
+fn are_bare(before: bool, next: bool) -> bool
+    ensures { result ≡ (before && next) }
+{
+    before && next
 }
 
 impl FoundNodes {
-    ghost use Rattle.std.specs.Prelude.{◌≡◌, List, [], ◌∷◌, ◌++◌, IfErr, OnOk};
-    ghost use Rattle.json_items.specs.TicketDraft.{RawRow};
-    ghost use Rattle.json_reader.specs.Drafted.{drafted_raw};
+    ghost use Rattle.std.specs.Prelude.{◌≡◌, List, [], ◌∷◌, ◌++◌, Some, IfErr, OnOk};
+    ghost use Rattle.json_items.specs.Judged.{Finds, first_fault};
+    ghost use Rattle.json_items.specs.TicketDraft.{RawRow, are_bare};
+    ghost use Rattle.json_items.specs.TicketForm.{row_has_names, row_has_texts};
     ghost use Rattle.json_reader.specs.Found.{IsFound};
 
-    /// What was found of no nodes.
+    /// What is found of no nodes.
     pub fn new(alloc: Global) -> FoundNodes
         ensures { IsFound [] result }
     {
         FoundNodes {
-            checks: Checks::new(),
-            rows: Vec::new(alloc),
+            rows: Ok(Items::new(Vec::new(alloc))),
+            bare: true,
         }
     }
 
-    /// Adds a node. Refuses `Memory` alone.
-    pub fn push(&mut self, alloc: Global, draft: &NodeDraft<'_>) -> Result<(), Refusal>
-        ensures ok { OnOk result ((before : List RawRow) → IsFound before self.old
-            → IsFound (before ++ drafted_raw draft.now ∷ []) self.new) }
+    /// Adds what is found of a node, and whether its resources show nothing. Refuses `Memory`
+    /// alone.
+    pub fn push(&mut self, row: Judged<NodeRow>, bare: bool) -> Result<(), Refusal>
+        ensures ok { OnOk result ((before : List RawRow) (raw : RawRow) → IsFound before self.old
+            → Finds (first_fault row_has_names row_has_texts) row (Some raw.row)
+            → bare ≡ are_bare raw.pool → IsFound (before ++ raw ∷ []) self.new) }
         ensures memory { IfErr result (λ e. e ≡ Refusal.Memory) }
     {
-        self.checks = self.checks.and(draft.checks());
-        if self.checks.hold() {
-            let row = draft.build(alloc)?;
-            self.rows.push(row)?;
-        }
+        push_found(&mut self.rows, row)?;
+        self.bare = are_bare(self.bare, bare);
         Ok(())
     }
 }

@@ -10,7 +10,7 @@ use Rattle.ticket_items.specs.declared.audit.Audit.TheVariants.{Notification, Sp
 use Rattle.ticket_items.specs.declared.link.Link.{Link}
 use Rattle.ticket_items.specs.declared.resource.Resource.{Resource}
 use Rattle.json_items.specs.Listed.{data_items}
-use Rattle.json_items.specs.declared.resources.marked_form.Marked.{Marked}
+use Rattle.json_items.specs.Resources.{Marked}
 use Rattle.json_items.specs.Attributes.{attr_members}
 use Rattle.json_items.specs.Resources.{resource_data, raw_data}
 use Rattle.json_items.specs.Links.{link_data}

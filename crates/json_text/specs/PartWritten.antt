@@ -10,7 +10,7 @@ use Rattle.ticket_items.specs.declared.resource.Resource.{Resource}
 use Rattle.json_items.specs.TicketDraft.{RawRow}
 use Rattle.json_items.specs.Listed.{data_items}
 use Rattle.json_items.specs.Shown.{shown_rw, shown_ro}
-use Rattle.json_items.specs.declared.resources.marked_form.Marked.{Marked}
+use Rattle.json_items.specs.Resources.{Marked}
 use Rattle.json_items.specs.Shown.{nothing_shown}
 use Rattle.json_items.specs.Resources.{all_showing}
 use Rattle.json_items.specs.Links.{link_data}

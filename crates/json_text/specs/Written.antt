@@ -7,7 +7,7 @@ use Rattle.ticket_items.specs.declared.node_row.NodeRow.{NodeRow}
 use Rattle.ticket_items.specs.declared.marks.Marks.{Marks}
 use Rattle.json_items.specs.TicketDraft.{RawRow}
 use Rattle.json_items.specs.Listed.{data_items}
-use Rattle.json_items.specs.declared.resources.marked_form.Marked.{Marked}
+use Rattle.json_items.specs.Resources.{Marked}
 use Rattle.json_items.specs.Attributes.{attr_members}
 use Rattle.json_items.specs.Resources.{raw_data}
 use Rattle.json_items.specs.Links.{link_data}

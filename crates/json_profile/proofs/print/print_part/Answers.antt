@@ -1,4 +1,4 @@
-use Rattle.std.proofs.Common.{◌≡◌, true, Ok, Err, Result, OnOk}
+use Rattle.std.proofs.Common.{◌≡◌, true, OnOk}
 use Rattle.std.specs.List.{list_all}
 use Rattle.ticket_items.specs.Names.{is_name}
 use Rattle.json_items.specs.TicketForm.{row_has_names, row_has_texts}

@@ -1,6 +1,5 @@
-use Rattle.std.proofs.Common.{◌≡◌, ◌∙◌, true, sym, ap, subst}
+use Rattle.std.proofs.Common.{subst}
 use Rattle.std.proofs.lemmas.Bool.{and_from}
-use Rattle.json_items.specs.TicketForm.{job_has_names}
 use Rattle.json_text.specs.Marked.{no_marks, marked_rows}
 use Rattle.json_text.specs.Written.{shown_data}
 use Rattle.json_text.specs.Printed.{IsPrinted}

@@ -1,0 +1,10 @@
+use Rattle.std.proofs.Common.{map, take, Ok}
+use Rattle.serde_json.specs.View.{items_of}
+use Rattle.json_items.specs.Listed.{each}
+use Rattle.json_items.specs.Resources.{resource_draft}
+use Rattle.json_reader.specs.Found.{FindsAs, IsPool}
+use Rattle.json_reader.proofs.found_pool.find_items.Given as goal
+
+-- what is found of the items so far
+abbrev pub invariant-loop-item : goal.invariant-loop-item
+invariant-loop-item g l = FindsAs IsPool (Ok l.found) (each resource_draft (items_of (map g.S.Source.content (take l.item-index l.items))))

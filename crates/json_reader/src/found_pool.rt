@@ -1,0 +1,138 @@
+//! What is found of the resources of a pool, which may show spawns that copied them.
+
+ghost use Rattle.std.specs.Prelude.{◌≡◌, List, [], ◌∷◌, ◌++◌, map, option_and_then, IfErr, IfOk};
+ghost use Rattle.std.specs.Prelude.{OnOk};
+ghost use Rattle.std.specs.List.{list_all};
+ghost use Rattle.serde_json.specs.Find.{get};
+ghost use Rattle.serde_json.specs.View.{items_of};
+ghost use Rattle.json_items.specs.Listed.{each, list_form, pool_draft};
+ghost use Rattle.json_items.specs.Resources.{Marked as MarkedSeen, resource_draft};
+ghost use Rattle.json_items.specs.Shown as marks;
+ghost use Rattle.json_reader.specs.Found.{FindsAs, IsMarked, IsPool};
+
+use json_items::{Form, Judged, Shown, only, push_found};
+use json_source::Source;
+use std::alloc::Global;
+use ticket_tree::{Items, Refusal, Resource};
+
+/// The members of a resource.
+const RESOURCE_MEMBERS: &[&str] = &[
+    "Attr",
+    "Class",
+    "ID",
+    "Locked",
+    "Name",
+    "SpawnIDs",
+    "SpawnStatus",
+    "Status",
+];
+
+/// What is found of a pool: its resources, or the first of `BadId` and `BadText` that stands in
+/// them, and what each of them shows of spawns, which is known also where they aren't valid.
+#[derive(Drop)]
+pub struct FoundPool {
+    pub resources: Judged<Items<Resource>>,
+    pub shown: Items<Shown>,
+}
+
+/// Whether all show nothing of spawns.
+pub fn show_nothing(shown: &[Shown]) -> bool
+    ensures { result ≡ list_all marks.shows_nothing shown.now }
+{
+    shown.iter().all(|one| one.shows_nothing())
+}
+
+/// What is found of a resource, and what it shows of spawns. Refuses `NotProfile`, and `Memory`.
+#[tactic(auto, unfolding(json_items::specs::Resources::resource_draft))]
+fn find_marked<S: Source>(alloc: Global, value: &S) -> Result<(Judged<Resource>, Shown), Refusal>
+    ensures { FindsAs IsMarked result (resource_draft (S.content value.now)) }
+{
+    only(value, RESOURCE_MEMBERS)?;
+    let resource = Resource::find(alloc, value)?;
+    let shown = Shown::find(alloc, value)??;
+    Ok((resource, shown))
+}
+
+/// What is found of resources. Refuses `NotProfile`, and `Memory`.
+fn find_items<S: Source>(alloc: Global, items: &[S]) -> Result<FoundPool, Refusal>
+    ensures { FindsAs IsPool result (each resource_draft (items_of (map S.content items.now))) }
+{
+    let mut found = FoundPool::with_room(alloc, items.len())?;
+    for item in items {
+        let (resource, shown) = find_marked(alloc, item)?;
+        found.push(resource, shown)?;
+    }
+    Ok(found)
+}
+
+/// What is found of a list of resources. Refuses `NotProfile`, and `Memory`.
+fn find_list<S: Source>(alloc: Global, value: &S) -> Result<FoundPool, Refusal>
+    ensures { FindsAs IsPool result (list_form resource_draft (S.content value.now)) }
+{
+    let items = value.items().ok_or(Refusal::NotProfile)?;
+    find_items(alloc, items)
+}
+
+impl FoundPool {
+    /// What is found of the pool under a name, an empty one where nothing stands there. Refuses
+    /// `NotProfile` where something else does, and `Memory`.
+    pub fn find<S: Source>(alloc: Global, value: &S, name: &str) -> Result<FoundPool, Refusal>
+        ensures { FindsAs IsPool result
+            (pool_draft resource_draft (get name.now (S.content value.now))) }
+    {
+        match value.member(name) {
+            Some(pool) => find_list(alloc, pool),
+            None => Ok(FoundPool::new(alloc)),
+        }
+    }
+
+    /// What is found of the pool under a name. Refuses `NotProfile` where none stands there, and
+    /// `Memory`.
+    pub fn find_under<S: Source>(alloc: Global, value: &S, name: &str) -> Result<FoundPool, Refusal>
+        ensures { FindsAs IsPool result
+            (option_and_then (list_form resource_draft) (get name.now (S.content value.now))) }
+    {
+        let pool = value.member(name).ok_or(Refusal::NotProfile)?;
+        find_list(alloc, pool)
+    }
+
+    /// Whether its resources show nothing of spawns.
+    pub fn is_bare(&self) -> bool
+        ensures { result ≡ list_all marks.shows_nothing self.now.shown }
+    {
+        show_nothing(self.shown.as_slice())
+    }
+
+    /// What is found of no resources.
+    fn new(alloc: Global) -> FoundPool
+        ensures { IsPool [] result }
+    {
+        FoundPool {
+            resources: Ok(Items::new(Vec::new(alloc))),
+            shown: Items::new(Vec::new(alloc)),
+        }
+    }
+
+    /// The same, with room for so many. Refuses `Memory` alone.
+    fn with_room(alloc: Global, count: usize) -> Result<FoundPool, Refusal>
+        ensures ok { IfOk result (λ found. IsPool [] found) }
+        ensures memory { IfErr result (λ e. e ≡ Refusal.Memory) }
+    {
+        Ok(FoundPool {
+            resources: Ok(Items::new(Vec::with_capacity(alloc, count)?)),
+            shown: Items::new(Vec::with_capacity(alloc, count)?),
+        })
+    }
+
+    /// Adds what is found of a resource, and what it shows. Refuses `Memory` alone.
+    fn push(&mut self, resource: Judged<Resource>, shown: Shown) -> Result<(), Refusal>
+        ensures ok { OnOk result ((before : List MarkedSeen) (m : MarkedSeen)
+            → IsPool before self.old → IsMarked m (resource, shown)
+            → IsPool (before ++ m ∷ []) self.new) }
+        ensures memory { IfErr result (λ e. e ≡ Refusal.Memory) }
+    {
+        push_found(&mut self.resources, resource)?;
+        self.shown.push(shown)?;
+        Ok(())
+    }
+}
