@@ -2,6 +2,7 @@ pub mod Fronts
 pub mod IdTexts
 pub mod MessageMembers
 pub mod PartRead
+pub mod Parts
 pub mod RoundTrip
 pub mod Saying
 pub mod Shape

@@ -1,13 +1,10 @@
 -- What is known of a part that data is read as.
-use Rattle.std.proofs.Common.{◌≡◌, ℕ, Bool, true, false, List, [], ◌∷◌, Option, Some, None, Ok, Err, refl, ap, ◌∙◌, is_some, unwrap_or}
-use Rattle.std.proofs.lemmas.Bool.{and_parts}
+use Rattle.std.proofs.Common.{◌≡◌, Bool, true, false, [], ◌∷◌, Option, Some, None, Ok, Err, refl}
 use Rattle.std.specs.Option.{option_map_or}
 use Rattle.serde_json.specs.Data.{Data}
 use Rattle.json_items.specs.Judged.{sound}
 use Rattle.json_items.specs.PartDraft.{RawPart, part_draft}
 use Rattle.json_items.specs.PartForm.{has_names, has_texts, built_fault, part_fault, copied, part_read}
-use Rattle.ticket_items.proofs.SpawnTexts.{spawn_of-Some}
-use Rattle.ticket_items.specs.SpawnId.{spawn_of, spawn_text}
 use Rattle.ticket_items.specs.declared.refusal.Refusal.{Refusal}
 use Rattle.ticket_items.specs.declared.refusal.Refusal.TheVariants.{NotProfile, BadId, BadText}
 use Rattle.ticket_rows.specs.Ticket.{unless, first_of}
@@ -50,16 +47,3 @@ read_at d p (Some raw) e h =
 
 pub read_of : (d : Data) (p : Copied) → part_read d ≡ Ok p → IsReadOf d p
 read_of d p h = read_at d p (part_draft d) refl h
-
--- ---- the text of its spawn's id
-
-named_at : (text : List ℕ) (o : Option ℕ) → spawn_of text ≡ o → is_some o ≡ true → text ≡ spawn_text (unwrap_or o 0)
-named_at text None e h = cc
-named_at text (Some n) e h = (spawn_of-Some text n e).0
-
-pub spawn_named : (raw : RawPart) (p : Copied) → has_names raw ≡ true → copied raw ≡ p → raw.spawn ≡ spawn_text p.spawn_id
-spawn_named raw p names same =
-    let own = (and_parts _ _ names).0 in
-    let outer = (and_parts _ _ own).0 in
-    let ids = (and_parts _ _ outer).0 in
-    named_at raw.spawn (spawn_of raw.spawn) refl (and_parts _ _ ids).1 ∙ ap (λ q. spawn_text q.spawn_id) same

@@ -13,7 +13,7 @@ use Rattle.json_items.specs.PartForm.{copied}
 use Rattle.json_text.specs.PartWritten.{part_data}
 use Rattle.ticket_items.proofs.SpawnTexts.{spawn_of-spawn_text}
 use Rattle.ticket_items.specs.Names.{is_name}
-use Rattle.ticket_items.specs.SpawnId.{is_spawn_number, spawn_text}
+use Rattle.ticket_items.specs.SpawnId.{is_spawn_number}
 use Rattle.ticket_items.specs.declared.refusal.Refusal.TheVariants.{NotProfile}
 use Rattle.ticket_tree.specs.Part.{Copied}
 use Rattle.controller.specs.Words.{may_be_sent, version}
@@ -24,15 +24,14 @@ use Rattle.controller.specs.declared.command.Command.TheVariants.{Submit, Return
 use Rattle.controller.specs.declared.message.Message.{Message}
 use Rattle.controller.specs.declared.queue_status.QueueStatus.{QueueStatus}
 use Rattle.controller.specs.declared.queue_status.QueueStatus.TheVariants.{Running, Completed, Aborted}
-use Rattle.jmf_message.specs.Decoded.{body_of, draft_read, message_fault, message_read, message_saying, message_with}
-use Rattle.jmf_message.specs.Form.{RawMessage, document_form, has_part, is_command, is_response, jmf_form, part_beside}
+use Rattle.jmf_message.specs.Decoded.{body_of, body_with, draft_read, message_fault, message_read, message_saying, message_with, said_with}
+use Rattle.jmf_message.specs.Form.{RawJmf, RawMessage, document_form, has_part, is_command, is_response, jmf_form, part_beside}
 use Rattle.jmf_message.specs.Known.{IsKnown, IsWritten}
 use Rattle.jmf_message.specs.Said.{answered_in, command_said, is_command_of, is_response_of, may_be_said, response_said, told_by}
 use Rattle.jmf_message.specs.Written.{command_data, jmf_data, message_data, put_said, response_data, said_by, spawn_said}
-use Rattle.jmf_message.specs.declared.jmf.Jmf.{Jmf}
 use Rattle.jmf_message.specs.declared.said.Said.{Said}
 use Rattle.jmf_message.specs.declared.said.Said.TheVariants as said
-use Rattle.jmf_message.proofs.PartRead.{IsReadOf, no_fault-back, read_of, spawn_named}
+use Rattle.jmf_message.proofs.PartRead.{IsReadOf, no_fault-back, read_of}
 use Rattle.jmf_message.proofs.Saying.{passed}
 
 bytes_eq-same : (xs : List ℕ) → bytes_eq xs xs ≡ true
@@ -94,10 +93,10 @@ abbrev takes_part : Said → Bool
 takes_part (said.Command asked spawn) = has_part asked
 takes_part (said.Answer asked spawn told) = false
 
-abbrev jmf_with : Message → Bool → Option Said → Jmf
+abbrev jmf_with : Message → Bool → Option Said → RawJmf
 jmf_with m goes found = record { receiver = m.receiver; sender = m.sender; at = m.at; version = version; has_part = goes; said = found }
 
-abbrev jmf_for : Message → Jmf
+abbrev jmf_for : Message → RawJmf
 jmf_for m = jmf_with m (takes_part (said_by m.body)) (Some (said_by m.body))
 
 -- the JMF object with what is said
@@ -125,7 +124,7 @@ jmf_again m valid may = jmf_saying m (said_by m.body) valid may
 abbrev raw_for : Message → Option RawPart → RawMessage
 raw_for m part = record { jmf = jmf_for m; part = part }
 
-abbrev document_at : Option Data → Option Jmf → Option RawMessage
+abbrev document_at : Option Data → Option RawJmf → Option RawMessage
 document_at part found = found >>= λ jmf. part_beside jmf.has_part part >>= λ p. Some (record { jmf = jmf; part = p })
 
 -- a document that says what it may, and in which nothing is wrong
@@ -162,8 +161,8 @@ no_fault_beside m p found sender receiver =
     no_fault-back _ _ _ (record { names = and_from _ _ (and_from _ _ sender receiver) found.faultless.names; texts = found.faultless.texts; built = found.faultless.built })
 
 -- the part is that of the spawn
-beside : (p : Copied) (found : IsReadOf (part_data p) p) (b : Body) → (provided (bytes_eq found.raw.spawn (spawn_text p.spawn_id)) >>= λ _. Some b) ≡ Some b
-beside p found b = passed _ b (ap (λ s. bytes_eq s (spawn_text p.spawn_id)) (spawn_named found.raw p found.faultless.names found.same) ∙ bytes_eq-same (spawn_text p.spawn_id))
+beside : (p : Copied) (found : IsReadOf (part_data p) p) (asked : Command) → said_with found.raw (said.Command asked p.spawn_id) ≡ Some (body_with asked (copied found.raw))
+beside p found asked = ap (option_map (λ a. body_with a (copied found.raw))) (passed _ asked (ap (λ q. q.spawn_id == p.spawn_id) found.same ∙ nat_eq-same p.spawn_id))
 
 submit_read : (m : Message) (p : Copied) → is_name m.sender ≡ true → is_name m.receiver ≡ true → is_spawn_number p.spawn_id ≡ true → IsWritten p
     → message_read (message_data (record m { body = bodies.Submit p })) ≡ Ok (record m { body = bodies.Submit p })
@@ -173,7 +172,7 @@ submit_read m p sender receiver valid written =
     let whole = record m { body = bodies.Submit p } in
     let b = bodies.Submit (copied found.raw) in
     let document = ap (document_at (Some (part_data p))) (jmf_again whole valid refl) ∙ ap (λ o. option_map Some o >>= λ part. Some (raw_for whole part)) found.drafted in
-    read_so whole (Some found.raw) b document (beside p found b) (no_fault_beside whole p found sender receiver) (ap (λ q. record m { body = bodies.Submit q }) found.same)
+    read_so whole (Some found.raw) b document (beside p found Submit) (no_fault_beside whole p found sender receiver) (ap (λ q. record m { body = bodies.Submit q }) found.same)
 
 return_read : (m : Message) (p : Copied) → is_name m.sender ≡ true → is_name m.receiver ≡ true → is_spawn_number p.spawn_id ≡ true → IsWritten p
     → message_read (message_data (record m { body = bodies.Return p })) ≡ Ok (record m { body = bodies.Return p })
@@ -183,7 +182,7 @@ return_read m p sender receiver valid written =
     let whole = record m { body = bodies.Return p } in
     let b = bodies.Return (copied found.raw) in
     let document = ap (document_at (Some (part_data p))) (jmf_again whole valid refl) ∙ ap (λ o. option_map Some o >>= λ part. Some (raw_for whole part)) found.drafted in
-    read_so whole (Some found.raw) b document (beside p found b) (no_fault_beside whole p found sender receiver) (ap (λ q. record m { body = bodies.Return q }) found.same)
+    read_so whole (Some found.raw) b document (beside p found Return) (no_fault_beside whole p found sender receiver) (ap (λ q. record m { body = bodies.Return q }) found.same)
 
 again_at : (m : Message) (b : Body) → is_name m.sender ≡ true → is_name m.receiver ≡ true → is_spawn_number (spawn_said (said_by b)) ≡ true → IsKnown b → may_be_sent b ≡ true
     → message_read (message_data (record m { body = b })) ≡ Ok (record m { body = b })

@@ -1,54 +1,108 @@
 -- What is answered for a message, by what it says and what is wrong with it.
-use Rattle.std.proofs.Common.{◌≡◌, ◌⊎◌, inl, inr, ⊎_elim, ℕ, ◌&&◌, Bool, true, false, List, [], ◌∷◌, Option, Some, None, Result, Ok, Err, IfErr, IsErrAnd, refl, sym, ap, subst, ◌∙◌}
-use Rattle.json_items.specs.Judged.{Answers, sound}
+use Rattle.std.proofs.Common.{◌≡◌, ◌∙◌, ◌⊎◌, inl, inr, ⊎_elim, ℕ, ◌&&◌, Bool, true, false, List, Option, Some, None, Result, Ok, Err, IsErrAnd, ap, refl, subst, sym}
+use Rattle.std.specs.Option.{option_map, option_map_or, option_and_then}
+use Rattle.std.specs.Prelude.{if◌then◌else◌}
+use Rattle.std.specs.Str.{bytes_eq}
+use Rattle.json_items.specs.Judged.{Answers, Finds, checked_fault, first_fault, on_both, sound}
 use Rattle.json_source.specs.Read.{◌>>=◌, provided}
 use Rattle.json_items.specs.PartDraft.{RawPart}
-use Rattle.json_items.specs.PartForm.{has_names, has_texts, built_fault, part_fault, copied}
+use Rattle.json_items.specs.PartForm.{built_fault, copied, has_names, has_texts}
+use Rattle.ticket_items.specs.Names.{is_name}
 use Rattle.ticket_items.specs.declared.refusal.Refusal.{Refusal}
-use Rattle.ticket_items.specs.declared.refusal.Refusal.TheVariants.{BadId, BadText, Memory}
-use Rattle.ticket_rows.specs.Ticket.{unless, first_of}
-use Rattle.ticket_tree.specs.Part.{Copied}
-use Rattle.controller.specs.declared.body.Body.{Body}
-use Rattle.controller.specs.declared.message.Message.{Message}
-use Rattle.jmf_message.specs.Decoded.{are_ids, message_fault, message_saying, message_with}
-use Rattle.jmf_message.specs.Form.{RawMessage}
-use Rattle.jmf_message.specs.declared.jmf.Jmf.{Jmf}
+use Rattle.ticket_items.specs.declared.refusal.Refusal.TheVariants.{Memory, WrongMessage, WrongVersion}
+use Rattle.controller.specs.Words.{version}
+use Rattle.controller.specs.declared.command.Command.{Command}
+use Rattle.jmf_message.specs.Decoded.{are_ids, asked_of, body_with, draft_read, message_fault, message_saying, message_with, said_beside, said_of}
+use Rattle.jmf_message.specs.Form.{RawJmf, RawMessage}
+use Rattle.jmf_message.specs.declared.said.Said.{Said}
 
 -- one step of a test that is passed
 pub passed : {X : Type 0} (b : Bool) (x : X) → b ≡ true → (provided b >>= λ _. Some x) ≡ Some x
 passed b x h = ap (λ c. provided c >>= λ _. Some x) h
 
+-- ---- what is said
+
+read_at : (m : RawMessage) (right : Bool) (said : Option Said) (s : Said) → (if right then option_map_or Ok said (Err WrongMessage) else Err WrongVersion) ≡ Ok s
+    → (if right then message_saying m (option_and_then (said_beside m.part) said) else Err WrongVersion) ≡ message_saying m (said_beside m.part s)
+read_at m false said s h = cc
+read_at m true None s h = cc
+read_at m true (Some t) s h = let same : t ≡ s = cc in ap (λ u. message_saying m (said_beside m.part u)) same
+
+refused_at : (m : RawMessage) (right : Bool) (said : Option Said) (e : Refusal) → (if right then option_map_or Ok said (Err WrongMessage) else Err WrongVersion) ≡ Err e
+    → (if right then message_saying m (option_and_then (said_beside m.part) said) else Err WrongVersion) ≡ Err e
+refused_at m false said e h = cc
+refused_at m true None e h = cc
+refused_at m true (Some t) e h = cc
+
+pub said_read : (m : RawMessage) (s : Said) → said_of m.jmf ≡ Ok s → draft_read m ≡ message_saying m (said_beside m.part s)
+said_read m s h = read_at m (bytes_eq m.jmf.version version) m.jmf.said s h
+
+pub not_said : (m : RawMessage) (e : Refusal) → said_of m.jmf ≡ Err e → draft_read m ≡ Err e
+not_said m e h = refused_at m (bytes_eq m.jmf.version version) m.jmf.said e h
+
+-- ---- what is asked of the spawn of a part
+
+abbrev pub with_part : RawJmf → RawPart → RawMessage
+with_part j p = record { jmf = j; part = Some p }
+
+-- this is asked, of the spawn of this part
+pub record IsAsked (j : RawJmf) (p : RawPart) (s : Said) (asked : Command) : Type 0 where
+  pub says : said_of j ≡ Ok s
+  pub asks : asked_of p.spawn s ≡ Some asked
+
+asked_read : (j : RawJmf) (p : RawPart) (s : Said) (asked : Command) → IsAsked j p s asked → draft_read (with_part j p) ≡ sound (message_fault (with_part j p)) (message_with (with_part j p) (body_with asked (copied p)))
+asked_read j p s asked is =
+    said_read (with_part j p) s is.says ∙ ap (λ o. message_saying (with_part j p) (option_map (λ a. body_with a (copied p)) o)) is.asks
+
+pub not_asked : (j : RawJmf) (p : RawPart) (s : Said) → said_of j ≡ Ok s → asked_of p.spawn s ≡ None → draft_read (with_part j p) ≡ Err WrongMessage
+not_asked j p s is none = said_read (with_part j p) s is ∙ ap (λ o. message_saying (with_part j p) (option_map (λ a. body_with a (copied p)) o)) none
+
 -- ---- what is wrong
 
-abbrev with_part : Jmf → Option RawPart → RawMessage
-with_part j p = record { jmf = j; part = p }
+pub wrong_early : (named written : Bool) (late : Option Refusal) (e : Refusal) → checked_fault named written None ≡ Some e → checked_fault named written late ≡ Some e
+wrong_early false written late e h = h
+wrong_early true false late e h = h
+wrong_early true true late e h = cc
 
--- else what is wrong with the part
-pub fault_of_part : (j : Jmf) (p : RawPart) → are_ids j ≡ true → message_fault (with_part j (Some p)) ≡ part_fault p
-fault_of_part j p good = ap (λ b. first_of (unless (b && has_names p) BadId ∷ unless (has_texts p) BadText ∷ built_fault p ∷ [])) good
+pub wrong_late : (named written : Bool) (late : Option Refusal) → checked_fault named written None ≡ None → checked_fault named written late ≡ late
+wrong_late true true None h = refl
+wrong_late true true (Some e) h = refl
+wrong_late true false late h = cc
+wrong_late false written late h = cc
 
--- ---- what is answered
+-- what was found of the parties and of the part
+abbrev pub parties_fault : (List ℕ × List ℕ) × RawPart → Option Refusal
+parties_fault found = first_fault (on_both (on_both is_name is_name) has_names) (on_both (λ _. true) has_texts) found
 
-pub says : (raw : RawMessage) (said : Option Body) (b : Body) (f : Option Refusal) → said ≡ Some b → message_fault raw ≡ f → message_saying raw said ≡ sound f (message_with raw b)
-says raw said b f e fault = ap (message_saying raw) e ∙ ap (λ g. sound g (message_with raw b)) fault
+abbrev pub parties : RawJmf → RawPart → (List ℕ × List ℕ) × RawPart
+parties j p = ((j.sender, j.receiver), p)
 
--- a refusal of the part is the message's
-sound_refused : {X Y : Type 0} (f : Option Refusal) (x : X) (y : Y) (e : Refusal) → sound f x ≡ Err e → sound f y ≡ Err e
-sound_refused None x y e h = cc
-sound_refused (Some g) x y e h = cc
+some_same : {X : Type 0} (x y : X) → Some x ≡ Some y → x ≡ y
+some_same x y h = cc
 
-sound_good : {X Y : Type 0} (f : Option Refusal) (x z : X) (y : Y) → sound f x ≡ Ok z → sound f y ≡ Ok y
-sound_good None x z y h = refl
-sound_good (Some g) x z y h = cc
+pub refused_early : (j : RawJmf) (p : RawPart) (s : Said) (asked : Command) (e : Refusal) → IsAsked j p s asked → Finds parties_fault (Err e) (Some (parties j p)) → draft_read (with_part j p) ≡ Err e
+refused_early j p s asked e is wrong =
+    asked_read j p s asked is
+    ∙ ap (λ f. sound f (message_with (with_part j p) (body_with asked (copied p)))) (wrong_early (are_ids j && has_names p) (has_texts p) (built_fault p) e (some_same _ _ wrong))
 
-pub part_refused : (j : Jmf) (p : RawPart) (said : Option Body) (b : Body) (e : Refusal) → said ≡ Some b → are_ids j ≡ true → (e ≡ Memory) ⊎ (sound (part_fault p) (copied p) ≡ Err e)
-    → (e ≡ Memory) ⊎ (message_saying (with_part j (Some p)) said ≡ Err e)
-part_refused j p said b e is good answers =
-    ⊎_elim (λ memory. inl memory) (λ refused. inr (says (with_part j (Some p)) said b (part_fault p) is (fault_of_part j p good) ∙ sound_refused (part_fault p) (copied p) (message_with (with_part j (Some p)) b) e refused)) answers
+built_read : (j : RawJmf) (p : RawPart) (s : Said) (asked : Command) (found : (List ℕ × List ℕ) × RawPart) (late : Option Refusal) → IsAsked j p s asked → Finds parties_fault (Ok found) (Some (parties j p)) → built_fault found.1 ≡ late
+    → draft_read (with_part j p) ≡ sound late (message_with (with_part j p) (body_with asked (copied p)))
+built_read j p s asked found late is right fault =
+    let same : parties j p ≡ found = some_same _ _ right.0 in
+    let none : parties_fault (parties j p) ≡ None = ap parties_fault same ∙ right.1 in
+    asked_read j p s asked is
+    ∙ ap (λ f. sound f (message_with (with_part j p) (body_with asked (copied p))))
+    (wrong_late (are_ids j && has_names p) (has_texts p) (built_fault p) none ∙ ap (λ x. built_fault x.1) same ∙ fault)
 
-pub part_good : (j : Jmf) (p : RawPart) (said : Option Body) (b : Body) (built : Copied) → said ≡ Some b → are_ids j ≡ true → sound (part_fault p) (copied p) ≡ Ok built
-    → message_saying (with_part j (Some p)) said ≡ Ok (message_with (with_part j (Some p)) b)
-part_good j p said b built is good answers = says (with_part j (Some p)) said b (part_fault p) is (fault_of_part j p good) ∙ sound_good (part_fault p) (copied p) built (message_with (with_part j (Some p)) b) answers
+pub refused_late : (j : RawJmf) (p : RawPart) (s : Said) (asked : Command) (found : (List ℕ × List ℕ) × RawPart) (e : Refusal) → IsAsked j p s asked → Finds parties_fault (Ok found) (Some (parties j p)) → (e ≡ Memory) ⊎ (built_fault found.1 ≡ Some e)
+    → (e ≡ Memory) ⊎ (draft_read (with_part j p) ≡ Err e)
+refused_late j p s asked found e is right wrong = ⊎_elim (λ memory. inl memory) (λ fault. inr (built_read j p s asked found (Some e) is right fault)) wrong
+
+pub read_whole : (j : RawJmf) (p : RawPart) (s : Said) (asked : Command) (found : (List ℕ × List ℕ) × RawPart) → IsAsked j p s asked → Finds parties_fault (Ok found) (Some (parties j p)) → built_fault found.1 ≡ None
+    → draft_read (with_part j p) ≡ Ok (record { sender = found.0.0; receiver = found.0.1; at = j.at; body = body_with asked (copied found.1) })
+read_whole j p s asked found is right fault =
+    let same : parties j p ≡ found = some_same _ _ right.0 in
+    built_read j p s asked found None is right fault ∙ ap (λ x. Ok (record { sender = x.0.0; receiver = x.0.1; at = j.at; body = body_with asked (copied x.1) })) same
 
 -- ---- what is handed on
 
@@ -56,24 +110,3 @@ part_good j p said b built is good answers = says (with_part j (Some p)) said b 
 pub handed_on : {X : Type 0} (r : Result X Refusal) (e : Refusal) (read : Result X Refusal) → IsErrAnd r (λ f. f ≡ e) → (e ≡ Memory) ⊎ (read ≡ Err e) → Answers r read
 handed_on (Ok x) e read same h = absurd same
 handed_on (Err f) e read same h = subst (λ g. (g ≡ Memory) ⊎ (read ≡ Err g)) (sym same) h
-
--- why an id is refused
-refused_at : (named : Bool) (f e : Refusal) (all : Bool) → f ≡ e → (named ≡ false → e ≡ BadId) → (named ≡ true → e ≡ Memory) → (named ≡ false → all ≡ false) → (f ≡ Memory) ⊎ ((f ≡ BadId) × (all ≡ false))
-refused_at true f e all same bad memory none = inl (same ∙ memory refl)
-refused_at false f e all same bad memory none = inr (same ∙ bad refl, none refl)
-
-pub id_refused : {X : Type 0} (r : Result X Refusal) (e : Refusal) (named all : Bool) → IsErrAnd r (λ f. f ≡ e) → (named ≡ false → e ≡ BadId) → (named ≡ true → e ≡ Memory) → (named ≡ false → all ≡ false)
-    → IfErr r (λ f. (f ≡ Memory) ⊎ ((f ≡ BadId) × (all ≡ false)))
-id_refused (Ok x) e named all same bad memory none = absurd same
-id_refused (Err f) e named all same bad memory none = refused_at named f e all same bad memory none
-
--- the refusal of a result that is one
-abbrev pub refusal_in : {X : Type 0} → Result X Refusal → Refusal
-refusal_in (Ok x) = Memory
-refusal_in (Err e) = e
-
-abbrev pub with_fields : List ℕ → List ℕ → ℕ → Body → Message
-with_fields sender receiver time body = record { sender = sender; receiver = receiver; at = time; body = body }
-
-pub same_message : (s t r q : List ℕ) (time : ℕ) (b c : Body) → s ≡ t → r ≡ q → b ≡ c → with_fields s r time b ≡ with_fields t q time c
-same_message s t r q time b c e f g = ap (λ x. with_fields x r time b) e ∙ ap (λ x. with_fields t x time b) f ∙ ap (with_fields t q time) g

@@ -1,31 +1,27 @@
 -- The message that bytes are, or why they are none: the first of `NotJson`, `NotProfile`,
 -- `WrongVersion`, `WrongMessage`, `BadId`, `BadText`, and then what is wrong with the part.
-use Rattle.std.specs.Prelude.{ℕ, ◌&&◌, Bool, true, List, [], ◌∷◌, if◌then◌else◌, Option}
-use Rattle.std.specs.Prelude.{Some, None, option_and_then, Result, Err}
-use Rattle.std.specs.Option.{option_map_or}
+use Rattle.std.specs.Prelude.{ℕ, ◌&&◌, ◌==◌, Bool, true, List, if◌then◌else◌, Option}
+use Rattle.std.specs.Prelude.{Some, None, option_and_then, Result, Ok, Err}
+use Rattle.std.specs.Option.{option_map, option_map_or}
 use Rattle.std.specs.Str.{bytes_eq}
 use Rattle.serde_json.specs.Data.{Data}
-use Rattle.json_items.specs.Judged.{sound}
+use Rattle.json_items.specs.Judged.{checked_fault, sound}
 use Rattle.json_profile.specs.ReadAs.{IsReadAs, IsRefusalOf as IsUnread}
 use Rattle.json_items.specs.PartDraft.{RawPart}
 use Rattle.json_items.specs.PartForm as part
 use Rattle.json_source.specs.Read.{◌>>=◌, provided}
 use Rattle.ticket_items.specs.Names.{is_name}
-use Rattle.ticket_items.specs.SpawnId.{spawn_text}
-use Rattle.ticket_rows.specs.Ticket.{unless, first_of}
 use Rattle.ticket_tree.specs.Part.{Copied}
 use Rattle.ticket_items.specs.declared.refusal.Refusal.{Refusal}
 use Rattle.ticket_items.specs.declared.refusal.Refusal.TheVariants.{NotProfile}
 use Rattle.ticket_items.specs.declared.refusal.Refusal.TheVariants.{WrongVersion, WrongMessage}
-use Rattle.ticket_items.specs.declared.refusal.Refusal.TheVariants.{BadId, BadText}
-use Rattle.jmf_message.specs.Form.{RawMessage, document_form}
+use Rattle.jmf_message.specs.Form.{RawJmf, RawMessage, document_form}
 use Rattle.controller.specs.Words.{version}
 use Rattle.controller.specs.declared.body.Body.{Body}
 use Rattle.controller.specs.declared.body.Body.TheVariants as bodies
 use Rattle.controller.specs.declared.command.Command.{Command}
 use Rattle.controller.specs.declared.command.Command.TheVariants.{Submit, Return, Abort}
 use Rattle.controller.specs.declared.message.Message.{Message}
-use Rattle.jmf_message.specs.declared.jmf.Jmf.{Jmf}
 use Rattle.jmf_message.specs.declared.said.Said.{Said}
 use Rattle.jmf_message.specs.declared.said.Said.TheVariants as said
 
@@ -35,11 +31,14 @@ body_with Submit part = bodies.Submit part
 body_with Return part = bodies.Return part
 body_with Abort part = bodies.Abort part.spawn_id
 
+-- what is asked of a spawn by what is said
+abbrev pub asked_of : ℕ → Said → Option Command
+asked_of spawn (said.Command asked other) = provided (spawn == other) >>= λ _. Some asked
+asked_of spawn (said.Answer asked other result) = None
+
 -- the body of what is said with a part, which has to be that of the spawn
 abbrev pub said_with : RawPart → Said → Option Body
-said_with p (said.Command asked spawn) = provided (bytes_eq p.spawn (spawn_text spawn)) >>=
-    λ _. Some (body_with asked (part.copied p))
-said_with p (said.Answer asked spawn result) = None
+said_with p s = option_map (λ asked. body_with asked (part.copied p)) (asked_of p.spawn s)
 
 -- and of what is said without one
 abbrev pub said_alone : Said → Option Body
@@ -58,7 +57,7 @@ abbrev pub body_of : RawMessage → Option Body
 body_of m = option_and_then (said_beside m.part) m.jmf.said
 
 -- whether the sender and the receiver are ids
-abbrev pub are_ids : Jmf → Bool
+abbrev pub are_ids : RawJmf → Bool
 are_ids j = is_name j.sender && is_name j.receiver
 
 -- whether all ids and names, and all texts, of a message and its part are valid
@@ -72,8 +71,7 @@ has_texts m = option_map_or part.has_texts m.part true
 -- part alike before the next one is
 abbrev pub message_fault : RawMessage → Option Refusal
 message_fault m =
-    first_of (unless (has_names m) BadId ∷ unless (has_texts m) BadText
-    ∷ option_and_then part.built_fault m.part ∷ [])
+    checked_fault (has_names m) (has_texts m) (option_and_then part.built_fault m.part)
 
 -- the message of a body
 abbrev pub message_with : RawMessage → Body → Message
@@ -89,6 +87,12 @@ message_saying m said =
 abbrev pub draft_read : RawMessage → Result Message Refusal
 draft_read m =
     if bytes_eq m.jmf.version version then message_saying m (body_of m) else Err WrongVersion
+
+-- what a JMF object says, which has to be of the right Version
+abbrev pub said_of : RawJmf → Result Said Refusal
+said_of j =
+    if bytes_eq j.version version then option_map_or Ok j.said (Err WrongMessage)
+    else Err WrongVersion
 
 -- the message that JSON data is
 abbrev pub message_read : Data → Result Message Refusal

@@ -13,7 +13,6 @@ use Rattle.controller.specs.declared.command.Command.{Command}
 use Rattle.controller.specs.declared.command.Command.TheVariants.{Submit, Return, Abort}
 use Rattle.jmf_message.specs.Said.{command_said, response_said}
 use Rattle.jmf_message.specs.Written.{params_name, params_texts}
-use Rattle.jmf_message.specs.declared.jmf.Jmf.{Jmf}
 use Rattle.jmf_message.specs.declared.said.Said.{Said}
 
 -- ---- objects of texts
@@ -88,8 +87,17 @@ abbrev pub jmf_members : List (List ℕ)
 jmf_members = codes "Command" ∷ codes "ReceiverID" ∷ codes "Response" ∷ codes "SenderID"
     ∷ codes "TimeStamp" ∷ codes "Version" ∷ []
 
--- a JMF object, with what it says if it says what it may
-unfoldable pub jmf_form : Data → Option Jmf
+-- a JMF object: who sends it to whom and when, of which Version it is, whether a part goes with
+-- it, and what it says if it says what it may
+pub record RawJmf : Type 0 where
+  pub receiver : List ℕ
+  pub sender : List ℕ
+  pub at : ℕ
+  pub version : List ℕ
+  pub has_part : Bool
+  pub said : Option Said
+
+unfoldable pub jmf_form : Data → Option RawJmf
 jmf_form d = do
   _ ← provided (has_only jmf_members d)
   receiver ← text_under (codes "ReceiverID") d
@@ -110,7 +118,7 @@ jmf_form d = do
 
 -- a message by its members and their kinds alone
 pub record RawMessage : Type 0 where
-  pub jmf : Jmf
+  pub jmf : RawJmf
   pub part : Option RawPart
 
 -- a part stands beside a message with which one goes, and none beside another

@@ -1,7 +1,8 @@
-ghost use Rattle.std.specs.Prelude.{◌≡◌, codes, true, IfOk, IfSome, OnOk};
+ghost use Rattle.std.specs.Prelude.{◌≡◌, Some, codes, true, IfOk, IfSome, OnOk};
 ghost use Rattle.serde_json.specs.Data.{member, no_members, string};
-ghost use Rattle.ticket_items.specs.Names.{is_name};
+ghost use Rattle.ticket_items.specs.Names as names;
 ghost use Rattle.ticket_items.specs.SpawnId.{is_spawn_number};
+ghost use Rattle.json_items.specs.Judged.{Reads};
 ghost use Rattle.json_source.specs.Read.{Gives};
 ghost use Rattle.json_text.specs.Printed.{AreMembersPrinted, IsPrinted};
 ghost use Rattle.jmf_message.specs.Form as forms;
@@ -13,11 +14,12 @@ use crate::responses::{is_response, print_response, response_said};
 use crate::said::Said;
 use controller::{Body, Command, Message};
 use json::Writer;
-use json_items::{AnyText, Borrowed, only, two, under};
+use json_items::{Judged, both, number_under, only, text_under};
 use json_source::Source;
 use json_text::{print_member, print_text};
 use std::alloc::{AllocError, Global};
-use ticket_tree::Refusal;
+use std::marker::Model;
+use ticket_tree::{Id, Refusal, is_name};
 
 /// The Version of the standard that messages name.
 pub const VERSION: &str = "1.5";
@@ -32,18 +34,35 @@ const JMF_MEMBERS: &[&str] = &[
     "Version",
 ];
 
-/// A JMF object: who sends it to whom and when, with any texts and numbers.
+/// A JMF object: who sends it to whom and when, with any texts and numbers. What it says may be
+/// sent.
 #[derive(Drop)]
 pub struct Jmf<'a> {
-    pub receiver: Borrowed<'a, AnyText>,
-    pub sender: Borrowed<'a, AnyText>,
-    /// The TimeStamp, in seconds since 1970.
-    pub at: u64,
-    pub version: Borrowed<'a, AnyText>,
-    /// Whether a part goes with it.
-    pub has_part: bool,
-    /// What is said, if it is what a message may say.
-    pub said: Option<Said>,
+    receiver: &'a str,
+    sender: &'a str,
+    at: u64,
+    version: &'a str,
+    has_part: bool,
+    said: Option<Said>,
+}
+
+impl<'a> Model for Jmf<'a> {
+    ghost use Rattle.std.specs.Prelude.{◌≡◌, true, IfSome};
+    ghost use Rattle.jmf_message.specs.Form.{RawJmf};
+    ghost use Rattle.jmf_message.specs.Said.{may_be_said};
+
+    ghost Value = { RawJmf };
+
+    ghost view = { λ j. record {
+      receiver = j.receiver.now;
+      sender = j.sender.now;
+      at = j.at;
+      version = j.version.now;
+      has_part = j.has_part;
+      said = j.said;
+    } };
+
+    ghost invariant = { λ j. IfSome j.said (λ s. may_be_said s ≡ true) };
 }
 
 /// Whether a part goes with a JMF object, which has exactly one of a command and a response, and
@@ -72,19 +91,36 @@ fn said_in<S: Source>(alloc: Global, sender: &str, jmf: &S) -> Result<(bool, Opt
     }
 }
 
+/// The id that a text is. Refuses `Memory` alone.
+fn id_in(alloc: Global, text: &str) -> Result<Judged<Id>, Refusal>
+    ensures { Reads names.is_name (λ _. true) result (Some text.now) }
+{
+    if !is_name(text) {
+        return Ok(Err(Refusal::BadId));
+    }
+    Ok(Ok(Id::known(alloc, text)?))
+}
+
 impl<'a> Jmf<'a> {
-    /// The JMF object that a value is. Refuses `NotProfile`, and `Memory`. What it says may be
-    /// sent.
+    ghost use Rattle.std.specs.Prelude.{◌≡◌, Some, true, IfOk};
+    ghost use Rattle.json_items.specs.Judged.{Reads, on_both};
+    ghost use Rattle.json_source.specs.Read.{Gives};
+    ghost use Rattle.ticket_items.specs.Names as names;
+    ghost use Rattle.jmf_message.specs.Decoded.{said_of};
+    ghost use Rattle.jmf_message.specs.Form.{jmf_form};
+    ghost use Rattle.jmf_message.specs.Said.{may_be_said};
+
+    /// The JMF object that a value is. Refuses `NotProfile`, and `Memory`.
     #[tactic(auto, unfolding(crate::specs::Form::jmf_form))]
     pub fn of<S: Source>(alloc: Global, value: &'a S) -> Result<Jmf<'a>, Refusal>
-        ensures value { Gives (λ jmf. jmf) result (forms.jmf_form (S.content value.now)) }
-        ensures sent { IfOk result (λ jmf. IfSome jmf.said (λ s. said.may_be_said s ≡ true)) }
+        ensures { Gives (λ jmf. jmf) result (jmf_form (S.content value.now)) }
     {
         only(value, JMF_MEMBERS)?;
-        let receiver = under(alloc, value, "ReceiverID")?;
-        let sender: Borrowed<'a, AnyText> = under(alloc, value, "SenderID")?;
-        let (at, version) = two(alloc, value, "TimeStamp", "Version")?;
-        let (has_part, said) = said_in(alloc, sender.as_str(), value)?;
+        let receiver = text_under(value, "ReceiverID").ok_or(Refusal::NotProfile)?;
+        let sender = text_under(value, "SenderID").ok_or(Refusal::NotProfile)?;
+        let at = number_under(value, "TimeStamp").ok_or(Refusal::NotProfile)?;
+        let version = text_under(value, "Version").ok_or(Refusal::NotProfile)?;
+        let (has_part, said) = said_in(alloc, sender, value)?;
         Ok(Jmf {
             receiver,
             sender,
@@ -93,6 +129,42 @@ impl<'a> Jmf<'a> {
             has_part,
             said,
         })
+    }
+
+    /// Whether a part goes with it.
+    pub fn has_part(&self) -> bool
+        ensures { result ≡ self.now.has_part }
+    {
+        self.has_part
+    }
+
+    /// The TimeStamp, in seconds since 1970.
+    pub fn at(&self) -> u64
+        ensures { result ≡ self.now.at }
+    {
+        self.at
+    }
+
+    /// What is said. Refuses `WrongVersion` where it isn't of the right Version, and `WrongMessage`
+    /// where it says what no message may.
+    pub fn said(&self) -> Result<Said, Refusal>
+        ensures value { result ≡ said_of self.now }
+        ensures sent { IfOk result (λ s. may_be_said s ≡ true) }
+    {
+        if self.version != VERSION {
+            return Err(Refusal::WrongVersion);
+        }
+        self.said.ok_or(Refusal::WrongMessage)
+    }
+
+    /// The sender and the receiver. Refuses `Memory` alone.
+    pub fn parties(&self, alloc: Global) -> Result<Judged<(Id, Id)>, Refusal>
+        ensures { Reads (on_both names.is_name names.is_name) (λ _. true) result
+            (Some (self.now.sender, self.now.receiver)) }
+    {
+        let sender = id_in(alloc, self.sender)?;
+        let receiver = id_in(alloc, self.receiver)?;
+        Ok(both(sender, receiver))
     }
 }
 
@@ -142,8 +214,8 @@ fn print_said(
 /// number that one may have.
 pub fn print_jmf(alloc: Global, out: &mut Writer, message: &Message) -> Result<(), AllocError>
     ensures printed { OnOk result (IsPrinted (written.jmf_data message.now) out.old out.new) }
-    ensures sender { is_name message.now.sender ≡ true }
-    ensures receiver { is_name message.now.receiver ≡ true }
+    ensures sender { names.is_name message.now.sender ≡ true }
+    ensures receiver { names.is_name message.now.receiver ≡ true }
     ensures valid { OnOk result
         (is_spawn_number (written.spawn_said (written.said_by message.now.body)) ≡ true) }
 {

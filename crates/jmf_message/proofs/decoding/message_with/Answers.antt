@@ -1,26 +1,44 @@
-use Rattle.std.proofs.Common.{◌≡◌, ◌∙◌, Ok, Some, sym, ap}
-use Rattle.json_items.specs.PartForm.{copied}
-use Rattle.json_reader.specs.DraftedPart.{drafted_part}
-use Rattle.jmf_message.specs.Decoded.{body_with, said_with}
-use Rattle.jmf_message.proofs.Saying.{handed_on, part_good, part_refused, passed, same_message}
+use Rattle.std.proofs.Common.{◌∙◌, Ok, Some, ap, ap₂, inr, sym, true}
+use Rattle.json_items.specs.Judged.{on_both}
+use Rattle.json_items.specs.PartForm.{has_names, has_texts}
+use Rattle.ticket_items.specs.Names.{is_name}
+use Rattle.jmf_message.specs.Decoded.{asked_of, body_with}
+use Rattle.jmf_message.proofs.Saying.{IsAsked, handed_on, not_said, read_whole, refused_early, refused_late, with_part}
 use Rattle.jmf_message.proofs.decoding.message_with.Goals as goal
 
-pub returns-in_err-part-clause-answers : goal.returns-in_err-part-clause-answers
-returns-in_err-part-clause-answers c =
+pub returns-in_err-said-clause-answers : goal.returns-in_err-said-clause-answers
+returns-in_err-said-clause-answers c = λ raw same found.
+    let e = c.in_err-said.field-0.0 in
+    handed_on c.from_residual.result e _ c.from_residual.ensures.1 (inr (not_said (with_part c.args.jmf.now raw) e (sym c.in_err-said.ensures.value)))
+
+pub returns-in_err-sender-clause-answers : goal.returns-in_err-sender-clause-answers
+returns-in_err-sender-clause-answers c = λ raw same found.
     let j = c.args.jmf.now in
-    let p = drafted_part c.args.part.now in
-    let body = body_with c.in-Command.asked (copied p) in
-    let is : said_with p c.args.said ≡ Some body = ap (said_with p) c.in-Command.is ∙ passed _ _ (sym c.in_ok-is_of_spawn.ensures ∙ c.if-not-branch.false) in
-    handed_on c.from_residual-in_err-part.result c.in_err-part.field-0.0 _ c.from_residual-in_err-part.ensures.1
-    (part_refused j p (said_with p c.args.said) body c.in_err-part.field-0.0 is c.in_ok-sender.ensures.ids c.in_err-part.ensures.answers)
+    let s = c.in_ok-said.field-0 in
+    let asked = c.in_ok-asked.asked in
+    let e = c.in_err-sender.field-0.0 in
+    let is : IsAsked j raw s asked = record { says = sym c.in_ok-said.ensures.value; asks = ap (λ n. asked_of n s) same ∙ sym c.asked_of.ensures ∙ c.in_ok-asked.ensures.ok_part } in
+    let wrong = c.in_err-sender.ensures (on_both is_name is_name) (λ _. true) (Some (j.sender, j.receiver)) has_names has_texts (Some raw) c.in_ok-parties.ensures found in
+    handed_on c.from_residual-in_err-sender.result e _ c.from_residual-in_err-sender.ensures.1 (inr (refused_early j raw s asked e is wrong))
+
+pub returns-in_err-part-clause-answers : goal.returns-in_err-part-clause-answers
+returns-in_err-part-clause-answers c = λ raw same found.
+    let j = c.args.jmf.now in
+    let s = c.in_ok-said.field-0 in
+    let asked = c.in_ok-asked.asked in
+    let e = c.in_err-part.field-0.0 in
+    let is : IsAsked j raw s asked = record { says = sym c.in_ok-said.ensures.value; asks = ap (λ n. asked_of n s) same ∙ sym c.asked_of.ensures ∙ c.in_ok-asked.ensures.ok_part } in
+    let right = c.in_ok-sender.ensures (on_both is_name is_name) (λ _. true) (Some (j.sender, j.receiver)) has_names has_texts (Some raw) c.in_ok-parties.ensures found in
+    handed_on c.from_residual-in_err-part.result e _ c.from_residual-in_err-part.ensures.1
+    (refused_late j raw s asked ((c.in_ok-sender.sender, c.in_ok-sender.receiver), c.in_ok-sender.part) e is right c.in_err-part.ensures.err)
 
 pub returns-clause-answers : goal.returns-clause-answers
-returns-clause-answers c =
+returns-clause-answers c = λ raw same found.
     let j = c.args.jmf.now in
-    let p = drafted_part c.args.part.now in
-    let asked = c.in-Command.asked in
-    let said = body_with asked (copied p) in
-    let is : said_with p c.args.said ≡ Some said = ap (said_with p) c.in-Command.is ∙ passed _ _ (sym c.in_ok-is_of_spawn.ensures ∙ c.if-not-branch.false) in
+    let s = c.in_ok-said.field-0 in
+    let asked = c.in_ok-asked.asked in
+    let is : IsAsked j raw s asked = record { says = sym c.in_ok-said.ensures.value; asks = ap (λ n. asked_of n s) same ∙ sym c.asked_of.ensures ∙ c.in_ok-asked.ensures.ok_part } in
+    let right = c.in_ok-sender.ensures (on_both is_name is_name) (λ _. true) (Some (j.sender, j.receiver)) has_names has_texts (Some raw) c.in_ok-parties.ensures found in
     let body = c.body_with.ensures.body ∙ ap (body_with asked) c.in_ok-part.ensures.ok in
-    part_good j p (said_with p c.args.said) said c.in_ok-part.part is c.in_ok-sender.ensures.ids c.in_ok-part.ensures.answers
-    ∙ sym (ap Ok (same_message c.in_ok-sender.field-0.sender j.sender c.in_ok-sender.field-0.receiver j.receiver j.at c.body_with.result said c.in_ok-sender.ensures.sender c.in_ok-sender.ensures.receiver body))
+    read_whole j raw s asked ((c.in_ok-sender.sender, c.in_ok-sender.receiver), c.in_ok-sender.part) is right c.in_ok-part.ensures.sound
+    ∙ ap₂ (λ at b. Ok (record { sender = c.in_ok-sender.sender; receiver = c.in_ok-sender.receiver; at = at; body = b })) (sym c.at.ensures) (sym body)
