@@ -5,6 +5,7 @@ pub mod WorkerAgain
 pub mod Shape
 pub mod PartsFault
 pub mod Copies
-pub mod Drafts
+pub mod Named
+pub mod Together
 pub mod Refusing
 pub mod EntryMembers

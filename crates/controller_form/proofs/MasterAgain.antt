@@ -1,9 +1,8 @@
 -- A master's state that was written is read again.
-use Rattle.std.proofs.Common.{◌≡◌, ◌∙◌, ℕ, true, cond, List, [], ◌∷◌, map, Some, None, Ok, refl, ap}
+use Rattle.std.proofs.Common.{◌≡◌, ◌∙◌, ℕ, true, List, [], ◌∷◌, map, Some, None, Ok, refl, ap}
 use Rattle.std.proofs.lemmas.Bool.{and_from}
 use Rattle.std.specs.List.{list_all}
-use Rattle.std.specs.Option.{option_and_then}
-use Rattle.serde_json.specs.Data.{string}
+use Rattle.serde_json.specs.Data.{array, string}
 use Rattle.serde_json.specs.Find.{as_str}
 use Rattle.spawn.specs.declared.records.spawn_rec.SpawnRec.{SpawnRec}
 use Rattle.json_items.specs.TicketDraft.{RawTicket, ticket_draft}
@@ -11,47 +10,40 @@ use Rattle.json_items.specs.TicketForm as ticket_form
 use Rattle.json_items.proofs.Again.{list_again, text_again}
 use Rattle.json_items.proofs.Tests.{all_mapped}
 use Rattle.json_items.specs.Judged.{sound}
-use Rattle.json_items.specs.Listed.{list_form, texts_data}
+use Rattle.json_items.specs.Listed.{data_items, list_form}
 use Rattle.json_source.specs.Read.{◌>>=◌}
 use Rattle.json_text.specs.Written.{ticket_data}
 use Rattle.master_core.proofs.KeptStored.{a_kept_master_is_stored}
 use Rattle.master_core.specs.Master.{Known, known}
 use Rattle.master_core.specs.Stored.{is_master}
-use Rattle.controller_form.specs.States.MasterForm.{RawMaster, any_master_draft, in_format, judged_master, master_built_fault, master_data}
+use Rattle.controller_form.specs.States.MasterForm.{judged_master, master_built_fault, master_data}
 use Rattle.controller_form.specs.States.MasterForm.{master_draft, master_has_names, master_has_texts}
 use Rattle.controller_form.specs.States.MasterForm.{master_in, master_state_in, master_state_read, records_are_bare}
-use Rattle.controller_form.specs.States.RecordForm.{are_told_in, record_has_names, record_has_texts}
+use Rattle.controller_form.specs.States.RecordForm.{are_told_in, record_data, record_form, record_has_names, record_has_texts}
 use Rattle.controller_form.specs.States.RecordForm.{spawn_has_names}
 use Rattle.controller_form.specs.States.Writable.{IsWritableMaster}
 use Rattle.controller_form.specs.declared.states.format.Format.{Format}
 use Rattle.controller_form.specs.declared.states.format.Format.TheVariants.{First, Second}
+use Rattle.controller_form.specs.declared.states.stored_master.StoredMaster.{StoredMaster}
 use Rattle.controller_form.proofs.Reading.{IsSoundDraft, all_pass, nothing_wrong, sound_draft}
 use Rattle.controller_form.proofs.Refusing.{nothing}
 use Rattle.controller_form.proofs.RecordAgain.{bare, records_again}
 
 -- ---- the draft
 
-abbrev raw : Known → RawTicket → RawMaster
+abbrev raw : Known → RawTicket → StoredMaster
 raw m t = record { name = m.name; workers = m.workers; ticket = t; records = map bare m.records }
-
-abbrev with_read : Known → List (List ℕ) → RawTicket → List SpawnRec → RawMaster
-with_read m workers t records = record { name = m.name; workers = workers; ticket = t; records = map bare records }
 
 spawns_of : (rs : List SpawnRec) → map (λ r. r.spawn) (map bare rs) ≡ rs
 spawns_of [] = refl
 spawns_of (r ∷ rs) = ap (λ more. r ∷ more) (spawns_of rs)
 
-drafted : (m : Known) (t : RawTicket) → list_all spawn_has_names m.records ≡ true → ticket_draft (ticket_data m.ticket) ≡ Some t → any_master_draft (master_data m) ≡ Some (raw m t)
-unfolding any_master_draft
-drafted m t names read =
-    ap (λ o. o >>= λ records. ticket_draft (ticket_data m.ticket) >>= λ u. list_form as_str (texts_data m.workers) >>= λ ws. Some (record { name = m.name; workers = ws; ticket = u; records = records })) (records_again m.records names)
-    ∙ ap (λ o. o >>= λ u. list_form as_str (texts_data m.workers) >>= λ ws. Some (record { name = m.name; workers = ws; ticket = u; records = map bare m.records })) read
-    ∙ ap (λ o. o >>= λ ws. Some (record { name = m.name; workers = ws; ticket = t; records = map bare m.records })) (list_again as_str string text_again m.workers)
-
-drafted_in : (format : Format) (m : Known) (t : RawTicket) → list_all spawn_has_names m.records ≡ true → are_told_in format m.records ≡ true → ticket_draft (ticket_data m.ticket) ≡ Some t → master_draft format (master_data m) ≡ Some (raw m t)
-drafted_in format m t names told read =
-    ap (option_and_then (in_format format)) (drafted m t names read)
-    ∙ ap (λ b. cond b (Some (raw m t)) None) (ap (are_told_in format) (spawns_of m.records) ∙ told)
+drafted : (format : Format) (m : Known) (t : RawTicket) → list_all spawn_has_names m.records ≡ true → are_told_in format m.records ≡ true → ticket_draft (ticket_data m.ticket) ≡ Some t → master_draft format (master_data m) ≡ Some (raw m t)
+unfolding master_draft
+drafted format m t names told read =
+    ap (λ o. o >>= λ ws. ticket_draft (ticket_data m.ticket) >>= λ u. list_form (record_form format) (array (data_items record_data m.records)) >>= λ records. Some (record { name = m.name; workers = ws; ticket = u; records = records })) (list_again as_str string text_again m.workers)
+    ∙ ap (λ o. o >>= λ u. list_form (record_form format) (array (data_items record_data m.records)) >>= λ records. Some (record { name = m.name; workers = m.workers; ticket = u; records = records })) read
+    ∙ ap (λ o. o >>= λ records. Some (record { name = m.name; workers = m.workers; ticket = t; records = records })) (records_again format m.records names told)
 
 -- ---- nothing is wrong with it
 
@@ -74,7 +66,7 @@ judged format m known' told =
     let texts : master_has_texts (raw m t) ≡ true = and_from _ _ passed.texts (all_mapped record_has_texts bare m.records ∙ known'.texts) in
     let stored : is_master (master_in (raw m t)) ≡ true = ap is_master is ∙ a_kept_master_is_stored m known'.kept in
     let built : master_built_fault (raw m t) ≡ None = nothing _ _ _ (all_bare m.records) passed.none stored in
-    ap judged_master (drafted_in format m t known'.names told read.there)
+    ap judged_master (drafted format m t known'.names told read.there)
     ∙ ap (λ f. sound f (master_in (raw m t))) (nothing_wrong _ _ _ names texts built)
     ∙ ap (λ k. Ok k) is
 

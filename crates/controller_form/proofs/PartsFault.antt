@@ -1,7 +1,6 @@
 -- What is wrong with parts, by the faults that were found in turn.
-use Rattle.std.proofs.Common.{◌≡◌, ◌∙◌, ◌||◌, ◌==◌, ◌+◌, ◌<◌, ◌≤◌, ℕ, Bool, true, false, List, [], ◌∷◌, ◌++◌, length, get_or, map, take, Option, Some, None, is_some, refl, ap, sym, subst}
+use Rattle.std.proofs.Common.{◌≡◌, ◌∙◌, ◌||◌, ◌==◌, Bool, true, false, List, [], ◌∷◌, ◌++◌, map, Option, Some, None, is_some, refl, ap, sym}
 use Rattle.std.proofs.lemmas.Bool.{eq-eqb, or_parts, true≢false}
-use Rattle.std.proofs.lemmas.List.{take_all, take_more}
 use Rattle.std.proofs.lemmas.List.Elements.{filter_map-append}
 use Rattle.std.specs.List.{cons_option, filter_map, find, list_any}
 use Rattle.std.specs.Option.{option_and_then, option_map_or}
@@ -17,35 +16,29 @@ use Rattle.json_items.specs.PartDraft.{RawPart}
 use Rattle.json_items.specs.PartForm as part_form
 use Rattle.spawn.proofs.Holding.{find_as}
 use Rattle.worker_core.specs.declared.entry.Entry.{Entry}
-use Rattle.controller_form.specs.States.Drafted.{drafted_entries, drafted_entry}
 use Rattle.controller_form.specs.States.EntryForm.{entry_fault, entry_in}
 use Rattle.controller_form.specs.States.PartFaults.{is_among, part_faults}
 use Rattle.controller_form.specs.States.WorkerForm.{is_fault, parts_fault}
-use Rattle.controller_form.specs.declared.states.entry_draft.EntryDraft.{EntryDraft}
+use Rattle.controller_form.specs.declared.states.stored_entry.StoredEntry.{StoredEntry}
 
--- what is wrong with the part of a draft, and its entry, where nothing is
-abbrev pub fault : EntryDraft → Option Refusal
-fault d = entry_fault (drafted_entry d)
-
+-- an entry, unless something is wrong with its part
 abbrev entry_unless : Option Refusal → Entry → Option Entry
 entry_unless f e = option_map_or (λ g. None) f (Some e)
 
-abbrev built : EntryDraft → Option Entry
-built d = entry_unless (fault d) (entry_in (drafted_entry d))
+abbrev built : StoredEntry → Option Entry
+built d = entry_unless (entry_fault d) (entry_in d)
 
--- the faults of drafts, and the entries of the others
-abbrev pub IsSoFar : List EntryDraft → List Refusal → List Entry → Type 0
-IsSoFar ds found entries = (found ≡ filter_map fault ds) × (entries ≡ filter_map built ds)
+-- the faults of their parts, and the entries of the others
+abbrev pub IsSoFar : List StoredEntry → List Refusal → List Entry → Type 0
+IsSoFar ds found entries = (found ≡ filter_map entry_fault ds) × (entries ≡ filter_map built ds)
 
-more : {Y : Type 0} (g : EntryDraft → Option Y) (ds : List EntryDraft) (d : EntryDraft) (y : Option Y) (ys : List Y) → g d ≡ y → ys ≡ filter_map g ds → ys ++ cons_option y [] ≡ filter_map g (ds ++ d ∷ [])
+more : {Y : Type 0} (g : StoredEntry → Option Y) (ds : List StoredEntry) (d : StoredEntry) (y : Option Y) (ys : List Y) → g d ≡ y → ys ≡ filter_map g ds → ys ++ cons_option y [] ≡ filter_map g (ds ++ d ∷ [])
 more g ds d y ys gives so =
     ap (λ zs. zs ++ cons_option y []) so ∙ ap (λ o. filter_map g ds ++ cons_option o []) (sym gives) ∙ sym (filter_map-append g ds (d ∷ []))
 
-pub one_more : (ds : List EntryDraft) (i : ℕ) (d : EntryDraft) (found : List Refusal) (entries : List Entry) → i < length ds → d ≡ get_or ds i d → IsSoFar (take i ds) found entries → (f : Option Refusal) → fault d ≡ f → IsSoFar (take (i + 1) ds) (found ++ cons_option f []) (entries ++ cons_option (entry_unless f (entry_in (drafted_entry d))) [])
-one_more ds i d found entries within is so f wrong =
-    subst (λ taken. IsSoFar taken (found ++ cons_option f []) (entries ++ cons_option (entry_unless f (entry_in (drafted_entry d))) []))
-    (ap (λ x. take i ds ++ x ∷ []) is ∙ sym (take_more ds i d within))
-    (more fault (take i ds) d f found wrong so.0, more built (take i ds) d (entry_unless f (entry_in (drafted_entry d))) entries (ap (λ g. entry_unless g (entry_in (drafted_entry d))) wrong) so.1)
+pub one_more : (ds : List StoredEntry) (d : StoredEntry) (found : List Refusal) (entries : List Entry) → IsSoFar ds found entries → (f : Option Refusal) → entry_fault d ≡ f → IsSoFar (ds ++ d ∷ []) (found ++ cons_option f []) (entries ++ cons_option (entry_unless f (entry_in d)) [])
+one_more ds d found entries so f wrong =
+    (more entry_fault ds d f found wrong so.0, more built ds d (entry_unless f (entry_in d)) entries (ap (λ g. entry_unless g (entry_in d)) wrong) so.1)
 
 -- ---- the first of them
 
@@ -53,14 +46,14 @@ among_more : (f : Option Refusal) (found : List Refusal) (e : Refusal) → is_am
 among_more None found e = refl
 among_more (Some f) found e = refl
 
-are_among : (ds : List EntryDraft) (e : Refusal) → is_among (filter_map fault ds) e ≡ list_any (is_fault e) (drafted_entries ds)
+are_among : (ds : List StoredEntry) (e : Refusal) → is_among (filter_map entry_fault ds) e ≡ list_any (is_fault e) ds
 are_among [] e = refl
 are_among (d ∷ ds) e =
-    among_more (fault d) (filter_map fault ds) e ∙ ap (λ b. is_fault e (drafted_entry d) || b) (are_among ds e)
+    among_more (entry_fault d) (filter_map entry_fault ds) e ∙ ap (λ b. is_fault e d || b) (are_among ds e)
 
-pub first_is : (ds : List EntryDraft) (i : ℕ) (found : List Refusal) → length ds ≤ i → found ≡ filter_map fault (take i ds) → parts_fault (drafted_entries ds) ≡ find (is_among found) part_faults
-first_is ds i found all so =
-    sym (find_as _ _ (are_among ds) part_faults) ∙ ap (λ fs. find (is_among fs) part_faults) (sym (so ∙ ap (filter_map fault) (take_all i ds all)))
+pub first_is : (ds seen : List StoredEntry) (found : List Refusal) → seen ≡ ds → found ≡ filter_map entry_fault seen → parts_fault ds ≡ find (is_among found) part_faults
+first_is ds seen found all so =
+    sym (find_as _ _ (are_among ds) part_faults) ∙ ap (λ fs. find (is_among fs) part_faults) (sym (so ∙ ap (filter_map entry_fault) all))
 
 -- ---- where there is none
 
@@ -88,13 +81,13 @@ apart p q (x ∷ xs) none =
     let rest = apart p q xs parts.1 in
     (or_false _ _ here.0 rest.0, or_false _ _ here.1 rest.1)
 
-all_by : (ds : List EntryDraft) → list_any (λ e. list_any (is_fault e) (drafted_entries ds)) part_faults ≡ false → filter_map built ds ≡ map entry_in (drafted_entries ds)
+all_by : (ds : List StoredEntry) → list_any (λ e. list_any (is_fault e) ds) part_faults ≡ false → filter_map built ds ≡ map entry_in ds
 all_by [] none = refl
 all_by (d ∷ ds) none =
-    let x = entry_in (drafted_entry d) in
-    let parts = apart (λ e. is_fault e (drafted_entry d)) (λ e. list_any (is_fault e) (drafted_entries ds)) part_faults none in
-    ap (λ f. cons_option (entry_unless f x) (filter_map built ds)) (none_of (drafted_entry d).part parts.0) ∙ ap (λ es. x ∷ es) (all_by ds parts.1)
+    let x = entry_in d in
+    let parts = apart (λ e. is_fault e d) (λ e. list_any (is_fault e) ds) part_faults none in
+    ap (λ f. cons_option (entry_unless f x) (filter_map built ds)) (none_of d.part parts.0) ∙ ap (λ es. x ∷ es) (all_by ds parts.1)
 
-pub all_built : (ds : List EntryDraft) (i : ℕ) (entries : List Entry) → length ds ≤ i → entries ≡ filter_map built (take i ds) → parts_fault (drafted_entries ds) ≡ None → entries ≡ map entry_in (drafted_entries ds)
-all_built ds i entries all so none =
-    so ∙ ap (filter_map built) (take_all i ds all) ∙ all_by ds (sym (is_some-find (λ e. list_any (is_fault e) (drafted_entries ds)) part_faults) ∙ ap is_some none)
+pub all_built : (ds seen : List StoredEntry) (entries : List Entry) → seen ≡ ds → entries ≡ filter_map built seen → parts_fault ds ≡ None → entries ≡ map entry_in ds
+all_built ds seen entries all so none =
+    so ∙ ap (filter_map built) all ∙ all_by ds (sym (is_some-find (λ e. list_any (is_fault e) ds) part_faults) ∙ ap is_some none)

@@ -17,22 +17,27 @@ use Rattle.json_items.proofs.Again.{list_again, marked_again, text_again}
 use Rattle.json_items.specs.Listed.{data_items, each, list_form, texts_data}
 use Rattle.json_items.specs.Resources.{all_showing, raw_data, resource_draft}
 use Rattle.json_items.specs.Shown.{nothing_shown}
-use Rattle.json_items.specs.declared.resources.marked_form.Marked.{Marked}
-use Rattle.json_source.specs.Read.{◌>>=◌}
+use Rattle.json_items.specs.Resources.{Marked}
+use Rattle.json_source.specs.Read.{◌>>=◌, provided}
 use Rattle.json_profile.proofs.PoolAgain.{resources_of-all_showing}
-use Rattle.controller_form.specs.Orders.SpawnNamed.{spawn_named}
-use Rattle.controller_form.specs.States.RecordForm.{phase_named, phase_word, record_data, record_form}
+use Rattle.json_items.specs.Spawns.{spawn_named}
+use Rattle.controller_form.specs.States.RecordForm.{are_told_in, is_phase_told_in, phase_named, phase_word, record_data, record_form}
 use Rattle.controller_form.specs.States.RecordForm.{spawn_has_names}
-use Rattle.controller_form.specs.declared.states.record_draft.StoredRecord.{StoredRecord}
+use Rattle.controller_form.specs.declared.states.format.Format.{Format}
+use Rattle.controller_form.specs.declared.states.format.Format.TheVariants.{First, Second}
+use Rattle.controller_form.specs.declared.states.stored_record.StoredRecord.{StoredRecord}
 
 -- a record whose copies to read show nothing
 abbrev pub bare : SpawnRec → StoredRecord
 bare r = record { spawn = r; bare = true }
 
-phase_again : (phase : Phase) → phase_named (phase_word phase) ≡ Some phase
-phase_again Out = refl
-phase_again Merged = refl
-phase_again Withdrawn = refl
+phase_again : (format : Format) (phase : Phase) → is_phase_told_in format phase ≡ true → (phase_named (phase_word phase) >>= λ p. provided (is_phase_told_in format p) >>= λ _. Some p) ≡ Some phase
+phase_again First Out told = refl
+phase_again First Merged told = refl
+phase_again First Withdrawn told = cc
+phase_again Second Out told = refl
+phase_again Second Merged told = refl
+phase_again Second Withdrawn told = refl
 
 bare_all : (rs : List Resource) → are_bare (all_showing nothing_shown rs) ≡ true
 bare_all [] = refl
@@ -50,16 +55,16 @@ with_read r phase ro rw n =
       bare = are_bare ro;
     }
 
--- where its spawn has a number
-pub record_again : (r : SpawnRec) → is_spawn_number r.id ≡ true → record_form (record_data r) ≡ Some (bare r)
+-- where its spawn has a number, and the format tells its phase
+pub record_again : (format : Format) (r : SpawnRec) → is_spawn_number r.id ≡ true → is_phase_told_in format r.phase ≡ true → record_form format (record_data r) ≡ Some (bare r)
 unfolding record_form
-record_again r number =
+record_again format r number told =
     let n = spawn_named (spawn_text r.id) in
     let copies = all_showing nothing_shown r.ro in
     let ro_data = array (data_items raw_data copies) in
-    ap (λ o. o >>= λ phase. list_form resource_draft ro_data >>= λ ro. list_form as_str (texts_data r.rw) >>= λ rw. Some (with_read r phase ro rw n)) (phase_again r.phase)
-    ∙ ap (λ o. o >>= λ ro. list_form as_str (texts_data r.rw) >>= λ rw. Some (with_read r r.phase ro rw n)) (list_again resource_draft raw_data marked_again copies)
-    ∙ ap (λ o. o >>= λ rw. Some (with_read r r.phase copies rw n)) (list_again as_str string text_again r.rw)
+    ap (λ o. o >>= λ phase. list_form as_str (texts_data r.rw) >>= λ rw. list_form resource_draft ro_data >>= λ ro. Some (with_read r phase ro rw n)) (phase_again format r.phase told)
+    ∙ ap (λ o. o >>= λ rw. list_form resource_draft ro_data >>= λ ro. Some (with_read r r.phase ro rw n)) (list_again as_str string text_again r.rw)
+    ∙ ap (λ o. o >>= λ ro. Some (with_read r r.phase ro r.rw n)) (list_again resource_draft raw_data marked_again copies)
     ∙ ap (λ m. Some (with_read r r.phase copies r.rw m)) (number_again r.id number)
     ∙ ap (λ ro. Some (record { spawn = record r { ro = ro }; bare = are_bare copies })) (resources_of-all_showing nothing_shown r.ro)
     ∙ ap (λ b. Some (record { spawn = r; bare = b })) (bare_all r.ro)
@@ -74,8 +79,9 @@ pub more_at : {X : Type 0} (o : Option X) (x : X) (rest : Option (List X)) (xs :
 more_at o x rest xs e f = ap (λ p. p >>= λ y. option_map (λ ys. y ∷ ys) rest) e ∙ ap (option_map (λ ys. x ∷ ys)) f
 
 -- records in turn
-pub records_again : (rs : List SpawnRec) → list_all spawn_has_names rs ≡ true → each record_form (data_items record_data rs) ≡ Some (map bare rs)
-records_again [] names = refl
-records_again (r ∷ rs) names =
+pub records_again : (format : Format) (rs : List SpawnRec) → list_all spawn_has_names rs ≡ true → are_told_in format rs ≡ true → each (record_form format) (data_items record_data rs) ≡ Some (map bare rs)
+records_again format [] names told = refl
+records_again format (r ∷ rs) names told =
     let parts = and_parts _ _ names in
-    more_at (record_form (record_data r)) (bare r) (each record_form (data_items record_data rs)) (map bare rs) (record_again r (number_valid r parts.0)) (records_again rs parts.1)
+    let tells = and_parts _ _ told in
+    more_at (record_form format (record_data r)) (bare r) (each (record_form format) (data_items record_data rs)) (map bare rs) (record_again format r (number_valid r parts.0) tells.0) (records_again format rs parts.1 tells.1)

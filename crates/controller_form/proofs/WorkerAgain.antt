@@ -28,18 +28,20 @@ use Rattle.worker_core.specs.declared.entry.Entry.{Entry}
 use Rattle.worker_core.specs.declared.stage.Stage.{Stage}
 use Rattle.worker_core.specs.declared.stage.Stage.TheVariants.{Open, Done, Closed, Declined}
 use Rattle.controller_form.specs.Orders.EndNamed.{end_named}
-use Rattle.controller_form.specs.Orders.SpawnNamed.{spawn_named}
-use Rattle.controller_form.specs.States.EntryForm.{RawEntry, closed_draft, declined_draft, entry_data, entry_draft, entry_fault}
-use Rattle.controller_form.specs.States.EntryForm.{entry_has_names, entry_has_texts, entry_in, held_draft, is_told_in}
+use Rattle.json_items.specs.Spawns.{spawn_named}
+use Rattle.controller_form.specs.States.EntryForm.{closed_draft, declined_draft, entry_data, entry_draft, entry_fault}
+use Rattle.controller_form.specs.States.EntryForm.{entry_has_names, entry_has_texts, entry_in, held_draft, is_told_in, partless_draft}
 use Rattle.controller_form.specs.States.EntryForm.{stage_named, with_id}
 use Rattle.controller_form.specs.States.PartFaults.{part_faults}
-use Rattle.controller_form.specs.States.WorkerForm.{RawWorker, is_fault, judged_worker, parts_fault}
+use Rattle.controller_form.specs.States.WorkerForm.{is_fault, judged_worker, parts_fault}
 use Rattle.controller_form.specs.States.WorkerForm.{worker_built_fault, worker_data, worker_draft}
 use Rattle.controller_form.specs.States.WorkerForm.{worker_has_names, worker_in}
 use Rattle.controller_form.specs.States.WorkerForm.{worker_state_in, worker_state_read}
 use Rattle.controller_form.specs.States.Writable.{IsWritableEntry, IsWritablePart, IsWritableWorker}
 use Rattle.controller_form.specs.declared.states.format.Format.{Format}
 use Rattle.controller_form.specs.declared.states.format.Format.TheVariants.{First, Second}
+use Rattle.controller_form.specs.declared.states.stored_entry.StoredEntry.{StoredEntry}
+use Rattle.controller_form.specs.declared.states.stored_worker.StoredWorker.{StoredWorker}
 use Rattle.controller_form.proofs.Reading.{IsSoundDraft, all_pass, nothing_wrong, sound_draft}
 use Rattle.controller_form.proofs.RecordAgain.{more_at, number_again}
 use Rattle.controller_form.proofs.Refusing.{nothing}
@@ -72,12 +74,12 @@ abbrev held_data : Format → ℕ → List ℕ → Copied → ℕ → Data
 held_data format s word p at =
     object (put (codes "Part") (part_data p) (with_id format s (put (codes "Phase") (string word) (put (codes "At") (number (unsigned at)) no_members))))
 
--- the text that a format has of its spawn's id
-abbrev id_told : Format → ℕ → RawPart → List ℕ
+-- the spawn that a format tells
+abbrev id_told : Format → ℕ → RawPart → ℕ
 id_told First s p = p.spawn
-id_told Second s p = spawn_text s
+id_told Second s p = spawn_named (spawn_text s)
 
-abbrev held : Format → ℕ → Stage → ℕ → RawPart → RawEntry
+abbrev held : Format → ℕ → Stage → ℕ → RawPart → StoredEntry
 held format s stage at p = record { spawn = id_told format s p; phase = stage; part = Some p; at = at }
 
 held_there : (format : Format) (s : ℕ) (word : List ℕ) (stage : Stage) (p : Copied) (at : ℕ) (raw : RawPart) → stage_named word ≡ Some stage → part_draft (part_data p) ≡ Some raw → held_draft format (held_data format s word p at) ≡ Some (held format s stage at raw)
@@ -89,7 +91,7 @@ held_there Second s word stage p at raw named read =
     ap (λ o. o >>= λ x. part_draft (part_data p) >>= λ q. Some (held Second s x at q)) named
     ∙ ap (λ o. o >>= λ q. Some (held Second s stage at q)) read
 
-is_held : (s : ℕ) (word : List ℕ) (p : Copied) (at : ℕ) (raw : Option RawEntry) → bytes_eq (codes "Closed") word ≡ false → bytes_eq (codes "Declined") word ≡ false → held_draft Second (held_data Second s word p at) ≡ raw → entry_draft Second (held_data Second s word p at) ≡ raw
+is_held : (s : ℕ) (word : List ℕ) (p : Copied) (at : ℕ) (raw : Option StoredEntry) → bytes_eq (codes "Closed") word ≡ false → bytes_eq (codes "Declined") word ≡ false → held_draft Second (held_data Second s word p at) ≡ raw → entry_draft Second (held_data Second s word p at) ≡ raw
 unfolding entry_draft
 is_held s word p at raw open' taken is =
     let d = held_data Second s word p at in
@@ -102,7 +104,7 @@ entry_there First s word stage p at raw open' taken named read = held_there Firs
 entry_there Second s word stage p at raw open' taken named read = is_held s word p at _ open' taken (held_there Second s word stage p at raw named read)
 
 -- its spawn is that of its part
-id_again : (format : Format) (s : ℕ) (raw : RawPart) (p : Copied) → is_spawn_number s ≡ true → copied raw ≡ p → p.spawn_id ≡ s → spawn_named (id_told format s raw) ≡ s
+id_again : (format : Format) (s : ℕ) (raw : RawPart) (p : Copied) → is_spawn_number s ≡ true → copied raw ≡ p → p.spawn_id ≡ s → id_told format s raw ≡ s
 id_again First s raw p numbered same own = ap (λ q. q.spawn_id) same ∙ own
 id_again Second s raw p numbered same own = number_again s numbered
 
@@ -110,7 +112,7 @@ id_again Second s raw p numbered same own = number_again s numbered
 
 -- the draft that an entry is read as, which has no fault
 record IsRead (format : Format) (e : Entry) : Type 0 where
-  raw : RawEntry
+  raw : StoredEntry
   there : entry_draft format (entry_data format e) ≡ Some raw
   same : entry_in raw ≡ e
   names : entry_has_names raw ≡ true
@@ -131,12 +133,12 @@ held_read format s stage p at numbered own read there =
     }
 
 closed_read : (s : ℕ) (how : End) (at : ℕ) → is_spawn_number s ≡ true → IsRead Second (entry s (Closed how) None at)
-unfolding entry_draft closed_draft
+unfolding entry_draft closed_draft partless_draft
 closed_read s how at numbered =
     let id = number_again s numbered in
     record {
-      raw = record { spawn = spawn_text s; phase = Closed how; part = None; at = at };
-      there = ap (λ o. o >>= λ x. Some (record { spawn = spawn_text s; phase = Closed x; part = None; at = at })) (end_again how);
+      raw = record { spawn = spawn_named (spawn_text s); phase = Closed how; part = None; at = at };
+      there = ap (λ o. o >>= λ x. Some (record { spawn = spawn_named (spawn_text s); phase = Closed x; part = None; at = at })) (end_again how);
       same = ap (λ n. entry n (Closed how) None at) id;
       names = and_from _ _ (ap is_spawn_number id ∙ numbered) refl;
       texts = refl;
@@ -144,11 +146,11 @@ closed_read s how at numbered =
     }
 
 declined_read : (s at : ℕ) → is_spawn_number s ≡ true → IsRead Second (entry s Declined None at)
-unfolding entry_draft declined_draft
+unfolding entry_draft declined_draft partless_draft
 declined_read s at numbered =
     let id = number_again s numbered in
     record {
-      raw = record { spawn = spawn_text s; phase = Declined; part = None; at = at };
+      raw = record { spawn = spawn_named (spawn_text s); phase = Declined; part = None; at = at };
       there = refl;
       same = ap (λ n. entry n Declined None at) id;
       names = and_from _ _ (ap is_spawn_number id ∙ numbered) refl;
@@ -179,14 +181,14 @@ entry_read format s (Done how) None at has own numbered known' told = cc
 -- ---- entries in turn
 
 record AreRead (format : Format) (es : List Entry) : Type 0 where
-  raws : List RawEntry
+  raws : List StoredEntry
   there : each (entry_draft format) (data_items (entry_data format) es) ≡ Some raws
   same : map entry_in raws ≡ es
   names : list_all entry_has_names raws ≡ true
   texts : list_all entry_has_texts raws ≡ true
   none : (f : Refusal) → list_any (is_fault f) raws ≡ false
 
-no_fault : (f : Refusal) (raw : RawEntry) → entry_fault raw ≡ None → is_fault f raw ≡ false
+no_fault : (f : Refusal) (raw : StoredEntry) → entry_fault raw ≡ None → is_fault f raw ≡ false
 no_fault f raw none = ap (λ o. option_map_or (λ g. number_of g == number_of f) o false) none
 
 own_part : (e : Entry) (part : Option Copied) → IfSome part (IsKeptPart e) → IfSome part (λ p. p.spawn_id ≡ e.spawn_id)
@@ -217,13 +219,13 @@ all_told (e ∷ es) = all_told es
 
 -- ---- the worker
 
-none_among : (raws : List RawEntry) → ((f : Refusal) → list_any (is_fault f) raws ≡ false) → parts_fault raws ≡ None
+none_among : (raws : List StoredEntry) → ((f : Refusal) → list_any (is_fault f) raws ≡ false) → parts_fault raws ≡ None
 none_among raws none = find_as (λ f. list_any (is_fault f) raws) (λ f. false) none part_faults
 
-abbrev raw : Known → List RawEntry → RawWorker
+abbrev raw : Known → List StoredEntry → StoredWorker
 raw w raws = record { name = w.name; master = w.master; entries = raws }
 
-drafted : (format : Format) (w : Known) (raws : List RawEntry) → each (entry_draft format) (data_items (entry_data format) w.entries) ≡ Some raws → worker_draft format (worker_data format w) ≡ Some (raw w raws)
+drafted : (format : Format) (w : Known) (raws : List StoredEntry) → each (entry_draft format) (data_items (entry_data format) w.entries) ≡ Some raws → worker_draft format (worker_data format w) ≡ Some (raw w raws)
 unfolding worker_draft
 drafted format w raws read = ap (λ o. o >>= λ entries. Some (raw w entries)) read
 

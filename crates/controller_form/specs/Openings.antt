@@ -1,4 +1,2 @@
 pub mod ShopForm
-pub mod DraftedShop
 pub mod OpeningForm
-pub mod DraftedOpening

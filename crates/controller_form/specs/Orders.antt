@@ -1,6 +1,4 @@
-pub mod SpawnNamed
+pub mod KnownSpawn
 pub mod EndNamed
 pub mod WorkerForm
 pub mod MasterForm
-pub mod DraftedWorkerOrder
-pub mod DraftedMasterOrder

@@ -5,4 +5,3 @@ pub mod EntryForm
 pub mod PartFaults
 pub mod WorkerForm
 pub mod Writable
-pub mod Drafted

@@ -5,8 +5,7 @@
 mod openings;
 mod orders;
 mod states;
-mod ticket_member;
 
-pub use openings::{Opening, Shop, ShopDraft, opening_of};
-pub use orders::{MasterOrderDraft, WorkerOrderDraft, master_order_of, worker_order_of};
+pub use openings::{Opening, RawShop, Shop, opening_of};
+pub use orders::{find_master_order, find_worker_order, master_order_of, worker_order_of};
 pub use states::StateForm;

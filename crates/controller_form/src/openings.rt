@@ -3,11 +3,11 @@
 
 mod opening;
 mod opening_read;
+mod raw_shop;
+mod raw_worker;
 mod shop;
-mod shop_draft;
-mod worker_opening;
 
 pub use opening::Opening;
 pub use opening_read::opening_of;
+pub use raw_shop::RawShop;
 pub use shop::Shop;
-pub use shop_draft::ShopDraft;

@@ -14,10 +14,12 @@ use Rattle.json_items.specs.Judged.{checked_fault, sound}
 use Rattle.json_source.specs.Read.{◌>>=◌, provided, has_only, text_under}
 use Rattle.master_core.specs.Master as master
 use Rattle.worker_core.specs.Worker as worker
-use Rattle.controller_form.specs.Openings.ShopForm.{RawShop, shop_draft, shop_fault, shop_has_names}
+use Rattle.controller_form.specs.Openings.ShopForm.{shop_draft, shop_fault, shop_has_names}
 use Rattle.controller_form.specs.Openings.ShopForm.{shop_has_texts, shop_of}
 use Rattle.controller_form.specs.declared.openings.opening.Opening.{Opening}
 use Rattle.controller_form.specs.declared.openings.opening.Opening.TheVariants.{Master, Worker}
+use Rattle.controller_form.specs.declared.openings.raw_shop.RawShop.{RawShop}
+use Rattle.controller_form.specs.declared.openings.raw_worker.RawWorker.{RawWorker}
 use Rattle.controller_form.specs.declared.openings.shop.Shop.{Shop}
 
 -- ---- a master
@@ -45,19 +47,14 @@ master_read d = result_map_both opened (λ e. e) (shop_read d)
 
 -- ---- a worker
 
--- its name and its master's
-pub record RawWorker : Type 0 where
-  pub name : List ℕ
-  pub master : List ℕ
-
 abbrev pub worker_members : List (List ℕ)
 worker_members = codes "Master" ∷ codes "Worker" ∷ []
 
 unfoldable pub worker_draft : Data → Option RawWorker
 worker_draft d = do
   _ ← provided (has_only worker_members d)
-  master ← text_under (codes "Master") d
   name ← text_under (codes "Worker") d
+  master ← text_under (codes "Master") d
   Some (record { name = name; master = master })
 
 abbrev pub worker_has_names : RawWorker → Bool

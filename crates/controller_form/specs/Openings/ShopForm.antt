@@ -13,22 +13,17 @@ use Rattle.json_items.specs.TicketDraft.{RawTicket, ticket_draft}
 use Rattle.json_items.specs.TicketForm as ticket_form
 use Rattle.json_items.specs.Listed.{list_form}
 use Rattle.json_source.specs.Read.{◌>>=◌, text_under}
+use Rattle.controller_form.specs.declared.openings.raw_shop.RawShop.{RawShop}
 use Rattle.controller_form.specs.declared.openings.shop.Shop.{Shop}
 
 -- ---- by members and their kinds alone
-
--- a master of a name, workers of these, and the master's ticket
-pub record RawShop : Type 0 where
-  pub master : List ℕ
-  pub workers : List (List ℕ)
-  pub ticket : RawTicket
 
 -- what stands under `Workers` and `Ticket`
 abbrev pub workers_under : Data → Option (List (List ℕ))
 workers_under d = option_and_then (list_form as_str) (get (codes "Workers") d)
 
 abbrev pub ticket_under : Data → Option RawTicket
-ticket_under d = get (codes "Ticket") d >>= ticket_draft
+ticket_under d = option_and_then ticket_draft (get (codes "Ticket") d)
 
 -- a shop in an object that may have other members
 unfoldable pub shop_draft : Data → Option RawShop

@@ -16,7 +16,7 @@ use Rattle.json_items.specs.Listed.{list_form}
 use Rattle.json_source.specs.Read.{◌>>=◌, provided, has_only, text_under}
 use Rattle.master_core.specs.declared.order.Order.{Order}
 use Rattle.master_core.specs.declared.order.Order.TheVariants.{Edit, Spawn, Resend, Withdraw}
-use Rattle.controller_form.specs.Orders.SpawnNamed.{known_form}
+use Rattle.controller_form.specs.Orders.KnownSpawn.{known_form}
 
 -- ---- by members and their kinds alone
 
@@ -42,8 +42,8 @@ unfoldable pub spawn_form : Data → Option Order
 spawn_form d = do
   _ ← provided (has_only spawn_members d)
   node ← text_under (codes "Node") d
-  copies ← copies_under d
   worker ← text_under (codes "Worker") d
+  copies ← copies_under d
   Some (Spawn node worker copies)
 
 -- an order of the kind that its `Order` names

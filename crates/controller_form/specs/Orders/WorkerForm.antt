@@ -14,7 +14,7 @@ use Rattle.json_source.specs.Read.{◌>>=◌, provided, has_only, text_under}
 use Rattle.worker_core.specs.declared.order.Order.{Order}
 use Rattle.worker_core.specs.declared.order.Order.TheVariants.{Edit, Finish, Resend}
 use Rattle.controller_form.specs.Orders.EndNamed.{end_named}
-use Rattle.controller_form.specs.Orders.SpawnNamed.{known_form, spawn_under}
+use Rattle.controller_form.specs.Orders.KnownSpawn.{known_form, spawn_under}
 
 -- ---- by members and their kinds alone
 
@@ -25,8 +25,8 @@ edit_members = codes "Edit" ∷ codes "Order" ∷ codes "SpawnID" ∷ []
 unfoldable pub edit_form : Data → Option Order
 edit_form d = do
   _ ← provided (has_only edit_members d)
+  s ← spawn_under (codes "SpawnID") d
   e ← option_and_then edit_draft (get (codes "Edit") d)
-  s ← spawn_under d
   Some (Edit s e)
 
 abbrev pub finish_members : List (List ℕ)
@@ -36,7 +36,7 @@ finish_members = codes "Order" ∷ codes "SpawnID" ∷ codes "Status" ∷ []
 unfoldable pub finish_form : Data → Option Order
 finish_form d = do
   _ ← provided (has_only finish_members d)
-  s ← spawn_under d
+  s ← spawn_under (codes "SpawnID") d
   word ← text_under (codes "Status") d
   end ← end_named word
   Some (Finish s end)

@@ -19,19 +19,12 @@ use Rattle.worker_core.specs.declared.entry.Entry.{Entry}
 use Rattle.worker_core.specs.declared.stage.Stage.{Stage}
 use Rattle.worker_core.specs.declared.stage.Stage.TheVariants.{Open, Done, Closed, Declined}
 use Rattle.controller_form.specs.Orders.EndNamed.{end_named}
-use Rattle.controller_form.specs.Orders.SpawnNamed.{spawn_named}
+use Rattle.controller_form.specs.Orders.KnownSpawn.{spawn_under}
 use Rattle.controller_form.specs.declared.states.format.Format.{Format}
 use Rattle.controller_form.specs.declared.states.format.Format.TheVariants.{First, Second}
+use Rattle.controller_form.specs.declared.states.stored_entry.StoredEntry.{StoredEntry}
 
 -- ---- read, by members and their kinds alone
-
--- the spawn by its id's text, how far the worker is with the part, the part that there is, and when
--- it was taken, declined or ended
-pub record RawEntry : Type 0 where
-  pub spawn : List ℕ
-  pub phase : Stage
-  pub part : Option RawPart
-  pub at : ℕ
 
 -- the stage that a word names in which the worker has the part
 abbrev pub stage_named : List ℕ → Option Stage
@@ -46,13 +39,13 @@ abbrev pub held_members : Format → List (List ℕ)
 held_members First = codes "At" ∷ codes "Part" ∷ codes "Phase" ∷ []
 held_members Second = codes "At" ∷ codes "ID" ∷ codes "Part" ∷ codes "Phase" ∷ []
 
--- the id of its spawn, which in the first format the part alone tells
-abbrev pub spawn_told : Format → RawPart → Data → Option (List ℕ)
+-- its spawn, which in the first format the part alone tells
+abbrev pub spawn_told : Format → RawPart → Data → Option ℕ
 spawn_told First part d = Some part.spawn
-spawn_told Second part d = text_under (codes "ID") d
+spawn_told Second part d = spawn_under (codes "ID") d
 
 -- an entry with its part
-unfoldable pub held_draft : Format → Data → Option RawEntry
+unfoldable pub held_draft : Format → Data → Option StoredEntry
 held_draft format d = do
   _ ← provided (has_only (held_members format) d)
   at ← number_under (codes "At") d
@@ -61,6 +54,13 @@ held_draft format d = do
   spawn ← spawn_told format part d
   Some (record { spawn = spawn; phase = phase; part = Some part; at = at })
 
+-- an entry of which there is no part, in this stage
+unfoldable pub partless_draft : Stage → Data → Option StoredEntry
+partless_draft phase d = do
+  at ← number_under (codes "At") d
+  spawn ← spawn_under (codes "ID") d
+  Some (record { spawn = spawn; phase = phase; part = None; at = at })
+
 abbrev pub closed_members : List (List ℕ)
 closed_members = codes "At" ∷ codes "End" ∷ codes "ID" ∷ codes "Phase" ∷ []
 
@@ -68,42 +68,36 @@ closed_members = codes "At" ∷ codes "End" ∷ codes "ID" ∷ codes "Phase" ∷
 abbrev pub end_under : Data → Option End
 end_under d = text_under (codes "End") d >>= end_named
 
--- an entry whose part was given up
-unfoldable pub closed_draft : Data → Option RawEntry
+-- one whose part was given up
+unfoldable pub closed_draft : Data → Option StoredEntry
 closed_draft d = do
   _ ← provided (has_only closed_members d)
-  at ← number_under (codes "At") d
   end ← end_under d
-  spawn ← text_under (codes "ID") d
-  Some (record { spawn = spawn; phase = Closed end; part = None; at = at })
+  partless_draft (Closed end) d
 
 abbrev pub declined_members : List (List ℕ)
 declined_members = codes "At" ∷ codes "ID" ∷ codes "Phase" ∷ []
 
--- an entry of a spawn that was declined
-unfoldable pub declined_draft : Data → Option RawEntry
-declined_draft d = do
-  _ ← provided (has_only declined_members d)
-  at ← number_under (codes "At") d
-  spawn ← text_under (codes "ID") d
-  Some (record { spawn = spawn; phase = Declined; part = None; at = at })
+-- one of a spawn that was declined
+unfoldable pub declined_draft : Data → Option StoredEntry
+declined_draft d = provided (has_only declined_members d) >>= λ _. partless_draft Declined d
 
 -- whether data tells of a phase
 abbrev pub has_phase : List ℕ → Data → Bool
 has_phase word d = option_map_or (bytes_eq word) (text_under (codes "Phase") d) false
 
 -- an entry; the first format tells of no part that was given up, and of none that was declined
-unfoldable pub entry_draft : Format → Data → Option RawEntry
+unfoldable pub entry_draft : Format → Data → Option StoredEntry
 entry_draft First d = held_draft First d
 entry_draft Second d =
     if has_phase (codes "Closed") d then closed_draft d
     else (if has_phase (codes "Declined") d then declined_draft d else held_draft Second d)
 
 -- the entry of a draft
-abbrev pub entry_in : RawEntry → Entry
+abbrev pub entry_in : StoredEntry → Entry
 entry_in e =
     record {
-      spawn_id = spawn_named e.spawn;
+      spawn_id = e.spawn;
       phase = e.phase;
       part = option_map part_form.copied e.part;
       at = e.at;
@@ -112,15 +106,15 @@ entry_in e =
 -- ---- faults
 
 -- whether its id is a spawn's, and the ids and names of its part are valid
-abbrev pub entry_has_names : RawEntry → Bool
+abbrev pub entry_has_names : StoredEntry → Bool
 entry_has_names e =
-    is_spawn_number (spawn_named e.spawn) && option_map_or part_form.has_names e.part true
+    is_spawn_number e.spawn && option_map_or part_form.has_names e.part true
 
-abbrev pub entry_has_texts : RawEntry → Bool
+abbrev pub entry_has_texts : StoredEntry → Bool
 entry_has_texts e = option_map_or part_form.has_texts e.part true
 
 -- what is wrong with its part, where the names and texts of that are valid
-abbrev pub entry_fault : RawEntry → Option Refusal
+abbrev pub entry_fault : StoredEntry → Option Refusal
 entry_fault e = option_and_then part_form.built_fault e.part
 
 -- ---- written

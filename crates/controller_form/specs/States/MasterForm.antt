@@ -1,5 +1,5 @@
--- The form of a master's state. In a draft the ids, names and texts may be any bytes, its rows no
--- tree's, and its resources may show spawns.
+-- The form of a master's state. As it is read the ids, names and texts may be any bytes, its rows
+-- no tree's, and its resources may show spawns.
 use Rattle.std.specs.Prelude.{ℕ, ◌&&◌, Bool, List, [], ◌∷◌, codes, map, if◌then◌else◌}
 use Rattle.std.specs.Prelude.{Option, Some, None, Result, Err}
 use Rattle.std.specs.List.{list_all}
@@ -11,7 +11,6 @@ use Rattle.ticket_items.specs.declared.refusal.Refusal.{Refusal}
 use Rattle.ticket_items.specs.declared.refusal.Refusal.TheVariants.{BadState}
 use Rattle.ticket_items.specs.declared.refusal.Refusal.TheVariants.{NotProfile, ReservedStatus}
 use Rattle.ticket_rows.specs.Ticket.{first_of, unless}
-use Rattle.json_items.specs.TicketDraft.{RawTicket}
 use Rattle.json_items.specs.TicketForm as ticket_form
 use Rattle.json_items.specs.Judged.{checked_fault, sound}
 use Rattle.json_items.specs.Listed.{data_items, list_form, texts_data}
@@ -20,54 +19,41 @@ use Rattle.json_text.specs.Written.{ticket_data}
 use Rattle.master_core.specs.Master.{Known, known}
 use Rattle.master_core.specs.Stored.{is_master}
 use Rattle.controller_form.specs.Openings.ShopForm.{ticket_under, workers_under}
-use Rattle.controller_form.specs.States.RecordForm.{are_told_in, record_data, record_form}
+use Rattle.controller_form.specs.States.RecordForm.{record_data, record_form}
 use Rattle.controller_form.specs.States.RecordForm.{record_has_names, record_has_texts}
 use Rattle.controller_form.specs.States.StateFormat.{controller_under, format_of, read_in}
 use Rattle.controller_form.specs.States.StateFormat.{state_data, written}
 use Rattle.controller_form.specs.declared.states.format.Format.{Format}
-use Rattle.controller_form.specs.declared.states.record_draft.StoredRecord.{StoredRecord}
+use Rattle.controller_form.specs.declared.states.stored_master.StoredMaster.{StoredMaster}
+use Rattle.controller_form.specs.declared.states.stored_record.StoredRecord.{StoredRecord}
 
 -- ---- read, by members and their kinds alone
-
--- its name, its workers' names, its ticket and the records of its spawns
-pub record RawMaster : Type 0 where
-  pub name : List ℕ
-  pub workers : List (List ℕ)
-  pub ticket : RawTicket
-  pub records : List StoredRecord
 
 abbrev pub master_members : List (List ℕ)
 master_members = codes "Name" ∷ codes "Spawns" ∷ codes "Ticket" ∷ codes "Workers" ∷ []
 
--- the draft that data is in any format
-unfoldable pub any_master_draft : Data → Option RawMaster
-any_master_draft d = do
+-- what data is in a format, which has to tell the phases of the records
+unfoldable pub master_draft : Format → Data → Option StoredMaster
+master_draft format d = do
   _ ← provided (has_only master_members d)
   name ← text_under (codes "Name") d
-  records ← option_and_then (list_form record_form) (get (codes "Spawns") d)
-  ticket ← ticket_under d
   workers ← workers_under d
+  ticket ← ticket_under d
+  records ← option_and_then (list_form (record_form format)) (get (codes "Spawns") d)
   Some (record { name = name; workers = workers; ticket = ticket; records = records })
 
--- a draft in a format, which has to tell the phases of its records
-abbrev pub in_format : Format → RawMaster → Option RawMaster
-in_format format m = if are_told_in format (map (λ r. r.spawn) m.records) then Some m else None
-
-abbrev pub master_draft : Format → Data → Option RawMaster
-master_draft format d = option_and_then (in_format format) (any_master_draft d)
-
 -- the master of a draft
-abbrev pub master_in : RawMaster → Known
+abbrev pub master_in : StoredMaster → Known
 master_in m = known m.name m.workers m.ticket.job (map (λ r. r.spawn) m.records)
 
 -- ---- faults
 
 -- whether all ids and names, and all texts, are valid
-abbrev pub master_has_names : RawMaster → Bool
+abbrev pub master_has_names : StoredMaster → Bool
 master_has_names m = is_name m.name && list_all is_name m.workers && ticket_form.has_names m.ticket
     && list_all record_has_names m.records
 
-abbrev pub master_has_texts : RawMaster → Bool
+abbrev pub master_has_texts : StoredMaster → Bool
 master_has_texts m = ticket_form.has_texts m.ticket && list_all record_has_texts m.records
 
 -- whether its records' copies to read show nothing of spawns
@@ -76,20 +62,20 @@ records_are_bare records = list_all (λ r. r.bare) records
 
 -- what is wrong with a draft whose names and texts are valid: a mark of spawns, its ticket, or that
 -- no master can have come to it
-abbrev pub master_built_fault : RawMaster → Option Refusal
+abbrev pub master_built_fault : StoredMaster → Option Refusal
 master_built_fault m =
     first_of
     (unless (records_are_bare m.records) ReservedStatus ∷ ticket_form.built_fault m.ticket
     ∷ unless (is_master (master_in m)) BadState ∷ [])
 
 -- what is wrong with a draft: each fault in all of it before the next one
-abbrev pub master_fault : RawMaster → Option Refusal
+abbrev pub master_fault : StoredMaster → Option Refusal
 master_fault m = checked_fault (master_has_names m) (master_has_texts m) (master_built_fault m)
 
 -- ---- what data is read as
 
 -- the master that a draft is, or its first refusal
-abbrev pub judged_master : Option RawMaster → Result Known Refusal
+abbrev pub judged_master : Option StoredMaster → Result Known Refusal
 judged_master draft =
     option_map_or (λ m. sound (master_fault m) (master_in m)) draft (Err NotProfile)
 

@@ -1,5 +1,5 @@
--- The form of a spawn's record as it is stored. In a draft the ids and names may be any bytes, and
--- the spawn's id any text.
+-- The form of a spawn's record as it is stored. As it is read its ids, names and texts may be any
+-- bytes, and the spawn's id any text.
 use Rattle.std.specs.Prelude.{ℕ, ◌&&◌, Bool, true, false, List, [], ◌∷◌, codes, if◌then◌else◌}
 use Rattle.std.specs.Prelude.{Option, Some, None}
 use Rattle.std.specs.List.{list_all}
@@ -18,10 +18,10 @@ use Rattle.json_items.specs.Resources.{all_showing, raw_data, resource_draft}
 use Rattle.json_items.specs.Resources.{resource_has_names, resource_has_texts}
 use Rattle.json_items.specs.Shown.{nothing_shown}
 use Rattle.json_source.specs.Read.{◌>>=◌, provided, has_only, number_under, text_under}
-use Rattle.controller_form.specs.Orders.SpawnNamed.{spawn_named}
+use Rattle.controller_form.specs.Orders.KnownSpawn.{spawn_under}
 use Rattle.controller_form.specs.declared.states.format.Format.{Format}
 use Rattle.controller_form.specs.declared.states.format.Format.TheVariants.{First, Second}
-use Rattle.controller_form.specs.declared.states.record_draft.StoredRecord.{StoredRecord}
+use Rattle.controller_form.specs.declared.states.stored_record.StoredRecord.{StoredRecord}
 
 -- ---- read, by members and their kinds alone
 
@@ -31,27 +31,39 @@ phase_named word =
     else (if bytes_eq word (codes "Merged") then Some Merged
     else (if bytes_eq word (codes "Withdrawn") then Some Withdrawn else None))
 
-abbrev pub phase_under : Data → Option Phase
-phase_under d = text_under (codes "Phase") d >>= phase_named
+-- whether a format can tell a phase; the first tells of no spawn that was withdrawn
+abbrev pub is_phase_told_in : Format → Phase → Bool
+is_phase_told_in First Out = true
+is_phase_told_in First Merged = true
+is_phase_told_in First Withdrawn = false
+is_phase_told_in Second phase = true
+
+-- the phase that a format tells
+abbrev pub phase_under : Format → Data → Option Phase
+phase_under format d = do
+  word ← text_under (codes "Phase") d
+  phase ← phase_named word
+  _ ← provided (is_phase_told_in format phase)
+  Some phase
 
 abbrev pub record_members : List (List ℕ)
 record_members = codes "At" ∷ codes "ID" ∷ codes "Node" ∷ codes "Phase" ∷ codes "RO" ∷ codes "RW"
     ∷ codes "Worker" ∷ []
 
 -- a record, and whether its copies to read show nothing of spawns
-unfoldable pub record_form : Data → Option StoredRecord
-record_form d = do
+unfoldable pub record_form : Format → Data → Option StoredRecord
+record_form format d = do
   _ ← provided (has_only record_members d)
   at ← number_under (codes "At") d
-  spawn ← text_under (codes "ID") d
+  phase ← phase_under format d
+  spawn ← spawn_under (codes "ID") d
   node ← text_under (codes "Node") d
-  phase ← phase_under d
-  ro ← option_and_then (list_form resource_draft) (get (codes "RO") d)
-  rw ← option_and_then (list_form as_str) (get (codes "RW") d)
   worker ← text_under (codes "Worker") d
+  rw ← option_and_then (list_form as_str) (get (codes "RW") d)
+  ro ← option_and_then (list_form resource_draft) (get (codes "RO") d)
   Some (record {
     spawn = record {
-      id = spawn_named spawn;
+      id = spawn;
       node = node;
       worker = worker;
       at = at;
@@ -62,14 +74,7 @@ record_form d = do
     bare = are_bare ro;
   })
 
--- whether a format can tell a phase, and each phase of several spawns; the first tells of no spawn
--- that was withdrawn
-abbrev pub is_phase_told_in : Format → Phase → Bool
-is_phase_told_in First Out = true
-is_phase_told_in First Merged = true
-is_phase_told_in First Withdrawn = false
-is_phase_told_in Second phase = true
-
+-- whether it can tell each phase of several spawns
 abbrev pub are_told_in : Format → List SpawnRec → Bool
 are_told_in format spawns = list_all (λ r. is_phase_told_in format r.phase) spawns
 

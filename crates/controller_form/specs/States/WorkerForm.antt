@@ -17,68 +17,64 @@ use Rattle.json_items.specs.Listed.{data_items, list_form}
 use Rattle.json_source.specs.Read.{◌>>=◌, provided, has_only, text_under}
 use Rattle.worker_core.specs.Stored.{is_worker}
 use Rattle.worker_core.specs.Worker.{Known, known}
-use Rattle.controller_form.specs.States.EntryForm.{RawEntry, entry_data, entry_draft, entry_fault}
+use Rattle.controller_form.specs.States.EntryForm.{entry_data, entry_draft, entry_fault}
 use Rattle.controller_form.specs.States.EntryForm.{entry_has_names, entry_has_texts, entry_in}
 use Rattle.controller_form.specs.States.PartFaults.{part_faults}
 use Rattle.controller_form.specs.States.StateFormat.{controller_under, format_of, read_in}
 use Rattle.controller_form.specs.States.StateFormat.{state_data, written}
 use Rattle.controller_form.specs.declared.states.format.Format.{Format}
+use Rattle.controller_form.specs.declared.states.stored_entry.StoredEntry.{StoredEntry}
+use Rattle.controller_form.specs.declared.states.stored_worker.StoredWorker.{StoredWorker}
 
 -- ---- read, by members and their kinds alone
-
--- its name, its master's, and its entries
-pub record RawWorker : Type 0 where
-  pub name : List ℕ
-  pub master : List ℕ
-  pub entries : List RawEntry
 
 abbrev pub worker_members : List (List ℕ)
 worker_members = codes "Entries" ∷ codes "Master" ∷ codes "Name" ∷ []
 
-unfoldable pub worker_draft : Format → Data → Option RawWorker
+unfoldable pub worker_draft : Format → Data → Option StoredWorker
 worker_draft format d = do
   _ ← provided (has_only worker_members d)
-  entries ← option_and_then (list_form (entry_draft format)) (get (codes "Entries") d)
-  master ← text_under (codes "Master") d
   name ← text_under (codes "Name") d
+  master ← text_under (codes "Master") d
+  entries ← option_and_then (list_form (entry_draft format)) (get (codes "Entries") d)
   Some (record { name = name; master = master; entries = entries })
 
 -- the worker of a draft
-abbrev pub worker_in : RawWorker → Known
+abbrev pub worker_in : StoredWorker → Known
 worker_in w = known w.name w.master (map entry_in w.entries)
 
 -- ---- faults
 
 -- whether all ids and names, and all texts, are valid
-abbrev pub worker_has_names : RawWorker → Bool
+abbrev pub worker_has_names : StoredWorker → Bool
 worker_has_names w = is_name w.name && is_name w.master && list_all entry_has_names w.entries
 
-abbrev pub worker_has_texts : RawWorker → Bool
+abbrev pub worker_has_texts : StoredWorker → Bool
 worker_has_texts w = list_all entry_has_texts w.entries
 
 -- whether this is what is wrong with the part of an entry
-abbrev pub is_fault : Refusal → RawEntry → Bool
+abbrev pub is_fault : Refusal → StoredEntry → Bool
 is_fault e entry = option_map_or (λ f. number_of f == number_of e) (entry_fault entry) false
 
 -- what is wrong with parts whose names and texts are valid: the first fault that one of them has,
 -- looked for in all of them before the next one is
-abbrev pub parts_fault : List RawEntry → Option Refusal
+abbrev pub parts_fault : List StoredEntry → Option Refusal
 parts_fault entries = find (λ e. list_any (is_fault e) entries) part_faults
 
 -- what is wrong with a draft whose names and texts are valid: its parts, or that no worker can have
 -- come to it
-abbrev pub worker_built_fault : RawWorker → Option Refusal
+abbrev pub worker_built_fault : StoredWorker → Option Refusal
 worker_built_fault w =
     first_of (parts_fault w.entries ∷ unless (is_worker (worker_in w)) BadState ∷ [])
 
 -- what is wrong with a draft: each fault in all of it before the next one
-abbrev pub worker_fault : RawWorker → Option Refusal
+abbrev pub worker_fault : StoredWorker → Option Refusal
 worker_fault w = checked_fault (worker_has_names w) (worker_has_texts w) (worker_built_fault w)
 
 -- ---- what data is read as
 
 -- the worker that a draft is, or its first refusal
-abbrev pub judged_worker : Option RawWorker → Result Known Refusal
+abbrev pub judged_worker : Option StoredWorker → Result Known Refusal
 judged_worker draft =
     option_map_or (λ w. sound (worker_fault w) (worker_in w)) draft (Err NotProfile)
 

@@ -6,10 +6,10 @@ ghost use Rattle.json_profile.specs.ReadAs.{IsReadAs, IsRefusalOf};
 ghost use Rattle.controller_form.specs.Openings.OpeningForm as form;
 
 use crate::openings::opening::Opening;
+use crate::openings::raw_shop::RawShop;
+use crate::openings::raw_worker::RawWorker;
 use crate::openings::shop::Shop;
-use crate::openings::shop_draft::ShopDraft;
-use crate::openings::worker_opening::WorkerOpening;
-use json_items::{Checked, only};
+use json_items::{Raw, only};
 use json_source::{Scratch, Source, tree_of};
 use master_core::Master;
 use std::alloc::Global;
@@ -20,8 +20,7 @@ fn shop_in<S: Source>(alloc: Global, value: &S) -> Result<Shop, Refusal>
     ensures { Answers result (form.shop_read (S.content value.now)) }
 {
     only(value, &["Master", "Ticket", "Workers"])?;
-    let draft = ShopDraft::of(alloc, value)?;
-    draft.build(alloc)
+    RawShop::whole(alloc, value)
 }
 
 /// The master that a value begins.
@@ -37,20 +36,12 @@ fn master_opening<S: Source>(alloc: Global, value: &S) -> Result<Opening, Refusa
     Ok(Opening::Master(master))
 }
 
-/// The worker that a value begins.
-fn worker_opening<S: Source>(alloc: Global, value: &S) -> Result<Opening, Refusal>
-    ensures { Answers result (form.worker_read (S.content value.now)) }
-{
-    let draft = WorkerOpening::of(alloc, value)?;
-    draft.build(alloc)
-}
-
 /// The controller that a value begins.
 fn opening_in<S: Source>(alloc: Global, value: &S) -> Result<Opening, Refusal>
     ensures { Answers result (form.opening_read (S.content value.now)) }
 {
     match value.member("Worker") {
-        Some(_) => worker_opening(alloc, value),
+        Some(_) => RawWorker::whole(alloc, value),
         None => master_opening(alloc, value),
     }
 }

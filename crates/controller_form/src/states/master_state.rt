@@ -5,11 +5,11 @@ ghost use Rattle.json_text.specs.Printed.{IsPrinted};
 ghost use Rattle.controller_form.specs.States.MasterForm as form;
 ghost use Rattle.controller_form.specs.States.Writable.{IsWritableMaster};
 
-use crate::states::format::WRITTEN;
-use crate::states::master_draft::MasterDraft;
+use crate::states::format::{WRITTEN, controller_under, format_of};
 use crate::states::record_text::print_records;
-use crate::states::state_draft::StateDraft;
 use crate::states::state_form::StateForm;
+use crate::states::stored_form::StoredForm;
+use crate::states::stored_master::StoredMaster;
 use json::Writer;
 use json_profile::print_ticket;
 use json_source::Source;
@@ -54,10 +54,9 @@ impl StateForm for Master {
     }
 
     fn state_of<S: Source>(alloc: Global, value: &S) -> Result<Master, Refusal> {
-        MasterDraft::whole(alloc, value)
-    }
-
-    fn pair_of<S: Source>(alloc: Global, value: &S) -> Result<(Master, Master), Refusal> {
-        MasterDraft::pair(alloc, value)
+        let format = format_of(value)?;
+        let controller = controller_under(value, "Master")?;
+        let stored = StoredMaster::find(alloc, controller, format)??;
+        stored.build(alloc)
     }
 }

@@ -54,11 +54,16 @@ pub trait StateForm: Drop {
         ensures { Answers result (state_read (S.content value.now)) };
 
     /// The same controller twice.
-    fn pair_of<S: Source>(alloc: Global, value: &S) -> Result<(Self, Self), Refusal>
+    final fn pair_of<S: Source>(alloc: Global, value: &S) -> Result<(Self, Self), Refusal>
         ensures first { IfOk result (λ pair. state_read (S.content value.now) ≡ Ok pair.0) }
         ensures second { IfOk result (λ pair. state_read (S.content value.now) ≡ Ok pair.1) }
         ensures refused { IfErr result (λ e. (e ≡ Refusal.Memory)
-            ⊎ (state_read (S.content value.now) ≡ Err e)) };
+            ⊎ (state_read (S.content value.now) ≡ Err e)) }
+    {
+        let first = Self::state_of(alloc, value)?;
+        let second = Self::state_of(alloc, value)?;
+        Ok((first, second))
+    }
 
     /// The text of its state, which is read as this controller.
     final fn state_text(&self, alloc: Global) -> Result<Vec<u8>, AllocError>

@@ -7,10 +7,10 @@ ghost use Rattle.controller_form.specs.States.WorkerForm as form;
 ghost use Rattle.controller_form.specs.States.Writable.{IsWritableWorker};
 
 use crate::states::entry_text::print_entries;
-use crate::states::format::WRITTEN;
-use crate::states::state_draft::StateDraft;
+use crate::states::format::{WRITTEN, controller_under, format_of};
 use crate::states::state_form::StateForm;
-use crate::states::worker_draft::WorkerDraft;
+use crate::states::stored_form::StoredForm;
+use crate::states::stored_worker::StoredWorker;
 use json::Writer;
 use json_source::Source;
 use json_text::print_member;
@@ -54,10 +54,9 @@ impl StateForm for Worker {
     }
 
     fn state_of<S: Source>(alloc: Global, value: &S) -> Result<Worker, Refusal> {
-        WorkerDraft::whole(alloc, value)
-    }
-
-    fn pair_of<S: Source>(alloc: Global, value: &S) -> Result<(Worker, Worker), Refusal> {
-        WorkerDraft::pair(alloc, value)
+        let format = format_of(value)?;
+        let controller = controller_under(value, "Worker")?;
+        let stored = StoredWorker::find(alloc, controller, format)??;
+        stored.build(alloc)
     }
 }

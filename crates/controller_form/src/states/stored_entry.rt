@@ -1,0 +1,177 @@
+//! The entries of a worker, as they are read.
+
+ghost use Rattle.std.specs.Prelude.{◌≡◌, ◌⊎◌, None, Some, IfErr, IfOk, OnOk};
+ghost use Rattle.json_items.specs.Judged.{Reads};
+ghost use Rattle.json_source.specs.Read.{Gives};
+ghost use Rattle.controller_form.specs.States.EntryForm as form;
+
+use crate::orders::end_named::end_named;
+use crate::states::format::Format;
+use crate::states::stage_word::stage_named;
+use crate::states::stored_form::{StoredForm, at_under};
+use json_items::{Judged, Raw, find_two, find_under, only, text_under};
+use json_profile::RawPart;
+use json_source::Source;
+use std::alloc::Global;
+use ticket_tree::{Refusal, SpawnId};
+use worker_core::{End, Entry, Stage};
+
+/// An entry of which the ids, names and texts are valid.
+#[derive(Drop)]
+pub struct StoredEntry {
+    /// Its spawn.
+    pub spawn: SpawnId,
+    pub phase: Stage,
+    /// None once it was given up, and where it was declined.
+    pub part: Option<RawPart>,
+    /// When it was taken, declined or ended, in seconds since 1970.
+    pub at: u64,
+}
+
+/// The stage under `Phase` in which the worker has the part. Refuses `NotProfile`.
+fn stage_under<S: Source>(value: &S) -> Result<Stage, Refusal>
+    ensures { Gives (λ stage. stage) result (form.stage_under (S.content value.now)) }
+{
+    let word = text_under(value, "Phase").ok_or(Refusal::NotProfile)?;
+    stage_named(word).ok_or(Refusal::NotProfile)
+}
+
+/// The end under `End`. Refuses `NotProfile`.
+fn end_under<S: Source>(value: &S) -> Result<End, Refusal>
+    ensures { Gives (λ end. end) result (form.end_under (S.content value.now)) }
+{
+    let word = text_under(value, "End").ok_or(Refusal::NotProfile)?;
+    end_named(word).ok_or(Refusal::NotProfile)
+}
+
+/// An entry with its part, which tells its spawn.
+#[tactic(auto, unfolding(crate::specs::States::EntryForm::held_draft), using(crate::proofs::Named::own_named))]
+fn told_by_part<S: Source>(alloc: Global, value: &S) -> Result<Judged<StoredEntry>, Refusal>
+    ensures { Reads form.entry_has_names form.entry_has_texts result
+        (form.held_draft Format.First (S.content value.now)) }
+{
+    only(value, &["At", "Part", "Phase"])?;
+    let at = at_under(value)?;
+    let phase = stage_under(value)?;
+    let part = find_under::<RawPart, _>(alloc, value, "Part")?;
+    Ok(part.map(|part| StoredEntry {
+        spawn: part.spawn(),
+        phase,
+        part: Some(part),
+        at,
+    }))
+}
+
+/// An entry with its part, and with its spawn's id.
+#[tactic(auto, unfolding(crate::specs::States::EntryForm::held_draft))]
+fn held<S: Source>(alloc: Global, value: &S) -> Result<Judged<StoredEntry>, Refusal>
+    ensures { Reads form.entry_has_names form.entry_has_texts result
+        (form.held_draft Format.Second (S.content value.now)) }
+{
+    only(value, &["At", "ID", "Part", "Phase"])?;
+    let at = at_under(value)?;
+    let phase = stage_under(value)?;
+    let (spawn, part) = match find_two(alloc, value, "ID", "Part")? {
+        Ok(found) => found,
+        Err(refusal) => return Ok(Err(refusal)),
+    };
+    Ok(Ok(StoredEntry {
+        spawn,
+        phase,
+        part: Some(part),
+        at,
+    }))
+}
+
+/// The entry of a spawn of which there is no part, in this stage.
+#[tactic(auto, unfolding(crate::specs::States::EntryForm::partless_draft), using(json_items::proofs::Tests::and_true))]
+fn partless<S: Source>(
+    alloc: Global,
+    value: &S,
+    phase: Stage,
+) -> Result<Judged<StoredEntry>, Refusal>
+    ensures { Reads form.entry_has_names form.entry_has_texts result
+        (form.partless_draft phase (S.content value.now)) }
+{
+    let at = at_under(value)?;
+    let spawn = find_under::<SpawnId, _>(alloc, value, "ID")?;
+    Ok(spawn.map(|spawn| StoredEntry {
+        spawn,
+        phase,
+        part: None,
+        at,
+    }))
+}
+
+/// An entry whose part was given up.
+#[tactic(auto, unfolding(crate::specs::States::EntryForm::closed_draft))]
+fn closed<S: Source>(alloc: Global, value: &S) -> Result<Judged<StoredEntry>, Refusal>
+    ensures { Reads form.entry_has_names form.entry_has_texts result
+        (form.closed_draft (S.content value.now)) }
+{
+    only(value, &["At", "End", "ID", "Phase"])?;
+    let end = end_under(value)?;
+    partless(alloc, value, Stage::Closed(end))
+}
+
+/// An entry of a spawn that was declined.
+#[tactic(auto, unfolding(crate::specs::States::EntryForm::declined_draft))]
+fn declined<S: Source>(alloc: Global, value: &S) -> Result<Judged<StoredEntry>, Refusal>
+    ensures { Reads form.entry_has_names form.entry_has_texts result
+        (form.declined_draft (S.content value.now)) }
+{
+    only(value, &["At", "ID", "Phase"])?;
+    partless(alloc, value, Stage::Declined)
+}
+
+impl StoredForm for StoredEntry {
+    ghost form = { form.entry_draft };
+
+    ghost has_names = { form.entry_has_names };
+
+    ghost has_texts = { form.entry_has_texts };
+
+    #[tactic(auto, unfolding(crate::specs::States::EntryForm::entry_draft))]
+    fn find<S: Source>(
+        alloc: Global,
+        value: &S,
+        format: Format,
+    ) -> Result<Judged<StoredEntry>, Refusal> {
+        match format {
+            Format::First => told_by_part(alloc, value),
+            Format::Second => match text_under(value, "Phase") {
+                Some("Closed") => closed(alloc, value),
+                Some("Declined") => declined(alloc, value),
+                _ => held(alloc, value),
+            },
+        }
+    }
+}
+
+impl StoredEntry {
+    /// The entry. Refuses the first of `NotATree`, `ReservedStatus`, `DuplicateId`, `TooDeep` and
+    /// `UnresolvedLink` that stands in its part; `Memory` may come before any.
+    pub fn build(self, alloc: Global) -> Result<Entry, Refusal>
+        ensures ok { IfOk result (λ entry. entry ≡ form.entry_in self) }
+        ensures sound { OnOk result (form.entry_fault self ≡ None) }
+        ensures err { IfErr result (λ e. (e ≡ Refusal.Memory)
+            ⊎ (form.entry_fault self ≡ Some e)) }
+    {
+        let StoredEntry {
+            spawn,
+            phase,
+            part,
+            at,
+        } = self;
+        let part = match part {
+            Some(part) => Some(part.build(alloc)?),
+            None => None,
+        };
+        Ok(Entry {
+            spawn_id: spawn,
+            phase,
+            part,
+            at,
+        })
+    }
+}

@@ -1,0 +1,88 @@
+//! The records of a master's spawns, as they are read.
+
+ghost use Rattle.std.specs.Prelude.{◌≡◌};
+ghost use Rattle.json_source.specs.Read.{Gives};
+ghost use Rattle.controller_form.specs.States.RecordForm as form;
+
+use crate::states::format::Format;
+use crate::states::phase_word::phase_named;
+use crate::states::stored_form::{StoredForm, at_under};
+use json_items::{Judged, both, find_four, only, text_under};
+use json_profile::FoundPool;
+use json_source::Source;
+use spawn::{Phase, SpawnRec};
+use std::alloc::Global;
+use ticket_tree::Refusal;
+
+/// The members of a record.
+const RECORD_MEMBERS: &[&str] = &["At", "ID", "Node", "Phase", "RO", "RW", "Worker"];
+
+/// The record of a spawn (JDF 1.5, 4.4), and whether its copies to read show nothing of spawns.
+#[derive(Drop)]
+pub struct StoredRecord {
+    pub spawn: SpawnRec,
+    pub bare: bool,
+}
+
+/// Whether a format can tell a phase.
+fn is_phase_told_in(format: Format, phase: Phase) -> bool
+    ensures { result ≡ form.is_phase_told_in format phase }
+{
+    match format {
+        Format::First => match phase {
+            Phase::Out | Phase::Merged => true,
+            Phase::Withdrawn => false,
+        },
+        Format::Second => true,
+    }
+}
+
+/// The phase under `Phase`, which the format has to tell. Refuses `NotProfile`.
+fn phase_under<S: Source>(value: &S, format: Format) -> Result<Phase, Refusal>
+    ensures { Gives (λ phase. phase) result (form.phase_under format (S.content value.now)) }
+{
+    let word = text_under(value, "Phase").ok_or(Refusal::NotProfile)?;
+    let phase = phase_named(word).ok_or(Refusal::NotProfile)?;
+    if is_phase_told_in(format, phase) {
+        Ok(phase)
+    } else {
+        Err(Refusal::NotProfile)
+    }
+}
+
+impl StoredForm for StoredRecord {
+    ghost form = { form.record_form };
+
+    ghost has_names = { form.record_has_names };
+
+    ghost has_texts = { form.record_has_texts };
+
+    #[tactic(auto, unfolding(crate::specs::States::RecordForm::record_form))]
+    fn find<S: Source>(
+        alloc: Global,
+        value: &S,
+        format: Format,
+    ) -> Result<Judged<StoredRecord>, Refusal> {
+        only(value, RECORD_MEMBERS)?;
+        let at = at_under(value)?;
+        let phase = phase_under(value, format)?;
+        let names = find_four(alloc, value, "ID", "Node", "Worker", "RW")?;
+        let pool = FoundPool::find_under(alloc, value, "RO")?;
+        let bare = pool.is_bare();
+        let FoundPool { resources, .. } = pool;
+        let ((((id, node), worker), rw), ro) = match both(names, resources) {
+            Ok(found) => found,
+            Err(refusal) => return Ok(Err(refusal)),
+        };
+        let spawn = SpawnRec {
+            id,
+            node,
+            worker,
+            at,
+            rw,
+            ro,
+            phase,
+        };
+        Ok(Ok(StoredRecord { spawn, bare }))
+    }
+}
