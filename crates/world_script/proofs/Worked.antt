@@ -19,7 +19,7 @@ use Rattle.controller.specs.declared.reply.Reply.TheVariants as reply
 use Rattle.master_core.specs.declared.order.Order.TheVariants as master
 use Rattle.worker_core.specs.declared.order.Order.TheVariants as worker
 use Rattle.controller_form.specs.Orders.MasterForm as master_form
-use Rattle.controller_form.specs.Orders.SpawnNamed.{known_form}
+use Rattle.controller_form.specs.Orders.KnownSpawn.{known_form}
 use Rattle.controller_form.specs.Orders.WorkerForm as worker_form
 use Rattle.world_items.specs.declared.answer.Answer.{Answer}
 use Rattle.world_items.specs.declared.event.Event.{Event}

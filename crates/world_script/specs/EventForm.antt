@@ -2,7 +2,7 @@
 -- draft may be any bytes, and a SpawnID any text.
 use Rattle.std.specs.Prelude.{ℕ, ◌&&◌, Bool, true, false, List, [], ◌∷◌, codes, if◌then◌else◌}
 use Rattle.std.specs.Prelude.{Option, Some, None}
-use Rattle.std.specs.Option.{option_map}
+use Rattle.std.specs.Option.{option_map, option_map_or}
 use Rattle.std.specs.Str.{bytes_eq}
 use Rattle.serde_json.specs.Data.{Data}
 use Rattle.serde_json.specs.Find.{as_str, get}
@@ -112,3 +112,7 @@ is_run _ = false
 
 abbrev pub event_runs : Event → Bool
 event_runs e = is_run e.stop
+
+-- no controller stops at the event that data is
+abbrev pub data_runs : Data → Bool
+data_runs d = option_map_or is_run (stop_of (get (codes "Stop") d)) false

@@ -11,19 +11,16 @@ use Rattle.json_items.specs.Judged.{checked_fault, sound}
 use Rattle.json_items.specs.Listed.{list_form}
 use Rattle.json_profile.specs.ReadAs as bytes
 use Rattle.json_source.specs.Read.{◌>>=◌, provided, has_only}
-use Rattle.controller_form.specs.Openings.ShopForm.{RawShop, shop_draft, shop_fault, shop_has_names}
+use Rattle.controller_form.specs.Openings.ShopForm.{shop_draft, shop_fault, shop_has_names}
 use Rattle.controller_form.specs.Openings.ShopForm.{shop_has_texts}
+use Rattle.controller_form.specs.declared.openings.raw_shop.RawShop.{RawShop}
 use Rattle.world_items.specs.declared.event.Event.{Event}
 use Rattle.world_script.specs.EventForm.{event_form, event_has_names, event_has_texts}
 use Rattle.world_script.specs.EventForm.{event_runs}
+use Rattle.world_script.specs.declared.raw_script.RawScript.{RawScript}
 use Rattle.world_script.specs.declared.script.Script.{Script}
 
 -- ---- by members and their kinds alone
-
--- a shop, and the events in turn
-pub record RawScript : Type 0 where
-  pub shop : RawShop
-  pub events : List Event
 
 -- what stands under `Events`
 abbrev pub events_under : List ℕ → Data → Option (List Event)
@@ -32,12 +29,18 @@ events_under master d = get (codes "Events") d >>= list_form (event_form master)
 abbrev pub script_members : List (List ℕ)
 script_members = codes "Events" ∷ codes "Master" ∷ codes "Ticket" ∷ codes "Workers" ∷ []
 
+-- a shop, and the events in turn
+abbrev pub script_parts : Data → Option (RawShop × List Event)
+script_parts d = do
+  shop ← shop_draft d
+  events ← events_under shop.master d
+  Some (shop, events)
+
 unfoldable pub script_draft : Data → Option RawScript
 script_draft d = do
   _ ← provided (has_only script_members d)
-  shop ← shop_draft d
-  events ← events_under shop.master d
-  Some (record { shop = shop; events = events })
+  parts ← script_parts d
+  Some (record { shop = parts.0; events = parts.1 })
 
 -- ---- faults
 

@@ -3,13 +3,13 @@
 #![tactic(auto)]
 
 mod answer;
-mod event_draft;
-mod event_drafts;
+mod event;
+mod events;
+mod raw_script;
 mod read;
 mod script;
-mod script_draft;
 mod stop_word;
-mod what_draft;
+mod what;
 
 pub use answer::answer_text;
 pub use read::{running_script_of, script_of};

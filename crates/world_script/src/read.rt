@@ -3,22 +3,15 @@
 ghost use Rattle.std.specs.Prelude.{Ok, IfOk, IfErr};
 ghost use Rattle.json_items.specs.Judged.{Answers};
 ghost use Rattle.world_script.specs.Script.{IsReadAs, IsReadAsRunning, IsRefusalOf};
-ghost use Rattle.world_script.specs.Script.{IsRefusalOfRunning, running_script_read, script_read};
+ghost use Rattle.world_script.specs.Script.{IsRefusalOfRunning, running_script_read};
 
+use crate::events::events_run;
+use crate::raw_script::RawScript;
 use crate::script::Script;
-use crate::script_draft::ScriptDraft;
-use json_items::Checked;
+use json_items::{Form, Raw};
 use json_source::{Scratch, Source, tree_of};
 use std::alloc::Global;
 use ticket_tree::Refusal;
-
-/// The script that a value is, or its first refusal.
-fn script_in<S: Source>(alloc: Global, value: &S) -> Result<Script, Refusal>
-    ensures { Answers result (script_read (S.content value.now)) }
-{
-    let draft = ScriptDraft::of(alloc, value)?;
-    draft.build(alloc)
-}
 
 /// The script that bytes are. Refuses the first of `NotJson`, `NotProfile`, `BadId` (also where a
 /// SpawnID names no spawn), `BadText`, `ReservedStatus`, `DuplicateId`, `TooDeep`, `UnresolvedLink`
@@ -30,18 +23,19 @@ pub fn script_of(alloc: Global, bytes: &[u8]) -> Result<Script, Refusal>
 {
     let mut scratch = Scratch::new(alloc);
     let tree = tree_of(alloc, bytes, &mut scratch)?;
-    script_in(alloc, &tree)
+    RawScript::whole(alloc, &tree)
 }
 
 /// The script that a value is, in which no controller stops, or its first refusal.
 fn running_script_in<S: Source>(alloc: Global, value: &S) -> Result<Script, Refusal>
     ensures { Answers result (running_script_read (S.content value.now)) }
 {
-    let draft = ScriptDraft::of(alloc, value)?;
-    if !draft.runs_on() {
+    let found = RawScript::find(alloc, value)?;
+    if !events_run(value) {
         return Err(Refusal::NotProfile);
     }
-    draft.build(alloc)
+    let raw = found?;
+    raw.build(alloc)
 }
 
 /// The script that bytes are, in which no controller stops. Refuses what `script_of` does, and
