@@ -1,5 +1,4 @@
 pub mod Documents
-pub mod Edits
 pub mod Runs
 mod Worked
 pub mod ScriptLines

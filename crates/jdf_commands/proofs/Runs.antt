@@ -9,7 +9,7 @@ use Rattle.ticket_items.specs.declared.edit.Edit.{Edit}
 use Rattle.ticket_items.specs.declared.refusal.Refusal.{Refusal}
 use Rattle.ticket_rows.specs.Edit.{refusal_of}
 use Rattle.ticket_items.specs.declared.refusal.Refusal.TheVariants.{Memory}
-use Rattle.jdf_commands.specs.EditCommand.Document.{Document}
+use Rattle.jdf_commands.specs.declared.edit_command.document.Document.{Document}
 use Rattle.jdf_commands.specs.EditCommand.Run.{Runs, IsRun, IsRunOf, IsOutcome, NoneOutOfMemory, after}
 use Rattle.jdf_commands.specs.EditCommand.Run.{edit_line, lines, has_refusal, outcomes_of, end_of, output_of}
 use Rattle.streams.specs.Ends.{done_status}

@@ -14,7 +14,8 @@ use Rattle.json_items.specs.Edits.{edit_draft, adding_draft, setting_draft, set_
 use Rattle.json_items.specs.Edits.{note_draft}
 use Rattle.json_items.specs.TicketForm.{node_has_names, pools_have_names, row_has_texts}
 use Rattle.json_text.specs.Written.{edit_data, ticket_data}
-use Rattle.jdf_commands.specs.EditCommand.Document.{Document, document_draft, document_read}
+use Rattle.jdf_commands.specs.EditCommand.Document.{document_draft, document_read}
+use Rattle.jdf_commands.specs.declared.edit_command.document.Document.{Document}
 use Rattle.jdf_commands.specs.EditCommand.Run.{output_of, status_of, ticket_text}
 
 -- a node at a Status

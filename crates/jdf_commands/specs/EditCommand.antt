@@ -1,4 +1,2 @@
 pub mod Document
-pub mod Found
-pub mod OwnedDocument
 pub mod Run

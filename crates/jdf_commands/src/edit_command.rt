@@ -2,11 +2,10 @@
 //! the ticket that they leave.
 
 mod command;
+mod document;
 mod edit_output;
-mod found_document;
-mod found_edits;
 pub mod laws;
-mod owned_document;
+mod raw_document;
 mod run;
 
 pub use command::{Edit, run_edit};

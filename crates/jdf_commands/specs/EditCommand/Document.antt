@@ -1,37 +1,20 @@
 -- The input of `edit`: a time, edits and a ticket.
-use Rattle.std.specs.Prelude.{◌≡◌, ℕ, ◌⊎◌, ◌&&◌, Bool, List, [], ◌∷◌, codes, Option, Some, None}
-use Rattle.std.specs.Prelude.{Result, Err}
+use Rattle.std.specs.Prelude.{ℕ, ◌&&◌, Bool, List, [], ◌∷◌, codes, Option, Some, Result}
 use Rattle.std.specs.List.{list_all}
-use Rattle.std.specs.Option.{option_map_or, option_and_then}
-use Rattle.std.specs.Str.{IsUtf8}
+use Rattle.std.specs.Option.{option_and_then}
 use Rattle.serde_json.specs.Data.{Data}
 use Rattle.serde_json.specs.Find.{get}
-use Rattle.serde_json.specs.Read.{read}
-use Rattle.ticket_rows.specs.Ticket.{Job, unless, first_of}
 use Rattle.ticket_items.specs.declared.edit.Edit.{Edit}
 use Rattle.ticket_items.specs.declared.refusal.Refusal.{Refusal}
-use Rattle.ticket_items.specs.declared.refusal.Refusal.TheVariants.{BadId, BadText, NotJson}
-use Rattle.ticket_items.specs.declared.refusal.Refusal.TheVariants.{NotProfile, Memory}
 use Rattle.json_profile.specs.ReadAs as bytes
 use Rattle.json_items.specs.TicketDraft.{RawTicket, ticket_draft}
-use Rattle.json_items.specs.Edits.{edit_draft}
+use Rattle.json_items.specs.Edits.{edit_draft, edit_has_names, edit_has_texts}
+use Rattle.json_items.specs.Judged.{built_of, first_fault, judged}
 use Rattle.json_items.specs.Listed.{list_form}
 use Rattle.json_items.specs.TicketForm.{has_names, has_texts, built_fault}
-use Rattle.json_items.specs.Edits.{edit_has_names, edit_has_texts}
-use Rattle.json_items.specs.Judged.{sound}
 use Rattle.json_source.specs.Read.{◌>>=◌, provided, has_only, number_under}
-
--- edits to be done at a time, in seconds since 1970, to a ticket
-pub record Document : Type 0 where
-  pub at : ℕ
-  pub edits : List Edit
-  pub ticket : Job
-
--- the same by its members and their kinds alone
-pub record RawDocument : Type 0 where
-  pub at : ℕ
-  pub edits : List Edit
-  pub ticket : RawTicket
+use Rattle.jdf_commands.specs.declared.edit_command.document.Document.{Document}
+use Rattle.jdf_commands.specs.declared.edit_command.raw_document.RawDocument.{RawDocument}
 
 abbrev pub document_members : List (List ℕ)
 document_members = codes "At" ∷ codes "Edits" ∷ codes "Ticket" ∷ []
@@ -59,22 +42,19 @@ document_has_names doc = list_all edit_has_names doc.edits && has_names doc.tick
 abbrev pub document_has_texts : RawDocument → Bool
 document_has_texts doc = list_all edit_has_texts doc.edits && has_texts doc.ticket
 
--- what is wrong with a draft: each fault of the edits or the ticket before the next one of either
-abbrev pub document_fault : RawDocument → Option Refusal
-document_fault doc =
-    first_of
-    (unless (document_has_names doc) BadId ∷ unless (document_has_texts doc) BadText
-    ∷ built_fault doc.ticket ∷ [])
+-- what is wrong with the ticket of a document whose names and texts are valid
+abbrev pub late_fault : RawDocument → Option Refusal
+late_fault doc = built_fault doc.ticket
 
 -- the document of a draft
 abbrev pub document_of : RawDocument → Document
 document_of doc = record { at = doc.at; edits = doc.edits; ticket = doc.ticket.job }
 
--- the document that JSON data is, or its first refusal
+-- the document that JSON data is, or its first refusal: each fault of the edits or the ticket
+-- before the next one of either
 abbrev pub document_read : Data → Result Document Refusal
 document_read d =
-    option_map_or (λ doc. sound (document_fault doc) (document_of doc)) (document_draft d)
-    (Err NotProfile)
+    built_of document_has_names document_has_texts late_fault document_of (document_draft d)
 
 -- the bytes are JSON that is read so
 abbrev pub IsReadAs : List ℕ → Result Document Refusal → Type 0
@@ -83,3 +63,10 @@ IsReadAs input answer = bytes.IsReadAs document_read input answer
 -- why an input is refused: no JSON, the first refusal of its data, or memory ran out
 abbrev pub IsRefusalOf : List ℕ → Refusal → Type 0
 IsRefusalOf input e = bytes.IsRefusalOf document_read input e
+
+-- the bytes are JSON that is read so by its members and their kinds, its names and its texts
+abbrev pub IsReadRaw : List ℕ → Result RawDocument Refusal → Type 0
+IsReadRaw input answer =
+    bytes.IsReadAs
+    (λ d. judged (first_fault document_has_names document_has_texts) (document_draft d)) input
+    answer

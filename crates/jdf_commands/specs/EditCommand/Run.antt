@@ -9,7 +9,8 @@ use Rattle.ticket_items.specs.declared.edit.Edit.{Edit}
 use Rattle.ticket_items.specs.declared.refusal.Refusal.{Refusal}
 use Rattle.ticket_items.specs.declared.refusal.Refusal.TheVariants.{Memory}
 use Rattle.json_text.specs.Written.{ticket_data}
-use Rattle.jdf_commands.specs.EditCommand.Document.{Document, IsReadAs}
+use Rattle.jdf_commands.specs.EditCommand.Document.{IsReadAs}
+use Rattle.jdf_commands.specs.declared.edit_command.document.Document.{Document}
 use Rattle.streams.specs.Fault.{refusal_line}
 use Rattle.streams.specs.Ends.{done_status}
 

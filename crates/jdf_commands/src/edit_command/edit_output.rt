@@ -1,14 +1,14 @@
 //! From the bytes of the input to the bytes of the output.
 
 ghost use Rattle.std.specs.Prelude.{◌≡◌, ◌++◌, IfErr, IfOk, OnOk, Ok};
-ghost use Rattle.jdf_commands.specs.EditCommand.Document.{Document, IsReadAs, IsRefusalOf};
-ghost use Rattle.jdf_commands.specs.EditCommand.Found.{IsFoundIn};
-ghost use Rattle.jdf_commands.specs.EditCommand.OwnedDocument.{owned_document};
+ghost use Rattle.jdf_commands.specs.EditCommand.Document.{IsReadAs, IsReadRaw, IsRefusalOf};
+ghost use Rattle.jdf_commands.specs.declared.edit_command.document.Document.{Document};
 ghost use Rattle.jdf_commands.specs.EditCommand.Run.{IsEdited, IsOutput, ticket_text};
 
-use crate::edit_command::found_document::FoundDocument;
-use crate::edit_command::owned_document::OwnedDocument;
+use crate::edit_command::document::Document;
+use crate::edit_command::raw_document::RawDocument;
 use crate::edit_command::run::run_edits;
+use json_items::Raw;
 use json_profile::push_ticket_text;
 use json_source::{Scratch, tree_of};
 use std::alloc::{AllocError, Global};
@@ -33,15 +33,14 @@ struct EditedTicket {
 }
 
 /// The ticket of a document after its edits. Refuses `Memory` alone.
-fn edited_document(alloc: Global, document: OwnedDocument) -> Result<EditedTicket, Refusal>
-    ensures done { IfOk result
-        (λ o. IsEdited (owned_document document) o.lines.items o.ticket o.refused) }
+fn edited_document(alloc: Global, document: Document) -> Result<EditedTicket, Refusal>
+    ensures done { IfOk result (λ o. IsEdited document o.lines.items o.ticket o.refused) }
     ensures memory { IfErr result (λ e. e ≡ Refusal.Memory) }
 {
-    let OwnedDocument { at, edits, ticket } = document;
+    let Document { at, edits, ticket } = document;
     let mut ticket = ticket;
     let mut lines = Vec::new(alloc);
-    let refused = run_edits(alloc, &mut ticket, at, edits, &mut lines)?;
+    let refused = run_edits(alloc, &mut ticket, at, edits.into_vec(), &mut lines)?;
     Ok(EditedTicket {
         ticket,
         lines,
@@ -49,25 +48,28 @@ fn edited_document(alloc: Global, document: OwnedDocument) -> Result<EditedTicke
     })
 }
 
-/// What is found of the document that an input is. Refuses `NotJson`, `NotProfile` and `Memory`.
-fn found_in(alloc: Global, input: &[u8]) -> Result<FoundDocument, Refusal>
-    ensures found { IfOk result (IsFoundIn input.now) }
+/// The document that an input is by its members and their kinds, of which the ids, names and texts
+/// are valid. Refuses the first of `NotJson`, `NotProfile`, `BadId` and `BadText` that stands in
+/// it, and `Memory`.
+fn raw_document_in(alloc: Global, input: &[u8]) -> Result<RawDocument, Refusal>
+    ensures found { IfOk result (λ raw. IsReadRaw input.now (Ok raw)) }
     ensures refused { IfErr result (IsRefusalOf input.now) }
 {
     let mut scratch = Scratch::new(alloc);
     let tree = tree_of(alloc, input, &mut scratch)?;
-    FoundDocument::of(alloc, tree)
+    RawDocument::of(alloc, tree)?
 }
 
 /// The document that an input is, or the first refusal of it. The input is given back once all is
 /// found of it, before the rows of its ticket are looked at together.
-fn read_document(alloc: Global, input: Vec<u8>) -> Result<OwnedDocument, Refusal>
-    ensures done { IfOk result (λ o. IsReadAs input.items (Ok (owned_document o))) }
+fn read_document(alloc: Global, input: Vec<u8>) -> Result<Document, Refusal>
+    ensures done { IfOk result (λ document. IsReadAs input.items (Ok document)) }
     ensures refused { IfErr result (IsRefusalOf input.items) }
 {
-    let found = found_in(alloc, input.as_slice())?;
+    let RawDocument { at, edits, ticket } = raw_document_in(alloc, input.as_slice())?;
     drop(input);
-    OwnedDocument::of(alloc, found)
+    let ticket = ticket.build(alloc)?;
+    Ok(Document { at, edits, ticket })
 }
 
 /// The edited ticket of an input, or the first refusal of it.

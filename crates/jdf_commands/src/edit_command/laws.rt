@@ -1,7 +1,7 @@
 //! Laws of the definitions that the contract of `edit` cites.
 
 ghost use Rattle.std.specs.Prelude.{◌≡◌, Bool, List, ℕ};
-ghost use Rattle.jdf_commands.specs.EditCommand.Document.{Document};
+ghost use Rattle.jdf_commands.specs.declared.edit_command.document.Document.{Document};
 ghost use Rattle.streams.specs.Ends.{done_status};
 ghost use Rattle.jdf_commands.specs.EditCommand.Run.{IsRunOf, NoneOutOfMemory, output_of};
 ghost use Rattle.jdf_commands.specs.EditCommand.Run.{status_of};
