@@ -3,6 +3,7 @@ use Rattle.std.proofs.Common.{◌≡◌, ◌∙◌, ◌⊎◌, inl, inr, ⊎_eli
 use Rattle.std.specs.Option.{option_map, option_map_or, option_and_then}
 use Rattle.std.specs.Prelude.{if◌then◌else◌}
 use Rattle.std.specs.Str.{bytes_eq}
+use Rattle.json_items.proofs.Faults.{at_last, early}
 use Rattle.json_items.specs.Judged.{Answers, Finds, checked_fault, first_fault, on_both, sound}
 use Rattle.json_source.specs.Read.{◌>>=◌, provided}
 use Rattle.json_items.specs.PartDraft.{RawPart}
@@ -59,17 +60,6 @@ not_asked j p s is none = said_read (with_part j p) s is ∙ ap (λ o. message_s
 
 -- ---- what is wrong
 
-pub wrong_early : (named written : Bool) (late : Option Refusal) (e : Refusal) → checked_fault named written None ≡ Some e → checked_fault named written late ≡ Some e
-wrong_early false written late e h = h
-wrong_early true false late e h = h
-wrong_early true true late e h = cc
-
-pub wrong_late : (named written : Bool) (late : Option Refusal) → checked_fault named written None ≡ None → checked_fault named written late ≡ late
-wrong_late true true None h = refl
-wrong_late true true (Some e) h = refl
-wrong_late true false late h = cc
-wrong_late false written late h = cc
-
 -- what was found of the parties and of the part
 abbrev pub parties_fault : (List ℕ × List ℕ) × RawPart → Option Refusal
 parties_fault found = first_fault (on_both (on_both is_name is_name) has_names) (on_both (λ _. true) has_texts) found
@@ -83,7 +73,7 @@ some_same x y h = cc
 pub refused_early : (j : RawJmf) (p : RawPart) (s : Said) (asked : Command) (e : Refusal) → IsAsked j p s asked → Finds parties_fault (Err e) (Some (parties j p)) → draft_read (with_part j p) ≡ Err e
 refused_early j p s asked e is wrong =
     asked_read j p s asked is
-    ∙ ap (λ f. sound f (message_with (with_part j p) (body_with asked (copied p)))) (wrong_early (are_ids j && has_names p) (has_texts p) (built_fault p) e (some_same _ _ wrong))
+    ∙ ap (λ f. sound f (message_with (with_part j p) (body_with asked (copied p)))) (early (are_ids j && has_names p) (has_texts p) (built_fault p) e (some_same _ _ wrong))
 
 built_read : (j : RawJmf) (p : RawPart) (s : Said) (asked : Command) (found : (List ℕ × List ℕ) × RawPart) (late : Option Refusal) → IsAsked j p s asked → Finds parties_fault (Ok found) (Some (parties j p)) → built_fault found.1 ≡ late
     → draft_read (with_part j p) ≡ sound late (message_with (with_part j p) (body_with asked (copied p)))
@@ -92,7 +82,7 @@ built_read j p s asked found late is right fault =
     let none : parties_fault (parties j p) ≡ None = ap parties_fault same ∙ right.1 in
     asked_read j p s asked is
     ∙ ap (λ f. sound f (message_with (with_part j p) (body_with asked (copied p))))
-    (wrong_late (are_ids j && has_names p) (has_texts p) (built_fault p) none ∙ ap (λ x. built_fault x.1) same ∙ fault)
+    (at_last (are_ids j && has_names p) (has_texts p) (built_fault p) none ∙ ap (λ x. built_fault x.1) same ∙ fault)
 
 pub refused_late : (j : RawJmf) (p : RawPart) (s : Said) (asked : Command) (found : (List ℕ × List ℕ) × RawPart) (e : Refusal) → IsAsked j p s asked → Finds parties_fault (Ok found) (Some (parties j p)) → (e ≡ Memory) ⊎ (built_fault found.1 ≡ Some e)
     → (e ≡ Memory) ⊎ (draft_read (with_part j p) ≡ Err e)

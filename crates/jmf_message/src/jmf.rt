@@ -2,7 +2,6 @@ ghost use Rattle.std.specs.Prelude.{◌≡◌, Some, codes, true, IfOk, IfSome, 
 ghost use Rattle.serde_json.specs.Data.{member, no_members, string};
 ghost use Rattle.ticket_items.specs.Names as names;
 ghost use Rattle.ticket_items.specs.SpawnId.{is_spawn_number};
-ghost use Rattle.json_items.specs.Judged.{Reads};
 ghost use Rattle.json_source.specs.Read.{Gives};
 ghost use Rattle.json_text.specs.Printed.{AreMembersPrinted, IsPrinted};
 ghost use Rattle.jmf_message.specs.Form as forms;
@@ -14,12 +13,12 @@ use crate::responses::{is_response, print_response, response_said};
 use crate::said::Said;
 use controller::{Body, Command, Message};
 use json::Writer;
-use json_items::{Judged, both, number_under, only, text_under};
+use json_items::{Judged, both, id_in, number_under, only, text_under};
 use json_source::Source;
 use json_text::{print_member, print_text};
 use std::alloc::{AllocError, Global};
 use std::marker::Model;
-use ticket_tree::{Id, Refusal, is_name};
+use ticket_tree::{Id, Refusal};
 
 /// The Version of the standard that messages name.
 pub const VERSION: &str = "1.5";
@@ -89,16 +88,6 @@ fn said_in<S: Source>(alloc: Global, sender: &str, jmf: &S) -> Result<(bool, Opt
         (None, None) => Err(Refusal::NotProfile),
         (Some(_), Some(_)) => Err(Refusal::NotProfile),
     }
-}
-
-/// The id that a text is. Refuses `Memory` alone.
-fn id_in(alloc: Global, text: &str) -> Result<Judged<Id>, Refusal>
-    ensures { Reads names.is_name (λ _. true) result (Some text.now) }
-{
-    if !is_name(text) {
-        return Ok(Err(Refusal::BadId));
-    }
-    Ok(Ok(Id::known(alloc, text)?))
 }
 
 impl<'a> Jmf<'a> {

@@ -5,7 +5,7 @@ use Rattle.std.specs.Option.{option_map}
 use Rattle.ticket_items.specs.FirstFault.{first_of, unless}
 use Rattle.ticket_items.specs.declared.refusal.Refusal.{Refusal}
 use Rattle.ticket_items.specs.declared.refusal.Refusal.TheVariants.{BadId, BadText}
-use Rattle.json_items.specs.Judged.{Finds, both_read, first_fault}
+use Rattle.json_items.specs.Judged.{Finds, both_read, checked_fault, first_fault}
 use Rattle.json_source.specs.Read.{◌>>=◌}
 
 pub bad_names : {X : Type 0} (names texts : X → Bool) (o : Option X) (x : X) → o ≡ Some x → names x ≡ false → option_map (first_fault names texts) o ≡ Some (Some BadId)
@@ -21,6 +21,19 @@ pub no_fault : {X : Type 0} (names texts : X → Bool) (x : X) → names x ≡ t
 no_fault names texts x right also =
     ap (λ b. first_of (unless b BadId ∷ unless (texts x) BadText ∷ None ∷ [])) right
     ∙ ap (λ b. first_of (unless b BadText ∷ None ∷ [])) also
+
+-- a fault of names or texts stays the first, whatever comes behind
+pub early : (named written : Bool) (late : Option Refusal) (e : Refusal) → checked_fault named written None ≡ Some e → checked_fault named written late ≡ Some e
+early false written late e h = h
+early true false late e h = h
+early true true late e h = cc
+
+-- and where there is none, what comes behind is the first
+pub at_last : (named written : Bool) (late : Option Refusal) → checked_fault named written None ≡ None → checked_fault named written late ≡ late
+at_last true true None h = refl
+at_last true true (Some e) h = refl
+at_last true false late h = cc
+at_last false written late h = cc
 
 -- what is found of one thing is found of what is made of it
 pub made_ok : {X Y : Type 0} (fault : X → Option Refusal) (made_fault : Y → Option Refusal) (make : X → Y) (o : Option X) (p : Option Y) (found : Result X Refusal) (x : X) (y : Y)

@@ -53,9 +53,11 @@ Reads has_names has_texts (Err e) read = Fails e read
 
 -- ---- two things together
 
+-- a test of each of two things
 abbrev pub on_both : {X Y : Type 0} → (X → Bool) → (Y → Bool) → X × Y → Bool
 on_both one other p = one p.0 && other p.1
 
+-- the two, where both are read
 abbrev pub both_read : {X Y : Type 0} → Option X → Option Y → Option (X × Y)
 both_read one other = do
   x ← one

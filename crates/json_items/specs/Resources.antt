@@ -32,6 +32,7 @@ pub record Marked : Type 0 where
   pub resource : Resource
   pub shown : Shown
 
+-- the resource that data is, with what it shows
 unfoldable pub resource_draft : Data → Option Marked
 resource_draft d = do
   _ ← provided (has_only resource_members d)

@@ -9,5 +9,6 @@ use Rattle.ticket_items.specs.SpawnId.{spawn_of}
 abbrev pub spawn_named : List ℕ → ℕ
 spawn_named text = unwrap_or (spawn_of text) 0
 
+-- the spawn that a text in JSON data names
 abbrev pub spawn_form : Data → Option ℕ
 spawn_form d = option_map spawn_named (as_str d)

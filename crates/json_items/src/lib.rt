@@ -22,3 +22,4 @@ pub use raw::Raw;
 pub use resources::attrs_form::find_attrs;
 pub use resources::shown_form::Shown;
 pub use texts::any_text::AnyText;
+pub use texts::id_form::id_in;

@@ -10,6 +10,7 @@ use Rattle.serde_json.specs.View.{items_of}
 use Rattle.json_items.specs.Judged.{Answers, Finds, both_read, checked_fault, first_fault, sound}
 use Rattle.json_items.specs.Listed.{each, list_form}
 use Rattle.json_items.specs.TicketDraft.{RawTicket}
+use Rattle.json_items.proofs.Faults.{at_last, early}
 use Rattle.json_items.proofs.ListLemmas.{Fails-weaker}
 use Rattle.json_source.specs.Read.{◌>>=◌, Fails, has_only, provided, text_under}
 use Rattle.ticket_items.specs.declared.refusal.Refusal.{Refusal}
@@ -149,17 +150,6 @@ stopped (Some s) runs = ap (λ b. if b then sound (script_fault s) (script_of s)
 
 abbrev raw_fault : RawScript → Option Refusal
 raw_fault s = first_fault script_has_names script_has_texts s
-
-early : (named written : Bool) (late : Option Refusal) (e : Refusal) → checked_fault named written None ≡ Some e → checked_fault named written late ≡ Some e
-early false written late e h = h
-early true false late e h = h
-early true true late e h = cc
-
-at_last : (named written : Bool) (late : Option Refusal) → checked_fault named written None ≡ None → checked_fault named written late ≡ late
-at_last true true None h = refl
-at_last true true (Some e) h = refl
-at_last true false late h = cc
-at_last false written late h = cc
 
 runs_through : (read : Option RawScript) (s : RawScript) → read ≡ Some s → true ≡ runs_on s → running read ≡ sound (script_fault s) (script_of s)
 runs_through read s is runs = ap running is ∙ ap (λ b. if b then sound (script_fault s) (script_of s) else Err NotProfile) (sym runs)

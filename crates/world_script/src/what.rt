@@ -1,29 +1,17 @@
 //! What happens at an event.
 
-ghost use Rattle.std.specs.Prelude.{Some, true};
 ghost use Rattle.std.specs.Option.{option_map};
 ghost use Rattle.json_items.specs.Judged.{Reads};
-ghost use Rattle.ticket_items.specs.Names as names;
 ghost use Rattle.controller_form.specs.Orders.WorkerForm as worker_form;
 ghost use Rattle.world_items.specs.declared.what.What.TheVariants as whats;
 ghost use Rattle.world_script.specs.EventForm as forms;
 
 use controller_form::{find_master_order, find_worker_order};
-use json_items::{Judged, both, find_under, only, text_under};
+use json_items::{Judged, both, find_under, id_in, only, text_under};
 use json_source::Source;
 use std::alloc::Global;
-use ticket_tree::{Id, Refusal, is_name};
+use ticket_tree::Refusal;
 use world_items::What;
-
-/// The id that a text is. Refuses `Memory` alone.
-fn id_in(alloc: Global, text: &str) -> Result<Judged<Id>, Refusal>
-    ensures { Reads names.is_name (λ _. true) result (Some text.now) }
-{
-    if !is_name(text) {
-        return Ok(Err(Refusal::BadId));
-    }
-    Ok(Ok(Id::known(alloc, text)?))
-}
 
 /// An order to the worker of a name.
 fn worker_order<S: Source>(alloc: Global, name: &str, value: &S) -> Result<Judged<What>, Refusal>

@@ -9,7 +9,7 @@ use std::alloc::Global;
 use ticket_items::{Audit, Refusal};
 
 /// The members of an audit of a spawn.
-pub const SPAWNED_MEMBERS: &[&str] = &[
+const SPAWNED_MEMBERS: &[&str] = &[
     "Name",
     "NewSpawnID",
     "Status",
@@ -20,7 +20,7 @@ pub const SPAWNED_MEMBERS: &[&str] = &[
 ];
 
 /// The members of an audit of a merge.
-pub const MERGED_MEMBERS: &[&str] = &["MergeID", "Name", "TimeStamp", "jRef", "rRefsOverwritten"];
+const MERGED_MEMBERS: &[&str] = &["MergeID", "Name", "TimeStamp", "jRef", "rRefsOverwritten"];
 
 /// A note.
 #[tactic(auto, unfolding(crate::specs::Audits::notification_draft, crate::specs::Audits::audit_has_names, crate::specs::Audits::audit_has_texts))]

@@ -1,11 +1,22 @@
-ghost use Rattle.std.specs.Prelude.{true};
+ghost use Rattle.std.specs.Prelude.{Some, true};
 ghost use Rattle.serde_json.specs.Find.{as_str};
 ghost use Rattle.ticket_items.specs.Names as names;
+ghost use Rattle.json_items.specs.Judged.{Reads};
 
 use crate::{Form, Judged};
 use json_source::Source;
 use std::alloc::Global;
 use ticket_items::{Id, Refusal, is_name};
+
+/// What is found of the id that a text is. Refuses `Memory` alone.
+pub fn id_in(alloc: Global, text: &str) -> Result<Judged<Id>, Refusal>
+    ensures { Reads names.is_name (λ _. true) result (Some text.now) }
+{
+    if !is_name(text) {
+        return Ok(Err(Refusal::BadId));
+    }
+    Ok(Ok(Id::known(alloc, text)?))
+}
 
 impl Form for Id {
     ghost form = { as_str };
@@ -16,9 +27,6 @@ impl Form for Id {
 
     fn find<S: Source>(alloc: Global, value: &S) -> Result<Judged<Id>, Refusal> {
         let text = value.text().ok_or(Refusal::NotProfile)?;
-        if !is_name(text) {
-            return Ok(Err(Refusal::BadId));
-        }
-        Ok(Ok(Id::known(alloc, text)?))
+        id_in(alloc, text)
     }
 }
