@@ -83,7 +83,7 @@ abbrev pub message_saying : RawMessage → Option Body → Result Message Refusa
 message_saying m said =
     option_map_or (λ b. sound (message_fault m) (message_with m b)) said (Err WrongMessage)
 
--- the message of a draft, which is of the right Version
+-- the message that a document is by its form, which has to be of the right Version
 abbrev pub draft_read : RawMessage → Result Message Refusal
 draft_read m =
     if bytes_eq m.jmf.version version then message_saying m (body_of m) else Err WrongVersion

@@ -1,6 +1,5 @@
 -- The form of audits (JDF 1.5, 3.11): from JSON data to a draft, which is an audit by its members
--- and their kinds alone. Its ids,
--- its Status and its text may be any bytes.
+-- and their kinds alone. Its ids, its Status and its text may be any bytes.
 use Rattle.std.specs.Prelude.{ℕ, ◌&&◌, Bool, true, List, [], ◌∷◌, codes, if◌then◌else◌, Option}
 use Rattle.std.specs.Prelude.{Some, None}
 use Rattle.std.specs.List.{list_all}

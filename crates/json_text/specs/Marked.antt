@@ -1,6 +1,5 @@
 -- What a ticket shows of the spawns that are out: the Status of the nodes that were spawned, and
--- what resources show that were
--- copied. Nothing else of it changes.
+-- what resources show that were copied. Nothing else of it changes.
 use Rattle.std.specs.Prelude.{ℕ, false, List, [], map, codes, find, if◌then◌else◌, Option}
 use Rattle.std.specs.Option.{option_map_or}
 use Rattle.std.specs.Str.{bytes_eq}

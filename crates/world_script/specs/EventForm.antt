@@ -1,5 +1,5 @@
--- The form of an event of a script, and the event that JSON data is. The ids, names and texts of a
--- draft may be any bytes, and a SpawnID any text.
+-- The form of an event of a script, and the event that JSON data is. By its form the ids, names and
+-- texts may be any bytes, and a spawn is 0 where its SpawnID names none.
 use Rattle.std.specs.Prelude.{ℕ, ◌&&◌, Bool, true, false, List, [], ◌∷◌, codes, if◌then◌else◌}
 use Rattle.std.specs.Prelude.{Option, Some, None}
 use Rattle.std.specs.Option.{option_map, option_map_or}

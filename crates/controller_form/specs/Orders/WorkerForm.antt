@@ -1,5 +1,5 @@
--- The form of a worker's orders, and the order that JSON data is. In a draft the ids, names and
--- texts of an edit may be any bytes, and the SpawnID any text.
+-- The form of a worker's orders, and the order that JSON data is. By its form the ids, names and
+-- texts of an edit may be any bytes, and the spawn is 0 where the SpawnID names none.
 use Rattle.std.specs.Prelude.{ℕ, ◌&&◌, Bool, true, List, [], ◌∷◌, codes, if◌then◌else◌, Option}
 use Rattle.std.specs.Prelude.{Some, None, Result}
 use Rattle.std.specs.Option.{option_and_then, option_map}

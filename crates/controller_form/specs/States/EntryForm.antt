@@ -1,5 +1,5 @@
 -- The form of an entry of a worker as it is stored. In a draft the ids, names and texts may be any
--- bytes, the spawn's id any text, and the rows of its part no tree's.
+-- bytes, the spawn 0 where the text of its id names none, and the rows of its part no tree's.
 use Rattle.std.specs.Prelude.{ℕ, ◌&&◌, Bool, true, false, List, [], ◌∷◌, codes, if◌then◌else◌}
 use Rattle.std.specs.Prelude.{Option, Some, None, is_some}
 use Rattle.std.specs.Option.{option_and_then, option_map, option_map_or}

@@ -1,5 +1,5 @@
 -- The form of a spawn's record as it is stored. As it is read its ids, names and texts may be any
--- bytes, and the spawn's id any text.
+-- bytes, and its id is 0 where the text of it names no spawn.
 use Rattle.std.specs.Prelude.{ℕ, ◌&&◌, Bool, true, false, List, [], ◌∷◌, codes, if◌then◌else◌}
 use Rattle.std.specs.Prelude.{Option, Some, None}
 use Rattle.std.specs.List.{list_all}
