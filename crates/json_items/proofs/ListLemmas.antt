@@ -45,7 +45,8 @@ one_behind (Some x) None next = refl
 one_behind (Some x) (Some xs) None = refl
 one_behind (Some x) (Some xs) (Some y) = refl
 
-each-behind : {V X : Type 0} (content : V → Data) (form : Data → Option X) (vs : List V) (v : V) → each form (items_of (map content (vs ++ v ∷ []))) ≡ one_more (each form (items_of (map content vs))) (form (content v))
+-- one more is read behind all before it
+pub each-behind : {V X : Type 0} (content : V → Data) (form : Data → Option X) (vs : List V) (v : V) → each form (items_of (map content (vs ++ v ∷ []))) ≡ one_more (each form (items_of (map content vs))) (form (content v))
 each-behind content form [] v = one_first (form (content v))
 each-behind content form (w ∷ vs) v =
     ap (λ rest. form (content w) >>= λ x. option_map (λ xs. x ∷ xs) rest) (each-behind content form vs v)

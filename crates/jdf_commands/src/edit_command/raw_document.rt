@@ -1,16 +1,18 @@
 //! What is found of the input of `edit`, before the rows of its ticket are looked at together.
 
-ghost use Rattle.std.specs.Prelude.{codes};
+ghost use Rattle.std.specs.Prelude.{map};
 ghost use Rattle.std.specs.List.{list_all};
-ghost use Rattle.json_items.specs.Edits.{edit_has_names, edit_has_texts};
+ghost use Rattle.serde_json.specs.View.{items_of};
+ghost use Rattle.json_items.specs.Edits.{edit_draft, edit_has_names, edit_has_texts};
 ghost use Rattle.json_items.specs.Judged.{Reads, both_read, on_both};
+ghost use Rattle.json_items.specs.Listed.{each, list_form};
 ghost use Rattle.json_items.specs.TicketForm.{has_names, has_texts};
 ghost use Rattle.json_source.specs.Tree.{tree_data};
 ghost use Rattle.jdf_commands.specs.EditCommand.Document as document;
 
-use json_items::{Form, Judged, both, find_under, only};
+use json_items::{Form, Judged, both, find_under, only, push_found};
 use json_profile::RawTicket;
-use json_source::{Tree, member_alone};
+use json_source::{Tree, members_alone};
 use std::alloc::Global;
 use ticket_tree::{Edit, Items, Refusal};
 
@@ -24,24 +26,43 @@ pub struct RawDocument {
     pub ticket: RawTicket,
 }
 
-/// What is found of the ticket of a document, all else of which is given back before. Refuses
-/// `NotProfile`, and `Memory`.
-fn ticket_in(alloc: Global, tree: Tree<'_>) -> Result<Judged<RawTicket>, Refusal>
-    ensures { Reads has_names has_texts result (document.ticket_under (tree_data tree.entry)) }
+/// What is found of edits, each of which is given back as soon as all is found of it. Refuses what
+/// the first refused edit is refused for, and `Memory`.
+fn find_edits(alloc: Global, edits: Vec<Tree<'_>>) -> Result<Judged<Items<Edit>>, Refusal>
+    ensures { Reads (list_all edit_has_names) (list_all edit_has_texts) result
+        (each edit_draft (items_of (map tree_data edits.items))) }
 {
-    let ticket = member_alone(tree, "Ticket").ok_or(Refusal::NotProfile)?;
-    RawTicket::find(alloc, &ticket)
+    let mut found = Ok(Items::new(Vec::with_capacity(alloc, edits.len())?));
+    for edit in edits {
+        let next = Edit::find(alloc, &edit)?;
+        push_found(&mut found, next)?;
+    }
+    Ok(found)
 }
 
-/// What is found of the edits and the ticket of a document. Refuses `NotProfile`, and `Memory`.
+/// What is found of the list of edits that a tree is. Refuses `NotProfile`, and `Memory`.
+fn edits_in(alloc: Global, tree: Tree<'_>) -> Result<Judged<Items<Edit>>, Refusal>
+    ensures { Reads (list_all edit_has_names) (list_all edit_has_texts) result
+        (list_form edit_draft (tree_data tree.entry)) }
+{
+    match tree {
+        Tree::Array(edits) => find_edits(alloc, edits),
+        _ => Err(Refusal::NotProfile),
+    }
+}
+
+/// What is found of the edits and the ticket of a document, all else of which is given back before,
+/// and the edits before the ticket is looked at. Refuses `NotProfile`, and `Memory`.
 fn parts_in(alloc: Global, tree: Tree<'_>) -> Result<Judged<(Items<Edit>, RawTicket)>, Refusal>
     ensures { Reads (on_both (list_all edit_has_names) has_names)
         (on_both (list_all edit_has_texts) has_texts) result
         (both_read (document.edits_under (tree_data tree.entry))
         (document.ticket_under (tree_data tree.entry))) }
 {
-    let edits = find_under::<Items<Edit>, _>(alloc, &tree, "Edits")?;
-    let ticket = ticket_in(alloc, tree)?;
+    let (edits, ticket) = members_alone(tree, "Edits", "Ticket");
+    let edits = edits_in(alloc, edits.ok_or(Refusal::NotProfile)?)?;
+    let ticket = ticket.ok_or(Refusal::NotProfile)?;
+    let ticket = RawTicket::find(alloc, &ticket)?;
     Ok(both(edits, ticket))
 }
 
