@@ -25,3 +25,34 @@ pub trait Form: Drop {
     fn find<S: Source>(alloc: Global, value: &S) -> Result<Judged<Self>, Refusal>
         ensures { Reads has_names has_texts result (form (S.content value.now)) };
 }
+
+/// A type that JSON data is read as in a setting, which tells what the data alone doesn't: the
+/// format of what is stored, or the shop of an event.
+pub trait FormIn<W>: Drop {
+    /// What data is in a setting, by its members and their kinds alone: its ids, names and texts
+    /// may be any bytes.
+    ghost form_in: { W → Data → Option Self };
+
+    /// Whether its ids and names are valid.
+    ghost names_valid: { Self → Bool };
+
+    /// Whether its texts are valid.
+    ghost texts_valid: { Self → Bool };
+
+    /// What is found of it in a value. Refuses `NotProfile`, and `Memory`.
+    fn find_in<S: Source>(alloc: Global, value: &S, setting: &W) -> Result<Judged<Self>, Refusal>
+        ensures { Reads names_valid texts_valid result
+            (form_in setting.now (S.content value.now)) };
+}
+
+impl<T: Form> FormIn<()> for T {
+    ghost form_in = { λ _. T.form };
+
+    ghost names_valid = { T.has_names };
+
+    ghost texts_valid = { T.has_texts };
+
+    fn find_in<S: Source>(alloc: Global, value: &S, _setting: &()) -> Result<Judged<T>, Refusal> {
+        T::find(alloc, value)
+    }
+}

@@ -12,8 +12,8 @@ mod resources;
 mod texts;
 mod words;
 
-pub use form::{Form, Judged};
-pub use lists::items_form::{find_each, push_found};
+pub use form::{Form, FormIn, Judged};
+pub use lists::items_form::{find_list_in, push_found};
 pub use members::found_members::{
     both, find_five, find_four, find_pool, find_three, find_two, find_under, whole_in,
 };

@@ -1,13 +1,14 @@
 //! Lists, each item by its form.
 
-ghost use Rattle.std.specs.Prelude.{Bool, List, Option, map, OnOk};
+ghost use Rattle.std.specs.Prelude.{Bool, List, Option, map, option_and_then, OnOk};
 ghost use Rattle.std.specs.List.{list_all};
+ghost use Rattle.serde_json.specs.Find.{get};
 ghost use Rattle.serde_json.specs.View.{items_of};
 ghost use Rattle.json_items.specs.Judged.{Finds, Reads, first_fault};
 ghost use Rattle.json_items.specs.Listed.{each, list_form, one_more};
 
 use crate::members::found_members::first_of_two;
-use crate::{Form, Judged};
+use crate::{Form, FormIn, Judged};
 use json_source::Source;
 use std::alloc::{AllocError, Global};
 use ticket_items::{Items, Refusal};
@@ -38,20 +39,38 @@ pub fn push_found<T: Drop>(found: &mut Judged<Items<T>>, next: Judged<T>) -> Res
     Ok(())
 }
 
-/// What is found of each item. Refuses what the first refused item is refused for, and `Memory`.
-pub fn find_each<T: Form, S: Source>(
+/// What is found of each item in a setting. Refuses what the first refused item is refused for, and
+/// `Memory`.
+fn find_each<W, T: FormIn<W>, S: Source>(
     alloc: Global,
     items: &[S],
+    setting: &W,
 ) -> Result<Judged<Items<T>>, Refusal>
-    ensures { Reads (list_all T.has_names) (list_all T.has_texts) result
-        (each T.form (items_of (map S.content items.now))) }
+    ensures { Reads (list_all T.names_valid) (list_all T.texts_valid) result
+        (each (T.form_in setting.now) (items_of (map S.content items.now))) }
 {
     let mut found = Ok(Items::new(Vec::with_capacity(alloc, items.len())?));
     for item in items {
-        let next = T::find(alloc, item)?;
+        let next = T::find_in(alloc, item, setting)?;
         push_found(&mut found, next)?;
     }
     Ok(found)
+}
+
+/// What is found of the list under a name, in a setting. Refuses `NotProfile` where no list of the
+/// form stands there, and `Memory`.
+pub fn find_list_in<W, T: FormIn<W>, S: Source>(
+    alloc: Global,
+    value: &S,
+    name: &str,
+    setting: &W,
+) -> Result<Judged<Items<T>>, Refusal>
+    ensures { Reads (list_all T.names_valid) (list_all T.texts_valid) result
+        (option_and_then (list_form (T.form_in setting.now)) (get name.now (S.content value.now))) }
+{
+    let list = value.member(name).ok_or(Refusal::NotProfile)?;
+    let items = list.items().ok_or(Refusal::NotProfile)?;
+    find_each(alloc, items, setting)
 }
 
 impl<T: Form> Form for Items<T> {
@@ -63,6 +82,6 @@ impl<T: Form> Form for Items<T> {
 
     fn find<S: Source>(alloc: Global, value: &S) -> Result<Judged<Items<T>>, Refusal> {
         let items = value.items().ok_or(Refusal::NotProfile)?;
-        find_each(alloc, items)
+        find_each(alloc, items, &())
     }
 }

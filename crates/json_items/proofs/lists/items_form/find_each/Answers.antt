@@ -9,15 +9,15 @@ use Rattle.json_items.proofs.lists.items_form.find_each.Goals as goal
 
 pub returns-in_err-next : goal.returns-in_err-next
 returns-in_err-next g c =
-    Reads-failed (list_all g.T.Form.has_names) (list_all g.T.Form.has_texts) c.from_residual-in_err-next.result c.in_err-next.field-0.0 _ c.from_residual-in_err-next.ensures.1
-    (Fails-each g.S.Source.content c.in_err-next.field-0.0 g.T.Form.form c.args.items.now c.loop-item.item-index c.item-item.result c.loop-item-test.true c.item-item.is c.in_err-next.ensures)
+    Reads-failed (list_all g.T.FormIn.names_valid) (list_all g.T.FormIn.texts_valid) c.from_residual-in_err-next.result c.in_err-next.field-0.0 _ c.from_residual-in_err-next.ensures.1
+    (Fails-each g.S.Source.content c.in_err-next.field-0.0 (g.T.FormIn.form_in c.args.setting.now) c.args.items.now c.loop-item.item-index c.item-item.result c.loop-item-test.true c.item-item.is c.in_err-next.ensures)
 
 pub loop-item-preserved : goal.loop-item-preserved
 loop-item-preserved g c =
-    let more = each-more g.S.Source.content g.T.Form.form c.args.items.now c.loop-item.item-index c.item-item.result c.loop-item-test.true c.item-item.is in
-    subst (Finds (first_fault (list_all g.T.Form.has_names) (list_all g.T.Form.has_texts)) c.push_found.new.found) (sym more)
-    (c.in_ok-push_found.ensures g.T.Form.has_names g.T.Form.has_texts _ _ c.loop-item.invariant c.in_ok-next.ensures)
+    let more = each-more g.S.Source.content (g.T.FormIn.form_in c.args.setting.now) c.args.items.now c.loop-item.item-index c.item-item.result c.loop-item-test.true c.item-item.is in
+    subst (Finds (first_fault (list_all g.T.FormIn.names_valid) (list_all g.T.FormIn.texts_valid)) c.push_found.new.found) (sym more)
+    (c.in_ok-push_found.ensures g.T.FormIn.names_valid g.T.FormIn.texts_valid _ _ c.loop-item.invariant c.in_ok-next.ensures)
 
 pub returns : goal.returns
 returns g c =
-    subst (λ vs. Finds (first_fault (list_all g.T.Form.has_names) (list_all g.T.Form.has_texts)) c.loop-item.found (each g.T.Form.form (items_of (map g.S.Source.content vs)))) (take_all c.loop-item.item-index c.args.items.now c.loop-item-test.false) c.loop-item.invariant
+    subst (λ vs. Finds (first_fault (list_all g.T.FormIn.names_valid) (list_all g.T.FormIn.texts_valid)) c.loop-item.found (each (g.T.FormIn.form_in c.args.setting.now) (items_of (map g.S.Source.content vs)))) (take_all c.loop-item.item-index c.args.items.now c.loop-item-test.false) c.loop-item.invariant

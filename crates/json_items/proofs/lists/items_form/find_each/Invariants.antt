@@ -7,4 +7,4 @@ use Rattle.json_items.proofs.lists.items_form.find_each.Given as goal
 
 -- what is found of the items so far
 abbrev pub invariant-loop-item : goal.invariant-loop-item
-invariant-loop-item g l = Finds (first_fault (list_all g.T.Form.has_names) (list_all g.T.Form.has_texts)) l.found (each g.T.Form.form (items_of (map g.S.Source.content (take l.item-index l.items))))
+invariant-loop-item g l = Finds (first_fault (list_all g.T.FormIn.names_valid) (list_all g.T.FormIn.texts_valid)) l.found (each (g.T.FormIn.form_in l.setting) (items_of (map g.S.Source.content (take l.item-index l.items))))
