@@ -1,7 +1,7 @@
 -- What is found of one thing, of several together, and of what is made of them.
 use Rattle.std.proofs.Common.{◌≡◌, ◌∙◌, Bool, Option, Some, None, Result, Ok, Err, refl, sym, ap, subst}
 use Rattle.std.specs.Option.{option_map}
-use Rattle.std.specs.Prelude.{⊤, IsErrAnd, OnOk}
+use Rattle.std.specs.Prelude.{⊤, IsErrAnd, IsOkAnd, MatchResult, OnOk}
 use Rattle.ticket_items.specs.declared.refusal.Refusal.{Refusal}
 use Rattle.json_items.specs.Judged.{Finds, checked_fault, first_fault}
 use Rattle.json_items.proofs.ListLemmas.{Fails-weaker}
@@ -18,13 +18,12 @@ found_of fault (Err e) (Some x) h = (x, refl, h)
 pub found_value : {X : Type 0} (fault : X → Option Refusal) (r : Result X Refusal) (x : X) (o : Option X) → r ≡ Ok x → Finds fault r o → o ≡ Some x
 found_value fault r x o was h = (subst (λ s. Finds fault s o) was h).0
 
--- a refusal, of what has the same faults
-pub err_made : {X Y : Type 0} (f : X → Option Refusal) (g : Y → Option Refusal) (x : X) (y : Y) (e : Refusal) → f x ≡ g y → Finds f (Err e) (Some x) → Finds g (Err e) (Some y)
-err_made f g x y e same h = ap Some (sym same) ∙ h
-
--- a value, of which something is made that has the same faults
-pub ok_made : {X Y : Type 0} (f : X → Option Refusal) (g : Y → Option Refusal) (made : X → Y) → ((x : X) → f x ≡ g (made x)) → (x found : X) → Finds f (Ok found) (Some x) → Finds g (Ok (made found)) (Some (made x))
-ok_made f g made same x found h = (ap (λ o. option_map made o) h.0, sym (same found) ∙ h.1)
+-- what is made of what was found has the same faults
+pub found_made : {X Y : Type 0} (f : X → Option Refusal) (g : Y → Option Refusal) (made : X → Y) (post : X → Y → Type 0) (r : Result X Refusal) (s : Result Y Refusal) (x : X) → ((x : X) → f x ≡ g (made x)) → ((v : X) (y : Y) → post v y → y ≡ made v)
+    → MatchResult r (λ v. IsOkAnd s (post v)) (λ e. s ≡ Err e) → Finds f r (Some x) → Finds g s (Some (made x))
+found_made f g made post (Ok v) (Ok y) x same makes is h = let made_so = makes v y is in (ap (option_map made) h.0 ∙ ap Some (sym made_so), ap g made_so ∙ sym (same v) ∙ h.1)
+found_made f g made post (Ok v) (Err e) x same makes is h = absurd is
+found_made f g made post (Err e) s x same makes is h = subst (λ t. Finds g t (Some (made x))) (sym is) (ap Some (sym (same x)) ∙ h)
 
 pub same_faults : {X Y : Type 0} (names texts : X → Bool) (names2 texts2 : Y → Bool) (x : X) (y : Y) → names x ≡ names2 y → texts x ≡ texts2 y → first_fault names texts x ≡ first_fault names2 texts2 y
 same_faults names texts names2 texts2 x y n t = λ i. checked_fault (n i) (t i) None

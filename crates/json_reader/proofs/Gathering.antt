@@ -40,10 +40,14 @@ list_rows-as_array n (object ms) ds is = cc
 module _ {G : Type 0} (is_of : List RawRow → G → Type 0) where
   -- ---- a node of its own
 
+  -- a refusal that is handed on
+  pub gather_failed : (old new : G) (result : Result ⊤ Refusal) (e : Refusal) (read : Option (List RawRow)) → IsErrAnd result (λ f. f ≡ e) → Fails e read → Gathers is_of old new result read
+  gather_failed old new (Ok u) e read same fails = absurd same
+  gather_failed old new (Err f) e read same fails = subst (λ g. Fails g read) (sym same) fails
+
   -- a node's draft that can't be read
   pub own_failed : (found : G) (result : Result ⊤ Refusal) (e : Refusal) (own : Option RawRow) → IsErrAnd result (λ f. f ≡ e) → Fails e own → Gathers is_of found found result (option_map (λ r. r ∷ []) own)
-  own_failed found (Ok u) e own same fails = absurd same
-  own_failed found (Err f) e own same fails = subst (λ g. Fails g (option_map (λ r. r ∷ []) own)) (sym same) (Fails-weaker e own _ (λ none. ap (option_map (λ r. r ∷ [])) none) fails)
+  own_failed found result e own same fails = gather_failed found found result e _ same (Fails-weaker e own _ (λ none. ap (option_map (λ r. r ∷ [])) none) fails)
 
   -- one that is added
   pub own_added : (old new : G) (result : Result ⊤ Refusal) (row : RawRow) (own : Option RawRow) → own ≡ Some row → OnOk result ((before : List RawRow) → is_of before old → is_of (before ++ row ∷ []) new)
@@ -78,8 +82,7 @@ module _ {G : Type 0} (is_of : List RawRow → G → Type 0) where
 
   -- where the node itself can't be read
   pub node_failed : (old now : G) (result : Result ⊤ Refusal) (e : Refusal) (names : List (List ℕ)) (n : ℕ) (d : Data) → IsErrAnd result (λ f. f ≡ e) → Fails e (option_map (λ r. r ∷ []) (own_row names n d)) → Gathers is_of old now result (node_rows names n d)
-  node_failed old now (Ok u) e names n d same fails = absurd same
-  node_failed old now (Err f) e names n d same fails = subst (λ g. Fails g (node_rows names n d)) (sym same) (subst (Fails e) (whole_node names n d) (failed_first e _ _ fails))
+  node_failed old now result e names n d same fails = gather_failed old now result e _ same (subst (Fails e) (whole_node names n d) (failed_first e _ _ fails))
 
 -- ---- the nodes of a list, one after another
 

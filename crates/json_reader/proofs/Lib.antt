@@ -4,7 +4,6 @@ pub mod Gathering
 pub mod Findings
 pub mod Pools
 pub mod Rows
-pub mod Trees
 pub mod Tickets
 pub mod Parts
 pub mod PartNames

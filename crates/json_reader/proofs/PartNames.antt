@@ -1,5 +1,5 @@
 -- The names and the texts of a part stand in its rows with the copies as resources of the root.
-use Rattle.std.proofs.Common.{◌≡◌, ◌∙◌, ◌&&◌, ℕ, Bool, true, false, List, [], ◌∷◌, take, drop, Some, Ok, Err, refl, sym, ap}
+use Rattle.std.proofs.Common.{◌≡◌, ◌∙◌, ◌&&◌, ℕ, Bool, true, false, List, [], ◌∷◌, take, drop, refl, sym, ap}
 use Rattle.std.proofs.Math.Bool.{and-true, and_assoc}
 use Rattle.std.proofs.lemmas.List.{take-append-drop}
 use Rattle.std.proofs.lemmas.List.Folds.{list_all-append}
@@ -8,18 +8,18 @@ use Rattle.ticket_items.specs.Names.{is_name, is_text}
 use Rattle.ticket_items.specs.SpawnId.{is_spawn_number}
 use Rattle.ticket_items.specs.declared.ancestor.Ancestor.{Ancestor}
 use Rattle.ticket_items.specs.declared.node_row.NodeRow.{NodeRow}
-use Rattle.ticket_items.specs.declared.refusal.Refusal.{Refusal}
 use Rattle.ticket_items.specs.declared.resource.Resource.{Resource}
 use Rattle.json_items.proofs.Tests.{all_true}
 use Rattle.json_items.specs.Ancestors.{ancestor_has_names}
 use Rattle.json_items.specs.Audits.{audit_has_names, audit_has_texts}
-use Rattle.json_items.specs.Judged.{Finds, first_fault, on_both}
+use Rattle.json_items.specs.Judged.{first_fault, on_both}
 use Rattle.json_items.specs.Links.{link_has_names}
+use Rattle.json_items.specs.PartDraft.{RawPart, raw_part}
 use Rattle.json_items.specs.PartForm.{copies_have_names, copies_have_texts, has_names, has_texts}
 use Rattle.json_items.specs.Resources.{resource_has_names, resource_has_texts}
 use Rattle.json_items.specs.TicketForm.{node_has_names, pools_have_names, row_has_names, row_has_texts}
-use Rattle.json_reader.proofs.Findings.{err_made, ok_made, same_faults}
-use Rattle.json_reader.specs.Groups.{part_of, split_rows}
+use Rattle.json_reader.proofs.Findings.{same_faults}
+use Rattle.json_reader.specs.Groups.{split_rows}
 use Rattle.json_reader.specs.declared.part_groups.GroupSizes.{GroupSizes}
 
 and_false : (b : Bool) → (b && false) ≡ false
@@ -83,17 +83,15 @@ names = on_both outer_names (list_all row_has_names)
 abbrev pub texts : Outer × List NodeRow → Bool
 texts = on_both outer_texts (list_all row_has_texts)
 
-same_names : (s : GroupSizes) (p : Outer × List NodeRow) → names p ≡ has_names (part_of p.0 s p.1)
+-- the part of these nodes
+abbrev pub part_of : GroupSizes → Outer × List NodeRow → RawPart
+part_of s p = raw_part p.0.0.0 p.0.0.1 p.0.1 (split_rows s p.1)
+
+same_names : (s : GroupSizes) (p : Outer × List NodeRow) → names p ≡ has_names (part_of s p)
 same_names s p = ap (λ b. outer_names p.0 && b) (names_in_groups s p.1) ∙ sym (and_assoc (outer_names p.0) (list_all row_has_names (split_rows s p.1).rows) (copies_have_names (split_rows s p.1).rw (split_rows s p.1).ro))
 
-same_texts : (s : GroupSizes) (p : Outer × List NodeRow) → texts p ≡ has_texts (part_of p.0 s p.1)
+same_texts : (s : GroupSizes) (p : Outer × List NodeRow) → texts p ≡ has_texts (part_of s p)
 same_texts s p = ap (λ b. b && list_all row_has_texts p.1) (all_true p.0.1) ∙ texts_in_groups s p.1
 
-same_fault : (s : GroupSizes) (p : Outer × List NodeRow) → first_fault names texts p ≡ first_fault has_names has_texts (part_of p.0 s p.1)
-same_fault s p = same_faults names texts has_names has_texts p (part_of p.0 s p.1) (same_names s p) (same_texts s p)
-
-pub part_err : (s : GroupSizes) (p : Outer × List NodeRow) (e : Refusal) → Finds (first_fault names texts) (Err e) (Some p) → Finds (first_fault has_names has_texts) (Err e) (Some (part_of p.0 s p.1))
-part_err s p e h = err_made (first_fault names texts) (first_fault has_names has_texts) p (part_of p.0 s p.1) e (same_fault s p) h
-
-pub part_ok : (s : GroupSizes) (p found : Outer × List NodeRow) → Finds (first_fault names texts) (Ok found) (Some p) → Finds (first_fault has_names has_texts) (Ok (part_of found.0 s found.1)) (Some (part_of p.0 s p.1))
-part_ok s p found h = ok_made (first_fault names texts) (first_fault has_names has_texts) (λ q. part_of q.0 s q.1) (same_fault s) p found h
+pub same_fault : (s : GroupSizes) (p : Outer × List NodeRow) → first_fault names texts p ≡ first_fault has_names has_texts (part_of s p)
+same_fault s p = same_faults names texts has_names has_texts p (part_of s p) (same_names s p) (same_texts s p)

@@ -1,29 +1,29 @@
 -- The groups of the resources of a part's root, and what is found of a part.
-use Rattle.std.proofs.Common.{◌≡◌, ◌∙◌, ℕ, ◌+◌, Bool, true, false, cond, List, [], ◌∷◌, map, take, drop, codes, Option, Some, None, Result, Ok, Err, refl, sym, ap, subst}
+use Rattle.std.proofs.Common.{◌≡◌, ◌∙◌, ℕ, ◌+◌, Bool, true, false, cond, List, [], ◌∷◌, map, take, drop, codes, Option, Some, None, refl, sym, ap}
 use Rattle.std.proofs.lemmas.List.{drop-map, take-map}
 use Rattle.std.proofs.lemmas.List.Folds.{list_all-map}
 use Rattle.std.specs.List.{list_all, prefix_len}
 use Rattle.std.specs.Option.{option_and_then, option_map}
-use Rattle.std.specs.Prelude.{IfErr, IfOk}
 use Rattle.serde_json.specs.Data.{Data}
-use Rattle.serde_json.specs.Find.{as_array, as_str}
+use Rattle.serde_json.specs.Find.{as_array, as_str, get}
 use Rattle.ticket_items.specs.declared.ancestor.Ancestor.{Ancestor}
-use Rattle.ticket_items.specs.declared.refusal.Refusal.{Refusal}
-use Rattle.ticket_items.specs.declared.refusal.Refusal.TheVariants.{Memory}
 use Rattle.json_items.specs.Ancestors.{ancestor_draft}
-use Rattle.json_items.specs.Judged.{Finds, Reads, first_fault}
+use Rattle.json_items.specs.Judged.{both_read}
 use Rattle.json_items.specs.Listed.{each, list_form}
-use Rattle.json_items.specs.PartDraft.{Groups, RawPart, Taken, ancestors_under, grouped, is_change, is_read, part_draft, part_members, raw_part, taken, taken_groups}
-use Rattle.json_items.specs.PartForm.{has_names, has_texts}
+use Rattle.json_items.specs.Members.{three_form}
+use Rattle.json_items.specs.PartDraft.{Groups, Taken, ancestors_under, grouped, is_change, is_read, part_draft, part_members, raw_part, taken, taken_groups}
+use Rattle.json_items.specs.Resources.{Marked}
 use Rattle.json_items.specs.Shown.{shows_change, shows_nothing, shows_read}
 use Rattle.json_items.specs.Spawns.{spawn_form, spawn_named}
-use Rattle.json_items.specs.TicketDraft.{RawRow, are_bare, node_rows, resources_of}
-use Rattle.json_items.specs.Resources.{Marked}
+use Rattle.json_items.specs.TicketDraft.{RawRow, are_bare, next_depth, node_rows, own_row, resources_of}
 use Rattle.json_items.specs.declared.resources.shown_form.Shown.{Shown}
-use Rattle.json_source.specs.Read.{◌>>=◌, Fails, provided, text_under}
-use Rattle.json_reader.specs.Found.{IsTree, shown_by}
-use Rattle.json_reader.specs.Groups.{group_sizes, split_rows, tree_sizes}
-use Rattle.json_reader.specs.declared.found_tree.FoundTree.{FoundTree}
+use Rattle.json_source.specs.Read.{◌>>=◌, provided, text_under}
+use Rattle.json_reader.proofs.Nodes.{node_rows-get}
+use Rattle.json_reader.proofs.PartNames.{Outer}
+use Rattle.json_reader.proofs.Rows.{none_then}
+use Rattle.json_reader.specs.Found.{shown_by}
+use Rattle.json_reader.specs.Gathered.{rows_under}
+use Rattle.json_reader.specs.Groups.{group_sizes, split_rows, taken_draft}
 use Rattle.json_reader.specs.declared.part_groups.GroupSizes.{GroupSizes}
 
 -- ---- groups, by how many resources stand in each
@@ -75,71 +75,94 @@ same_split root raws s is =
     let ro : resources_of (drop s.rw (drop s.own root.pool)) ≡ drop s.rw (drop s.own root.row.resources) = sym (drop-map (λ m. m.resource) s.rw (drop s.own root.pool)) ∙ ap (drop s.rw) behind in
     λ i. record { rows = record root.row { resources = own i } ∷ map (λ r. r.row) raws; rw = rw i; ro = ro i }
 
-in_turn : (bare : Bool) (sizes : Option GroupSizes) (made : GroupSizes → Groups) (last : Groups → Taken)
-    → ((provided bare >>= λ _. sizes) >>= λ s. Some (last (made s))) ≡ (provided bare >>= λ _. (sizes >>= λ s. Some (made s)) >>= λ g. Some (last g))
-in_turn false sizes made last = refl
-in_turn true None made last = refl
-in_turn true (Some s) made last = refl
+-- the nodes below a part's root
+abbrev pub below : Data → Option (List RawRow)
+below d = rows_under (next_depth 1) (get (codes "JDF") d)
 
-taken-sizes : (spawn : List ℕ) (root : RawRow) (raws : List RawRow) → root.row.resources ≡ resources_of root.pool
-    → (tree_sizes spawn (list_all (λ r. are_bare r.pool) raws) (shown_by root.pool) >>= λ s. Some (split_rows s (root.row ∷ map (λ r. r.row) raws))) ≡ taken spawn (root ∷ raws)
-taken-sizes spawn root raws is =
-    (λ i. tree_sizes spawn (list_all (λ r. are_bare r.pool) raws) (shown_by root.pool) >>= λ s. Some (sym (same_split root raws s is) i))
-    ∙ in_turn (list_all (λ r. are_bare r.pool) raws) (group_sizes spawn (shown_by root.pool)) (λ s. sized s.own s.rw root.pool) (taken_groups root.row raws)
-    ∙ ap (λ o. provided (list_all (λ r. are_bare r.pool) raws) >>= λ _. o >>= λ g. Some (taken_groups root.row raws g)) (grouped-sizes spawn root.pool)
+-- a root alone, without what its resources show
+abbrev pub alone : RawRow → RawRow
+alone root = record { row = root.row; pool = [] }
 
--- what is taken of a tree
-pub taken_of : (spawn : List ℕ) (raws : List RawRow) (tree : FoundTree) (sizes : Option GroupSizes) → IsTree raws tree → tree_sizes spawn tree.bare tree.shown ≡ sizes
-    → taken spawn raws ≡ (sizes >>= λ s. Some (split_rows s (map (λ r. r.row) raws)))
-taken_of spawn raws tree sizes is e =
-    ap (taken spawn) is.are
-    ∙ sym (taken-sizes spawn is.root is.below is.pool)
-    ∙ ap (λ b. tree_sizes spawn b (shown_by is.root.pool) >>= λ s. Some (split_rows s (map (λ r. r.row) (is.root ∷ is.below)))) (sym is.bare)
-    ∙ ap (λ xs. tree_sizes spawn tree.bare xs >>= λ s. Some (split_rows s (map (λ r. r.row) (is.root ∷ is.below)))) (sym is.shown)
-    ∙ ap (λ o. o >>= λ s. Some (split_rows s (map (λ r. r.row) (is.root ∷ is.below)))) e
-    ∙ ap (λ rs. sizes >>= λ s. Some (split_rows s (map (λ r. r.row) rs))) (sym is.are)
+mapped_then : {X Y Z : Type 0} (o : Option X) (f : X → Y) (g : Y → Option Z) → (option_map f o >>= g) ≡ (o >>= λ x. g (f x))
+mapped_then None f g = refl
+mapped_then (Some x) f g = refl
+
+named : (d : Data) (spawn : List ℕ) → text_under (codes "SpawnID") d ≡ Some spawn → taken_draft d ≡ (node_rows part_members 1 d >>= taken spawn)
+named d spawn is = ap (λ o. o >>= λ s. node_rows part_members 1 d >>= taken s) is
+
+rooted : (d : Data) (spawn : List ℕ) (root : RawRow) → text_under (codes "SpawnID") d ≡ Some spawn → own_row part_members 1 d ≡ Some root → taken_draft d ≡ (below d >>= λ raws. taken spawn (root ∷ raws))
+rooted d spawn root is own =
+    named d spawn is
+    ∙ ap (λ o. o >>= taken spawn) (node_rows-get part_members 1 d ∙ ap (λ o. o >>= λ row. option_map (λ rows. row ∷ rows) (below d)) own)
+    ∙ mapped_then (below d) (λ rows. root ∷ rows) (taken spawn)
+
+pub no_root : (d : Data) (spawn : List ℕ) → text_under (codes "SpawnID") d ≡ Some spawn → own_row part_members 1 d ≡ None → taken_draft d ≡ None
+no_root d spawn is none =
+    named d spawn is ∙ ap (λ o. o >>= taken spawn) (node_rows-get part_members 1 d ∙ ap (λ o. o >>= λ row. option_map (λ rows. row ∷ rows) (below d)) none)
+
+pub no_groups : (d : Data) (spawn : List ℕ) (root : RawRow) → text_under (codes "SpawnID") d ≡ Some spawn → own_row part_members 1 d ≡ Some root → group_sizes spawn (shown_by root.pool) ≡ None → taken_draft d ≡ None
+no_groups d spawn root is own none =
+    let ungrouped : grouped spawn root.pool ≡ None = sym (grouped-sizes spawn root.pool) ∙ ap (λ o. o >>= λ s. Some (sized s.own s.rw root.pool)) none in
+    rooted d spawn root is own
+    ∙ none_then (below d) (λ raws. taken spawn (root ∷ raws))
+    (λ raws. none_then (provided (list_all (λ r. are_bare r.pool) raws)) (λ _. grouped spawn root.pool >>= λ g. Some (taken_groups root.row raws g)) (λ _. ap (λ o. o >>= λ g. Some (taken_groups root.row raws g)) ungrouped))
+
+pub none_below : (d : Data) (spawn : List ℕ) (root : RawRow) → text_under (codes "SpawnID") d ≡ Some spawn → own_row part_members 1 d ≡ Some root → below d ≡ None → taken_draft d ≡ None
+none_below d spawn root is own none = rooted d spawn root is own ∙ ap (λ o. o >>= λ raws. taken spawn (root ∷ raws)) none
+
+tested_at : (bare : Bool) (spawn : List ℕ) (root : RawRow) (raws : List RawRow) → list_all (λ r. are_bare r.pool) raws ≡ bare → taken spawn (root ∷ raws) ≡ (provided bare >>= λ _. grouped spawn root.pool >>= λ g. Some (taken_groups root.row raws g))
+tested_at bare spawn root raws is = ap (λ b. provided b >>= λ _. grouped spawn root.pool >>= λ g. Some (taken_groups root.row raws g)) is
+
+pub not_bare : (d : Data) (spawn : List ℕ) (root : RawRow) (raws : List RawRow) → text_under (codes "SpawnID") d ≡ Some spawn → own_row part_members 1 d ≡ Some root → below d ≡ Some raws → list_all (λ r. are_bare r.pool) raws ≡ false → taken_draft d ≡ None
+not_bare d spawn root raws is own read shows = rooted d spawn root is own ∙ ap (λ o. o >>= λ xs. taken spawn (root ∷ xs)) read ∙ tested_at false spawn root raws shows
+
+pub taken_read : (d : Data) (spawn : List ℕ) (root : RawRow) (raws : List RawRow) (s : GroupSizes) → text_under (codes "SpawnID") d ≡ Some spawn → own_row part_members 1 d ≡ Some root → root.row.resources ≡ resources_of root.pool → group_sizes spawn (shown_by root.pool) ≡ Some s
+    → below d ≡ Some raws → list_all (λ r. are_bare r.pool) raws ≡ true → taken_draft d ≡ Some (split_rows s (root.row ∷ map (λ r. r.row) raws))
+taken_read d spawn root raws s is own pool sizes read shows =
+    rooted d spawn root is own
+    ∙ ap (λ o. o >>= λ xs. taken spawn (root ∷ xs)) read
+    ∙ tested_at true spawn root raws shows
+    ∙ ap (λ o. o >>= λ g. Some (taken_groups root.row raws g)) (sym (grouped-sizes spawn root.pool) ∙ ap (λ o. o >>= λ x. Some (sized x.own x.rw root.pool)) sizes)
+    ∙ ap Some (same_split root raws s pool)
 
 -- ---- from JSON data
 
-abbrev behind_rows : List ℕ → List ℕ → List Ancestor → List RawRow → Option RawPart
-behind_rows job spawn ancestors raws = taken spawn raws >>= λ t. Some (raw_part job (spawn_named spawn) ancestors t)
+abbrev pub outer : Data → Option Outer
+outer d = three_form (codes "JobID") as_str (codes "SpawnID") spawn_form (codes "AncestorPool") (list_form ancestor_draft) d
 
-abbrev behind_ancestors : Data → List ℕ → List ℕ → List Ancestor → Option RawPart
-behind_ancestors d job spawn ancestors = node_rows part_members 1 d >>= behind_rows job spawn ancestors
-
-abbrev behind_spawn : Data → List ℕ → List ℕ → Option RawPart
-behind_spawn d job spawn = ancestors_under (codes "AncestorPool") d >>= behind_ancestors d job spawn
-
-abbrev behind_job : Data → List ℕ → Option RawPart
-behind_job d job = text_under (codes "SpawnID") d >>= behind_spawn d job
-
-pub part_behind_job : (d : Data) (job : Option (List ℕ)) → text_under (codes "JobID") d ≡ job → part_draft d ≡ (job >>= behind_job d)
-unfolding part_draft
-part_behind_job d job j = ap (λ o. o >>= behind_job d) j
-
-pub part_behind_spawn : (d : Data) (job : List ℕ) (spawn : Option (List ℕ)) → text_under (codes "JobID") d ≡ Some job → text_under (codes "SpawnID") d ≡ spawn → part_draft d ≡ (spawn >>= behind_spawn d job)
-part_behind_spawn d job spawn j s = part_behind_job d (Some job) j ∙ ap (λ o. o >>= behind_spawn d job) s
-
-pub part_behind_ancestors : (d : Data) (job spawn : List ℕ) (ancestors : Option (List Ancestor)) → text_under (codes "JobID") d ≡ Some job → text_under (codes "SpawnID") d ≡ Some spawn
-    → ancestors_under (codes "AncestorPool") d ≡ ancestors → part_draft d ≡ (ancestors >>= behind_ancestors d job spawn)
-part_behind_ancestors d job spawn ancestors j s a = part_behind_spawn d job (Some spawn) j s ∙ ap (λ o. o >>= behind_ancestors d job spawn) a
-
-pub part_behind_rows : (d : Data) (job spawn : List ℕ) (ancestors : List Ancestor) (raws : Option (List RawRow)) → text_under (codes "JobID") d ≡ Some job → text_under (codes "SpawnID") d ≡ Some spawn
-    → ancestors_under (codes "AncestorPool") d ≡ Some ancestors → node_rows part_members 1 d ≡ raws → part_draft d ≡ (raws >>= behind_rows job spawn ancestors)
-part_behind_rows d job spawn ancestors raws j s a r = part_behind_ancestors d job spawn (Some ancestors) j s a ∙ ap (λ o. o >>= behind_rows job spawn ancestors) r
+in_turn : (job spawn : Option (List ℕ)) (ancestors : Option (List Ancestor)) (raws : Option (List RawRow))
+    → (job >>= λ j. spawn >>= λ s. ancestors >>= λ a. raws >>= λ r. taken s r >>= λ t. Some (raw_part j (spawn_named s) a t))
+    ≡ (both_read (both_read job (option_map spawn_named spawn)) ancestors >>= λ o. (spawn >>= λ s. raws >>= taken s) >>= λ t. Some (raw_part o.0.0 o.0.1 o.1 t))
+in_turn None spawn ancestors raws = refl
+in_turn (Some j) None ancestors raws = refl
+in_turn (Some j) (Some s) None raws = refl
+in_turn (Some j) (Some s) (Some a) None = refl
+in_turn (Some j) (Some s) (Some a) (Some r) = refl
 
 -- the spawn under a name, by its text
-pub spawn_under : (o : Option Data) → option_and_then spawn_form o ≡ option_map spawn_named (option_and_then as_str o)
+spawn_under : (o : Option Data) → option_and_then spawn_form o ≡ option_map spawn_named (option_and_then as_str o)
 spawn_under None = refl
 spawn_under (Some d) = refl
 
 -- the ancestors under a name
-pub ancestors_listed : (o : Option Data) → option_and_then (list_form ancestor_draft) o ≡ (option_and_then as_array o >>= each ancestor_draft)
+ancestors_listed : (o : Option Data) → option_and_then (list_form ancestor_draft) o ≡ (option_and_then as_array o >>= each ancestor_draft)
 ancestors_listed None = refl
 ancestors_listed (Some d) = refl
 
--- what is built of what was found is what was found of the part
-pub part_reads : (r : Result (Result RawPart Refusal) Refusal) (found_so : Result RawPart Refusal → Type 0) (read : Option RawPart) (x : RawPart) → ((found : Result RawPart Refusal) → found_so found → Finds (first_fault has_names has_texts) found (Some x))
-    → IfOk r found_so → IfErr r (λ e. e ≡ Memory) → read ≡ Some x → Reads has_names has_texts r read
-part_reads (Ok found) found_so read x finds ok memory is = subst (Finds (first_fault has_names has_texts) found) (sym is) (finds found ok)
-part_reads (Err e) found_so read x finds ok memory is = subst (λ f. Fails f read) (sym memory) tt
+-- a part is what it has beside its nodes, and its nodes
+in_parts : (d : Data) → part_draft d ≡ (outer d >>= λ o. taken_draft d >>= λ t. Some (raw_part o.0.0 o.0.1 o.1 t))
+unfolding part_draft
+in_parts d =
+    in_turn (text_under (codes "JobID") d) (text_under (codes "SpawnID") d) (ancestors_under (codes "AncestorPool") d) (node_rows part_members 1 d)
+    ∙ (λ i. both_read (both_read (text_under (codes "JobID") d) (sym (spawn_under (get (codes "SpawnID") d)) i)) (sym (ancestors_listed (get (codes "AncestorPool") d)) i) >>= λ o. taken_draft d >>= λ t. Some (raw_part o.0.0 o.0.1 o.1 t))
+
+pub no_outer : (d : Data) → outer d ≡ None → part_draft d ≡ None
+no_outer d none = in_parts d ∙ ap (λ q. q >>= λ o. taken_draft d >>= λ t. Some (raw_part o.0.0 o.0.1 o.1 t)) none
+
+pub none_taken : (d : Data) → taken_draft d ≡ None → part_draft d ≡ None
+none_taken d none =
+    in_parts d ∙ none_then (outer d) (λ o. taken_draft d >>= λ t. Some (raw_part o.0.0 o.0.1 o.1 t)) (λ o. ap (λ q. q >>= λ t. Some (raw_part o.0.0 o.0.1 o.1 t)) none)
+
+pub part_read : (d : Data) (o : Outer) (t : Taken) → outer d ≡ Some o → taken_draft d ≡ Some t → part_draft d ≡ Some (raw_part o.0.0 o.0.1 o.1 t)
+part_read d o t outer_is taken_is =
+    in_parts d ∙ ap (λ q. q >>= λ x. taken_draft d >>= λ y. Some (raw_part x.0.0 x.0.1 x.1 y)) outer_is ∙ ap (λ q. q >>= λ y. Some (raw_part o.0.0 o.0.1 o.1 y)) taken_is

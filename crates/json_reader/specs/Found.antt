@@ -1,21 +1,22 @@
--- What is found of pools, of nodes and of trees of nodes: what may be invalid is judged, and what
+-- What is found of pools, of nodes and of a part's nodes: what may be invalid is judged, and what
 -- resources show of spawns is known also where names or texts are invalid.
-use Rattle.std.specs.Prelude.{◌≡◌, List, ◌∷◌, map, Option, Some, Result, Ok, Err}
+use Rattle.std.specs.Prelude.{◌≡◌, List, map, Option, Some, Result, Ok, Err}
 use Rattle.std.specs.List.{list_all}
+use Rattle.ticket_items.specs.declared.node_row.NodeRow.{NodeRow}
 use Rattle.ticket_items.specs.declared.refusal.Refusal.{Refusal}
 use Rattle.ticket_items.specs.declared.resource.Resource.{Resource}
 use Rattle.json_items.specs.Judged.{Finds, first_fault}
+use Rattle.json_items.specs.PartDraft.{Taken}
 use Rattle.json_items.specs.Resources.{resource_has_names, resource_has_texts}
 use Rattle.json_items.specs.TicketDraft.{RawRow, are_bare, resources_of}
 use Rattle.json_items.specs.TicketForm.{row_has_names, row_has_texts}
 use Rattle.json_items.specs.Resources.{Marked}
 use Rattle.json_items.specs.declared.resources.shown_form.Shown.{Shown}
 use Rattle.json_source.specs.Read.{Fails}
-use Rattle.json_reader.specs.Nodes.{Pools, RawPools, pools_have_names, pools_have_texts}
+use Rattle.json_reader.specs.Groups.{split_rows}
 use Rattle.json_reader.specs.declared.found_nodes.FoundNodes.{FoundNodes}
 use Rattle.json_reader.specs.declared.found_pool.FoundPool.{FoundPool}
-use Rattle.json_reader.specs.declared.found_row.FoundRow.{FoundRow}
-use Rattle.json_reader.specs.declared.found_tree.FoundTree.{FoundTree}
+use Rattle.json_reader.specs.declared.part_groups.GroupSizes.{GroupSizes}
 
 -- what was found is of what is read; or nothing is read, unless memory ran out
 abbrev pub FindsAs : {X Y : Type 0} → (X → Y → Type 0) → Result Y Refusal → Option X → Type 0
@@ -41,17 +42,11 @@ pub record IsPool (pool : List Marked) (found : FoundPool) : Type 0 where
 
 -- ---- nodes
 
--- the pools of a node, and what its resources show
-pub record IsPools (raw : RawPools) (found : Result Pools Refusal × List Shown) : Type 0 where
-  pub pools : Finds (first_fault pools_have_names pools_have_texts) found.0
-      (Some ((resources_of raw.resources, raw.links), raw.audits))
-  pub shown : found.1 ≡ shown_by raw.resources
-
 -- a node, and what its resources show
-pub record IsRow (raw : RawRow) (found : FoundRow) : Type 0 where
-  pub row : Finds (first_fault row_has_names row_has_texts) found.row (Some raw.row)
+pub record IsRow (raw : RawRow) (found : Result NodeRow Refusal × List Shown) : Type 0 where
+  pub row : Finds (first_fault row_has_names row_has_texts) found.0 (Some raw.row)
   pub pool : raw.row.resources ≡ resources_of raw.pool
-  pub shown : found.shown ≡ shown_by raw.pool
+  pub shown : found.1 ≡ shown_by raw.pool
 
 -- these nodes, and whether their resources show nothing
 pub record IsFound (raws : List RawRow) (found : FoundNodes) : Type 0 where
@@ -59,14 +54,10 @@ pub record IsFound (raws : List RawRow) (found : FoundNodes) : Type 0 where
       (Some (map (λ r. r.row) raws))
   pub bare : found.bare ≡ list_all (λ r. are_bare r.pool) raws
 
--- all nodes of a ticket or a part, what the root's resources show, and whether the other nodes'
--- show nothing
-pub record IsTree (raws : List RawRow) (found : FoundTree) : Type 0 where
-  pub root : RawRow
-  pub below : List RawRow
-  pub are : raws ≡ root ∷ below
-  pub pool : root.row.resources ≡ resources_of root.pool
-  pub rows : Finds (first_fault (list_all row_has_names) (list_all row_has_texts)) found.rows
-      (Some (map (λ r. r.row) raws))
-  pub shown : found.shown ≡ shown_by root.pool
-  pub bare : found.bare ≡ list_all (λ r. are_bare r.pool) below
+-- the nodes of a part with the copies in the root's pool, and how many resources of the root stand
+-- in each group
+pub record IsTaken (t : Taken) (found : Result (List NodeRow) Refusal × GroupSizes) : Type 0 where
+  pub rows : List NodeRow
+  pub judged : Finds (first_fault (list_all row_has_names) (list_all row_has_texts)) found.0
+      (Some rows)
+  pub split : t ≡ split_rows found.1 rows

@@ -1,4 +1,3 @@
-pub mod Nodes
 pub mod Found
 pub mod Gathered
 pub mod Groups

@@ -1,8 +1,39 @@
-ghost use Rattle.std.specs.Prelude.{◌≡◌, ◌&&◌};
+//! One walk over the nodes of a ticket or a part. What the resources of a node show is given back
+//! before the next node is read.
 
+ghost use Rattle.std.specs.Prelude.{◌≡◌, ◌∷◌, [], codes, map};
+ghost use Rattle.std.specs.Option.{option_map};
+ghost use Rattle.serde_json.specs.Find.{get};
+ghost use Rattle.json_items.specs.TicketDraft as form;
+ghost use Rattle.json_reader.specs.Found.{IsFound};
+ghost use Rattle.json_reader.specs.Gathered.{Gathers, rows_under};
+
+use crate::found_pool::show_nothing;
+use crate::found_row::own_row;
 use json_items::{Judged, push_found};
+use json_source::Source;
 use std::alloc::Global;
 use ticket_tree::{Items, NodeRow, Refusal};
+
+/// The members of a part's root. A ticket's root may have all but the first two of them, and other
+/// nodes all but the first three.
+pub const PART_MEMBERS: &[&str] = &[
+    "AncestorPool",
+    "SpawnID",
+    "JobID",
+    "Attr",
+    "AuditPool",
+    "ID",
+    "JDF",
+    "JobPartID",
+    "ResourceLinkPool",
+    "ResourcePool",
+    "Status",
+    "Type",
+];
+
+/// How far depths are counted: one more than a ticket may have.
+const DEEPEST_READ: u32 = 33;
 
 /// What is found of nodes: their rows in preorder, or the first of `BadId` and `BadText` that
 /// stands in them, and whether their resources show nothing of spawns.
@@ -10,13 +41,6 @@ use ticket_tree::{Items, NodeRow, Refusal};
 pub struct FoundNodes {
     pub rows: Judged<Items<NodeRow>>,
     pub bare: bool,
-}
-
-/// Whether nodes so far and the next one show nothing.
-fn are_bare(before: bool, next: bool) -> bool
-    ensures { result ≡ (before && next) }
-{
-    before && next
 }
 
 impl FoundNodes {
@@ -45,7 +69,80 @@ impl FoundNodes {
         ensures memory { IfErr result (λ e. e ≡ Refusal.Memory) }
     {
         push_found(&mut self.rows, row)?;
-        self.bare = are_bare(self.bare, bare);
+        self.bare &= bare;
         Ok(())
     }
+}
+
+/// The depth of a child.
+fn next_depth(depth: u32) -> u32
+    ensures { result ≡ form.next_depth depth }
+{
+    depth.saturating_add(1).min(DEEPEST_READ)
+}
+
+/// Adds a node without its children, of an object with no other members than `names`.
+fn push_own<S: Source>(
+    alloc: Global,
+    found: &mut FoundNodes,
+    names: &[&str],
+    depth: u32,
+    value: &S,
+) -> Result<(), Refusal>
+    ensures { Gathers IsFound found.old found.new result (option_map (λ r. r ∷ [])
+        (form.own_row (map (λ n. n.now) names.now) depth (S.content value.now))) }
+{
+    let (row, shown) = own_row(alloc, names, depth, value)?;
+    found.push(row, show_nothing(shown.as_slice()))
+}
+
+/// Adds a node, of an object with no other members than `names`, and those below it, in preorder.
+#[cycle(found)]
+pub fn find_node<S: Source>(
+    alloc: Global,
+    found: &mut FoundNodes,
+    names: &[&str],
+    depth: u32,
+    value: &S,
+) -> Result<(), Refusal>
+    ensures { Gathers IsFound found.old found.new result
+        (form.node_rows (map (λ n. n.now) names.now) depth (S.content value.now)) }
+{
+    push_own(alloc, found, names, depth, value)?;
+    find_below(alloc, found, depth, value)
+}
+
+/// Adds the nodes below a node of this depth.
+#[cycle(found)]
+pub fn find_below<S: Source>(
+    alloc: Global,
+    found: &mut FoundNodes,
+    depth: u32,
+    value: &S,
+) -> Result<(), Refusal>
+    ensures { Gathers IsFound found.old found.new result
+        (rows_under (form.next_depth depth) (get (codes "JDF") (S.content value.now))) }
+{
+    match value.member("JDF") {
+        None => Ok(()),
+        Some(children) => find_children(alloc, found, next_depth(depth), children),
+    }
+}
+
+/// Adds the nodes of a list, each with those below it.
+#[cycle(found)]
+fn find_children<S: Source>(
+    alloc: Global,
+    found: &mut FoundNodes,
+    depth: u32,
+    value: &S,
+) -> Result<(), Refusal>
+    ensures { Gathers IsFound found.old found.new result
+        (form.list_rows depth (S.content value.now)) }
+{
+    let children = value.items().ok_or(Refusal::NotProfile)?;
+    for child in children {
+        find_node(alloc, found, &PART_MEMBERS[3..], depth, child)?;
+    }
+    Ok(())
 }

@@ -1,12 +1,11 @@
 //! What is found of the resources of a pool, which may show spawns that copied them.
 
-ghost use Rattle.std.specs.Prelude.{◌≡◌, List, [], ◌∷◌, ◌++◌, map, option_and_then, IfErr, IfOk};
-ghost use Rattle.std.specs.Prelude.{OnOk};
+ghost use Rattle.std.specs.Prelude.{◌≡◌, map, option_and_then};
 ghost use Rattle.std.specs.List.{list_all};
 ghost use Rattle.serde_json.specs.Find.{get};
 ghost use Rattle.serde_json.specs.View.{items_of};
 ghost use Rattle.json_items.specs.Listed.{each, list_form, pool_draft};
-ghost use Rattle.json_items.specs.Resources.{Marked as MarkedSeen, resource_draft};
+ghost use Rattle.json_items.specs.Resources.{resource_draft};
 ghost use Rattle.json_items.specs.Shown as marks;
 ghost use Rattle.json_reader.specs.Found.{FindsAs, IsMarked, IsPool};
 
@@ -57,12 +56,15 @@ fn find_marked<S: Source>(alloc: Global, value: &S) -> Result<(Judged<Resource>,
 fn find_items<S: Source>(alloc: Global, items: &[S]) -> Result<FoundPool, Refusal>
     ensures { FindsAs IsPool result (each resource_draft (items_of (map S.content items.now))) }
 {
-    let mut found = FoundPool::with_room(alloc, items.len())?;
+    let mut resources = Ok(Items::new(Vec::with_capacity(alloc, items.len())?));
+    let mut shown = Vec::with_capacity(alloc, items.len())?;
     for item in items {
-        let (resource, shown) = find_marked(alloc, item)?;
-        found.push(resource, shown)?;
+        let (resource, shows) = find_marked(alloc, item)?;
+        push_found(&mut resources, resource)?;
+        shown.push(shows)?;
     }
-    Ok(found)
+    let shown = Items::new(shown);
+    Ok(FoundPool { resources, shown })
 }
 
 /// What is found of a list of resources. Refuses `NotProfile`, and `Memory`.
@@ -82,7 +84,7 @@ impl FoundPool {
     {
         match value.member(name) {
             Some(pool) => find_list(alloc, pool),
-            None => Ok(FoundPool::new(alloc)),
+            None => find_items::<S>(alloc, &[]),
         }
     }
 
@@ -101,38 +103,5 @@ impl FoundPool {
         ensures { result ≡ list_all marks.shows_nothing self.now.shown }
     {
         show_nothing(self.shown.as_slice())
-    }
-
-    /// What is found of no resources.
-    fn new(alloc: Global) -> FoundPool
-        ensures { IsPool [] result }
-    {
-        FoundPool {
-            resources: Ok(Items::new(Vec::new(alloc))),
-            shown: Items::new(Vec::new(alloc)),
-        }
-    }
-
-    /// The same, with room for so many. Refuses `Memory` alone.
-    fn with_room(alloc: Global, count: usize) -> Result<FoundPool, Refusal>
-        ensures ok { IfOk result (λ found. IsPool [] found) }
-        ensures memory { IfErr result (λ e. e ≡ Refusal.Memory) }
-    {
-        Ok(FoundPool {
-            resources: Ok(Items::new(Vec::with_capacity(alloc, count)?)),
-            shown: Items::new(Vec::with_capacity(alloc, count)?),
-        })
-    }
-
-    /// Adds what is found of a resource, and what it shows. Refuses `Memory` alone.
-    fn push(&mut self, resource: Judged<Resource>, shown: Shown) -> Result<(), Refusal>
-        ensures ok { OnOk result ((before : List MarkedSeen) (m : MarkedSeen)
-            → IsPool before self.old → IsMarked m (resource, shown)
-            → IsPool (before ++ m ∷ []) self.new) }
-        ensures memory { IfErr result (λ e. e ≡ Refusal.Memory) }
-    {
-        push_found(&mut self.resources, resource)?;
-        self.shown.push(shown)?;
-        Ok(())
     }
 }

@@ -4,7 +4,6 @@
 mod found_nodes;
 mod found_pool;
 mod found_row;
-mod found_tree;
 mod part_groups;
 mod raw_part;
 mod raw_ticket;

@@ -19,22 +19,6 @@ pub struct GroupSizes {
     pub rw: usize,
 }
 
-/// A pool in its groups.
-#[derive(Drop)]
-struct Groups {
-    own: Resources,
-    rw: Resources,
-    ro: Resources,
-}
-
-/// The nodes of a part, without the copies that stood in its root's pool, and these copies.
-#[derive(Drop)]
-pub struct TakenNodes {
-    pub rows: Items<NodeRow>,
-    pub rw: Resources,
-    pub ro: Resources,
-}
-
 /// How many resources in front show nothing of spawns.
 fn own_len(pool: &[Shown]) -> usize
     ensures { result ≡ prefix_len shown.shows_nothing pool.now }
@@ -71,47 +55,26 @@ pub fn group_sizes(pool: &[Shown], spawn: &str) -> Result<GroupSizes, Refusal>
     Ok(GroupSizes { own, rw })
 }
 
-/// The resources of a pool in their groups. Refuses `Memory` alone.
-fn split_pool(pool: Resources, sizes: GroupSizes) -> Result<Groups, Refusal>
-    ensures ok { IfOk result (λ g. g ≡ groups.pool_groups sizes pool) }
+/// Takes the copies out of the pool of the root, those to change and those to read. Refuses
+/// `Memory` alone.
+pub fn take_copies(
+    alloc: Global,
+    rows: &mut Vec<NodeRow>,
+    sizes: GroupSizes,
+) -> Result<(Resources, Resources), Refusal>
+    ensures ok { IfOk result (λ c.
+        groups.with_taken rows.new.items c.0 c.1 ≡ groups.split_rows sizes rows.old.items) }
     ensures memory { IfErr result (λ e. e ≡ Refusal.Memory) }
 {
-    let mut own = pool.into_vec();
+    let none = Items::new(Vec::new(alloc));
+    if rows.is_empty() {
+        return Ok((none, Items::new(Vec::new(alloc))));
+    }
+    let mut own = mem::replace(&mut rows[0].resources, none).into_vec();
     let at = sizes.own.min(own.len());
     let mut rw = own.split_off(at)?;
     let at = sizes.rw.min(rw.len());
     let ro = rw.split_off(at)?;
-    Ok(Groups {
-        own: Items::new(own),
-        rw: Items::new(rw),
-        ro: Items::new(ro),
-    })
-}
-
-/// Nodes of which the copies are taken out of the root's pool. Refuses `Memory` alone.
-pub fn split_rows(
-    alloc: Global,
-    rows: Items<NodeRow>,
-    sizes: GroupSizes,
-) -> Result<TakenNodes, Refusal>
-    ensures ok { IfOk result (λ t. groups.taken_nodes t ≡ groups.split_rows sizes rows) }
-    ensures memory { IfErr result (λ e. e ≡ Refusal.Memory) }
-{
-    let mut rows = rows.into_vec();
-    if rows.is_empty() {
-        return Ok(TakenNodes {
-            rows: Items::new(rows),
-            rw: Items::new(Vec::new(alloc)),
-            ro: Items::new(Vec::new(alloc)),
-        });
-    }
-    let none = Items::new(Vec::new(alloc));
-    let pool = mem::replace(&mut rows[0].resources, none);
-    let Groups { own, rw, ro } = split_pool(pool, sizes)?;
-    rows[0].resources = own;
-    Ok(TakenNodes {
-        rows: Items::new(rows),
-        rw,
-        ro,
-    })
+    rows[0].resources = Items::new(own);
+    Ok((Items::new(rw), Items::new(ro)))
 }

@@ -1,34 +1,14 @@
-ghost use Rattle.std.specs.Prelude.{codes};
-ghost use Rattle.json_source.specs.Read as read;
-ghost use Rattle.json_source.specs.Read.{Gives};
-ghost use Rattle.json_reader.specs.Groups as groups;
+ghost use Rattle.json_reader.specs.Found.{FindsAs, IsTaken};
+ghost use Rattle.json_reader.specs.Groups.{taken_draft};
 
-use crate::found_tree::{FoundTree, find_tree};
-use crate::part_groups::{GroupSizes, TakenNodes, group_sizes, split_rows};
-use json_items::{Form, Judged, Raw, both, find_under, text_under};
+use crate::found_nodes::{FoundNodes, PART_MEMBERS, find_below};
+use crate::found_row::own_row;
+use crate::part_groups::{GroupSizes, group_sizes, take_copies};
+use json_items::{Form, Judged, Raw, both, find_three, text_under};
 use json_source::Source;
 use std::alloc::Global;
 use std::marker::Model;
-use ticket_tree::{Ancestors, Items, Name, NodeRow, Part, Refusal, Resources, SpawnId};
-
-/// The members of a part's root.
-const PART_MEMBERS: &[&str] = &[
-    "AncestorPool",
-    "SpawnID",
-    "JobID",
-    "Attr",
-    "AuditPool",
-    "ID",
-    "JDF",
-    "JobPartID",
-    "ResourceLinkPool",
-    "ResourcePool",
-    "Status",
-    "Type",
-];
-
-/// What a part has beside its nodes: its job, its spawn, and the nodes that it stood under.
-type Outer = ((Name, SpawnId), Ancestors);
+use ticket_tree::{Ancestors, Items, Name, NodeRow, Part, Refusal, SpawnId};
 
 /// A part by its members and their kinds, and by what its resources show, of which the names and
 /// texts are valid: its rows may be no tree's.
@@ -37,53 +17,22 @@ pub struct RawPart {
     job: Name,
     spawn: SpawnId,
     ancestors: Ancestors,
+    /// Its nodes, with the copies in the root's pool.
     rows: Items<NodeRow>,
-    rw: Resources,
-    ro: Resources,
+    sizes: GroupSizes,
 }
 
 impl Model for RawPart {
-    ghost use Rattle.json_items.specs.PartDraft.{RawPart as PartSeen};
-    ghost use Rattle.json_reader.specs.Groups.{part_with};
+    ghost use Rattle.json_items.specs.PartDraft.{RawPart as PartSeen, raw_part};
+    ghost use Rattle.json_reader.specs.Groups.{split_rows};
 
     ghost Value = { PartSeen };
 
-    ghost view = { λ p. part_with p.job p.spawn p.ancestors p.rows p.rw p.ro };
-}
-
-/// The text of the id of a part's spawn. Refuses `NotProfile` where there is none.
-fn spawn_text<'a, S: Source>(value: &'a S) -> Result<&'a str, Refusal>
-    ensures { Gives (λ s. s.now) result (read.text_under (codes "SpawnID") (S.content value.now)) }
-{
-    text_under(value, "SpawnID").ok_or(Refusal::NotProfile)
-}
-
-/// How many resources of a part's root stand in each group, by what was found of its nodes. Refuses
-/// `NotProfile` where the root's resources don't stand in their groups or another node's show
-/// something.
-fn sizes_in(tree: &FoundTree, spawn: &str) -> Result<GroupSizes, Refusal>
-    ensures { Gives (λ s. s) result
-        (groups.tree_sizes spawn.now tree.now.bare tree.now.shown) }
-{
-    if !tree.bare {
-        return Err(Refusal::NotProfile);
-    }
-    group_sizes(tree.shown.as_slice(), spawn)
+    ghost view = { λ p. raw_part p.job p.spawn p.ancestors (split_rows p.sizes p.rows) };
 }
 
 impl RawPart {
-    ghost use Rattle.std.specs.Prelude.{◌≡◌, ℕ, List, Some, IfErr, IfOk, true};
-    ghost use Rattle.std.specs.List.{list_all};
-    ghost use Rattle.ticket_items.specs.Names.{is_name};
-    ghost use Rattle.ticket_items.specs.SpawnId.{is_spawn_number};
-    ghost use Rattle.ticket_items.specs.declared.ancestor.Ancestor.{Ancestor as AncestorSeen};
-    ghost use Rattle.ticket_items.specs.declared.node_row.NodeRow.{NodeRow as RowSeen};
-    ghost use Rattle.json_items.specs.Ancestors.{ancestor_has_names};
-    ghost use Rattle.json_items.specs.Judged.{Finds, first_fault, on_both};
-    ghost use Rattle.json_items.specs.PartDraft.{raw_part};
-    ghost use Rattle.json_items.specs.PartForm as form;
-    ghost use Rattle.json_items.specs.TicketForm.{row_has_names, row_has_texts};
-    ghost use Rattle.json_reader.specs.Groups as groups;
+    ghost use Rattle.std.specs.Prelude.{◌≡◌};
 
     /// Its spawn.
     pub fn spawn(&self) -> SpawnId
@@ -91,51 +40,29 @@ impl RawPart {
     {
         self.spawn
     }
+}
 
-    /// The part of what was found beside its nodes, and of its nodes with the copies in the root's
-    /// pool. Refuses `Memory` alone.
-    fn of_nodes(
-        alloc: Global,
-        outer: Judged<Outer>,
-        rows: Judged<Items<NodeRow>>,
-        sizes: GroupSizes,
-    ) -> Result<Judged<RawPart>, Refusal>
-        ensures ok { IfOk result (λ found.
-            (o : (List ℕ × ℕ) × List AncestorSeen) (raws : List RowSeen)
-            → Finds (first_fault
-            (on_both (on_both is_name is_spawn_number) (list_all ancestor_has_names))
-            (on_both (on_both (λ _. true) (λ _. true)) (list_all (λ _. true))))
-            outer (Some o)
-            → Finds (first_fault (list_all row_has_names) (list_all row_has_texts)) rows (Some raws)
-            → Finds (first_fault form.has_names form.has_texts) found
-            (Some (groups.part_of o sizes raws))) }
-        ensures memory { IfErr result (λ e. e ≡ Refusal.Memory) }
-    {
-        match both(outer, rows) {
-            Err(refusal) => Ok(Err(refusal)),
-            Ok((outer, rows)) => {
-                let nodes = split_rows(alloc, rows, sizes)?;
-                Ok(Ok(RawPart::of_parts(outer, nodes)))
-            }
-        }
+/// The rows of a part with the copies in the root's pool, and how many resources stand there in
+/// each group. Refuses `NotProfile`, also where the root's resources don't stand in their groups or
+/// another node's show something, and `Memory`.
+fn find_rows<S: Source>(
+    alloc: Global,
+    value: &S,
+) -> Result<(Judged<Items<NodeRow>>, GroupSizes), Refusal>
+    ensures { FindsAs IsTaken result (taken_draft (S.content value.now)) }
+{
+    let spawn = text_under(value, "SpawnID").ok_or(Refusal::NotProfile)?;
+    let (root, shown) = own_row(alloc, PART_MEMBERS, 1, value)?;
+    let sizes = group_sizes(shown.as_slice(), spawn)?;
+    drop(shown);
+    let mut found = FoundNodes::new(alloc);
+    found.push(root, true)?;
+    find_below(alloc, &mut found, 1, value)?;
+    let FoundNodes { rows, bare } = found;
+    if !bare {
+        return Err(Refusal::NotProfile);
     }
-
-    /// The part of what it has beside its nodes, and of its nodes and copies.
-    fn of_parts(outer: Outer, nodes: TakenNodes) -> RawPart
-        ensures { result ≡ raw_part outer.0.0 outer.0.1 outer.1
-            (groups.taken_nodes nodes) }
-    {
-        let ((job, spawn), ancestors) = outer;
-        let TakenNodes { rows, rw, ro } = nodes;
-        RawPart {
-            job,
-            spawn,
-            ancestors,
-            rows,
-            rw,
-            ro,
-        }
-    }
+    Ok((rows, sizes))
 }
 
 impl Form for RawPart {
@@ -149,14 +76,15 @@ impl Form for RawPart {
     ghost has_texts = { form.has_texts };
 
     fn find<S: Source>(alloc: Global, value: &S) -> Result<Judged<RawPart>, Refusal> {
-        let job = find_under(alloc, value, "JobID")?;
-        let text = spawn_text(value)?;
-        let spawn = find_under(alloc, value, "SpawnID")?;
-        let ancestors = find_under(alloc, value, "AncestorPool")?;
-        let tree = find_tree(alloc, PART_MEMBERS, value)?;
-        let sizes = sizes_in(&tree, text)?;
-        let FoundTree { rows, .. } = tree;
-        RawPart::of_nodes(alloc, both(both(job, spawn), ancestors), rows, sizes)
+        let outer = find_three(alloc, value, "JobID", "SpawnID", "AncestorPool")?;
+        let (rows, sizes) = find_rows(alloc, value)?;
+        Ok(both(outer, rows).map(|(((job, spawn), ancestors), rows)| RawPart {
+            job,
+            spawn,
+            ancestors,
+            rows,
+            sizes,
+        }))
     }
 }
 
@@ -177,9 +105,10 @@ impl Raw for RawPart {
             spawn,
             ancestors,
             rows,
-            rw,
-            ro,
+            sizes,
         } = self;
-        Part::new(alloc, job, spawn, ancestors, rows.into_vec(), rw, ro)
+        let mut rows = rows.into_vec();
+        let (rw, ro) = take_copies(alloc, &mut rows, sizes)?;
+        Part::new(alloc, job, spawn, ancestors, rows, rw, ro)
     }
 }

@@ -1,23 +1,9 @@
-use crate::found_tree::{FoundTree, find_tree};
+use crate::found_nodes::{FoundNodes, PART_MEMBERS, find_node};
 use json_items::{Form, Judged, Raw, both, find_under};
 use json_source::Source;
 use std::alloc::Global;
 use std::marker::Model;
 use ticket_tree::{Items, Name, NodeRow, Refusal, Ticket};
-
-/// The members of a ticket's root.
-const ROOT_MEMBERS: &[&str] = &[
-    "JobID",
-    "Attr",
-    "AuditPool",
-    "ID",
-    "JDF",
-    "JobPartID",
-    "ResourceLinkPool",
-    "ResourcePool",
-    "Status",
-    "Type",
-];
 
 /// A ticket by its members and their kinds, of which the names and texts are valid: its rows may be
 /// no tree's, and its resources may show spawns.
@@ -36,33 +22,6 @@ impl Model for RawTicket {
     ghost view = { λ t. record { job = record { job_id = t.job; rows = t.rows }; bare = t.bare } };
 }
 
-impl RawTicket {
-    ghost use Rattle.std.specs.Prelude.{Some};
-    ghost use Rattle.ticket_items.specs.Names.{is_name};
-    ghost use Rattle.std.specs.List.{list_all};
-    ghost use Rattle.std.specs.Prelude.{true, List, ℕ};
-    ghost use Rattle.json_items.specs.Judged.{Finds, first_fault};
-    ghost use Rattle.json_items.specs.TicketDraft.{RawRow, raw_ticket};
-    ghost use Rattle.json_items.specs.TicketForm as form;
-    ghost use Rattle.json_reader.specs.Found.{IsTree};
-
-    /// The ticket of a job and of nodes that were found.
-    fn of_tree(job: Judged<Name>, tree: FoundTree) -> Judged<RawTicket>
-        ensures { (name : List ℕ) (raws : List RawRow)
-            → Finds (first_fault is_name (λ _. true)) job (Some name)
-            → IsTree raws tree
-            → Finds (first_fault form.has_names form.has_texts) result
-            (Some (raw_ticket name raws)) }
-    {
-        let bare = tree.is_bare();
-        let FoundTree { rows, .. } = tree;
-        match both(job, rows) {
-            Err(refusal) => Err(refusal),
-            Ok((job, rows)) => Ok(RawTicket { job, rows, bare }),
-        }
-    }
-}
-
 impl Form for RawTicket {
     ghost use Rattle.json_items.specs.TicketDraft.{ticket_draft};
     ghost use Rattle.json_items.specs.TicketForm as form;
@@ -75,8 +34,10 @@ impl Form for RawTicket {
 
     fn find<S: Source>(alloc: Global, value: &S) -> Result<Judged<RawTicket>, Refusal> {
         let job = find_under(alloc, value, "JobID")?;
-        let tree = find_tree(alloc, ROOT_MEMBERS, value)?;
-        Ok(RawTicket::of_tree(job, tree))
+        let mut found = FoundNodes::new(alloc);
+        find_node(alloc, &mut found, &PART_MEMBERS[2..], 1, value)?;
+        let FoundNodes { rows, bare } = found;
+        Ok(both(job, rows).map(|(job, rows)| RawTicket { job, rows, bare }))
     }
 }
 

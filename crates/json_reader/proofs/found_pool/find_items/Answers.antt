@@ -1,7 +1,9 @@
+use Rattle.std.proofs.Common.{Some}
 use Rattle.json_items.proofs.ListLemmas.{Fails-each}
-use Rattle.json_items.specs.Resources.{resource_draft}
+use Rattle.json_items.specs.Resources.{resource_draft, resource_has_names, resource_has_texts}
+use Rattle.json_items.specs.TicketDraft.{resources_of}
 use Rattle.json_reader.proofs.Findings.{FindsAs-failed}
-use Rattle.json_reader.proofs.Pools.{items_more}
+use Rattle.json_reader.proofs.Pools.{items_more, pool_more}
 use Rattle.json_reader.specs.Found.{IsPool}
 use Rattle.json_reader.proofs.found_pool.find_items.Goals as goal
 
@@ -13,5 +15,9 @@ returns-in_err-resource g c =
 pub loop-item-preserved : goal.loop-item-preserved
 loop-item-preserved g c =
     let read = c.in_ok-resource.ensures in
-    items_more g.S.Source.content c.args.items.now c.loop-item.item-index c.item-item.result c.loop-item.found _ c.loop-item-test.true c.item-item.is c.loop-item.invariant read.0 read.1
-    (λ before is. c.in_ok-push.ensures.ok before read.0 is read.2)
+    let one = read.2 in
+    items_more g.S.Source.content c.args.items.now c.loop-item.item-index c.item-item.result
+    (record { resources = c.loop-item.resources; shown = c.loop-item.shown.items }) (record { resources = c.push_found.new.found; shown = c.push.new.self.items })
+    c.loop-item-test.true c.item-item.is c.loop-item.invariant read.0 read.1
+    (λ before is. pool_more before read.0 _ (record { resources = c.push_found.new.found; shown = c.push.new.self.items }) c.in_ok-resource.resource c.in_ok-resource.shows is one
+    (c.in_ok-push_found.ensures resource_has_names resource_has_texts (Some (resources_of before)) (Some read.0.resource) is.resources one.resource) c.in_ok-push.ensures.items)

@@ -7,4 +7,5 @@ use Rattle.json_reader.proofs.found_pool.find_items.Given as goal
 
 -- what is found of the items so far
 abbrev pub invariant-loop-item : goal.invariant-loop-item
-invariant-loop-item g l = FindsAs IsPool (Ok l.found) (each resource_draft (items_of (map g.S.Source.content (take l.item-index l.items))))
+invariant-loop-item g l =
+    FindsAs IsPool (Ok (record { resources = l.resources; shown = l.shown.items })) (each resource_draft (items_of (map g.S.Source.content (take l.item-index l.items))))

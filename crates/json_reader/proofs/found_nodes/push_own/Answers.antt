@@ -5,7 +5,7 @@ use Rattle.json_items.specs.Shown.{shows_nothing}
 use Rattle.json_reader.specs.Found.{IsFound}
 use Rattle.json_reader.proofs.Findings.{on_ok}
 use Rattle.json_reader.proofs.Gathering.{own_added, own_failed}
-use Rattle.json_reader.proofs.found_tree.push_own.Goals as goal
+use Rattle.json_reader.proofs.found_nodes.push_own.Goals as goal
 
 pub returns-in_err-row : goal.returns-in_err-row
 returns-in_err-row g c = own_failed IsFound c.args.found.now c.from_residual.result c.in_err-row.field-0.0 _ c.from_residual.ensures.1 c.in_err-row.ensures
