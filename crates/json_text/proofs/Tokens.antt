@@ -10,13 +10,9 @@ use Rattle.serde_json.specs.Read.{of_json, of_members, read, max_depth}
 use Rattle.serde_json.specs.Written.{outline, items_outline, members_outline, compact_text}
 use Rattle.serde_json.proofs.Texts.{print-outline}
 use Rattle.json_text.specs.Printed.{data_tokens, AreReadAgain, IsReadAgain}
+pub use Rattle.json_text.specs.Printed.{put_all}
 
 -- ---- members and items that are read again
-
--- into the second members, the first one after another
-abbrev pub put_all : Members → Members → Members
-put_all no_members ms = ms
-put_all (member k d more) ms = put_all more (put k d ms)
 
 pub members_again : (ms found : Members) → AreReadAgain ms → of_members (members_outline ms) found ≡ Some (put_all ms found)
 members_again no_members found all = refl

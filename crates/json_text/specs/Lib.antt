@@ -1,3 +1,4 @@
+pub mod EditWritten
 pub mod Marked
 pub mod Nodes
 pub mod PartWritten

@@ -1,15 +1,16 @@
 -- What is printed of a node and of those below it, member by member.
-use Rattle.std.specs.Prelude.{◌≡◌, ℕ, List, codes, drop}
+use Rattle.std.specs.Prelude.{◌≡◌, ℕ, true, List, codes, drop}
 use Rattle.std.specs.List.{list_all}
 use Rattle.serde_json.specs.Data.{Members, no_members, member, string, array}
+use Rattle.ticket_items.specs.Names.{is_name, is_text}
 use Rattle.ticket_items.specs.declared.marks.Marks.{Marks}
 use Rattle.ticket_items.specs.declared.node_row.NodeRow.{NodeRow}
 use Rattle.json_items.specs.TicketForm.{row_has_names, row_has_texts}
 use Rattle.json_items.specs.Listed.{data_items}
 use Rattle.json_items.specs.Attributes.{attrs_data}
-use Rattle.json_items.specs.Audits.{audit_data}
-use Rattle.json_items.specs.Links.{link_data}
-use Rattle.json_text.specs.Marked.{shown_status}
+use Rattle.json_items.specs.Audits.{audit_data, audit_has_names, audit_has_texts}
+use Rattle.json_items.specs.Links.{link_has_names}
+use Rattle.json_items.specs.Resources.{resource_has_names, resource_has_texts}
 use Rattle.json_text.specs.TicketText.{IsBehindDeeper}
 
 -- ---- a node's members
@@ -21,17 +22,22 @@ front_members r =
     (member (codes "AuditPool") (array (data_items audit_data r.audits))
     (member (codes "ID") (string r.id) no_members))
 
--- those between its children and its resources
-abbrev pub link_members : NodeRow → Members
-link_members r =
-    member (codes "JobPartID") (string r.job_part)
-    (member (codes "ResourceLinkPool") (array (data_items link_data r.links)) no_members)
+-- the names and texts there are valid
+pub record IsFrontValid (r : NodeRow) : Type 0 where
+  pub id : is_name r.id ≡ true
+  pub attr_names : list_all (λ p. is_name p.0) r.attrs ≡ true
+  pub attr_texts : list_all (λ p. is_text p.1) r.attrs ≡ true
+  pub audit_names : list_all audit_has_names r.audits ≡ true
+  pub audit_texts : list_all audit_has_texts r.audits ≡ true
 
--- those behind its resources, with the Status that these marks show
-abbrev pub kind_members : Marks → NodeRow → Members
-kind_members marks r =
-    member (codes "Status") (string (shown_status marks r))
-    (member (codes "Type") (string r.kind) no_members)
+-- those behind its children are
+pub record IsLastValid (r : NodeRow) : Type 0 where
+  pub job_part : is_name r.job_part ≡ true
+  pub link_names : list_all link_has_names r.links ≡ true
+  pub pool_names : list_all resource_has_names r.resources ≡ true
+  pub pool_texts : list_all resource_has_texts r.resources ≡ true
+  pub status : is_name r.status ≡ true
+  pub kind : is_name r.kind ≡ true
 
 -- ---- the nodes in front that stand deeper
 

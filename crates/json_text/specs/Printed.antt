@@ -4,7 +4,7 @@ use Rattle.std.specs.List.{All, flat_map}
 use Rattle.json.specs.Token.{Token, key}
 use Rattle.json.specs.Tree.{json_tokens}
 use Rattle.json.specs.Written.{Written}
-use Rattle.serde_json.specs.Data.{Data, Members, no_members, member}
+use Rattle.serde_json.specs.Data.{Data, Members, no_members, member, put}
 use Rattle.serde_json.specs.Read.{of_json}
 use Rattle.serde_json.specs.Written.{outline}
 
@@ -46,3 +46,12 @@ pub record AreItemsPrinted {A : Type 0} (written : A → Data) (items : List A) 
     : Type 0 where
   pub appended : IsAppended (flat_map (λ x. data_tokens (written x)) items) old new
   pub again : All (λ x. IsReadAgain (written x)) items
+
+-- into the second members, the first one after another
+abbrev pub put_all : Members → Members → Members
+put_all no_members ms = ms
+put_all (member k d more) ms = put_all more (put k d ms)
+
+-- members stand in the byte order of their names, in which they are read
+abbrev pub AreInOrder : Members → Type 0
+AreInOrder ms = put_all ms no_members ≡ ms

@@ -4,24 +4,12 @@ ghost use Rattle.std.specs.Prelude.{◌≡◌, true, OnOk};
 ghost use Rattle.std.specs.List.{list_all};
 ghost use Rattle.serde_json.specs.Data.{array};
 ghost use Rattle.json_items.specs.Listed.{data_items};
-ghost use Rattle.json_text.specs.Printed.{AreItemsPrinted, IsPrinted};
+ghost use Rattle.json_text.specs.Printed.{IsPrinted};
 
 use crate::printed::Printed;
 use json::Writer;
 use std::alloc::AllocError;
 use ticket_items::Items;
-
-/// Prints items one after another.
-fn print_each<T: Printed>(out: &mut Writer, items: &[T]) -> Result<(), AllocError>
-    ensures printed { OnOk result (AreItemsPrinted T.written items.now out.old out.new) }
-    ensures names { OnOk result (list_all T.has_names items.now ≡ true) }
-    ensures texts { OnOk result (list_all T.has_texts items.now ≡ true) }
-{
-    for item in items {
-        item.print(out)?;
-    }
-    Ok(())
-}
 
 /// Prints a list. The names and texts of its items are valid.
 pub fn print_list<T: Printed>(out: &mut Writer, items: &[T]) -> Result<(), AllocError>
@@ -31,7 +19,9 @@ pub fn print_list<T: Printed>(out: &mut Writer, items: &[T]) -> Result<(), Alloc
     ensures texts { OnOk result (list_all T.has_texts items.now ≡ true) }
 {
     out.begin_array()?;
-    print_each(out, items)?;
+    for item in items {
+        item.print(out)?;
+    }
     out.end_array()
 }
 

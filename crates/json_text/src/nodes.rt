@@ -1,18 +1,12 @@
 //! Printing nodes in preorder, each with all below it.
 
 ghost use Rattle.std.specs.Prelude.{◌≡◌, ◌∷◌, codes, drop, false, true, IfOk, MatchOption, OnOk};
-ghost use Rattle.std.specs.List.{list_all};
 ghost use Rattle.json.specs.Token.{Token as TokenSeen};
 ghost use Rattle.serde_json.specs.Data.{array};
-ghost use Rattle.ticket_items.specs.Names.{is_name, is_text};
 ghost use Rattle.json_items.specs.TicketForm.{row_has_names, row_has_texts};
-ghost use Rattle.json_items.specs.Audits.{audit_has_names, audit_has_texts};
-ghost use Rattle.json_items.specs.Links.{link_has_names};
-ghost use Rattle.json_items.specs.Resources.{resource_has_names, resource_has_texts};
 ghost use Rattle.json_text.specs.TicketText.{is_front_deeper, shown_children, shown_last};
 ghost use Rattle.json_text.specs.TicketText.{shown_node, IsDeeperAt};
-ghost use Rattle.json_text.specs.Nodes.{front_members, kind_members, link_members};
-ghost use Rattle.json_text.specs.Nodes.{IsWalked};
+ghost use Rattle.json_text.specs.Nodes.{front_members, IsFrontValid, IsLastValid, IsWalked};
 ghost use Rattle.json_text.specs.Printed.{AreMembersPrinted};
 ghost use Rattle.json_text.specs.Printed.{data_tokens, IsAppended, IsPrinted, IsReadAgain};
 
@@ -23,45 +17,17 @@ use json::Writer;
 use std::alloc::{AllocError, Global};
 use ticket_items::{Marks, NodeRow};
 
-/// Prints the members of a node in front of its children: its id and its names and texts there are
-/// valid.
+/// Prints the members of a node in front of its children.
 pub fn print_front(out: &mut Writer, row: &NodeRow) -> Result<(), AllocError>
     ensures printed { OnOk result (AreMembersPrinted (front_members row.now) out.old out.new) }
-    ensures id { OnOk result (is_name row.now.id ≡ true) }
-    ensures attr_names { OnOk result (list_all (λ p. is_name p.0) row.now.attrs ≡ true) }
-    ensures attr_texts { OnOk result (list_all (λ p. is_text p.1) row.now.attrs ≡ true) }
-    ensures audit_names { OnOk result (list_all audit_has_names row.now.audits ≡ true) }
-    ensures audit_texts { OnOk result (list_all audit_has_texts row.now.audits ≡ true) }
+    ensures valid { OnOk result (IsFrontValid row.now) }
 {
     print_member(out, "Attr", &row.attrs)?;
     print_member(out, "AuditPool", &row.audits)?;
     print_member(out, "ID", &row.id)
 }
 
-/// Prints the members of a node between its children and its resources. Its names there are valid.
-pub fn print_links(out: &mut Writer, row: &NodeRow) -> Result<(), AllocError>
-    ensures printed { OnOk result (AreMembersPrinted (link_members row.now) out.old out.new) }
-    ensures job_part { OnOk result (is_name row.now.job_part ≡ true) }
-    ensures link_names { OnOk result (list_all link_has_names row.now.links ≡ true) }
-{
-    print_member(out, "JobPartID", &row.job_part)?;
-    print_member(out, "ResourceLinkPool", &row.links)
-}
-
-/// Prints the members of a node of a ticket that shows these marks behind its resources. Its names
-/// there are valid.
-pub fn print_kind(out: &mut Writer, row: &NodeRow, marks: &Marks) -> Result<(), AllocError>
-    ensures printed { OnOk result
-        (AreMembersPrinted (kind_members marks.now row.now) out.old out.new) }
-    ensures status { OnOk result (is_name row.now.status ≡ true) }
-    ensures kind { OnOk result (is_name row.now.kind ≡ true) }
-{
-    print_text(out, "Status", shown_status(marks, row))?;
-    print_member(out, "Type", &row.kind)
-}
-
-/// Prints the members of a node of a ticket that shows these marks behind its children. Its names
-/// and texts there are valid.
+/// Prints the members of a node of a ticket that shows these marks behind its children.
 pub fn print_last(
     alloc: Global,
     out: &mut Writer,
@@ -70,16 +36,13 @@ pub fn print_last(
 ) -> Result<(), AllocError>
     ensures printed { OnOk result
         (AreMembersPrinted (shown_last marks.now row.now) out.old out.new) }
-    ensures job_part { OnOk result (is_name row.now.job_part ≡ true) }
-    ensures link_names { OnOk result (list_all link_has_names row.now.links ≡ true) }
-    ensures pool_names { OnOk result (list_all resource_has_names row.now.resources ≡ true) }
-    ensures pool_texts { OnOk result (list_all resource_has_texts row.now.resources ≡ true) }
-    ensures status { OnOk result (is_name row.now.status ≡ true) }
-    ensures kind { OnOk result (is_name row.now.kind ≡ true) }
+    ensures valid { OnOk result (IsLastValid row.now) }
 {
-    print_links(out, row)?;
+    print_member(out, "JobPartID", &row.job_part)?;
+    print_member(out, "ResourceLinkPool", &row.links)?;
     print_pool(alloc, out, row.resources.as_slice(), marks)?;
-    print_kind(out, row, marks)
+    print_text(out, "Status", shown_status(marks, row))?;
+    print_member(out, "Type", &row.kind)
 }
 
 /// The row at an index, if there is one and it stands deeper than `depth`.

@@ -3,46 +3,16 @@
 ghost use Rattle.std.specs.Prelude.{◌≡◌, true, OnOk};
 ghost use Rattle.std.specs.List.{list_all};
 ghost use Rattle.ticket_items.specs.Names.{is_name};
-ghost use Rattle.ticket_rows.specs.Outline.{is_outline};
-ghost use Rattle.ticket_rows.specs.Ticket.{depths, IsValid};
+ghost use Rattle.ticket_rows.specs.Ticket.{IsValid};
 ghost use Rattle.json_items.specs.TicketForm.{row_has_names, row_has_texts};
-ghost use Rattle.json_text.specs.Marked.{marked_rows};
-ghost use Rattle.json_text.specs.Written.{job_data, shown_data};
+ghost use Rattle.json_text.specs.Written.{shown_data};
 ghost use Rattle.json_text.specs.Printed.{IsPrinted};
 
-use crate::members::print_text;
+use crate::members::print_member;
 use crate::nodes::{print_children, print_front, print_last};
 use json::Writer;
 use std::alloc::{AllocError, Global};
-use ticket_tree::{Marks, Name, NodeRow, Ticket};
-
-/// Prints the rows of a job that shows these marks, the root's with the job's id. The job's id is a
-/// name, and the names and texts of all rows are valid.
-fn print_job(
-    alloc: Global,
-    out: &mut Writer,
-    job: &Name,
-    rows: &[NodeRow],
-    marks: &Marks,
-) -> Result<(), AllocError>
-    requires { is_outline (depths rows.now) ≡ true }
-    ensures printed { OnOk result (IsPrinted
-        (job_data job.now (marked_rows marks.now rows.now)) out.old out.new) }
-    ensures job { OnOk result (is_name job.now ≡ true) }
-    ensures names { OnOk result (list_all row_has_names rows.now ≡ true) }
-    ensures texts { OnOk result (list_all row_has_texts rows.now ≡ true) }
-{
-    let id = job.as_str();
-    let Some(root) = rows.first() else {
-        return out.null();
-    };
-    out.begin_object()?;
-    print_front(out, root)?;
-    print_children(alloc, out, root.depth, rows, 1, marks)?;
-    print_text(out, "JobID", id)?;
-    print_last(alloc, out, root, marks)?;
-    out.end_object()
-}
+use ticket_tree::{Marks, Ticket};
 
 /// Prints a ticket that shows these marks. Its names and texts are valid.
 pub fn print_ticket(
@@ -57,5 +27,14 @@ pub fn print_ticket(
     ensures names { OnOk result (list_all row_has_names ticket.now.rows ≡ true) }
     ensures texts { OnOk result (list_all row_has_texts ticket.now.rows ≡ true) }
 {
-    print_job(alloc, out, ticket.job(), ticket.rows().as_slice(), marks)
+    let rows = ticket.rows().as_slice();
+    let Some(root) = rows.first() else {
+        return out.null();
+    };
+    out.begin_object()?;
+    print_front(out, root)?;
+    print_children(alloc, out, root.depth, rows, 1, marks)?;
+    print_member(out, "JobID", ticket.job())?;
+    print_last(alloc, out, root, marks)?;
+    out.end_object()
 }

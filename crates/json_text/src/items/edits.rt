@@ -1,9 +1,12 @@
 //! Printing edits.
 
-ghost use Rattle.std.specs.Prelude.{◌≡◌, true, OnOk};
+ghost use Rattle.std.specs.Prelude.{◌≡◌, ◌&&◌, true, OnOk};
+ghost use Rattle.serde_json.specs.Data.{object};
+ghost use Rattle.ticket_items.specs.Names.{is_name, is_text};
 ghost use Rattle.ticket_items.specs.declared.edit.Edit.TheVariants as edit;
 ghost use Rattle.json_items.specs.Edits as edits;
-ghost use Rattle.json_text.specs.Printed.{IsPrinted};
+ghost use Rattle.json_text.specs.EditWritten.{attr_edit_members, two_members};
+ghost use Rattle.json_text.specs.Printed.{AreInOrder, IsPrinted};
 
 use crate::members::{print_member, print_text};
 use crate::printed::Printed;
@@ -11,93 +14,52 @@ use json::Writer;
 use std::alloc::AllocError;
 use ticket_items::{Edit, Id, Link, Name, Resource, Text};
 
-/// Prints an edit that gives a node another Status. Its names and texts are valid.
-fn print_set_status(out: &mut Writer, node: &Id, status: &Name) -> Result<(), AllocError>
-    ensures printed { OnOk result
-        (IsPrinted (edits.edit_data (edit.SetStatus node.now status.now)) out.old out.new) }
-    ensures names { OnOk result
-        (edits.edit_has_names (edit.SetStatus node.now status.now) ≡ true) }
-    ensures texts { OnOk result
-        (edits.edit_has_texts (edit.SetStatus node.now status.now) ≡ true) }
-{
-    out.begin_object()?;
-    print_text(out, "Edit", "SetStatus")?;
-    print_member(out, "Node", node)?;
-    print_member(out, "Status", status)?;
-    out.end_object()
-}
-
-/// Prints an edit that sets an attribute of a node. Its names and texts are valid.
-fn print_set_attr(out: &mut Writer, node: &Id, name: &Name, value: &Text) -> Result<(), AllocError>
-    ensures printed { OnOk result
-        (IsPrinted (edits.edit_data (edit.SetAttr node.now name.now value.now)) out.old out.new) }
-    ensures names { OnOk result (edits.edit_has_names
-        (edit.SetAttr node.now name.now value.now) ≡ true) }
-    ensures texts { OnOk result (edits.edit_has_texts
-        (edit.SetAttr node.now name.now value.now) ≡ true) }
-{
-    out.begin_object()?;
-    print_text(out, "Edit", "SetAttr")?;
-    print_member(out, "Name", name)?;
-    print_member(out, "Node", node)?;
-    print_member(out, "Value", value)?;
-    out.end_object()
-}
-
-/// Prints an edit that gives a resource another Status. Its names and texts are valid.
-fn print_set_resource_status(
+/// Prints an edit of a kind by two more members. Their names and texts are valid.
+fn print_two<A: Printed, B: Printed>(
     out: &mut Writer,
-    resource: &Id,
-    status: &Name,
+    kind: &str,
+    one_name: &str,
+    one: &A,
+    other_name: &str,
+    other: &B,
 ) -> Result<(), AllocError>
-    ensures printed { OnOk result
-        (IsPrinted (edits.edit_data (edit.SetResStatus resource.now status.now)) out.old out.new) }
-    ensures names { OnOk result (edits.edit_has_names
-        (edit.SetResStatus resource.now status.now) ≡ true) }
-    ensures texts { OnOk result (edits.edit_has_texts
-        (edit.SetResStatus resource.now status.now) ≡ true) }
+    requires { AreInOrder (two_members kind.now
+        one_name.now (A.written one.now) other_name.now (B.written other.now)) }
+    ensures printed { OnOk result (IsPrinted (object (two_members kind.now
+        one_name.now (A.written one.now) other_name.now (B.written other.now))) out.old out.new) }
+    ensures names { OnOk result ((A.has_names one.now && B.has_names other.now) ≡ true) }
+    ensures texts { OnOk result ((A.has_texts one.now && B.has_texts other.now) ≡ true) }
 {
     out.begin_object()?;
-    print_text(out, "Edit", "SetResStatus")?;
-    print_member(out, "Resource", resource)?;
-    print_member(out, "Status", status)?;
+    print_text(out, "Edit", kind)?;
+    print_member(out, one_name, one)?;
+    print_member(out, other_name, other)?;
     out.end_object()
 }
 
-/// Prints an edit that sets an attribute of a resource. Its names and texts are valid.
-fn print_set_resource_attr(
+/// Prints an edit of a kind that sets an attribute of a target, a node or a resource. Its names and
+/// texts are valid.
+fn print_set_attr(
     out: &mut Writer,
-    resource: &Id,
+    kind: &str,
+    target_name: &str,
+    target: &Id,
     name: &Name,
     value: &Text,
 ) -> Result<(), AllocError>
-    ensures printed { OnOk result (IsPrinted
-        (edits.edit_data (edit.SetResAttr resource.now name.now value.now))
+    requires { AreInOrder
+        (attr_edit_members kind.now target_name.now target.now name.now value.now) }
+    ensures printed { OnOk result (IsPrinted (object
+        (attr_edit_members kind.now target_name.now target.now name.now value.now))
         out.old out.new) }
-    ensures names { OnOk result (edits.edit_has_names
-        (edit.SetResAttr resource.now name.now value.now) ≡ true) }
-    ensures texts { OnOk result (edits.edit_has_texts
-        (edit.SetResAttr resource.now name.now value.now) ≡ true) }
+    ensures names { OnOk result ((is_name target.now && is_name name.now) ≡ true) }
+    ensures texts { OnOk result (is_text value.now ≡ true) }
 {
     out.begin_object()?;
-    print_text(out, "Edit", "SetResAttr")?;
+    print_text(out, "Edit", kind)?;
     print_member(out, "Name", name)?;
-    print_member(out, "Resource", resource)?;
+    print_member(out, target_name, target)?;
     print_member(out, "Value", value)?;
-    out.end_object()
-}
-
-/// Prints an edit that puts a note at a node. Its names and texts are valid.
-fn print_note(out: &mut Writer, node: &Id, text: &Text) -> Result<(), AllocError>
-    ensures printed { OnOk result
-        (IsPrinted (edits.edit_data (edit.Note node.now text.now)) out.old out.new) }
-    ensures names { OnOk result (edits.edit_has_names (edit.Note node.now text.now) ≡ true) }
-    ensures texts { OnOk result (edits.edit_has_texts (edit.Note node.now text.now) ≡ true) }
-{
-    out.begin_object()?;
-    print_text(out, "Edit", "Note")?;
-    print_member(out, "Node", node)?;
-    print_member(out, "Text", text)?;
     out.end_object()
 }
 
@@ -169,17 +131,21 @@ impl Printed for Edit {
 
     fn print(&self, out: &mut Writer) -> Result<(), AllocError> {
         match self {
-            Edit::SetStatus { node, status } => print_set_status(out, node, status),
-            Edit::SetAttr { node, name, value } => print_set_attr(out, node, name, value),
+            Edit::SetStatus { node, status } => {
+                print_two(out, "SetStatus", "Node", node, "Status", status)
+            }
+            Edit::SetAttr { node, name, value } => {
+                print_set_attr(out, "SetAttr", "Node", node, name, value)
+            }
             Edit::SetResStatus { resource, status } => {
-                print_set_resource_status(out, resource, status)
+                print_two(out, "SetResStatus", "Resource", resource, "Status", status)
             }
             Edit::SetResAttr {
                 resource,
                 name,
                 value,
-            } => print_set_resource_attr(out, resource, name, value),
-            Edit::Note { node, text } => print_note(out, node, text),
+            } => print_set_attr(out, "SetResAttr", "Resource", resource, name, value),
+            Edit::Note { node, text } => print_two(out, "Note", "Node", node, "Text", text),
             Edit::AddNode {
                 node,
                 id,

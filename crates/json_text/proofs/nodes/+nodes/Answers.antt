@@ -43,10 +43,7 @@ print_node-returns-clause-printed t c =
     closed _ c.end_object.new.self last c.in_ok-end_object.ensures refl
 
 pub print_node-returns-clause-names : goal.print_node-returns-clause-names
-print_node-returns-clause-names t c =
-    let front = c.in_ok-print_front.ensures in
-    let last = c.in_ok-print_last.ensures in
-    row_names c.args.row.now front.id last.kind last.job_part last.status front.attr_names last.pool_names last.link_names front.audit_names
+print_node-returns-clause-names t c = row_names c.args.row.now c.in_ok-print_front.ensures.valid c.in_ok-print_last.ensures.valid
 
 pub print_node-returns-clause-texts : goal.print_node-returns-clause-texts
-print_node-returns-clause-texts t c = row_texts c.args.row.now c.in_ok-print_front.ensures.attr_texts c.in_ok-print_last.ensures.pool_texts c.in_ok-print_front.ensures.audit_texts
+print_node-returns-clause-texts t c = row_texts c.args.row.now c.in_ok-print_front.ensures.valid c.in_ok-print_last.ensures.valid.pool_texts

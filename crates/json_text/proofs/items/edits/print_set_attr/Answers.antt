@@ -9,4 +9,4 @@ returns-clause-printed c =
     let o2 = one_member _ _ c.print_member.new.out o1 c.in_ok-print_member.ensures.printed c.in_ok-print_member.ensures.again in
     let o3 = one_member _ _ c.print_member-2.new.out o2 c.in_ok-print_member-2.ensures.printed c.in_ok-print_member-2.ensures.again in
     let o4 = one_member _ _ c.print_member-3.new.out o3 c.in_ok-print_member-3.ensures.printed c.in_ok-print_member-3.ensures.again in
-    closed c.end_object.result c.end_object.new.self o4 c.end_object.ensures refl
+    closed c.end_object.result c.end_object.new.self o4 c.end_object.ensures c.requires

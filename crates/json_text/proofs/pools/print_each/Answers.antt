@@ -5,7 +5,7 @@ use Rattle.json_items.proofs.Tests.{list_all-more}
 use Rattle.json_items.specs.Resources.{all_showing, raw_data, resource_has_names, resource_has_texts}
 use Rattle.json_text.proofs.ItemLaws.{made_more, made_all}
 use Rattle.json_text.proofs.PrintedLists.{none_printed}
-use Rattle.json_text.proofs.pools.print_each_showing.Goals as goal
+use Rattle.json_text.proofs.pools.print_each.Goals as goal
 
 pub loop-resource-init : goal.loop-resource-init
 loop-resource-init c = (none_printed raw_data (all_showing c.args.shown.now c.args.resources.now) c.args.out.now, refl, refl)

@@ -2,7 +2,7 @@ use Rattle.std.proofs.Common.{◌≡◌, true, take}
 use Rattle.std.specs.List.{list_all}
 use Rattle.json_items.specs.Resources.{all_showing, raw_data, resource_has_names, resource_has_texts}
 use Rattle.json_text.proofs.PrintedLists.{IsSoFar}
-use Rattle.json_text.proofs.pools.print_each_showing.Given as goal
+use Rattle.json_text.proofs.pools.print_each.Given as goal
 
 -- the resources so far, and what is known of them
 abbrev pub invariant-loop-resource : goal.invariant-loop-resource
