@@ -56,23 +56,16 @@ fn spawn_texts(alloc: Global, spawns: &[SpawnId]) -> Result<Items<AnyText>, Allo
     Ok(Items::new(texts))
 }
 
-/// What a mark shows.
-fn shown_by(alloc: Global, mark: &ResMark) -> Result<Shown, AllocError>
-    ensures { IfOk result (λ shown. shown ≡ marked.shown_by mark.now) }
+/// What a resource of a ticket with these marks shows.
+pub fn shown_of(alloc: Global, marks: &Marks, resource: &Resource) -> Result<Shown, AllocError>
+    ensures { IfOk result (λ shown. shown ≡ marked.shown_of marks.now resource.now) }
 {
+    let Some(mark) = mark_of(marks, &resource.id) else {
+        return Ok(Shown::nothing(alloc));
+    };
     Ok(Shown {
         locked: false,
         spawn_ids: spawn_texts(alloc, mark.spawn_ids.as_slice())?,
         spawn_status: mark.status,
     })
-}
-
-/// What a resource of a ticket with these marks shows.
-pub fn shown_of(alloc: Global, marks: &Marks, resource: &Resource) -> Result<Shown, AllocError>
-    ensures { IfOk result (λ shown. shown ≡ marked.shown_of marks.now resource.now) }
-{
-    match mark_of(marks, &resource.id) {
-        None => Ok(Shown::nothing(alloc)),
-        Some(mark) => shown_by(alloc, mark),
-    }
 }
