@@ -16,7 +16,7 @@ use Rattle.json_text.specs.Written.{ticket_data}
 use Rattle.master_core.proofs.KeptStored.{a_kept_master_is_stored}
 use Rattle.master_core.specs.Master.{Known, known}
 use Rattle.master_core.specs.Stored.{is_master}
-use Rattle.controller_form.specs.States.MasterForm.{judged_master, master_built_fault, master_data}
+use Rattle.controller_form.specs.States.MasterForm.{StoredMaster, judged_master, master_built_fault, master_data}
 use Rattle.controller_form.specs.States.MasterForm.{master_draft, master_has_names, master_has_texts}
 use Rattle.controller_form.specs.States.MasterForm.{master_in, master_state_in, master_state_read, records_are_bare}
 use Rattle.controller_form.specs.States.RecordForm.{are_told_in, record_data, record_form, record_has_names, record_has_texts}
@@ -24,7 +24,6 @@ use Rattle.controller_form.specs.States.RecordForm.{spawn_has_names}
 use Rattle.controller_form.specs.States.Writable.{IsWritableMaster}
 use Rattle.controller_form.specs.declared.states.format.Format.{Format}
 use Rattle.controller_form.specs.declared.states.format.Format.TheVariants.{First, Second}
-use Rattle.controller_form.specs.declared.states.stored_master.StoredMaster.{StoredMaster}
 use Rattle.controller_form.proofs.Reading.{IsSoundDraft, all_pass, nothing_wrong, sound_draft}
 use Rattle.controller_form.proofs.Refusing.{nothing}
 use Rattle.controller_form.proofs.RecordAgain.{bare, records_again}

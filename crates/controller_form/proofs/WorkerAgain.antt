@@ -33,7 +33,7 @@ use Rattle.controller_form.specs.States.EntryForm.{closed_draft, declined_draft,
 use Rattle.controller_form.specs.States.EntryForm.{entry_has_names, entry_has_texts, entry_in, held_draft, is_told_in, partless_draft}
 use Rattle.controller_form.specs.States.EntryForm.{stage_named, with_id}
 use Rattle.controller_form.specs.States.PartFaults.{part_faults}
-use Rattle.controller_form.specs.States.WorkerForm.{is_fault, judged_worker, parts_fault}
+use Rattle.controller_form.specs.States.WorkerForm.{StoredWorker, is_fault, judged_worker, parts_fault}
 use Rattle.controller_form.specs.States.WorkerForm.{worker_built_fault, worker_data, worker_draft}
 use Rattle.controller_form.specs.States.WorkerForm.{worker_has_names, worker_in}
 use Rattle.controller_form.specs.States.WorkerForm.{worker_state_in, worker_state_read}
@@ -41,7 +41,6 @@ use Rattle.controller_form.specs.States.Writable.{IsWritableEntry, IsWritablePar
 use Rattle.controller_form.specs.declared.states.format.Format.{Format}
 use Rattle.controller_form.specs.declared.states.format.Format.TheVariants.{First, Second}
 use Rattle.controller_form.specs.declared.states.stored_entry.StoredEntry.{StoredEntry}
-use Rattle.controller_form.specs.declared.states.stored_worker.StoredWorker.{StoredWorker}
 use Rattle.controller_form.proofs.Reading.{IsSoundDraft, all_pass, nothing_wrong, sound_draft}
 use Rattle.controller_form.proofs.RecordAgain.{more_at, number_again}
 use Rattle.controller_form.proofs.Refusing.{nothing}

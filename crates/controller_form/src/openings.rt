@@ -4,7 +4,6 @@
 mod opening;
 mod opening_read;
 mod raw_shop;
-mod raw_worker;
 mod shop;
 
 pub use opening::Opening;

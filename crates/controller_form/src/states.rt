@@ -10,10 +10,7 @@ mod stage_word;
 mod state_form;
 mod stored_entries;
 mod stored_entry;
-mod stored_form;
-mod stored_master;
 mod stored_record;
-mod stored_worker;
 mod worker_state;
 
 pub use state_form::StateForm;

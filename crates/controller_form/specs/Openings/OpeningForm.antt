@@ -19,7 +19,6 @@ use Rattle.controller_form.specs.Openings.ShopForm.{shop_has_texts, shop_of}
 use Rattle.controller_form.specs.declared.openings.opening.Opening.{Opening}
 use Rattle.controller_form.specs.declared.openings.opening.Opening.TheVariants.{Master, Worker}
 use Rattle.controller_form.specs.declared.openings.raw_shop.RawShop.{RawShop}
-use Rattle.controller_form.specs.declared.openings.raw_worker.RawWorker.{RawWorker}
 use Rattle.controller_form.specs.declared.openings.shop.Shop.{Shop}
 
 -- ---- a master
@@ -46,6 +45,11 @@ abbrev pub master_read : Data → Result Opening Refusal
 master_read d = result_map_both opened (λ e. e) (shop_read d)
 
 -- ---- a worker
+
+-- the names of a worker and of its master
+pub record RawWorker : Type 0 where
+  pub name : List ℕ
+  pub master : List ℕ
 
 abbrev pub worker_members : List (List ℕ)
 worker_members = codes "Master" ∷ codes "Worker" ∷ []

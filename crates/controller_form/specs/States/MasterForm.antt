@@ -11,6 +11,7 @@ use Rattle.ticket_items.specs.declared.refusal.Refusal.{Refusal}
 use Rattle.ticket_items.specs.declared.refusal.Refusal.TheVariants.{BadState}
 use Rattle.ticket_items.specs.declared.refusal.Refusal.TheVariants.{NotProfile, ReservedStatus}
 use Rattle.ticket_rows.specs.Ticket.{first_of, unless}
+use Rattle.json_items.specs.TicketDraft.{RawTicket}
 use Rattle.json_items.specs.TicketForm as ticket_form
 use Rattle.json_items.specs.Judged.{checked_fault, sound}
 use Rattle.json_items.specs.Listed.{data_items, list_form, texts_data}
@@ -24,10 +25,16 @@ use Rattle.controller_form.specs.States.RecordForm.{record_has_names, record_has
 use Rattle.controller_form.specs.States.StateFormat.{controller_under, format_of, read_in}
 use Rattle.controller_form.specs.States.StateFormat.{state_data, written}
 use Rattle.controller_form.specs.declared.states.format.Format.{Format}
-use Rattle.controller_form.specs.declared.states.stored_master.StoredMaster.{StoredMaster}
 use Rattle.controller_form.specs.declared.states.stored_record.StoredRecord.{StoredRecord}
 
 -- ---- read, by members and their kinds alone
+
+-- a master's state as it is read
+pub record StoredMaster : Type 0 where
+  pub name : List ℕ
+  pub workers : List (List ℕ)
+  pub ticket : RawTicket
+  pub records : List StoredRecord
 
 abbrev pub master_members : List (List ℕ)
 master_members = codes "Name" ∷ codes "Spawns" ∷ codes "Ticket" ∷ codes "Workers" ∷ []

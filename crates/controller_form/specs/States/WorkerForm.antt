@@ -24,9 +24,14 @@ use Rattle.controller_form.specs.States.StateFormat.{controller_under, format_of
 use Rattle.controller_form.specs.States.StateFormat.{state_data, written}
 use Rattle.controller_form.specs.declared.states.format.Format.{Format}
 use Rattle.controller_form.specs.declared.states.stored_entry.StoredEntry.{StoredEntry}
-use Rattle.controller_form.specs.declared.states.stored_worker.StoredWorker.{StoredWorker}
 
 -- ---- read, by members and their kinds alone
+
+-- a worker's state as it is read
+pub record StoredWorker : Type 0 where
+  pub name : List ℕ
+  pub master : List ℕ
+  pub entries : List StoredEntry
 
 abbrev pub worker_members : List (List ℕ)
 worker_members = codes "Entries" ∷ codes "Master" ∷ codes "Name" ∷ []

@@ -7,33 +7,31 @@ ghost use Rattle.controller_form.specs.Openings.OpeningForm as form;
 
 use crate::openings::opening::Opening;
 use crate::openings::raw_shop::RawShop;
-use crate::openings::raw_worker::RawWorker;
-use crate::openings::shop::Shop;
-use json_items::{Raw, only};
+use json_items::{Raw, find_two, only};
 use json_source::{Scratch, Source, tree_of};
 use master_core::Master;
 use std::alloc::Global;
 use ticket_tree::Refusal;
-
-/// The shop of the master that a value begins.
-fn shop_in<S: Source>(alloc: Global, value: &S) -> Result<Shop, Refusal>
-    ensures { Answers result (form.shop_read (S.content value.now)) }
-{
-    only(value, &["Master", "Ticket", "Workers"])?;
-    RawShop::whole(alloc, value)
-}
+use worker_core::Worker;
 
 /// The master that a value begins.
 fn master_opening<S: Source>(alloc: Global, value: &S) -> Result<Opening, Refusal>
     ensures { Answers result (form.master_read (S.content value.now)) }
 {
-    let Shop {
-        master: name,
-        workers,
-        ticket,
-    } = shop_in(alloc, value)?;
-    let master = Master::new(alloc, name, workers, ticket)?;
+    only(value, &["Master", "Ticket", "Workers"])?;
+    let shop = RawShop::whole(alloc, value)?;
+    let master = Master::new(alloc, shop.master, shop.workers, shop.ticket)?;
     Ok(Opening::Master(master))
+}
+
+/// The worker that a value begins.
+fn worker_opening<S: Source>(alloc: Global, value: &S) -> Result<Opening, Refusal>
+    ensures { Answers result (form.worker_read (S.content value.now)) }
+{
+    only(value, &["Master", "Worker"])?;
+    let (name, master) = find_two(alloc, value, "Worker", "Master")??;
+    let worker = Worker::new(alloc, name, master)?;
+    Ok(Opening::Worker(worker))
 }
 
 /// The controller that a value begins.
@@ -41,7 +39,7 @@ fn opening_in<S: Source>(alloc: Global, value: &S) -> Result<Opening, Refusal>
     ensures { Answers result (form.opening_read (S.content value.now)) }
 {
     match value.member("Worker") {
-        Some(_) => RawWorker::whole(alloc, value),
+        Some(_) => worker_opening(alloc, value),
         None => master_opening(alloc, value),
     }
 }

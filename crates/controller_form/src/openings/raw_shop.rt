@@ -57,18 +57,13 @@ impl Raw for RawShop {
     /// Refuses the first fault of its ticket, then `SameName` where two of the names are equal;
     /// `Memory` may come before any but what a resource shows of spawns.
     fn build(self, alloc: Global) -> Result<Shop, Refusal> {
-        let RawShop {
-            master,
-            workers,
-            ticket,
-        } = self;
-        let ticket = ticket.build(alloc)?;
-        if !are_apart(alloc, &master, workers.as_slice())? {
+        let ticket = self.ticket.build(alloc)?;
+        if !are_apart(alloc, &self.master, self.workers.as_slice())? {
             return Err(Refusal::SameName);
         }
         Ok(Shop {
-            master,
-            workers,
+            master: self.master,
+            workers: self.workers,
             ticket,
         })
     }

@@ -9,11 +9,9 @@ use worker_core::End;
 pub fn end_named(word: &str) -> Option<End>
     ensures { result ≡ form.end_named word.now }
 {
-    if word == "Completed" {
-        Some(End::Completed)
-    } else if word == "Aborted" {
-        Some(End::Aborted)
-    } else {
-        None
+    match word {
+        "Completed" => Some(End::Completed),
+        "Aborted" => Some(End::Aborted),
+        _ => None,
     }
 }

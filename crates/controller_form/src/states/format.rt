@@ -1,7 +1,7 @@
 //! The document that a state is stored as: its format, and the controller under its kind.
 
-ghost use Rattle.std.specs.Prelude.{◌≡◌};
-ghost use Rattle.json_source.specs.Read.{Gives};
+ghost use Rattle.std.specs.Prelude.{◌≡◌, codes};
+ghost use Rattle.json_source.specs.Read.{Gives, number_under};
 ghost use Rattle.controller_form.specs.States.StateFormat as format;
 
 use json_items::{number_under, only};
@@ -18,6 +18,13 @@ pub enum Format {
     First,
     /// An entry has the id of its spawn, and may have given its part up.
     Second,
+}
+
+/// The time under `At`, in seconds since 1970. Refuses `NotProfile`.
+pub fn at_under<S: Source>(value: &S) -> Result<u64, Refusal>
+    ensures { Gives (λ at. at) result (number_under (codes "At") (S.content value.now)) }
+{
+    number_under(value, "At").ok_or(Refusal::NotProfile)
 }
 
 /// The format of a number.

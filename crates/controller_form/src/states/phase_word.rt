@@ -9,14 +9,11 @@ use spawn::Phase;
 pub fn phase_named(word: &str) -> Option<Phase>
     ensures { result ≡ form.phase_named word.now }
 {
-    if word == "Out" {
-        Some(Phase::Out)
-    } else if word == "Merged" {
-        Some(Phase::Merged)
-    } else if word == "Withdrawn" {
-        Some(Phase::Withdrawn)
-    } else {
-        None
+    match word {
+        "Out" => Some(Phase::Out),
+        "Merged" => Some(Phase::Merged),
+        "Withdrawn" => Some(Phase::Withdrawn),
+        _ => None,
     }
 }
 

@@ -10,12 +10,9 @@ use worker_core::Stage;
 pub fn stage_named(word: &str) -> Option<Stage>
     ensures { result ≡ form.stage_named word.now }
 {
-    if word == "Open" {
-        return Some(Stage::Open);
-    }
-    match end_named(word) {
-        Some(end) => Some(Stage::Done(end)),
-        None => None,
+    match word {
+        "Open" => Some(Stage::Open),
+        _ => end_named(word).map(|end| Stage::Done(end)),
     }
 }
 

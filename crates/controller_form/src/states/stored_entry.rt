@@ -6,10 +6,9 @@ ghost use Rattle.json_source.specs.Read.{Gives};
 ghost use Rattle.controller_form.specs.States.EntryForm as form;
 
 use crate::orders::end_named::end_named;
-use crate::states::format::Format;
+use crate::states::format::{Format, at_under};
 use crate::states::stage_word::stage_named;
-use crate::states::stored_form::{StoredForm, at_under};
-use json_items::{Judged, Raw, find_two, find_under, only, text_under};
+use json_items::{FormIn, Judged, Raw, find_two, find_under, only, text_under};
 use json_profile::RawPart;
 use json_source::Source;
 use std::alloc::Global;
@@ -124,18 +123,18 @@ fn declined<S: Source>(alloc: Global, value: &S) -> Result<Judged<StoredEntry>, 
     partless(alloc, value, Stage::Declined)
 }
 
-impl StoredForm for StoredEntry {
-    ghost form = { form.entry_draft };
+impl FormIn<Format> for StoredEntry {
+    ghost form_in = { form.entry_draft };
 
-    ghost has_names = { form.entry_has_names };
+    ghost names_valid = { form.entry_has_names };
 
-    ghost has_texts = { form.entry_has_texts };
+    ghost texts_valid = { form.entry_has_texts };
 
     #[tactic(auto, unfolding(crate::specs::States::EntryForm::entry_draft))]
-    fn find<S: Source>(
+    fn find_in<S: Source>(
         alloc: Global,
         value: &S,
-        format: Format,
+        format: &Format,
     ) -> Result<Judged<StoredEntry>, Refusal> {
         match format {
             Format::First => told_by_part(alloc, value),
@@ -157,21 +156,16 @@ impl StoredEntry {
         ensures err { IfErr result (λ e. (e ≡ Refusal.Memory)
             ⊎ (form.entry_fault self ≡ Some e)) }
     {
-        let StoredEntry {
-            spawn,
-            phase,
-            part,
-            at,
-        } = self;
-        let part = match part {
-            Some(part) => Some(part.build(alloc)?),
+        let raw = self.part;
+        let part = match raw {
+            Some(raw) => Some(raw.build(alloc)?),
             None => None,
         };
         Ok(Entry {
-            spawn_id: spawn,
-            phase,
+            spawn_id: self.spawn,
+            phase: self.phase,
             part,
-            at,
+            at: self.at,
         })
     }
 }

@@ -4,10 +4,9 @@ ghost use Rattle.std.specs.Prelude.{◌≡◌};
 ghost use Rattle.json_source.specs.Read.{Gives};
 ghost use Rattle.controller_form.specs.States.RecordForm as form;
 
-use crate::states::format::Format;
+use crate::states::format::{Format, at_under};
 use crate::states::phase_word::phase_named;
-use crate::states::stored_form::{StoredForm, at_under};
-use json_items::{Judged, both, find_four, only, text_under};
+use json_items::{FormIn, Judged, both, find_four, only, text_under};
 use json_profile::FoundPool;
 use json_source::Source;
 use spawn::{Phase, SpawnRec};
@@ -28,12 +27,9 @@ pub struct StoredRecord {
 fn is_phase_told_in(format: Format, phase: Phase) -> bool
     ensures { result ≡ form.is_phase_told_in format phase }
 {
-    match format {
-        Format::First => match phase {
-            Phase::Out | Phase::Merged => true,
-            Phase::Withdrawn => false,
-        },
-        Format::Second => true,
+    match (format, phase) {
+        (Format::First, Phase::Withdrawn) => false,
+        _ => true,
     }
 }
 
@@ -50,27 +46,26 @@ fn phase_under<S: Source>(value: &S, format: Format) -> Result<Phase, Refusal>
     }
 }
 
-impl StoredForm for StoredRecord {
-    ghost form = { form.record_form };
+impl FormIn<Format> for StoredRecord {
+    ghost form_in = { form.record_form };
 
-    ghost has_names = { form.record_has_names };
+    ghost names_valid = { form.record_has_names };
 
-    ghost has_texts = { form.record_has_texts };
+    ghost texts_valid = { form.record_has_texts };
 
     #[tactic(auto, unfolding(crate::specs::States::RecordForm::record_form))]
-    fn find<S: Source>(
+    fn find_in<S: Source>(
         alloc: Global,
         value: &S,
-        format: Format,
+        format: &Format,
     ) -> Result<Judged<StoredRecord>, Refusal> {
         only(value, RECORD_MEMBERS)?;
         let at = at_under(value)?;
-        let phase = phase_under(value, format)?;
+        let phase = phase_under(value, *format)?;
         let names = find_four(alloc, value, "ID", "Node", "Worker", "RW")?;
         let pool = FoundPool::find_under(alloc, value, "RO")?;
         let bare = pool.is_bare();
-        let FoundPool { resources, .. } = pool;
-        let ((((id, node), worker), rw), ro) = match both(names, resources) {
+        let ((((id, node), worker), rw), ro) = match both(names, pool.resources) {
             Ok(found) => found,
             Err(refusal) => return Ok(Err(refusal)),
         };

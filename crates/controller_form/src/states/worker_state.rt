@@ -9,9 +9,9 @@ ghost use Rattle.controller_form.specs.States.Writable.{IsWritableWorker};
 use crate::states::entry_text::print_entries;
 use crate::states::format::{WRITTEN, controller_under, format_of};
 use crate::states::state_form::StateForm;
-use crate::states::stored_form::StoredForm;
-use crate::states::stored_worker::StoredWorker;
+use crate::states::stored_entries::build_entries;
 use json::Writer;
+use json_items::{both, find_list_in, find_two, only};
 use json_source::Source;
 use json_text::print_member;
 use std::alloc::{AllocError, Global};
@@ -56,7 +56,11 @@ impl StateForm for Worker {
     fn state_of<S: Source>(alloc: Global, value: &S) -> Result<Worker, Refusal> {
         let format = format_of(value)?;
         let controller = controller_under(value, "Worker")?;
-        let stored = StoredWorker::find(alloc, controller, format)??;
-        stored.build(alloc)
+        only(controller, &["Entries", "Master", "Name"])?;
+        let names = find_two(alloc, controller, "Name", "Master")?;
+        let entries = find_list_in(alloc, controller, "Entries", &format)?;
+        let ((name, master), entries) = both(names, entries)?;
+        let entries = build_entries(alloc, entries.into_vec())?;
+        Worker::of_parts(alloc, name, master, entries)
     }
 }
