@@ -1,7 +1,7 @@
 -- The form of a master's state. As it is read the ids, names and texts may be any bytes, its rows
 -- no tree's, and its resources may show spawns.
-use Rattle.std.specs.Prelude.{ℕ, ◌&&◌, Bool, List, [], ◌∷◌, codes, map, if◌then◌else◌}
-use Rattle.std.specs.Prelude.{Option, Some, None, Result, Err}
+use Rattle.std.specs.Prelude.{ℕ, ◌&&◌, Bool, List, [], ◌∷◌, codes, map}
+use Rattle.std.specs.Prelude.{Option, Some, Result, Err}
 use Rattle.std.specs.List.{list_all}
 use Rattle.std.specs.Option.{option_and_then, option_map_or}
 use Rattle.serde_json.specs.Data.{Data, no_members, member, string, array, object}

@@ -1,4 +1,4 @@
-use Rattle.std.proofs.Common.{◌≡◌, ◌∙◌, ◌⊎◌, inl, inr, ℕ, Bool, true, false, not, List, [], Option, Some, None, Result, Ok, Err, refl, sym, ap}
+use Rattle.std.proofs.Common.{◌≡◌, ◌∙◌, inr, ℕ, Bool, true, false, not, List, Option, Some, None, Result, Ok, Err, refl, sym, ap}
 use Rattle.std.specs.Prelude.{codes}
 use Rattle.std.specs.Option.{option_and_then, option_map, option_map_or}
 use Rattle.std.specs.Str.{bytes_eq}

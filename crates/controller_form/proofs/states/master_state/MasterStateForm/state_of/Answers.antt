@@ -1,4 +1,4 @@
-use Rattle.std.proofs.Common.{◌≡◌, ◌∙◌, ◌&&◌, ⊎_elim, inl, inr, ℕ, Bool, true, false, [], ◌∷◌, List, map, None, Option, Some, Result, Ok, Err, refl, ap, ap₂, subst, sym}
+use Rattle.std.proofs.Common.{◌≡◌, ◌∙◌, ◌&&◌, ⊎_elim, inl, inr, ℕ, Bool, true, false, [], ◌∷◌, List, None, Option, Some, Result, Ok, Err, refl, ap, ap₂, subst, sym}
 use Rattle.std.specs.Prelude.{codes}
 use Rattle.std.specs.List.{list_all}
 use Rattle.std.specs.Option.{option_and_then, option_map}
