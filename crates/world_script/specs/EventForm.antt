@@ -1,8 +1,8 @@
 -- The form of an event of a script, and the event that JSON data is. By its form the ids, names and
 -- texts may be any bytes, and a spawn is 0 where its SpawnID names none.
-use Rattle.std.specs.Prelude.{ℕ, ◌&&◌, Bool, true, false, List, [], ◌∷◌, codes, if◌then◌else◌}
+use Rattle.std.specs.Prelude.{ℕ, ◌&&◌, ◌||◌, Bool, true, false, List, [], ◌∷◌, codes, if◌then◌else◌}
 use Rattle.std.specs.Prelude.{Option, Some, None}
-use Rattle.std.specs.Option.{option_map, option_map_or}
+use Rattle.std.specs.Option.{option_map}
 use Rattle.std.specs.Str.{bytes_eq}
 use Rattle.serde_json.specs.Data.{Data}
 use Rattle.serde_json.specs.Find.{as_str, get}
@@ -113,6 +113,9 @@ is_run _ = false
 abbrev pub event_runs : Event → Bool
 event_runs e = is_run e.stop
 
--- no controller stops at the event that data is
-abbrev pub data_runs : Data → Bool
-data_runs d = option_map_or is_run (stop_of (get (codes "Stop") d)) false
+-- an event at which the controller may stop, or not
+abbrev pub event_in : Bool → List ℕ → Data → Option Event
+event_in stops master d = do
+  e ← event_form master d
+  _ ← provided (stops || event_runs e)
+  Some e

@@ -1,8 +1,8 @@
 -- A script: a shop, and what happens in it.
-use Rattle.std.specs.Prelude.{ℕ, ◌&&◌, Bool, List, [], ◌∷◌, codes, if◌then◌else◌, Option, Some}
+use Rattle.std.specs.Prelude.{ℕ, ◌&&◌, Bool, true, false, List, [], ◌∷◌, codes, if◌then◌else◌, Option, Some}
 use Rattle.std.specs.Prelude.{Result, Err}
 use Rattle.std.specs.List.{list_all}
-use Rattle.std.specs.Option.{option_map_or}
+use Rattle.std.specs.Option.{option_and_then, option_map_or}
 use Rattle.serde_json.specs.Data.{Data}
 use Rattle.serde_json.specs.Find.{get}
 use Rattle.ticket_items.specs.declared.refusal.Refusal.{Refusal}
@@ -16,11 +16,15 @@ use Rattle.controller_form.specs.Openings.ShopForm.{shop_has_texts}
 use Rattle.controller_form.specs.declared.openings.raw_shop.RawShop.{RawShop}
 use Rattle.world_items.specs.declared.event.Event.{Event}
 use Rattle.world_script.specs.EventForm.{event_form, event_has_names, event_has_texts}
-use Rattle.world_script.specs.EventForm.{event_runs}
-use Rattle.world_script.specs.declared.raw_script.RawScript.{RawScript}
+use Rattle.world_script.specs.EventForm.{event_in, event_runs}
 use Rattle.world_script.specs.declared.script.Script.{Script}
 
 -- ---- by members and their kinds alone
+
+-- a shop and its events
+pub record RawScript : Type 0 where
+  pub shop : RawShop
+  pub events : List Event
 
 -- what stands under `Events`
 abbrev pub events_under : List ℕ → Data → Option (List Event)
@@ -41,6 +45,18 @@ script_draft d = do
   _ ← provided (has_only script_members d)
   parts ← script_parts d
   Some (record { shop = parts.0; events = parts.1 })
+
+-- the same parts, where controllers may stop or not
+abbrev pub events_in : Bool → List ℕ → Data → Option (List Event)
+events_in stops master d =
+    option_and_then (list_form (event_in stops master)) (get (codes "Events") d)
+
+abbrev pub parts_in : Bool → Data → Option (RawShop × List Event)
+parts_in stops d = do
+  _ ← provided (has_only script_members d)
+  shop ← shop_draft d
+  events ← events_in stops shop.master d
+  Some (shop, events)
 
 -- ---- faults
 
@@ -81,6 +97,11 @@ abbrev pub running_script_read : Data → Result Script Refusal
 running_script_read d =
     option_map_or (λ s. if runs_on s then sound (script_fault s) (script_of s) else Err NotProfile)
     (script_draft d) (Err NotProfile)
+
+-- the one or the other, where controllers may stop or not
+abbrev pub read_in : Bool → Data → Result Script Refusal
+read_in true d = script_read d
+read_in false d = running_script_read d
 
 -- the bytes are JSON that is read so
 abbrev pub IsReadAs : List ℕ → Result Script Refusal → Type 0

@@ -3,7 +3,6 @@
 ghost use Rattle.std.specs.Prelude.{◌≡◌, ◌++◌, string_bytes, IfOk, OnOk};
 ghost use Rattle.world_script.specs.AnswerText as texts;
 
-use controller::Reply;
 use std::alloc::{AllocError, Global};
 use ticket_tree::{Refusal, SpawnId};
 use world_items::{Answer, Word};
@@ -19,13 +18,6 @@ fn with_spawn(alloc: Global, text: &str, spawn: Option<SpawnId>) -> Result<Strin
             format!(in alloc; "{text} S{spawn}")
         }
     }
-}
-
-/// A reply's word, and the spawn that it tells of.
-fn reply_text(alloc: Global, reply: &Reply) -> Result<String, AllocError>
-    ensures { IfOk result (λ text. string_bytes text ≡ texts.reply_text reply.now) }
-{
-    with_spawn(alloc, reply.word(), reply.spawn())
 }
 
 /// The spawn that holds what was to be changed or spawned.
@@ -58,7 +50,7 @@ fn word_text(alloc: Global, word: &Word) -> Result<String, AllocError>
     ensures { IfOk result (λ text. string_bytes text ≡ texts.word_text word.now) }
 {
     match word {
-        Word::Did(reply) => reply_text(alloc, reply),
+        Word::Did(reply) => with_spawn(alloc, reply.word(), reply.spawn()),
         Word::Refused(refusal) => refusal_text(alloc, refusal),
         Word::Stopped => String::from_str(alloc, "Stopped"),
         Word::Restarted => String::from_str(alloc, "Restarted"),

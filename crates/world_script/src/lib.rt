@@ -4,8 +4,6 @@
 
 mod answer;
 mod event;
-mod events;
-mod raw_script;
 mod read;
 mod script;
 mod stop_word;

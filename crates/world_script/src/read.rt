@@ -1,17 +1,53 @@
 //! From bytes to a script.
 
 ghost use Rattle.std.specs.Prelude.{Ok, IfOk, IfErr};
-ghost use Rattle.json_items.specs.Judged.{Answers};
+ghost use Rattle.std.specs.List.{list_all};
+ghost use Rattle.json_items.specs.Judged.{Answers, Reads, on_both};
+ghost use Rattle.controller_form.specs.Openings.ShopForm.{shop_has_names, shop_has_texts};
+ghost use Rattle.world_script.specs.EventForm.{event_has_names, event_has_texts};
 ghost use Rattle.world_script.specs.Script.{IsReadAs, IsReadAsRunning, IsRefusalOf};
-ghost use Rattle.world_script.specs.Script.{IsRefusalOfRunning, running_script_read};
+ghost use Rattle.world_script.specs.Script.{IsRefusalOfRunning, parts_in, read_in};
 
-use crate::events::events_run;
-use crate::raw_script::RawScript;
+use crate::event::InShop;
 use crate::script::Script;
-use json_items::{Form, Raw};
+use controller_form::RawShop;
+use json_items::{Form, Judged, Raw, both, find_list_in, only, text_under};
 use json_source::{Scratch, Source, tree_of};
 use std::alloc::Global;
-use ticket_tree::Refusal;
+use ticket_tree::{Items, Refusal};
+use world_items::Event;
+
+/// What is found of the shop and the events of a script, in which controllers may stop or not.
+/// Refuses `NotProfile`, and `Memory`.
+fn find_parts<S: Source>(
+    alloc: Global,
+    value: &S,
+    stops: bool,
+) -> Result<Judged<(RawShop, Items<Event>)>, Refusal>
+    ensures { Reads (on_both shop_has_names (list_all event_has_names))
+        (on_both shop_has_texts (list_all event_has_texts)) result
+        (parts_in stops (S.content value.now)) }
+{
+    only(value, &["Events", "Master", "Ticket", "Workers"])?;
+    let master = text_under(value, "Master").ok_or(Refusal::NotProfile)?;
+    let shop = RawShop::find(alloc, value)?;
+    let events = find_list_in(alloc, value, "Events", &InShop { master, stops })?;
+    Ok(both(shop, events))
+}
+
+/// The script that a value is, in which controllers may stop or not, or its first refusal.
+fn script_in<S: Source>(alloc: Global, value: &S, stops: bool) -> Result<Script, Refusal>
+    ensures { Answers result (read_in stops (S.content value.now)) }
+{
+    let (shop, events) = find_parts(alloc, value, stops)??;
+    let shop = shop.build(alloc)?;
+    Ok(Script {
+        master: shop.master,
+        workers: shop.workers,
+        ticket: shop.ticket,
+        events,
+    })
+}
 
 /// The script that bytes are. Refuses the first of `NotJson`, `NotProfile`, `BadId` (also where a
 /// SpawnID names no spawn), `BadText`, `ReservedStatus`, `DuplicateId`, `TooDeep`, `UnresolvedLink`
@@ -23,19 +59,7 @@ pub fn script_of(alloc: Global, bytes: &[u8]) -> Result<Script, Refusal>
 {
     let mut scratch = Scratch::new(alloc);
     let tree = tree_of(alloc, bytes, &mut scratch)?;
-    RawScript::whole(alloc, &tree)
-}
-
-/// The script that a value is, in which no controller stops, or its first refusal.
-fn running_script_in<S: Source>(alloc: Global, value: &S) -> Result<Script, Refusal>
-    ensures { Answers result (running_script_read (S.content value.now)) }
-{
-    let found = RawScript::find(alloc, value)?;
-    if !events_run(value) {
-        return Err(Refusal::NotProfile);
-    }
-    let raw = found?;
-    raw.build(alloc)
+    script_in(alloc, &tree, true)
 }
 
 /// The script that bytes are, in which no controller stops. Refuses what `script_of` does, and
@@ -46,5 +70,5 @@ pub fn running_script_of(alloc: Global, bytes: &[u8]) -> Result<Script, Refusal>
 {
     let mut scratch = Scratch::new(alloc);
     let tree = tree_of(alloc, bytes, &mut scratch)?;
-    running_script_in(alloc, &tree)
+    script_in(alloc, &tree, false)
 }

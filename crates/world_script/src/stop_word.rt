@@ -11,14 +11,11 @@ use world_items::Stop;
 fn stop_named(word: &str) -> Option<Stop>
     ensures { result ≡ form.stop_named word.now }
 {
-    if word == "Run" {
-        Some(Stop::Run)
-    } else if word == "BeforeSave" {
-        Some(Stop::BeforeSave)
-    } else if word == "BeforeSend" {
-        Some(Stop::BeforeSend)
-    } else {
-        None
+    match word {
+        "Run" => Some(Stop::Run),
+        "BeforeSave" => Some(Stop::BeforeSave),
+        "BeforeSend" => Some(Stop::BeforeSend),
+        _ => None,
     }
 }
 
