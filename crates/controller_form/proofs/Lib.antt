@@ -9,3 +9,4 @@ pub mod Named
 pub mod Together
 pub mod Refusing
 pub mod EntryMembers
+pub mod Mapped

@@ -31,13 +31,8 @@ impl Form for RawShop {
     /// others.
     #[tactic(auto, unfolding(crate::specs::Openings::ShopForm::shop_draft), using(json_items::proofs::Tests::all_true))]
     fn find<S: Source>(alloc: Global, value: &S) -> Result<Judged<RawShop>, Refusal> {
-        let ((master, workers), ticket) = match find_three(
-            alloc, value, "Master", "Workers", "Ticket",
-        )? {
-            Ok(found) => found,
-            Err(refusal) => return Ok(Err(refusal)),
-        };
-        Ok(Ok(RawShop {
+        let found = find_three(alloc, value, "Master", "Workers", "Ticket")?;
+        Ok(found.map(|((master, workers), ticket)| RawShop {
             master,
             workers,
             ticket,

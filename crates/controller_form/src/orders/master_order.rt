@@ -28,11 +28,8 @@ fn spawn<S: Source>(alloc: Global, value: &S) -> Result<Judged<Order>, Refusal>
         (forms.spawn_form (S.content value.now)) }
 {
     only(value, &["Node", "Order", "RW", "Worker"])?;
-    let ((node, worker), rw) = match find_three(alloc, value, "Node", "Worker", "RW")? {
-        Ok(found) => found,
-        Err(refusal) => return Ok(Err(refusal)),
-    };
-    Ok(Ok(Order::Spawn { node, worker, rw }))
+    let found = find_three(alloc, value, "Node", "Worker", "RW")?;
+    Ok(found.map(|((node, worker), rw)| Order::Spawn { node, worker, rw }))
 }
 
 /// The master's order that is found in a value, of the kind that its `Order` names. Refuses

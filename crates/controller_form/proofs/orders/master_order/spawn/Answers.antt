@@ -1,4 +1,4 @@
-use Rattle.std.proofs.Common.{◌≡◌, ◌∙◌, ℕ, true, List, None, Option, Some, ap, sym}
+use Rattle.std.proofs.Common.{rules, ◌≡◌, ◌∙◌, ℕ, true, List, None, Option, Some, ap, sym}
 use Rattle.std.specs.Prelude.{codes}
 use Rattle.std.specs.List.{list_all}
 use Rattle.std.specs.Option.{option_and_then, option_map}
@@ -7,7 +7,6 @@ use Rattle.serde_json.specs.Find.{as_str, get}
 use Rattle.ticket_items.specs.Names.{is_name}
 use Rattle.ticket_items.specs.declared.refusal.Refusal.{Refusal}
 use Rattle.json_source.specs.Read.{◌>>=◌, has_only, provided}
-use Rattle.json_items.proofs.Faults.{made_err}
 use Rattle.json_items.proofs.Tests.{all_true}
 use Rattle.json_items.specs.Judged.{checked_fault, first_fault, on_both}
 use Rattle.json_items.specs.Listed.{list_form}
@@ -15,6 +14,7 @@ use Rattle.json_items.specs.Members.{three_form}
 use Rattle.master_core.specs.declared.order.Order.{Order}
 use Rattle.master_core.specs.declared.order.Order.TheVariants.{Spawn}
 use Rattle.controller_form.specs.Orders.MasterForm.{order_has_names, order_has_texts, spawn_form, spawn_members}
+use Rattle.controller_form.proofs.Mapped.{mapped}
 use Rattle.controller_form.proofs.Together.{three_together}
 use Rattle.controller_form.proofs.orders.master_order.spawn.Goals as goal
 
@@ -39,7 +39,7 @@ in_parts d passed =
 same_fault : (p : Parts) → first_fault order_has_names order_has_texts (make p) ≡ fault p
 same_fault p = ap (λ b. checked_fault (order_has_names (make p)) b None) (sym (all_true p.1))
 
-pub returns-in-Err : goal.returns-in-Err
-returns-in-Err g c =
+pub returns : goal.returns
+returns g c =
     let d = g.S.Source.content c.args.value.now in
-    made_err fault (first_fault order_has_names order_has_texts) make (parts d) (spawn_form d) c.in_ok-found.field-0 _ (in_parts d c.in_ok-only.ensures) same_fault c.in-Err.is c.in_ok-found.ensures
+    mapped _ fault (first_fault order_has_names order_has_texts) make (parts d) (spawn_form d) c.in_ok-found.found c.map.result (in_parts d c.in_ok-only.ensures) same_fault (λ p x h. search rules) c.in_ok-found.ensures c.map.ensures.cases

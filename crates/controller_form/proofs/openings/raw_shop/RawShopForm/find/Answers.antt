@@ -1,4 +1,4 @@
-use Rattle.std.proofs.Common.{◌≡◌, ◌&&◌, ℕ, true, List, None, Option, ap, sym}
+use Rattle.std.proofs.Common.{rules, ◌≡◌, ◌&&◌, ℕ, true, List, None, Option, ap, sym}
 use Rattle.std.specs.Prelude.{codes}
 use Rattle.std.specs.List.{list_all}
 use Rattle.std.specs.Option.{option_and_then, option_map}
@@ -6,7 +6,6 @@ use Rattle.serde_json.specs.Data.{Data}
 use Rattle.serde_json.specs.Find.{as_str, get}
 use Rattle.ticket_items.specs.Names.{is_name}
 use Rattle.ticket_items.specs.declared.refusal.Refusal.{Refusal}
-use Rattle.json_items.proofs.Faults.{made_err}
 use Rattle.json_items.proofs.Tests.{all_true}
 use Rattle.json_items.specs.Judged.{checked_fault, first_fault, on_both}
 use Rattle.json_items.specs.Listed.{list_form}
@@ -15,6 +14,7 @@ use Rattle.json_items.specs.TicketDraft.{RawTicket, ticket_draft}
 use Rattle.json_items.specs.TicketForm as ticket_form
 use Rattle.controller_form.specs.Openings.ShopForm.{shop_draft, shop_has_names, shop_has_texts}
 use Rattle.controller_form.specs.declared.openings.raw_shop.RawShop.{RawShop}
+use Rattle.controller_form.proofs.Mapped.{mapped}
 use Rattle.controller_form.proofs.Together.{three_together}
 use Rattle.controller_form.proofs.openings.raw_shop.RawShopForm.find.Goals as goal
 
@@ -37,7 +37,7 @@ in_parts d = three_together (λ master workers ticket. make ((master, workers), 
 same_fault : (p : Parts) → first_fault shop_has_names shop_has_texts (make p) ≡ fault p
 same_fault p = ap (λ b. checked_fault (shop_has_names (make p)) (b && ticket_form.has_texts p.1) None) (sym (all_true p.0.1))
 
-pub returns-in-Err : goal.returns-in-Err
-returns-in-Err g c =
+pub returns : goal.returns
+returns g c =
     let d = g.S.Source.content c.args.value.now in
-    made_err fault (first_fault shop_has_names shop_has_texts) make (parts d) (shop_draft d) c.in_ok-found.field-0 _ (in_parts d) same_fault c.in-Err.is c.in_ok-found.ensures
+    mapped _ fault (first_fault shop_has_names shop_has_texts) make (parts d) (shop_draft d) c.in_ok-found.found c.map.result (in_parts d) same_fault (λ p x h. search rules) c.in_ok-found.ensures c.map.ensures.cases
