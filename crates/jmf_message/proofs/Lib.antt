@@ -1,6 +1,6 @@
 pub mod Fronts
 pub mod IdTexts
-pub mod MessageMembers
+pub mod ItemData
 pub mod PartRead
 pub mod Parts
 pub mod RoundTrip

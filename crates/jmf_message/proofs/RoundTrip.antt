@@ -3,11 +3,11 @@ use Rattle.std.proofs.Common.{◌≡◌, ℕ, ◌==◌, Bool, true, false, List,
 use Rattle.std.proofs.lemmas.Bool.{and_from}
 use Rattle.std.proofs.lemmas.Bool.Decides.{Decides-eqb}
 use Rattle.std.proofs.lemmas.Slice.Eq.{bytes_eq-Decides}
-use Rattle.std.specs.Option.{option_map, option_map_or}
+use Rattle.std.specs.Option.{option_and_then, option_map, option_map_or}
 use Rattle.std.specs.Str.{bytes_eq}
 use Rattle.serde_json.specs.Data.{Data, no_members, member, unsigned, number, string, object}
 use Rattle.json_items.specs.Judged.{sound}
-use Rattle.json_source.specs.Read.{◌>>=◌, provided}
+use Rattle.json_source.specs.Read.{◌>>=◌}
 use Rattle.json_items.specs.PartDraft.{RawPart}
 use Rattle.json_items.specs.PartForm.{copied}
 use Rattle.json_text.specs.PartWritten.{part_data}
@@ -27,8 +27,8 @@ use Rattle.controller.specs.declared.queue_status.QueueStatus.TheVariants.{Runni
 use Rattle.jmf_message.specs.Decoded.{body_of, body_with, draft_read, message_fault, message_read, message_saying, message_with, said_with}
 use Rattle.jmf_message.specs.Form.{RawJmf, RawMessage, document_form, has_part, is_command, is_response, jmf_form, part_beside}
 use Rattle.jmf_message.specs.Known.{IsKnown, IsWritten}
-use Rattle.jmf_message.specs.Said.{answered_in, command_said, is_command_of, is_response_of, may_be_said, response_said, told_by}
-use Rattle.jmf_message.specs.Written.{command_data, jmf_data, message_data, put_said, response_data, said_by, spawn_said}
+use Rattle.jmf_message.specs.Said.{answered_in, command_asked, command_said, confirmed, may_be_said, response_said, says, told_by}
+use Rattle.jmf_message.specs.Written.{command_data, jmf_data, message_data, put_said, response_data, said_by, said_data, spawn_said}
 use Rattle.jmf_message.specs.declared.said.Said.{Said}
 use Rattle.jmf_message.specs.declared.said.Said.TheVariants as said
 use Rattle.jmf_message.proofs.PartRead.{IsReadOf, no_fault-back, read_of}
@@ -40,27 +40,29 @@ bytes_eq-same xs = (bytes_eq-Decides xs xs).1 refl
 nat_eq-same : (n : ℕ) → (n == n) ≡ true
 nat_eq-same n = (Decides-eqb n n).1 refl
 
+-- ---- what is said
+
+is_itself : (sender : List ℕ) (s : Said) → says (said_data sender s) (said_data sender s) ≡ true
+is_itself sender (said.Command Submit n) = simp bytes_eq-same
+is_itself sender (said.Command Return n) = simp bytes_eq-same
+is_itself sender (said.Command Abort n) = simp bytes_eq-same
+is_itself sender (said.Answer asked n (Ok status)) = simp bytes_eq-same
+is_itself sender (said.Answer asked n (Err reason)) = simp (bytes_eq-same, nat_eq-same)
+
+confirmed_again : (sender : List ℕ) (s : Said) (found : Option Said) → found ≡ Some s → option_and_then (confirmed sender (said_data sender s)) found ≡ Some s
+confirmed_again sender s found is = ap (option_and_then (confirmed sender (said_data sender s))) is ∙ passed _ _ (is_itself sender s)
+
 -- ---- commands
 
-is_itself : (sender : List ℕ) (asked : Command) (n : ℕ) → is_command_of sender asked n (command_data sender asked n) ≡ true
-is_itself sender Submit n = simp bytes_eq-same
-is_itself sender Return n = simp bytes_eq-same
-is_itself sender Abort n = simp bytes_eq-same
-
-abbrev command_at : List ℕ → Command → ℕ → Option ℕ → Option Said
-command_at sender asked n spawn =
-    spawn >>= λ s. provided (is_command_of sender asked s (command_data sender asked n)) >>= λ _. Some (said.Command asked s)
+asked_again : (sender : List ℕ) (asked : Command) (n : ℕ) → is_spawn_number n ≡ true → command_asked asked (command_data sender asked n) ≡ Some (said.Command asked n)
+asked_again sender Submit n valid = ap (option_map (said.Command Submit)) (spawn_of-spawn_text n valid)
+asked_again sender Return n valid = ap (option_map (said.Command Return)) (spawn_of-spawn_text n valid)
+asked_again sender Abort n valid = ap (option_map (said.Command Abort)) (spawn_of-spawn_text n valid)
 
 command_again : (sender : List ℕ) (asked : Command) (n : ℕ) → is_spawn_number n ≡ true → command_said sender asked (command_data sender asked n) ≡ Some (said.Command asked n)
-command_again sender Submit n valid = ap (command_at sender Submit n) (spawn_of-spawn_text n valid) ∙ passed _ _ (is_itself sender Submit n)
-command_again sender Return n valid = ap (command_at sender Return n) (spawn_of-spawn_text n valid) ∙ passed _ _ (is_itself sender Return n)
-command_again sender Abort n valid = ap (command_at sender Abort n) (spawn_of-spawn_text n valid) ∙ passed _ _ (is_itself sender Abort n)
+command_again sender asked n valid = confirmed_again sender (said.Command asked n) _ (asked_again sender asked n valid)
 
 -- ---- responses
-
-is_response_itself : (asked : Command) (n : ℕ) (told : Result QueueStatus ℕ) → is_response_of asked n told (response_data asked n told) ≡ true
-is_response_itself asked n (Ok status) = simp bytes_eq-same
-is_response_itself asked n (Err reason) = simp (bytes_eq-same, nat_eq-same)
 
 -- the command and the spawn
 answered_again : (asked : Command) (n : ℕ) (told : Result QueueStatus ℕ) → is_spawn_number n ≡ true → answered_in (response_data asked n told) ≡ Some (asked, n)
@@ -78,14 +80,13 @@ told_again asked n (Ok Completed) may = refl
 told_again asked n (Ok Aborted) may = refl
 told_again asked n (Err reason) may = passed _ _ may
 
-abbrev response_at : Data → Option (Command × ℕ) → Option (Result QueueStatus ℕ) → Option Said
-response_at d answered told =
-    answered >>= λ a. told >>= λ t. provided (is_response_of a.0 a.1 t d) >>= λ _. Some (said.Answer a.0 a.1 t)
+abbrev answer_at : Option (Command × ℕ) → Option (Result QueueStatus ℕ) → Option Said
+answer_at answered told = answered >>= λ a. told >>= λ t. Some (said.Answer a.0 a.1 t)
 
-response_again : (asked : Command) (n : ℕ) (told : Result QueueStatus ℕ) → is_spawn_number n ≡ true → may_be_said (said.Answer asked n told) ≡ true → response_said (response_data asked n told) ≡ Some (said.Answer asked n told)
-response_again asked n told valid may =
+response_again : (sender : List ℕ) (asked : Command) (n : ℕ) (told : Result QueueStatus ℕ) → is_spawn_number n ≡ true → may_be_said (said.Answer asked n told) ≡ true → response_said sender (response_data asked n told) ≡ Some (said.Answer asked n told)
+response_again sender asked n told valid may =
     let d = response_data asked n told in
-    ap (λ o. response_at d o (told_by d)) (answered_again asked n told valid) ∙ ap (response_at d (Some (asked, n))) (told_again asked n told may) ∙ passed _ _ (is_response_itself asked n told)
+    confirmed_again sender (said.Answer asked n told) _ (ap (λ o. answer_at o (told_by d)) (answered_again asked n told valid) ∙ ap (answer_at (Some (asked, n))) (told_again asked n told may))
 
 -- ---- JMF objects
 
@@ -113,8 +114,8 @@ unfolding jmf_form is_command is_response
 jmf_saying m (said.Command Submit n) valid may = ap (λ o. Some (jmf_with m true o)) (command_again m.sender Submit n valid)
 jmf_saying m (said.Command Return n) valid may = ap (λ o. Some (jmf_with m true o)) (command_again m.sender Return n valid)
 jmf_saying m (said.Command Abort n) valid may = ap (λ o. Some (jmf_with m false o)) (command_again m.sender Abort n valid)
-jmf_saying m (said.Answer asked n (Ok status)) valid may = ap (λ o. Some (jmf_with m false o)) (response_again asked n (Ok status) valid may)
-jmf_saying m (said.Answer asked n (Err reason)) valid may = ap (λ o. Some (jmf_with m false o)) (response_again asked n (Err reason) valid may)
+jmf_saying m (said.Answer asked n (Ok status)) valid may = ap (λ o. Some (jmf_with m false o)) (response_again m.sender asked n (Ok status) valid may)
+jmf_saying m (said.Answer asked n (Err reason)) valid may = ap (λ o. Some (jmf_with m false o)) (response_again m.sender asked n (Err reason) valid may)
 
 jmf_again : (m : Message) → is_spawn_number (spawn_said (said_by m.body)) ≡ true → may_be_said (said_by m.body) ≡ true → jmf_form (jmf_data m) ≡ Some (jmf_for m)
 jmf_again m valid may = jmf_saying m (said_by m.body) valid may

@@ -1,10 +1,10 @@
 -- What is answered for a message, by what it says and what is wrong with it.
-use Rattle.std.proofs.Common.{◌≡◌, ◌∙◌, ◌⊎◌, inl, inr, ⊎_elim, ℕ, ◌&&◌, Bool, true, false, List, Option, Some, None, Result, Ok, Err, IsErrAnd, ap, refl, subst, sym}
+use Rattle.std.proofs.Common.{◌≡◌, ◌∙◌, ◌⊎◌, inl, inr, ⊎_elim, ℕ, ◌&&◌, Bool, true, false, List, Option, Some, None, Result, Ok, Err, IsErrAnd, ap, subst, sym}
 use Rattle.std.specs.Option.{option_map, option_map_or, option_and_then}
 use Rattle.std.specs.Prelude.{if◌then◌else◌}
 use Rattle.std.specs.Str.{bytes_eq}
 use Rattle.json_items.proofs.Faults.{at_last, early}
-use Rattle.json_items.specs.Judged.{Answers, Finds, checked_fault, first_fault, on_both, sound}
+use Rattle.json_items.specs.Judged.{Answers, Finds, first_fault, on_both, sound}
 use Rattle.json_source.specs.Read.{◌>>=◌, provided}
 use Rattle.json_items.specs.PartDraft.{RawPart}
 use Rattle.json_items.specs.PartForm.{built_fault, copied, has_names, has_texts}

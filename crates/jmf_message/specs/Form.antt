@@ -74,7 +74,8 @@ is_response d = has_only response_members d
 abbrev pub one_family : List ℕ → Option Data → Option Data → Option (Bool × Option Said)
 one_family sender (Some d) None =
     option_map (λ asked. (has_part asked, command_said sender asked d)) (command_form d)
-one_family sender None (Some d) = if is_response d then Some (false, response_said d) else None
+one_family sender None (Some d) =
+    if is_response d then Some (false, response_said sender d) else None
 one_family sender None None = None
 one_family sender (Some d) (Some e) = None
 

@@ -1,3 +1,4 @@
+pub mod Items
 pub mod Written
 pub mod Said
 pub mod Form

@@ -1,39 +1,38 @@
 -- What a document says, if it says what a message may: exactly what is written for it.
 use Rattle.std.specs.Prelude.{ℕ, ◌&&◌, ◌==◌, Bool, true, false, List, [], ◌∷◌, if◌then◌else◌, codes}
 use Rattle.std.specs.Prelude.{Option, Some, None, option_and_then, Result, Ok, Err}
-use Rattle.std.specs.List.{list_all}
 use Rattle.std.specs.Option.{option_map, option_map_or}
 use Rattle.std.specs.Str.{bytes_eq}
-use Rattle.serde_json.specs.Data.{Data}
-use Rattle.serde_json.specs.Find.{get}
-use Rattle.json_source.specs.Read.{◌>>=◌, provided, number_under, text_under}
-use Rattle.ticket_items.specs.Attrs.{Pairs}
+use Rattle.serde_json.specs.Data.{Data, Members, member, no_members, number, object, string}
+use Rattle.serde_json.specs.Data.{unsigned}
+use Rattle.serde_json.specs.Find.{as_str, get}
+use Rattle.json_source.specs.Read.{◌>>=◌, provided, number_of, number_under, text_under}
 use Rattle.ticket_items.specs.SpawnId.{spawn_of}
-use Rattle.controller.specs.Words.{answer_id, command_id, command_named, is_reason, is_told}
-use Rattle.controller.specs.Words.{mark_of, status_named, type_of}
+use Rattle.controller.specs.Words.{command_named, is_reason, is_told, mark_of, status_named}
 use Rattle.controller.specs.declared.command.Command.{Command}
 use Rattle.controller.specs.declared.queue_status.QueueStatus.{QueueStatus}
-use Rattle.jmf_message.specs.Written.{code_of, entry_texts, params_texts, params_name, reason_of}
+use Rattle.jmf_message.specs.Written.{params_name, said_data}
 use Rattle.jmf_message.specs.declared.said.Said.{Said}
 use Rattle.jmf_message.specs.declared.said.Said.TheVariants as said
 
 -- ---- members
 
--- whether this text stands under a name
-abbrev pub says : List ℕ → List ℕ → Data → Bool
-says name text d = option_map_or (λ found. bytes_eq found text) (text_under name d) false
+-- whether data is what is written: this text, this whole number, or an object in which what is
+-- written stands under each name
+abbrev mutual
+  pub says : Data → Data → Bool
+  says (string text) d = option_map_or (λ found. bytes_eq found text) (as_str d) false
+  says (number (unsigned n)) d = option_map_or (λ found. found == n) (number_of d) false
+  says (object ms) d = says_all ms d
+  says written d = false
 
--- whether this whole number does
-abbrev pub tells : List ℕ → ℕ → Data → Bool
-tells name n d = option_map_or (λ found. found == n) (number_under name d) false
+  pub says_all : Members → Data → Bool
+  says_all no_members d = true
+  says_all (member name x ms) d = option_map_or (says x) (get name d) false && says_all ms d
 
--- whether each of these texts stands under its name
-abbrev pub says_all : Pairs → Data → Bool
-says_all texts d = list_all (λ p. says p.0 p.1 d) texts
-
--- whether they do in the object under a name
-abbrev pub says_under : List ℕ → Pairs → Data → Bool
-says_under name texts d = option_map_or (says_all texts) (get name d) false
+-- what a sender says by data, if this is what is written for it
+abbrev pub confirmed : List ℕ → Data → Said → Option Said
+confirmed sender d s = provided (says (said_data sender s) d) >>= λ _. Some s
 
 -- ---- commands
 
@@ -43,18 +42,13 @@ spawn_asked asked d =
     option_and_then spawn_of
     (option_and_then (text_under (codes "QueueEntryID")) (get (params_name asked) d))
 
--- whether data is a sender's command of this spawn
-abbrev pub is_command_of : List ℕ → Command → ℕ → Data → Bool
-is_command_of sender asked spawn d = says (codes "ID") (command_id asked spawn) d
-    && says (codes "Type") (type_of asked) d
-    && says_under (params_name asked) (params_texts sender asked spawn) d
+-- what such a command asks of the spawn
+abbrev pub command_asked : Command → Data → Option Said
+command_asked asked d = option_map (said.Command asked) (spawn_asked asked d)
 
 -- a sender's command has to be that of the spawn that its params name
 abbrev pub command_said : List ℕ → Command → Data → Option Said
-command_said sender asked d = do
-  spawn ← spawn_asked asked d
-  _ ← provided (is_command_of sender asked spawn d)
-  Some (said.Command asked spawn)
+command_said sender asked d = option_and_then (confirmed sender d) (command_asked asked d)
 
 -- ---- responses
 
@@ -89,26 +83,16 @@ told_at None d = option_and_then refusal_in (number_under (codes "Reason") d)
 abbrev pub told_by : Data → Option (Result QueueStatus ℕ)
 told_by d = told_at (get (codes "QueueEntry") d) d
 
--- whether the queue entry is that of a spawn with this result
-abbrev pub is_entry_of : ℕ → Result QueueStatus ℕ → Data → Bool
-is_entry_of spawn (Ok status) d = says_under (codes "QueueEntry") (entry_texts spawn status) d
-is_entry_of spawn (Err reason) d = true
-
--- whether data, whose Type and refID name the command of a spawn, is the response to it with this
--- result
-abbrev pub is_response_of : Command → ℕ → Result QueueStatus ℕ → Data → Bool
-is_response_of asked spawn result d = says (codes "ID") (answer_id asked spawn) d
-    && is_entry_of spawn result d && tells (codes "Reason") (reason_of result) d
-    && tells (codes "ReturnCode") (code_of result) d
-
--- a response has to be that to the command that its Type and its refID name, with the result that
--- it tells
-abbrev pub response_said : Data → Option Said
-response_said d = do
+-- what is answered so, with the result that is told
+abbrev pub answer_in : Data → Option Said
+answer_in d = do
   answered ← answered_in d
   told ← told_by d
-  _ ← provided (is_response_of answered.0 answered.1 told d)
   Some (said.Answer answered.0 answered.1 told)
+
+-- a response has to be that to this command, with this result
+abbrev pub response_said : List ℕ → Data → Option Said
+response_said sender d = option_and_then (confirmed sender d) (answer_in d)
 
 -- ---- what may be said
 

@@ -1,10 +1,9 @@
 -- What a message is in JMF (JMF; JDF 1.5, 5): the one table by which messages are written, and by
 -- which they are read.
-use Rattle.std.specs.Borrow.{Bor}
-use Rattle.std.specs.Prelude.{◌≡◌, ℕ, List, [], ◌∷◌, codes, map, Result, Ok, Err}
+use Rattle.std.specs.Prelude.{ℕ, List, [], ◌∷◌, codes, Result, Ok, Err}
 use Rattle.serde_json.specs.Data.{Data, Members, no_members, member, put, unsigned, number, string}
 use Rattle.serde_json.specs.Data.{object}
-use Rattle.json_items.specs.Attributes.{attr_members, attrs_data}
+use Rattle.json_items.specs.Attributes.{attrs_data}
 use Rattle.json_text.specs.PartWritten.{part_data}
 use Rattle.ticket_items.specs.Attrs.{Pairs}
 use Rattle.ticket_items.specs.SpawnId.{spawn_text}
@@ -18,21 +17,6 @@ use Rattle.controller.specs.declared.message.Message.{Message}
 use Rattle.controller.specs.declared.queue_status.QueueStatus.{QueueStatus}
 use Rattle.jmf_message.specs.declared.said.Said.{Said}
 use Rattle.jmf_message.specs.declared.said.Said.TheVariants as said
-
--- ---- texts
-
--- texts put one after another, each at its place in the byte order of the names
-abbrev pub put_texts : Pairs → Members → Members
-put_texts [] ms = ms
-put_texts (p ∷ texts) ms = put_texts texts (put p.0 (string p.1) ms)
-
--- they stand in that order
-abbrev pub AreInOrder : Pairs → Type 0
-AreInOrder texts = put_texts texts no_members ≡ attr_members texts
-
--- texts under names that are lent
-abbrev pub named_texts : List (Bor (List ℕ) × List ℕ) → Pairs
-named_texts texts = map (λ p. (p.0.now, p.1)) texts
 
 -- ---- commands
 
@@ -91,6 +75,11 @@ response_data asked spawn result =
     (member (codes "refID") (string (command_id asked spawn)) no_members))))))
 
 -- ---- messages
+
+-- the command or the response by which a sender says this
+abbrev pub said_data : List ℕ → Said → Data
+said_data sender (said.Command asked spawn) = command_data sender asked spawn
+said_data sender (said.Answer asked spawn result) = response_data asked spawn result
 
 -- what is said by a body, without its part
 abbrev pub said_by : Body → Said

@@ -24,8 +24,7 @@ fn body_alone(said: Said) -> Option<Body>
 {
     match said {
         Said::Command(asked, spawn_id) => match asked {
-            Command::Submit => None,
-            Command::Return => None,
+            Command::Submit | Command::Return => None,
             Command::Abort => Some(Body::Abort(spawn_id)),
         },
         Said::Answer(of, spawn_id, result) => Some(Body::Answer {
@@ -57,10 +56,7 @@ fn names_spawn(text: &str, spawn: SpawnId) -> bool
     ensures { result ≡ (spawn_named text.now == spawn) }
 {
     let number = spawn.number();
-    match SpawnId::parse(text) {
-        Ok(named) => named.number() == number,
-        Err(_) => false,
-    }
+    SpawnId::parse(text).is_ok_and(|named| named.number() == number)
 }
 
 /// What is asked by what is said, of the spawn that a text names.
@@ -135,8 +131,7 @@ fn message_in<S: Source>(alloc: Global, value: &S) -> Result<Message, Refusal>
     match (value.member("JDF"), jmf.has_part()) {
         (Some(part), true) => message_beside(alloc, &jmf, part),
         (None, false) => message_alone(alloc, &jmf),
-        (Some(_), false) => Err(Refusal::NotProfile),
-        (None, true) => Err(Refusal::NotProfile),
+        (Some(_), false) | (None, true) => Err(Refusal::NotProfile),
     }
 }
 

@@ -12,7 +12,8 @@ ghost use Rattle.jmf_message.specs.Known.{IsKnown, IsWritten};
 ghost use Rattle.controller.specs.Words.{may_be_sent};
 ghost use Rattle.jmf_message.specs.Written as written;
 
-use crate::jmf::print_jmf;
+use crate::items::print_item;
+use crate::jmf::jmf_item;
 use controller::{Body, Message};
 use json::Writer;
 use json_profile::print_part;
@@ -23,16 +24,6 @@ use ticket_tree::Part;
 /// How many bytes a text has room for in the beginning.
 const ROOM: usize = 1024;
 
-/// Prints a part under its name. It is read again.
-fn print_named_part(alloc: Global, out: &mut Writer, part: &Part) -> Result<(), AllocError>
-    ensures printed { OnOk result (AreMembersPrinted
-        (member (codes "JDF") (part_data part.now) no_members) out.old out.new) }
-    ensures known { OnOk result (IsWritten part.now) }
-{
-    out.key("JDF")?;
-    print_part(alloc, out, part)
-}
-
 /// Prints the part of a message, if it has one. It is read again.
 fn print_part_of(alloc: Global, out: &mut Writer, body: &Body) -> Result<(), AllocError>
     ensures printed { OnOk result
@@ -40,8 +31,10 @@ fn print_part_of(alloc: Global, out: &mut Writer, body: &Body) -> Result<(), All
     ensures known { OnOk result (IsKnown body.now) }
 {
     match body {
-        Body::Submit(part) => print_named_part(alloc, out, part),
-        Body::Return(part) => print_named_part(alloc, out, part),
+        Body::Submit(part) | Body::Return(part) => {
+            out.key("JDF")?;
+            print_part(alloc, out, part)
+        }
         Body::Abort(_) | Body::Answer { .. } => Ok(()),
     }
 }
@@ -57,10 +50,11 @@ fn print_document(alloc: Global, out: &mut Writer, message: &Message) -> Result<
         (is_spawn_number (written.spawn_said (written.said_by message.now.body)) ≡ true) }
     ensures known { OnOk result (IsKnown message.now.body) }
 {
+    let jmf = jmf_item(alloc, message)?;
     out.begin_object()?;
     print_part_of(alloc, out, &message.body)?;
     out.key("JMF")?;
-    print_jmf(alloc, out, message)?;
+    print_item(out, &jmf)?;
     out.end_object()
 }
 

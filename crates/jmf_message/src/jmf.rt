@@ -1,21 +1,19 @@
-ghost use Rattle.std.specs.Prelude.{◌≡◌, Some, codes, true, IfOk, IfSome, OnOk};
-ghost use Rattle.serde_json.specs.Data.{member, no_members, string};
+ghost use Rattle.std.specs.Prelude.{◌≡◌, Some, true, IfOk, IfSome, OnOk};
 ghost use Rattle.ticket_items.specs.Names as names;
 ghost use Rattle.ticket_items.specs.SpawnId.{is_spawn_number};
 ghost use Rattle.json_source.specs.Read.{Gives};
-ghost use Rattle.json_text.specs.Printed.{AreMembersPrinted, IsPrinted};
 ghost use Rattle.jmf_message.specs.Form as forms;
+ghost use Rattle.jmf_message.specs.Items.{item_data};
 ghost use Rattle.jmf_message.specs.Said as said;
 ghost use Rattle.jmf_message.specs.Written as written;
 
-use crate::commands::{command_of, command_said, has_part, print_command};
-use crate::responses::{is_response, print_response, response_said};
-use crate::said::Said;
-use controller::{Body, Command, Message};
-use json::Writer;
+use crate::commands::{command_asked, command_of, has_part};
+use crate::items::{Item, number, object, text};
+use crate::responses::{answer_in, is_response};
+use crate::said::{Said, confirmed, said_by, said_item};
+use controller::Message;
 use json_items::{Judged, both, id_in, number_under, only, text_under};
 use json_source::Source;
-use json_text::{print_member, print_text};
 use std::alloc::{AllocError, Global};
 use std::marker::Model;
 use ticket_tree::{Id, Refusal};
@@ -74,19 +72,17 @@ fn said_in<S: Source>(alloc: Global, sender: &str, jmf: &S) -> Result<(bool, Opt
     match (jmf.member("Command"), jmf.member("Response")) {
         (Some(command), None) => {
             let asked = command_of(command).ok_or(Refusal::NotProfile)?;
-            Ok((
-                has_part(asked),
-                command_said(alloc, sender, asked, command)?,
-            ))
+            let said = command_asked(asked, command);
+            Ok((has_part(asked), confirmed(alloc, sender, said, command)?))
         }
         (None, Some(response)) => {
             if !is_response(response) {
                 return Err(Refusal::NotProfile);
             }
-            Ok((false, response_said(alloc, response)?))
+            let said = answer_in(response);
+            Ok((false, confirmed(alloc, sender, said, response)?))
         }
-        (None, None) => Err(Refusal::NotProfile),
-        (Some(_), Some(_)) => Err(Refusal::NotProfile),
+        (None, None) | (Some(_), Some(_)) => Err(Refusal::NotProfile),
     }
 }
 
@@ -157,63 +153,30 @@ impl<'a> Jmf<'a> {
     }
 }
 
-/// What is said by a body, without its part.
-fn said_by(body: &Body) -> Said
-    ensures { result ≡ written.said_by body.now }
-{
-    match body {
-        Body::Submit(part) => Said::Command(Command::Submit, part.spawn_id()),
-        Body::Return(part) => Said::Command(Command::Return, part.spawn_id()),
-        Body::Abort(spawn_id) => Said::Command(Command::Abort, *spawn_id),
-        Body::Answer {
-            of,
-            spawn_id,
-            result,
-        } => Said::Answer(*of, *spawn_id, *result),
-    }
-}
-
-/// Prints what a sender says, and to whom.
-fn print_said(
-    alloc: Global,
-    out: &mut Writer,
-    sender: &str,
-    said: Said,
-    receiver: &str,
-) -> Result<(), AllocError>
-    ensures printed { OnOk result (AreMembersPrinted (written.put_said sender.now said
-        (member (codes "ReceiverID") (string receiver.now) no_members)) out.old out.new) }
-    ensures valid { OnOk result (is_spawn_number (written.spawn_said said) ≡ true) }
-{
-    match said {
-        Said::Command(asked, spawn) => {
-            out.key("Command")?;
-            print_command(alloc, out, sender, asked, spawn)?;
-            print_text(out, "ReceiverID", receiver)
-        }
-        Said::Answer(asked, spawn, told) => {
-            print_text(out, "ReceiverID", receiver)?;
-            out.key("Response")?;
-            print_response(alloc, out, asked, spawn, told)
-        }
-    }
-}
-
-/// Prints the JMF object of a message. Its sender and its receiver are ids, and its spawn has a
-/// number that one may have.
-pub fn print_jmf(alloc: Global, out: &mut Writer, message: &Message) -> Result<(), AllocError>
-    ensures printed { OnOk result (IsPrinted (written.jmf_data message.now) out.old out.new) }
-    ensures sender { names.is_name message.now.sender ≡ true }
-    ensures receiver { names.is_name message.now.receiver ≡ true }
+/// The JMF object of a message. Its sender and its receiver are ids, and its spawn has a number that
+/// one may have.
+pub fn jmf_item(alloc: Global, message: &Message) -> Result<Item, AllocError>
+    ensures value { IfOk result (λ item. item_data item ≡ written.jmf_data message.now) }
+    ensures sender { OnOk result (names.is_name message.now.sender ≡ true) }
+    ensures receiver { OnOk result (names.is_name message.now.receiver ≡ true) }
     ensures valid { OnOk result
         (is_spawn_number (written.spawn_said (written.said_by message.now.body)) ≡ true) }
 {
     let sender = message.sender.as_str();
-    let receiver = message.receiver.as_str();
-    out.begin_object()?;
-    print_said(alloc, out, sender, said_by(&message.body), receiver)?;
-    print_text(out, "SenderID", sender)?;
-    print_member(out, "TimeStamp", &message.at)?;
-    print_text(out, "Version", VERSION)?;
-    out.end_object()
+    let said = said_by(&message.body);
+    let family = said_item(alloc, sender, &said)?;
+    let receiver = ("ReceiverID", text(alloc, message.receiver.as_str())?);
+    let sender = ("SenderID", text(alloc, sender)?);
+    let at = ("TimeStamp", number(message.at));
+    let version = ("Version", text(alloc, VERSION)?);
+    match said {
+        Said::Command(_, _) => {
+            let command = ("Command", family);
+            Ok(object(vec![in alloc; command, receiver, sender, at, version]?))
+        }
+        Said::Answer(_, _, _) => {
+            let response = ("Response", family);
+            Ok(object(vec![in alloc; receiver, response, sender, at, version]?))
+        }
+    }
 }

@@ -6,11 +6,11 @@ mod commands;
 mod decoding;
 mod encoding;
 mod ids;
+mod items;
 mod jmf;
 pub mod laws;
 mod responses;
 mod said;
-mod texts;
 
 pub use controller::{Body, Command, Done, Message, Outcome, QueueStatus, Reply};
 pub use decoding::decode;

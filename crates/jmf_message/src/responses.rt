@@ -2,42 +2,29 @@
 
 ghost use Rattle.std.specs.Prelude.{◌≡◌, codes, is_some, true, IfOk, IfSome, OnOk};
 ghost use Rattle.std.specs.Option.{option_map, option_map_or};
-ghost use Rattle.serde_json.specs.Data.{no_members};
 ghost use Rattle.serde_json.specs.Find.{get};
 ghost use Rattle.controller.specs.Words.{is_told};
 ghost use Rattle.ticket_items.specs.SpawnId.{is_spawn_number};
-ghost use Rattle.json_text.specs.Printed.{AreMembersPrinted, IsPrinted};
+ghost use Rattle.json_items.specs.Attributes.{attrs_data};
 ghost use Rattle.jmf_message.specs.Form as forms;
+ghost use Rattle.jmf_message.specs.Items.{item_data};
 ghost use Rattle.jmf_message.specs.Said as said;
 ghost use Rattle.jmf_message.specs.Written as written;
-ghost use Rattle.jmf_message.specs.Written.{named_texts};
 
 use crate::ids::{answer_id, command_id};
+use crate::items::{Item, are_texts, is_of_texts, number, object, text};
 use crate::said::Said;
-use crate::texts::{are_texts, is_of_texts, print_texts, says, says_under, spawn_word};
 use controller::{Command, QueueStatus};
-use json::Writer;
-use json_items::{AnyText, number_under, text_under};
+use json_items::{number_under, text_under};
 use json_source::Source;
-use json_text::{print_member, print_text};
 use std::alloc::{AllocError, Global};
 use ticket_tree::SpawnId;
 
 /// The members of a response.
 const RESPONSE_MEMBERS: &[&str] = &["ID", "QueueEntry", "Reason", "ReturnCode", "Type", "refID"];
 
-/// Whether a queue entry stands among a response's members, or nothing under its name.
-fn has_entry_or_none<S: Source>(response: &S) -> bool
-    ensures { result ≡ option_map_or (forms.is_of_texts forms.entry_names)
-        (get (codes "QueueEntry") (S.content response.now)) true }
-{
-    match response.member("QueueEntry") {
-        Some(entry) => is_of_texts(entry, &["QueueEntryID", "Status"]),
-        None => true,
-    }
-}
-
-/// Whether a value is a response by its members and their kinds alone.
+/// Whether a value is a response by its members and their kinds alone. Its queue entry may be
+/// absent.
 #[tactic(auto, unfolding(crate::specs::Form::is_response))]
 pub fn is_response<S: Source>(value: &S) -> bool
     ensures { result ≡ forms.is_response (S.content value.now) }
@@ -46,7 +33,9 @@ pub fn is_response<S: Source>(value: &S) -> bool
         && are_texts(value, &["ID", "Type", "refID"])
         && number_under(value, "Reason").is_some()
         && number_under(value, "ReturnCode").is_some()
-        && has_entry_or_none(value)
+        && value
+            .member("QueueEntry")
+            .is_none_or(|entry| is_of_texts(entry, &["QueueEntryID", "Status"]))
 }
 
 /// What stands behind the front of a text, if the text begins so.
@@ -54,13 +43,6 @@ fn behind<'a>(front: &str, text: &'a str) -> Option<&'a str>
     ensures { option_map (λ rest. rest.now) result ≡ said.behind front.now text.now }
 {
     text.strip_prefix(front)
-}
-
-/// The spawn of which a command's ID speaks.
-fn spawn_behind(asked: Command, id: &str) -> Option<SpawnId>
-    ensures { result ≡ said.spawn_behind asked id.now }
-{
-    SpawnId::parse(behind(asked.mark(), id)?).ok()
 }
 
 /// The reason of a refusal, if the number is one.
@@ -85,152 +67,58 @@ fn told_by<S: Source>(response: &S) -> Option<Result<QueueStatus, u16>>
     }
 }
 
-/// Whether this whole number stands under a name.
-fn tells<S: Source>(value: &S, name: &str, number: u64) -> bool
-    ensures { result ≡ said.tells name.now number (S.content value.now) }
+/// What such a response tells of the command that its Type names, and of the spawn that its refID
+/// does. It may be sent.
+pub fn answer_in<S: Source>(response: &S) -> Option<Said>
+    ensures value { result ≡ said.answer_in (S.content response.now) }
+    ensures sent { IfSome result (λ s. said.may_be_said s ≡ true) }
 {
-    match number_under(value, name) {
-        Some(found) => found == number,
-        None => false,
-    }
-}
-
-/// The Reason why a command was refused, or that of success.
-fn reason_of(told: Result<QueueStatus, u16>) -> u64
-    ensures { result ≡ written.reason_of told }
-{
-    match told {
-        Ok(_) => 0,
-        Err(reason) => u64::from(reason),
-    }
-}
-
-/// The ReturnCode.
-fn code_of(told: Result<QueueStatus, u16>) -> u64
-    ensures { result ≡ written.code_of told }
-{
-    u64::from(told.is_err())
+    let asked = Command::named(text_under(response, "Type")?)?;
+    let number = behind(asked.mark(), text_under(response, "refID")?)?;
+    let spawn = SpawnId::parse(number).ok()?;
+    Some(Said::Answer(asked, spawn, told_by(response)?))
 }
 
 /// The queue entry of a spawn.
-fn entry_texts(
-    alloc: Global,
-    spawn: SpawnId,
-    status: QueueStatus,
-) -> Result<[(&'static str, AnyText); 2], AllocError>
-    ensures { IfOk result (λ texts. named_texts texts ≡ written.entry_texts spawn status) }
+fn entry_item(alloc: Global, spawn: SpawnId, status: QueueStatus) -> Result<Item, AllocError>
+    ensures { IfOk result (λ item. item_data item
+        ≡ attrs_data (written.entry_texts spawn status)) }
 {
-    let entry = spawn_word(alloc, spawn)?;
-    let word = AnyText::new(alloc, status.word())?;
-    Ok([("QueueEntryID", entry), ("Status", word)])
+    let spawn = spawn.to_id(alloc)?;
+    let entry = ("QueueEntryID", text(alloc, spawn.as_str())?);
+    let status = ("Status", text(alloc, status.word())?);
+    Ok(object(vec![in alloc; entry, status]?))
 }
 
-/// Whether the queue entry of a response is that of a spawn with this result.
-fn is_entry_of<S: Source>(
-    alloc: Global,
-    spawn: SpawnId,
-    told: Result<QueueStatus, u16>,
-    response: &S,
-) -> Result<bool, AllocError>
-    ensures { IfOk result (λ right. right
-        ≡ said.is_entry_of spawn told (S.content response.now)) }
-{
-    match told {
-        Ok(status) => {
-            let texts = entry_texts(alloc, spawn, status)?;
-            Ok(says_under(response, "QueueEntry", &texts))
-        }
-        Err(_) => Ok(true),
-    }
-}
-
-/// Whether a value is the response to the command of a spawn, with this result.
-fn is_response_of<S: Source>(
+/// The response to the command of a spawn, with this result. Its members stand in the byte order of
+/// their names.
+pub fn response_item(
     alloc: Global,
     asked: Command,
     spawn: SpawnId,
     told: Result<QueueStatus, u16>,
-    value: &S,
-) -> Result<bool, AllocError>
-    ensures { IfOk result (λ right. right
-        ≡ said.is_response_of asked spawn told (S.content value.now)) }
-{
-    let id = answer_id(alloc, asked, spawn)?;
-    let has_entry = is_entry_of(alloc, spawn, told, value)?;
-    Ok(
-        says(value, "ID", id.as_str())
-            && has_entry
-            && tells(value, "Reason", reason_of(told))
-            && tells(value, "ReturnCode", code_of(told)),
-    )
-}
-
-/// The command that a response's Type names, and the spawn that its refID does.
-fn answered_in<S: Source>(response: &S) -> Option<(Command, SpawnId)>
-    ensures { result ≡ said.answered_in (S.content response.now) }
-{
-    let asked = Command::named(text_under(response, "Type")?)?;
-    let spawn = spawn_behind(asked, text_under(response, "refID")?)?;
-    Some((asked, spawn))
-}
-
-/// What is said by a response, if it says what it may. It may be sent.
-pub fn response_said<S: Source>(alloc: Global, response: &S) -> Result<Option<Said>, AllocError>
-    ensures value { IfOk result (λ found. found
-        ≡ said.response_said (S.content response.now)) }
-    ensures sent { IfOk result (λ found. IfSome found (λ s. said.may_be_said s ≡ true)) }
-{
-    let Some((asked, spawn)) = answered_in(response) else {
-        return Ok(None);
-    };
-    let Some(told) = told_by(response) else {
-        return Ok(None);
-    };
-    if !is_response_of(alloc, asked, spawn, told, response)? {
-        return Ok(None);
-    }
-    Ok(Some(Said::Answer(asked, spawn, told)))
-}
-
-/// Prints the queue entry of a spawn, if the result has one.
-fn print_entry(
-    alloc: Global,
-    out: &mut Writer,
-    spawn: SpawnId,
-    told: Result<QueueStatus, u16>,
-) -> Result<(), AllocError>
-    ensures { OnOk result
-        (AreMembersPrinted (written.put_entry spawn told no_members) out.old out.new) }
-{
-    match told {
-        Ok(status) => {
-            let texts = entry_texts(alloc, spawn, status)?;
-            print_texts(out, "QueueEntry", &texts)
-        }
-        Err(_) => Ok(()),
-    }
-}
-
-/// Prints the response to the command of a spawn, with this result.
-pub fn print_response(
-    alloc: Global,
-    out: &mut Writer,
-    asked: Command,
-    spawn: SpawnId,
-    told: Result<QueueStatus, u16>,
-) -> Result<(), AllocError>
-    ensures printed { OnOk result
-        (IsPrinted (written.response_data asked spawn told) out.old out.new) }
+) -> Result<Item, AllocError>
+    ensures value { IfOk result (λ item. item_data item
+        ≡ written.response_data asked spawn told) }
     ensures valid { is_spawn_number spawn ≡ true }
 {
     let id = answer_id(alloc, asked, spawn)?;
+    let id = ("ID", text(alloc, id.as_str())?);
+    let kind = ("Type", text(alloc, asked.word())?);
     let reference = command_id(alloc, asked, spawn)?;
-    out.begin_object()?;
-    print_text(out, "ID", id.as_str())?;
-    print_entry(alloc, out, spawn, told)?;
-    print_member(out, "Reason", &reason_of(told))?;
-    print_member(out, "ReturnCode", &code_of(told))?;
-    print_text(out, "Type", asked.word())?;
-    print_text(out, "refID", reference.as_str())?;
-    out.end_object()
+    let reference = ("refID", text(alloc, reference.as_str())?);
+    match told {
+        Ok(status) => {
+            let entry = ("QueueEntry", entry_item(alloc, spawn, status)?);
+            let (reason, code) = (("Reason", number(0)), ("ReturnCode", number(0)));
+            Ok(object(vec![in alloc; id, entry, reason, code, kind, reference]?))
+        }
+        Err(reason) => {
+            let (reason, code) = (
+                ("Reason", number(u64::from(reason))),
+                ("ReturnCode", number(1)),
+            );
+            Ok(object(vec![in alloc; id, reason, code, kind, reference]?))
+        }
+    }
 }

@@ -1,6 +1,6 @@
 use Rattle.std.proofs.Common.{◌≡◌, drop, map}
 use Rattle.jmf_message.specs.Form.{are_texts}
-use Rattle.jmf_message.proofs.texts.are_texts.Given as goal
+use Rattle.jmf_message.proofs.items.are_texts.Given as goal
 
 -- what is left decides
 abbrev pub invariant-loop-name : goal.invariant-loop-name
