@@ -49,9 +49,8 @@ fn has_params<S: Source>(command: &S, asked: Command) -> bool
     ensures { result ≡ option_map_or (forms.is_of_texts (forms.params_names asked))
         (get (written.params_name asked) (S.content command.now)) false }
 {
-    command
-        .member(params_name(asked))
-        .is_some_and(|params| is_of_texts(params, params_names(asked)))
+    let params = command.member(params_name(asked));
+    params.is_some_and(|params| is_of_texts(params, params_names(asked)))
 }
 
 /// Whether a value is this command by its members and their kinds alone.
@@ -100,8 +99,7 @@ fn params_item(
     ensures { IfOk result (λ item. item_data item
         ≡ attrs_data (written.params_texts sender.now asked spawn)) }
 {
-    let spawn = spawn.to_id(alloc)?;
-    let entry = ("QueueEntryID", text(alloc, spawn.as_str())?);
+    let entry = ("QueueEntryID", text(alloc, spawn.to_id(alloc)?.as_str())?);
     let url = ("URL", text(alloc, NO_PLACE)?);
     match asked {
         Command::Submit => {
@@ -126,12 +124,12 @@ pub fn command_item(
         ≡ written.command_data sender.now asked spawn) }
     ensures valid { is_spawn_number spawn ≡ true }
 {
-    let id = command_id(alloc, asked, spawn)?;
-    let id = ("ID", text(alloc, id.as_str())?);
-    let params = (
-        params_name(asked),
-        params_item(alloc, sender, asked, spawn)?,
+    let id = (
+        "ID",
+        text(alloc, command_id(alloc, asked, spawn)?.as_str())?,
     );
+    let params = params_item(alloc, sender, asked, spawn)?;
+    let params = (params_name(asked), params);
     let kind = ("Type", text(alloc, asked.word())?);
     match asked {
         Command::Submit | Command::Return => Ok(object(vec![in alloc; id, params, kind]?)),

@@ -84,8 +84,7 @@ fn entry_item(alloc: Global, spawn: SpawnId, status: QueueStatus) -> Result<Item
     ensures { IfOk result (λ item. item_data item
         ≡ attrs_data (written.entry_texts spawn status)) }
 {
-    let spawn = spawn.to_id(alloc)?;
-    let entry = ("QueueEntryID", text(alloc, spawn.as_str())?);
+    let entry = ("QueueEntryID", text(alloc, spawn.to_id(alloc)?.as_str())?);
     let status = ("Status", text(alloc, status.word())?);
     Ok(object(vec![in alloc; entry, status]?))
 }
@@ -102,22 +101,22 @@ pub fn response_item(
         ≡ written.response_data asked spawn told) }
     ensures valid { is_spawn_number spawn ≡ true }
 {
-    let id = answer_id(alloc, asked, spawn)?;
-    let id = ("ID", text(alloc, id.as_str())?);
+    let id = ("ID", text(alloc, answer_id(alloc, asked, spawn)?.as_str())?);
     let kind = ("Type", text(alloc, asked.word())?);
-    let reference = command_id(alloc, asked, spawn)?;
-    let reference = ("refID", text(alloc, reference.as_str())?);
+    let reference = (
+        "refID",
+        text(alloc, command_id(alloc, asked, spawn)?.as_str())?,
+    );
     match told {
         Ok(status) => {
             let entry = ("QueueEntry", entry_item(alloc, spawn, status)?);
-            let (reason, code) = (("Reason", number(0)), ("ReturnCode", number(0)));
+            let reason = ("Reason", number(0));
+            let code = ("ReturnCode", number(0));
             Ok(object(vec![in alloc; id, entry, reason, code, kind, reference]?))
         }
         Err(reason) => {
-            let (reason, code) = (
-                ("Reason", number(u64::from(reason))),
-                ("ReturnCode", number(1)),
-            );
+            let reason = ("Reason", number(u64::from(reason)));
+            let code = ("ReturnCode", number(1));
             Ok(object(vec![in alloc; id, reason, code, kind, reference]?))
         }
     }

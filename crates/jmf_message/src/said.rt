@@ -64,8 +64,5 @@ pub fn confirmed<S: Source>(
         return Ok(None);
     };
     let item = said_item(alloc, sender, &said)?;
-    if !says(value, &item) {
-        return Ok(None);
-    }
-    Ok(Some(said))
+    Ok(says(value, &item).then_some(said))
 }
