@@ -124,10 +124,8 @@ pub fn command_item(
         ≡ written.command_data sender.now asked spawn) }
     ensures valid { is_spawn_number spawn ≡ true }
 {
-    let id = (
-        "ID",
-        text(alloc, command_id(alloc, asked, spawn)?.as_str())?,
-    );
+    let id = command_id(alloc, asked, spawn)?;
+    let id = ("ID", text(alloc, id.as_str())?);
     let params = params_item(alloc, sender, asked, spawn)?;
     let params = (params_name(asked), params);
     let kind = ("Type", text(alloc, asked.word())?);

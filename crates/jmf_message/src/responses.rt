@@ -103,10 +103,8 @@ pub fn response_item(
 {
     let id = ("ID", text(alloc, answer_id(alloc, asked, spawn)?.as_str())?);
     let kind = ("Type", text(alloc, asked.word())?);
-    let reference = (
-        "refID",
-        text(alloc, command_id(alloc, asked, spawn)?.as_str())?,
-    );
+    let reference = command_id(alloc, asked, spawn)?;
+    let reference = ("refID", text(alloc, reference.as_str())?);
     match told {
         Ok(status) => {
             let entry = ("QueueEntry", entry_item(alloc, spawn, status)?);
