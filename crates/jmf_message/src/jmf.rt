@@ -153,8 +153,8 @@ impl<'a> Jmf<'a> {
     }
 }
 
-/// The JMF object of a message. Its sender and its receiver are ids, and its spawn has a number that
-/// one may have.
+/// The JMF object of a message. Its sender and its receiver are ids, and its spawn has a number
+/// that one may have.
 pub fn jmf_item(alloc: Global, message: &Message) -> Result<Item, AllocError>
     ensures value { IfOk result (λ item. item_data item ≡ written.jmf_data message.now) }
     ensures sender { OnOk result (names.is_name message.now.sender ≡ true) }
