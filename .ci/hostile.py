@@ -8,6 +8,7 @@ as many times the memory of its input as --times says (0: any); lists of two sha
 The last line says how many cases passed. --first and --cases run one again by its number.
 """
 import argparse
+import contextlib
 import json
 import os
 import random
@@ -27,9 +28,13 @@ from texts import (FILES, answered, damaged, edit_input, large_inputs, message, 
 REFUSALS = Path(__file__).resolve().parent.parent / "docs/REFUSALS.md"
 NAMES = dict(re.findall(r"^\| (\d+) `(\w+)`", REFUSALS.read_text(encoding="utf-8"), re.M))
 TOLD = re.compile(r"Refused (\d+) (\w+)\n")
+NOT_JSON = "Refused 40 NotJson\n"
+NOT_TAKEN = re.compile(r"Refused by the controller: [1-9]\d\d\n")
 # The lines of an event, an edit, an order and a message: a refusal, or a reply with what was sent.
 REFUSED = r"Refused (?P<number>\d+) (?P<name>\w+)(?: (?P<holder>S[1-9]\d{0,8}))?"
-REPLIES = "Edited|(?:Spawned|Sent|Finished|Merged|Already|Noted|Taken|Again|Acked) S[1-9][0-9]{0,8}"
+OF_A_SPAWN = ("Spawned|Sent|Finished|Merged|Already|Noted|Taken|Again|Acked|Asked|Declined|Ended|"
+              "Freed")
+REPLIES = f"Edited|(?:{OF_A_SPAWN}) S[1-9][0-9]{{0,8}}"
 LINE = re.compile(f"(?:{REFUSED}|{REPLIES}|Stopped|Restarted|NoMessage)(?: #[1-9][0-9]*)?")
 # The most that a run needs beside its input.
 ROOM = 4 << 20
@@ -159,8 +164,7 @@ def reads_json(ran):
     if len(ran.given) > 4 << 20 or ran.status in (2, 4):
         return
     known = is_json(ran.given)
-    wants(known is None or known == (ran.told != "Refused 40 NotJson\n"),
-          "JSON:", known, "but told", ran.told)
+    wants(known is None or known == (ran.told != NOT_JSON), "JSON:", known, "but told", ran.told)
 
 
 def are_lines(lines):
@@ -229,7 +233,7 @@ def run_step(chance, folder):
     kind = chance.choice(FILES)
     word = chance.choice(("order", "take"))
     held = state(chance, kind)
-    given = order(chance, kind) if word == "order" else message(chance)
+    given = order(chance, kind) if word == "order" else message(chance, kind)
     given = damaged(chance, given)
     is_whole = chance.random() < 0.8
     held = held if is_whole else damaged(chance, held)
@@ -248,6 +252,21 @@ def run_step(chance, folder):
     wants(os.listdir(".") == ["state.json"], "files are left", os.listdir("."))
 
 
+def run_shown(chance, folder):
+    """A state, which may be damaged, as it is shown and as a picture."""
+    held = damaged(chance, state(chance, chance.choice(FILES)))
+    put(held)
+    shown, drawn = Ran(["show", "state.json"], b""), Ran(["show", "state.json", "--picture"], b"")
+    for ran in (shown, drawn):
+        ends_well(ran)
+        wants(ran.status in (0, 4), "status", ran.status, ran.told)
+        wants(content("state.json") == held, "the file has changed")
+    wants(shown.told == drawn.told, "shown", shown.told, "as a picture", drawn.told)
+    known = is_json(held)
+    wants(known is None or known == (shown.told != NOT_JSON), "JSON:", known, shown.told)
+    wants(drawn.status == 4 or drawn.out.startswith("<svg "), "a picture", drawn.out[:200])
+
+
 def run_served(chance, folder):
     """Some requests for a controller that is served, one after the other."""
     kind = chance.choice(FILES)
@@ -260,7 +279,7 @@ def run_served(chance, folder):
         port = int(served.stdout.readline().decode().rsplit(":", 1)[1])
         size = 0
         for _ in range(count):
-            size = max(size, ask(chance, port))
+            size = max(size, ask(chance, port, kind))
         status, memory = ended(served, measured)
         served.stdout.close()
     wants(status == 0, "status", status)
@@ -269,9 +288,9 @@ def run_served(chance, folder):
     os.remove("log")
 
 
-def ask(chance, port):
+def ask(chance, port, kind):
     """Sends a request, which may be damaged. Answers its size."""
-    given = damaged(chance, request(chance))
+    given = damaged(chance, request(chance, kind))
     before = content("state.json")
     with socket.create_connection(("127.0.0.1", port), timeout=SECONDS) as connection:
         try:
@@ -295,14 +314,12 @@ def ask(chance, port):
 
 def run_sent(chance, folder):
     """A message for a server, whose response may be damaged."""
-    response = damaged(chance, answered(chance))
-    with socket.create_server(("127.0.0.1", 0)) as listener:
-        answering = threading.Thread(target=answer, args=(listener, response))
-        answering.start()
-        ran = Ran(["send", f"http://127.0.0.1:{listener.getsockname()[1]}/jmf"], message(chance))
-        answering.join()
+    kind = chance.choice(FILES)
+    response = damaged(chance, answered(chance, kind))
+    with answering(response) as url:
+        ran = Ran(["send", url], message(chance, kind))
     if ran.status == 1:
-        wants(re.fullmatch(r"Refused by the controller: [1-9]\d\d\n", ran.told), "told", ran.told)
+        wants(NOT_TAKEN.fullmatch(ran.told), "told", ran.told)
         wants(ran.out == "", "printed", ran.out)
         return
     ends_well(ran)
@@ -310,6 +327,34 @@ def run_sent(chance, folder):
     if ran.status == 0:
         wants(b" 200" in response[:40], "200 was read of", response[:40])
         wants(is_of(ran, response), "printed", ran.out[:300])
+
+
+def run_order_sent(chance, folder):
+    """An order whose message is sent to a server, and the answer to it is taken."""
+    kind = chance.choice(FILES)
+    held = state(chance, kind)
+    put(held)
+    with answering(damaged(chance, answered(chance, kind))) as url:
+        ran = Ran(["order", "state.json", "--at", "200", "--send", url], order(chance, kind))
+    if not NOT_TAKEN.fullmatch(ran.told):
+        ends_well(ran)
+    are_lines(ran.out.split("\n")[:-1])
+    wants(ran.status != 3 or content("state.json") == held, "the file has changed")
+    wants(Ran(["show", "state.json"], b"").status == 0, "what was saved isn't read")
+
+
+@contextlib.contextmanager
+def answering(response):
+    """The URL of a server that answers a request by these bytes, if one comes."""
+    with socket.create_server(("127.0.0.1", 0)) as listener:
+        thread = threading.Thread(target=answer, args=(listener, response))
+        thread.start()
+        try:
+            yield f"http://127.0.0.1:{listener.getsockname()[1]}/jmf"
+        finally:
+            # Wakes the thread where no request came.
+            listener.shutdown(socket.SHUT_RDWR)
+            thread.join()
 
 
 def is_of(ran, response):
@@ -320,7 +365,11 @@ def is_of(ran, response):
 
 def answer(listener, response):
     """Reads a request to its end, and answers by these bytes."""
-    with listener.accept()[0] as connection:
+    try:
+        connection = listener.accept()[0]
+    except OSError:
+        return
+    with connection:
         given, length = b"", None
         while length is None or len(given.partition(b"\r\n\r\n")[2]) < int(length[1]):
             given += connection.recv(65536)
@@ -338,8 +387,8 @@ def content(path):
         return file.read()
 
 
-KINDS = [run_edit, run_edit, run_world, run_loop, run_new, run_step, run_step, run_step, run_served,
-         run_sent]
+KINDS = [run_edit, run_edit, run_world, run_loop, run_new, run_step, run_step, run_step, run_shown,
+         run_served, run_sent, run_order_sent]
 
 
 def passes(number, call):

@@ -9,7 +9,10 @@ LETTERS = string.ascii_letters + string.digits + "_.-"
 # Values that stand for another one.
 VALUES = [None, True, False, 0, -1, 1, 2**64, 1.5, 1e300, "", "S1", "S0", "S1000000000", "9x",
           "Spawned", "SpawnedRO", "a" * 64, "a" * 65, "ä" * 512, "ä" * 513, "\u0000",
-          "\U0010ffff", [], {}, [[]], [{}], "n0", "r1", "Running", "1.6"]
+          "\U0010ffff", [], {}, [[]], [{}], "n0", "r1", "Running", "1.6", "A.S1", 38, "Declined",
+          "Closed", "Withdrawn", "BeforeSave"]
+# Members that stand where another form has them, or none.
+MEMBERS = ["Foo", "", "Attr", "ID", "Status", "JDF", "Part", "End", "Locked", "SpawnID", "Stop"]
 # Bytes that JSON or HTTP looks at, or that are no text.
 BYTES = [b"{", b"}", b"[", b"]", b",", b":", b'"', b"\\", b"\\u", b"\\ud800", b"0", b"-", b"e9",
          b"E+", b".", b"\0", b"\n", b"\r\n", b"\r\n\r\n", b" ", b"\t", b"\xff", b"\xc3",
@@ -49,8 +52,10 @@ def attributes(chance):
 
 
 def resource(chance, rid):
-    return {"Attr": attributes(chance), "Class": "Quantity", "ID": rid, "Name": "Component",
-            "Status": status(chance)}
+    row = {"Class": "Quantity", "ID": rid, "Name": "Component", "Status": status(chance)}
+    if chance.random() < 0.3:
+        return dict(row, Locked=False, SpawnIDs=[], SpawnStatus="NotSpawned")
+    return dict(row, Attr=attributes(chance))
 
 
 def audit(chance):
@@ -125,7 +130,8 @@ def edit(chance, ids):
          "Type": "Folding"},
         {"Attr": attributes(chance), "Class": "Quantity", "Edit": "AddResource", "ID": new,
          "Name": "Media", "Node": nid, "Status": status(chance)},
-        {"Edit": "AddLink", "Node": nid, "Usage": "Input", "rRef": rid}))
+        {"Edit": "AddLink", "Node": nid, "Usage": chance.choice(("Input", "Output")),
+         "rRef": rid}))
 
 
 def edit_input(chance):
@@ -135,7 +141,12 @@ def edit_input(chance):
 
 
 def spawn_id(chance):
-    return f"S{chance.randrange(1, 4)}"
+    return "S" + chance.choice("1123")
+
+
+def spawning(chance, ids):
+    return {"Node": chance.choice(ids.nodes[1:] or ids.nodes), "Order": "Spawn", "RW": [],
+            "Worker": "press"}
 
 
 def master_order(chance, ids):
@@ -143,9 +154,9 @@ def master_order(chance, ids):
     return chance.choice((
         {"Node": chance.choice(ids.nodes), "Order": "Spawn", "RW": rw,
          "Worker": chance.choice(("press", "press", "bind", "fold"))},
-        {"Node": chance.choice(ids.nodes[1:] or ids.nodes), "Order": "Spawn", "RW": [],
-         "Worker": "press"},
+        spawning(chance, ids),
         {"Order": "Resend", "SpawnID": spawn_id(chance)},
+        {"Order": "Withdraw", "SpawnID": spawn_id(chance)},
         {"Edit": edit(chance, ids), "Order": "Edit"}))
 
 
@@ -162,6 +173,7 @@ def event(chance, ids, stops):
     order_of = master_order if to == "mis" else worker_order
     one = chance.choice((
         {"Event": "Order", "Order": order_of(chance, ids), "To": to},
+        {"Event": "Order", "Order": order_of(chance, ids), "To": to},
         {"Deliver": chance.randrange(1, 9), "Event": "Deliver"},
         {"Deliver": chance.randrange(1, 4), "Event": "Deliver"},
         {"Event": "Restart", "To": to}))
@@ -171,8 +183,12 @@ def event(chance, ids, stops):
 
 
 def script(chance, stops):
+    """A script, which begins as a rule with a spawn."""
     root, ids = ticket(chance)
     events = [event(chance, ids, stops) for _ in range(chance.randrange(25))]
+    if chance.random() < 0.9:
+        first = {"At": 1, "Event": "Order", "Order": spawning(chance, ids), "To": "mis"}
+        events.insert(0, first)
     return dump(chance, {"Events": events, "Master": "mis", "Ticket": root,
                          "Workers": ["press", "bind"]})
 
@@ -200,38 +216,48 @@ class JobIds:
     nodes, resources = ["n0", "n1", "n2"], ["r1", "r2"]
 
 
-def part(chance, wording="Waiting"):
+def part(chance, spawn, wording="Waiting"):
     """The printing as it goes out, and perhaps as it was worked on."""
-    change = {"SpawnIDs": ["S1"], "SpawnStatus": "SpawnedRW"}
-    copy = {"Locked": True, "SpawnIDs": ["S1"], "SpawnStatus": "SpawnedRO"}
+    change = {"SpawnIDs": [spawn], "SpawnStatus": "SpawnedRW"}
+    copy = {"Locked": True, "SpawnIDs": [spawn], "SpawnStatus": "SpawnedRO"}
     notes = [audit(chance) for _ in range(chance.randrange(2))]
     return dict(PRINTING, AncestorPool=[{"JobPartID": "p0", "NodeID": "n0"}],
-                Attr=attributes(chance), AuditPool=notes, JobID="J1", SpawnID="S1", Status=wording,
-                ResourcePool=[dict(SHEETS, **change), dict(PAPER, **copy)])
+                Attr=attributes(chance), AuditPool=notes, JobID="J1",
+                ResourcePool=[dict(SHEETS, **change), dict(PAPER, **copy)], SpawnID=spawn,
+                Status=wording)
 
 
 def state(chance, kind):
     """The state of a controller, in either format."""
     form = chance.choice((1, 2))
     if kind == "master":
-        spawns = [OUT] if chance.random() < 0.7 else []
-        spawns = [dict(OUT, Phase="Merged")] if chance.random() < 0.2 else spawns
         return dump(chance, {"Format": form, "Master": {
-            "Name": "mis", "Spawns": spawns, "Ticket": JOB, "Workers": ["press", "bind"]}})
-    entries = [entry(chance, form)] if chance.random() < 0.8 else []
+            "Name": "mis", "Spawns": records(chance, form), "Ticket": JOB,
+            "Workers": ["press", "bind"]}})
+    entries = [entry(chance, form, spawn) for spawn in ("S1", "S2", "S3") if chance.random() < 0.6]
     return dump(chance, {"Format": form, "Worker": {
         "Entries": entries, "Master": "mis", "Name": "press"}})
 
 
-def entry(chance, form):
-    """A worker's entry of the printing; in the second format its part may be given up."""
+def records(chance, form):
+    """A master's spawns of the printing, of which the last may be out."""
+    ends = ("Merged",) if form == 1 else ("Merged", "Withdrawn")
+    phases = [chance.choice(ends) for _ in range(chance.choice((0, 0, 1, 2)))]
+    phases += ["Out"] if chance.random() < 0.7 else []
+    return [dict(OUT, ID=f"S{number}", Phase=phase) for number, phase in enumerate(phases, 1)]
+
+
+def entry(chance, form, spawn):
+    """A worker's entry of the printing; in the second format its part may be given up or declined.
+    """
     phase = chance.choice(("Open", "Completed", "Aborted"))
-    own = {"At": 110, "Part": part(chance, "Waiting" if phase == "Open" else phase), "Phase": phase}
+    wording = "Waiting" if phase == "Open" else phase
+    own = {"At": 110, "Part": part(chance, spawn, wording), "Phase": phase}
     if form == 1:
         return own
-    if phase != "Open" and chance.random() < 0.5:
-        return {"At": 110, "End": phase, "ID": "S1", "Phase": "Closed"}
-    return dict(own, ID="S1")
+    end = chance.choice(("Completed", "Aborted"))
+    without_part = chance.choice(({"End": end, "Phase": "Closed"}, {"Phase": "Declined"}))
+    return dict(own if chance.random() < 0.6 else dict(without_part, At=110), ID=spawn)
 
 
 def opening(chance):
@@ -246,42 +272,50 @@ def order(chance, kind):
     return dump(chance, order_of(chance, JobIds))
 
 
-def message(chance):
-    """A message between mis and press, or one that goes elsewhere."""
-    from_master = chance.random() < 0.5
-    ends = ["mis", "press"] if from_master else ["press", "mis"]
+# The types of commands, by the letter that their IDs begin with.
+COMMANDS = {"Q": "SubmitQueueEntry", "R": "ReturnQueueEntry", "A": "AbortQueueEntry"}
+
+
+def message(chance, kind):
+    """A message for a controller of this kind, or one that goes elsewhere."""
+    letter, spawn = chance.choice("QRA"), spawn_id(chance)
+    ends = ["mis", "press"] if kind == "worker" else ["press", "mis"]
     if chance.random() < 0.1:
         ends[chance.randrange(2)] = "bind"
     jmf = {"ReceiverID": ends[1], "SenderID": ends[0], "TimeStamp": 100, "Version": "1.5"}
-    if chance.random() < 0.4:
-        jmf["Response"] = response(chance, "R" if from_master else "Q", spawn_id(chance))
+    is_answer = (letter == "R") == (kind == "worker")
+    if is_answer != (chance.random() < 0.1):
+        jmf["Response"] = response(chance, letter, spawn)
         return dump(chance, {"JMF": jmf})
-    jmf["Command"] = command(ends[0], chance.random() < 0.5)
-    return dump(chance, {"JDF": part(chance, chance.choice(("Completed", "Aborted"))), "JMF": jmf})
+    jmf["Command"] = command(letter, spawn, ends[0])
+    if letter == "A":
+        return dump(chance, {"JMF": jmf})
+    given = part(chance, spawn, chance.choice(("Completed", "Aborted")))
+    return dump(chance, {"JDF": given, "JMF": jmf})
 
 
-def command(sender, submits):
-    if submits:
-        return {"ID": "Q.S1", "Type": "SubmitQueueEntry", "QueueSubmissionParams": {
-            "QueueEntryID": "S1", "ReturnJMF": "jmf:" + sender, "ReturnURL": "cid:jdf",
-            "URL": "cid:jdf"}}
-    return {"ID": "R.S1", "Type": "ReturnQueueEntry",
-            "ReturnQueueEntryParams": {"QueueEntryID": "S1", "URL": "cid:jdf"}}
+def command(letter, spawn, sender):
+    params = {
+        "Q": {"QueueSubmissionParams": {
+            "QueueEntryID": spawn, "ReturnJMF": "jmf:" + sender, "ReturnURL": "cid:jdf",
+            "URL": "cid:jdf"}},
+        "R": {"ReturnQueueEntryParams": {"QueueEntryID": spawn, "URL": "cid:jdf"}},
+        "A": {"AbortQueueEntryParams": {"QueueEntryID": spawn}}}
+    return dict(params[letter], ID=f"{letter}.{spawn}", Type=COMMANDS[letter])
 
 
 def response(chance, letter, spawn):
     answer = {"ID": f"{letter}.{spawn}.a", "refID": f"{letter}.{spawn}", "Reason": 0,
-              "ReturnCode": 0,
-              "Type": "SubmitQueueEntry" if letter == "Q" else "ReturnQueueEntry"}
+              "ReturnCode": 0, "Type": COMMANDS[letter]}
     if chance.random() < 0.6:
         word = chance.choice(("Running", "Completed", "Aborted"))
         return dict(answer, QueueEntry={"QueueEntryID": spawn, "Status": word})
-    return dict(answer, Reason=chance.choice((1, 22, 36, 999)), ReturnCode=1)
+    return dict(answer, Reason=chance.choice((1, 36, 38, 38, 999)), ReturnCode=1)
 
 
-def request(chance):
-    """A request over HTTP, as a rule with a message."""
-    body = damaged(chance, message(chance))
+def request(chance, kind):
+    """A request over HTTP, as a rule with a message for a controller of this kind."""
+    body = damaged(chance, message(chance, kind))
     fields = [f"Content-Length: {len(body)}", "Host: press", "Content-Type: application/json",
               "Accept: */*", "Expect: 100-continue", "content-encoding: gzip",
               "Transfer-Encoding: chunked"]
@@ -293,9 +327,9 @@ def request(chance):
     return "\r\n".join([start, *kept, "", ""]).encode() + body
 
 
-def answered(chance):
-    """A response over HTTP, as a rule with a message."""
-    body = b"" if chance.random() < 0.2 else damaged(chance, message(chance))
+def answered(chance, kind):
+    """A response over HTTP, as a rule with a message for a controller of this kind."""
+    body = b"" if chance.random() < 0.2 else damaged(chance, message(chance, kind))
     fields = [f"Content-Length: {len(body)}", "Content-Type: application/json", "Connection: close",
               "Transfer-Encoding: chunked"]
     kept = [field for number, field in enumerate(fields)
@@ -353,7 +387,7 @@ def changed(chance, given):
     elif what == 3 and isinstance(holder, list):
         holder.append(json.loads(json.dumps(holder[key])))
     elif isinstance(holder, dict):
-        holder[chance.choice(("Foo", "", "Attr", "ID", "Status", "JDF"))] = chance.choice(VALUES)
+        holder[chance.choice(MEMBERS)] = chance.choice(VALUES)
     return dump(chance, document)
 
 
