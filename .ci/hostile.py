@@ -1,13 +1,15 @@
 #!/usr/bin/env python3
 """Random and damaged input for the program: hostile.py PROGRAM [--cases N] [--first N] [--times N]
 
-Each case has a number, and is the same in each run. It is a text that fits, as a rule damaged: cut,
-doubled, swapped. The program must end by itself, with a status that is documented, and tell what
-is documented; leave a file as it was where it refuses the form of what it reads; and need at most
-as many times the memory of its input as --times says (0: any); lists of two shapes may need more.
-The last line says how many cases passed. --first and --cases run one again by its number.
+Each case has a number, and is the same in each run. It is a text that fits, as a rule damaged:
+cut, doubled, swapped. The program must end by itself, with a status that is documented, and tell
+what is documented; leave a file as it was where it refuses the form of what it reads; and need at
+most as many times the memory of its input as --times says (0: any); lists of two shapes may need
+more. The last lines say how often each reply came, and how many cases passed. --first and --cases
+run one again by its number.
 """
 import argparse
+import collections
 import contextlib
 import json
 import os
@@ -42,6 +44,8 @@ ROOM = 4 << 20
 # times their size.
 NEED_MORE = {"members": 35, "pairs": 35}
 SECONDS = 120
+# How often each reply came.
+CAME = collections.Counter()
 # A child's memory counts that of the process that starts it, so a small one does: it leaves the
 # program's status and memory in a file.
 STARTS = """
@@ -171,6 +175,7 @@ def are_lines(lines):
     for line in lines:
         found = LINE.fullmatch(line)
         wants(found, "a line", line)
+        CAME[line.partition(" ")[0]] += 1
         if found["number"]:
             wants(NAMES.get(found["number"]) == found["name"], "a line", line)
 
@@ -436,6 +441,7 @@ def main():
     passed = [passes(number, KINDS[number % len(KINDS)]) for number in numbers]
     if ARGS.first == 1:
         passed += [passes(0, large(*one)) for one in large_inputs(ARGS.most)]
+    print("  " + ", ".join(f"{count} {word}" for word, count in CAME.most_common()))
     print(f"hostile: {sum(passed)} passed, {len(passed) - sum(passed)} failed")
     sys.exit(not all(passed))
 

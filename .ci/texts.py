@@ -168,29 +168,55 @@ def worker_order(chance, ids):
         {"Order": "Resend", "SpawnID": spawn_id(chance)}))
 
 
-def event(chance, ids, stops):
-    to = chance.choice(("mis", "mis", "press", "bind", "fold"))
+def event(chance, ids):
+    to = chance.choice(("mis", "mis", "press", "press", "bind", "fold"))
     order_of = master_order if to == "mis" else worker_order
-    one = chance.choice((
-        {"Event": "Order", "Order": order_of(chance, ids), "To": to},
-        {"Event": "Order", "Order": order_of(chance, ids), "To": to},
-        {"Deliver": chance.randrange(1, 9), "Event": "Deliver"},
-        {"Deliver": chance.randrange(1, 4), "Event": "Deliver"},
+    return chance.choice((
+        ordered(to, order_of(chance, ids)),
+        ordered(to, order_of(chance, ids)),
+        delivered(chance.randrange(1, 9)),
+        delivered(chance.randrange(1, 4)),
         {"Event": "Restart", "To": to}))
-    if stops and chance.random() < 0.2:
-        one["Stop"] = chance.choice(("Run", "BeforeSave", "BeforeSend"))
-    return dict(one, At=chance.randrange(1000))
+
+
+def ordered(to, order_):
+    return {"Event": "Order", "Order": order_, "To": to}
+
+
+def delivered(number):
+    return {"Deliver": number, "Event": "Deliver"}
+
+
+def course(chance, ids):
+    """A part goes out and comes back, or is given up before or after it comes."""
+    out = ordered("mis", spawning(chance, ids))
+    finish = ordered("press", {"Order": "Finish", "SpawnID": "S1", "Status": "Completed"})
+    resend = ordered("press", {"Order": "Resend", "SpawnID": "S1"})
+    withdraw = ordered("mis", {"Order": "Withdraw", "SpawnID": "S1"})
+    return chance.choice((
+        [out, delivered(1), finish, delivered(3), delivered(4), delivered(3)],
+        [out, withdraw, delivered(2), delivered(3), delivered(1)],
+        [out, delivered(1), withdraw, delivered(3), resend, delivered(5), delivered(6)]))
 
 
 def script(chance, stops):
-    """A script, which begins as a rule with a spawn."""
+    """A script: the course of a part, and anything between."""
     root, ids = ticket(chance)
-    events = [event(chance, ids, stops) for _ in range(chance.randrange(25))]
-    if chance.random() < 0.9:
-        first = {"At": 1, "Event": "Order", "Order": spawning(chance, ids), "To": "mis"}
-        events.insert(0, first)
-    return dump(chance, {"Events": events, "Master": "mis", "Ticket": root,
-                         "Workers": ["press", "bind"]})
+    events = [event(chance, ids) for _ in range(chance.choice((0, 0, 2, 4, 10, 20)))]
+    steps = course(chance, ids)
+    places = sorted((chance.randrange(len(events) + 1) for _ in steps), reverse=True)
+    for place, step in zip(places, reversed(steps)):
+        events.insert(place, step)
+    return dump(chance, {"Events": [timed(chance, one, stops) for one in events], "Master": "mis",
+                         "Ticket": root, "Workers": ["press", "bind"]})
+
+
+def timed(chance, event_, stops):
+    """An event with its time, and perhaps a stop."""
+    one = dict(event_, At=chance.randrange(1000))
+    if stops and chance.random() < 0.15:
+        one["Stop"] = chance.choice(("Run", "BeforeSave", "BeforeSend"))
+    return one
 
 
 # ---- one job, whose printing is out
