@@ -3,10 +3,11 @@
 chaos.py PROGRAM [--seconds N] [--seed N] [--requests N] [--growth N]
 
 Days follow one another for so many seconds. In each a master and two workers are served over
-loopback, and a proxy stands before each of them. Eight parts go out and come back at once, while
-each process is killed and started again at random. In the end the ticket is that of a day on which
-nothing went wrong, and each part is merged once. Then one server answers as many requests, and its
-memory must not have grown. The last line says how much went on.
+loopback, and a proxy stands before each of them. Eight parts go out and come back at once, and a
+ninth is given up before it comes, while each process is killed and started again at random. In the
+end the ticket is that of a day on which nothing went wrong, and each part is merged once. Then one
+server answers as many requests, and its memory must not have grown. The last line says how much
+went on.
 """
 import argparse
 import json
@@ -25,6 +26,9 @@ import processes
 from processes import PROGRAM, Served, request, run, wants
 
 PARTS = 8
+# The part that is given up, behind those that come back.
+GIVEN_UP = PARTS
+WITHDRAW = {"Order": "Withdraw", "SpawnID": f"S{GIVEN_UP + 1}"}
 # The longest time for a day, in seconds.
 PATIENCE = 300
 
@@ -40,8 +44,9 @@ def opening():
     nodes = [{"ID": f"n{number}", "JobPartID": f"p{number}", "Status": "Waiting", "Type": "Folding",
               "ResourceLinkPool": [{"Usage": "Input", "rRef": "paper"},
                                    {"Usage": "Output", "rRef": f"r{number}"}]}
-             for number in range(PARTS)]
-    pool = [resource("paper", "Media")] + [resource(f"r{n}", "Component") for n in range(PARTS)]
+             for number in range(PARTS + 1)]
+    pool = [resource("paper", "Media")]
+    pool += [resource(f"r{number}", "Component") for number in range(PARTS + 1)]
     ticket = {"ID": "root", "JobID": "J1", "JobPartID": "p", "Status": "Waiting", "Type": "Product",
               "JDF": nodes, "ResourcePool": pool}
     return {"Master": "mis", "Ticket": ticket, "Workers": ["press", "bind"]}
@@ -76,6 +81,8 @@ def quiet_day():
         events += [at(worker, order) for order in work(number, spawn_id) + [finish(spawn_id)]]
         events.append({"At": 1, "Event": "Deliver", "Deliver": sent + 3})
         sent += 4
+    events += [at("mis", spawn(GIVEN_UP)), at("mis", WITHDRAW)]
+    events += [{"At": 1, "Event": "Deliver", "Deliver": sent + number} for number in (2, 3, 1)]
     status, text, told = run("world", given=json.dumps({**opening(), "Events": events}))
     wants((status, told), (0, ""))
     return without_times(text.splitlines()[-1])
@@ -255,27 +262,44 @@ class Day:
 
     def carry_out(self, number, message):
         """A part goes out, is worked on, and comes back."""
+        worker, spawn_id = worker_of(number), f"S{number + 1}"
+        self.hand(worker, message, "mis")
+        for order in work(number, spawn_id):
+            self.until(lambda order=order: self.order(worker, order)[0] == "Edited")
+        back = self.sent(worker, finish(spawn_id), "Refused 31 NotOpen")
+        self.hand("mis", back, worker)
+
+    def give_up(self, number, message):
+        """A part is given up, and comes when its worker has declined it."""
+        worker = worker_of(number)
+
+        def is_back():
+            lines = self.order("mis", WITHDRAW)
+            answer = self.post(worker, lines[1]) if len(lines) > 2 else ""
+            if '"Reason":38' in answer:
+                self.post("mis", answer)
+            return lines[0] == "Refused 16 NotOut"
+        self.until(is_back)
+        self.until(lambda: '"Reason":38' in self.post(worker, message))
+
+    def handle(self, number, message):
+        """What becomes of a part."""
         try:
-            worker, spawn_id = worker_of(number), f"S{number + 1}"
-            self.hand(worker, message, "mis")
-            for order in work(number, spawn_id):
-                self.until(lambda order=order: self.order(worker, order)[0] == "Edited")
-            back = self.sent(worker, finish(spawn_id), "Refused 31 NotOpen")
-            self.hand("mis", back, worker)
+            (self.give_up if number == GIVEN_UP else self.carry_out)(number, message)
         except (AssertionError, OSError) as fault:
             self.faults.append(f"part {number}: {fault}")
 
     def spawn_all(self):
         """The messages of the parts, one after the other, so that each has its number."""
-        self.spawn_ids = {f"n{number}": f"S{number + 1}" for number in range(PARTS)}
+        self.spawn_ids = {f"n{number}": f"S{number + 1}" for number in range(PARTS + 1)}
         return [self.sent("mis", spawn(number), f"Refused 12 NotHeld S{number + 1}")
-                for number in range(PARTS)]
+                for number in range(PARTS + 1)]
 
     def go_by(self):
         killer = threading.Thread(target=self.kills)
         killer.start()
         try:
-            threads = [threading.Thread(target=self.carry_out, args=one)
+            threads = [threading.Thread(target=self.handle, args=one)
                        for one in enumerate(self.spawn_all())]
             for thread in threads:
                 thread.start()

@@ -34,6 +34,7 @@ TICKET = {"ID": "root", "JobID": "J1", "JobPartID": "p", "Status": "Waiting", "T
 OPENING = json.dumps({"Master": "mis", "Ticket": TICKET, "Workers": ["press"]})
 SPAWN = {"Order": "Spawn", "Node": "n1", "Worker": "press", "RW": ["paper"]}
 FINISH = {"Order": "Finish", "SpawnID": "S1", "Status": "Completed"}
+WITHDRAW = {"Order": "Withdraw", "SpawnID": "S1"}
 SCRIPT = json.dumps({"Master": "mis", "Ticket": TICKET, "Workers": ["press"], "Events": [
     {"At": 1, "Event": "Order", "Order": SPAWN, "To": "mis"},
     {"At": 2, "Event": "Deliver", "Deliver": 1},
@@ -69,10 +70,15 @@ def restore(before):
 
 
 def steps():
-    """A command of each kind, on a shop in which a part is out and on its way back."""
+    """A command of each kind, on a shop in which a part is out, is asked for before it comes, and
+    then is on its way back."""
     for name, begins in (("mis", OPENING), ("press", '{"Master":"mis","Worker":"press"}')):
         wants(run("new", name, given=begins), (0, "", ""))
     out = order("mis", SPAWN)
+    yield Step(["order", "mis", "--at", "1"], json.dumps(WITHDRAW))
+    declining = Step(["take", "press", "--at", "2"], order("mis", WITHDRAW))
+    yield declining
+    yield Step(["take", "mis", "--at", "3"], declining.fine[1].split("\n")[1])
     yield Step(["take", "press", "--at", "2"], out)
     wants(run("take", "press", "--at", "2", given=out)[0], 0)
     yield Step(["order", "press", "--at", "3"], json.dumps(FINISH))
