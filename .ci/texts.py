@@ -214,8 +214,8 @@ def script(chance, stops):
 def timed(chance, event_, stops):
     """An event with its time, and perhaps a stop."""
     one = dict(event_, At=chance.randrange(1000))
-    if stops and chance.random() < 0.15:
-        one["Stop"] = chance.choice(("Run", "BeforeSave", "BeforeSend"))
+    if chance.random() < 0.15:
+        one["Stop"] = chance.choice(("Run", "BeforeSave", "BeforeSend") if stops else ("Run",))
     return one
 
 
