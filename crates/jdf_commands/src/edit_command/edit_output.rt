@@ -1,9 +1,10 @@
 //! From the bytes of the input to the bytes of the output.
 
-ghost use Rattle.std.specs.Prelude.{◌≡◌, ◌++◌, count_by, IfErr, IfOk, OnOk, Ok};
+ghost use Rattle.std.specs.Prelude.{◌≡◌, ◌≤◌, ◌++◌, length, IfErr, IfOk, OnOk, Ok};
 ghost use Rattle.jdf_commands.specs.EditCommand.Document.{IsReadAs, IsReadRaw, IsRefusalOf};
 ghost use Rattle.jdf_commands.specs.declared.edit_command.document.Document.{Document};
-ghost use Rattle.jdf_commands.specs.EditCommand.Run.{IsEdited, IsOutput, adds_node, ticket_text};
+ghost use Rattle.jdf_commands.specs.EditCommand.Run as run;
+ghost use Rattle.jdf_commands.specs.EditCommand.Run.{IsEdited, IsOutput, ticket_text};
 
 use crate::edit_command::document::Document;
 use crate::edit_command::raw_document::RawDocument;
@@ -32,14 +33,24 @@ struct EditedTicket {
     refused: bool,
 }
 
-/// How many edits add a node.
-fn new_nodes(edits: &[Edit]) -> usize
-    ensures { result ≡ count_by adds_node edits.now }
+/// Whether an edit adds a node.
+fn adds_node(edit: &Edit) -> bool
+    ensures { result ≡ run.adds_node edit.now }
 {
-    edits
-        .iter()
-        .filter(|edit| matches!(edit, Edit::AddNode { .. }))
-        .count()
+    matches!(edit, Edit::AddNode { .. })
+}
+
+/// How many edits add a node. Only the room for them depends on it.
+fn new_nodes(edits: &[Edit]) -> usize
+    ensures { result ≤ length edits.now }
+{
+    let mut count = 0;
+    for edit in edits {
+        if adds_node(edit) {
+            count += 1;
+        }
+    }
+    count
 }
 
 /// The ticket of a document after its edits. Room for the nodes that they add is made at once.

@@ -30,7 +30,7 @@ pub struct RawDocument {
 /// the first refused edit is refused for, and `Memory`.
 fn find_edits(alloc: Global, edits: Vec<Tree<'_>>) -> Result<Judged<Items<Edit>>, Refusal>
     ensures { Reads (list_all edit_has_names) (list_all edit_has_texts) result
-        (each edit_draft (items_of (map tree_data edits.items))) }
+        (each edit_draft (items_of (map tree_data edits.entry.items))) }
 {
     let mut found = Ok(Items::new(Vec::with_capacity(alloc, edits.len())?));
     for edit in edits {

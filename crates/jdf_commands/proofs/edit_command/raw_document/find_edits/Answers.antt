@@ -23,6 +23,18 @@ loop-edit-preserved c =
     (sym (each-behind tree_data edit_draft c.loop-edit.yielded c.in-Some.edit))
     (c.in_ok-push_found.ensures edit_has_names edit_has_texts _ _ c.loop-edit.invariant c.in_ok-next.ensures)
 
+pub loop-edit-preserved-in_ok-push_found : goal.loop-edit-preserved-in_ok-push_found
+loop-edit-preserved-in_ok-push_found c =
+    subst (Finds (first_fault (list_all edit_has_names) (list_all edit_has_texts)) c.push_found.new.found)
+    (sym (each-behind tree_data edit_draft c.loop-edit.yielded c.in-Some.edit))
+    (c.in_ok-push_found.ensures edit_has_names edit_has_texts _ _ c.loop-edit.invariant c.in_ok-next.ensures)
+
+pub loop-edit-preserved-in_ok-push_found-2 : goal.loop-edit-preserved-in_ok-push_found-2
+loop-edit-preserved-in_ok-push_found-2 c =
+    subst (Finds (first_fault (list_all edit_has_names) (list_all edit_has_texts)) c.push_found.new.found)
+    (sym (each-behind tree_data edit_draft c.loop-edit.yielded c.in-Some.edit))
+    (c.in_ok-push_found.ensures edit_has_names edit_has_texts _ _ c.loop-edit.invariant c.in_ok-next.ensures)
+
 pub returns : goal.returns
 returns c =
     let all = YieldsList-from_vec {s = c.into_iter-edit-iterator.result} c.args.edits.items (search rules) (search rules) in
