@@ -57,14 +57,6 @@ impl IndexedRows {
         Ok(IndexedRows { rows, nodes, homes })
     }
 
-    /// Makes room for just so many more nodes. Nothing changes.
-    pub fn reserve(&mut self, count: usize) -> Result<(), AllocError>
-        ensures { self.new ≡ self.old }
-    {
-        self.rows.reserve_exact(count)?;
-        self.nodes.reserve(count)
-    }
-
     /// The nodes as a slice.
     pub fn as_slice(&self) -> &[NodeRow]
         ensures { result.now ≡ self.now }

@@ -43,13 +43,6 @@ impl NodeIndex {
         self.ids.get_index_of(id)
     }
 
-    /// Makes room for so many more ids. Nothing changes.
-    pub(crate) fn reserve(&mut self, count: usize) -> Result<(), AllocError>
-        ensures { self.new ≡ self.old }
-    {
-        self.ids.reserve(count)
-    }
-
     /// Puts the id of a new node in at a place, behind which all others move by one. Without memory
     /// nothing changes.
     pub(crate) fn insert_at(&mut self, place: usize, id: Id) -> Result<(), AllocError>

@@ -176,13 +176,6 @@ impl Ticket {
         edits::apply(alloc, &mut self.rows, edit, at)
     }
 
-    /// Makes room for just so many more nodes, for who is going to add them. Nothing changes.
-    pub fn reserve(&mut self, _alloc: Global, nodes: usize) -> Result<(), AllocError>
-        ensures { self.new ≡ self.old }
-    {
-        self.rows.reserve(nodes)
-    }
-
     /// Puts an audit last at a node. Refuses `UnknownNode`, which needs no memory, and then
     /// `Memory`. A refusal changes nothing.
     pub fn append(&mut self, _alloc: Global, node: &Id, audit: Audit) -> Result<(), Refusal>

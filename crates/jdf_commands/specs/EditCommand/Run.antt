@@ -1,12 +1,11 @@
 -- What `edit` does with a document, and what it writes.
 use Rattle.std.specs.Prelude.{◌≡◌, ℕ, Bool, List, [], ◌∷◌, ◌++◌, codes, Option, Some, None, is_some}
-use Rattle.std.specs.Prelude.{Ok, true, false, ◌⊎◌}
+use Rattle.std.specs.Prelude.{Ok, ◌⊎◌}
 use Rattle.std.specs.List.{flat_map, list_any}
 use Rattle.serde_json.specs.Written.{compact_text}
 use Rattle.ticket_rows.specs.Edit.{refusal_of, edited}
 use Rattle.ticket_rows.specs.Ticket.{Job}
 use Rattle.ticket_items.specs.declared.edit.Edit.{Edit}
-use Rattle.ticket_items.specs.declared.edit.Edit.TheVariants.{AddNode}
 use Rattle.ticket_items.specs.declared.refusal.Refusal.{Refusal}
 use Rattle.ticket_items.specs.declared.refusal.Refusal.TheVariants.{Memory}
 use Rattle.json_text.specs.Written.{ticket_data}
@@ -26,11 +25,6 @@ IsOutcome e t outcome =
 abbrev pub after : Option Refusal → Edit → ℕ → Job → Job
 after None e at t = edited e at t
 after (Some r) e at t = t
-
--- whether an edit adds a node
-abbrev pub adds_node : Edit → Bool
-adds_node (AddNode node id kind job_part status) = true
-adds_node _ = false
 
 -- the edit's line
 abbrev pub edit_line : Option Refusal → List ℕ

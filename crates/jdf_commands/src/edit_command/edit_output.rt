@@ -1,9 +1,8 @@
 //! From the bytes of the input to the bytes of the output.
 
-ghost use Rattle.std.specs.Prelude.{◌≡◌, ◌≤◌, ◌++◌, length, IfErr, IfOk, OnOk, Ok};
+ghost use Rattle.std.specs.Prelude.{◌≡◌, ◌++◌, IfErr, IfOk, OnOk, Ok};
 ghost use Rattle.jdf_commands.specs.EditCommand.Document.{IsReadAs, IsReadRaw, IsRefusalOf};
 ghost use Rattle.jdf_commands.specs.declared.edit_command.document.Document.{Document};
-ghost use Rattle.jdf_commands.specs.EditCommand.Run as run;
 ghost use Rattle.jdf_commands.specs.EditCommand.Run.{IsEdited, IsOutput, ticket_text};
 
 use crate::edit_command::document::Document;
@@ -14,7 +13,7 @@ use json_profile::push_ticket_text;
 use json_source::{Scratch, tree_of};
 use std::alloc::{AllocError, Global};
 use streams::Output;
-use ticket_tree::{Edit, Refusal, Ticket};
+use ticket_tree::{Refusal, Ticket};
 
 /// Appends the text of a ticket, and the end of its line.
 fn push_ticket(alloc: Global, text: &mut Vec<u8>, ticket: &Ticket) -> Result<(), AllocError>
@@ -33,35 +32,13 @@ struct EditedTicket {
     refused: bool,
 }
 
-/// Whether an edit adds a node.
-fn adds_node(edit: &Edit) -> bool
-    ensures { result ≡ run.adds_node edit.now }
-{
-    matches!(edit, Edit::AddNode { .. })
-}
-
-/// How many edits add a node. Only the room for them depends on it.
-fn new_nodes(edits: &[Edit]) -> usize
-    ensures { result ≤ length edits.now }
-{
-    let mut count = 0;
-    for edit in edits {
-        if adds_node(edit) {
-            count += 1;
-        }
-    }
-    count
-}
-
-/// The ticket of a document after its edits. Room for the nodes that they add is made at once.
-/// Refuses `Memory` alone.
+/// The ticket of a document after its edits. Refuses `Memory` alone.
 fn edited_document(alloc: Global, document: Document) -> Result<EditedTicket, Refusal>
     ensures done { IfOk result (λ o. IsEdited document o.lines.items o.ticket o.refused) }
     ensures memory { IfErr result (λ e. e ≡ Refusal.Memory) }
 {
     let Document { at, edits, ticket } = document;
     let mut ticket = ticket;
-    ticket.reserve(alloc, new_nodes(edits.as_slice()))?;
     let mut lines = Vec::new(alloc);
     let refused = run_edits(alloc, &mut ticket, at, edits.into_vec(), &mut lines)?;
     Ok(EditedTicket {
