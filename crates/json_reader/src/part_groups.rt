@@ -43,7 +43,8 @@ fn are_read(pool: &[Shown], spawn: &str) -> bool
 /// How many resources of a part's root stand in each group, by what they show. Refuses `NotProfile`
 /// where they don't stand in their groups.
 pub fn group_sizes(pool: &[Shown], spawn: &str) -> Result<GroupSizes, Refusal>
-    ensures { Gives (λ s. s) result (groups.group_sizes spawn.now pool.now) }
+    ensures read { Gives (λ s. s) result (groups.group_sizes spawn.now pool.now) }
+    ensures refused { IfErr result (λ e. e ≡ Refusal.NotProfile) }
 {
     let own = own_len(pool);
     let (_, copies) = pool.split_at(own);

@@ -1,6 +1,6 @@
 //! The document that a state is stored as: its format, and the controller under its kind.
 
-ghost use Rattle.std.specs.Prelude.{◌≡◌, codes};
+ghost use Rattle.std.specs.Prelude.{◌≡◌, IfErr, codes};
 ghost use Rattle.json_source.specs.Read.{Gives, number_under};
 ghost use Rattle.controller_form.specs.States.StateFormat as format;
 
@@ -22,7 +22,8 @@ pub enum Format {
 
 /// The time under `At`, in seconds since 1970. Refuses `NotProfile`.
 pub fn at_under<S: Source>(value: &S) -> Result<u64, Refusal>
-    ensures { Gives (λ at. at) result (number_under (codes "At") (S.content value.now)) }
+    ensures read { Gives (λ at. at) result (number_under (codes "At") (S.content value.now)) }
+    ensures refused { IfErr result (λ e. e ≡ Refusal.NotProfile) }
 {
     number_under(value, "At").ok_or(Refusal::NotProfile)
 }
@@ -50,8 +51,9 @@ pub fn format_of<S: Source>(value: &S) -> Result<Format, Refusal>
 /// What stands under a kind of controller. Refuses `NotProfile` where nothing does, or something
 /// else than that and the format stands beside it.
 pub fn controller_under<'a, S: Source>(value: &'a S, kind: &str) -> Result<&'a S, Refusal>
-    ensures { Gives (λ v. S.content v.now) result
+    ensures read { Gives (λ v. S.content v.now) result
         (format.controller_under kind.now (S.content value.now)) }
+    ensures refused { IfErr result (λ e. e ≡ Refusal.NotProfile) }
 {
     only(value, &["Format", kind])?;
     value.member(kind).ok_or(Refusal::NotProfile)

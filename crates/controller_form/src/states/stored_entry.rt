@@ -29,7 +29,8 @@ pub struct StoredEntry {
 
 /// The stage under `Phase` in which the worker has the part. Refuses `NotProfile`.
 fn stage_under<S: Source>(value: &S) -> Result<Stage, Refusal>
-    ensures { Gives (λ stage. stage) result (form.stage_under (S.content value.now)) }
+    ensures read { Gives (λ stage. stage) result (form.stage_under (S.content value.now)) }
+    ensures refused { IfErr result (λ e. e ≡ Refusal.NotProfile) }
 {
     let word = text_under(value, "Phase").ok_or(Refusal::NotProfile)?;
     stage_named(word).ok_or(Refusal::NotProfile)
@@ -37,7 +38,8 @@ fn stage_under<S: Source>(value: &S) -> Result<Stage, Refusal>
 
 /// The end under `End`. Refuses `NotProfile`.
 fn end_under<S: Source>(value: &S) -> Result<End, Refusal>
-    ensures { Gives (λ end. end) result (form.end_under (S.content value.now)) }
+    ensures read { Gives (λ end. end) result (form.end_under (S.content value.now)) }
+    ensures refused { IfErr result (λ e. e ≡ Refusal.NotProfile) }
 {
     let word = text_under(value, "End").ok_or(Refusal::NotProfile)?;
     end_named(word).ok_or(Refusal::NotProfile)

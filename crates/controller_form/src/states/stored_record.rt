@@ -1,6 +1,6 @@
 //! The records of a master's spawns, as they are read.
 
-ghost use Rattle.std.specs.Prelude.{◌≡◌};
+ghost use Rattle.std.specs.Prelude.{◌≡◌, IfErr};
 ghost use Rattle.json_source.specs.Read.{Gives};
 ghost use Rattle.controller_form.specs.States.RecordForm as form;
 
@@ -35,7 +35,9 @@ fn is_phase_told_in(format: Format, phase: Phase) -> bool
 
 /// The phase under `Phase`, which the format has to tell. Refuses `NotProfile`.
 fn phase_under<S: Source>(value: &S, format: Format) -> Result<Phase, Refusal>
-    ensures { Gives (λ phase. phase) result (form.phase_under format (S.content value.now)) }
+    ensures read { Gives (λ phase. phase) result
+        (form.phase_under format (S.content value.now)) }
+    ensures refused { IfErr result (λ e. e ≡ Refusal.NotProfile) }
 {
     let word = text_under(value, "Phase").ok_or(Refusal::NotProfile)?;
     let phase = phase_named(word).ok_or(Refusal::NotProfile)?;

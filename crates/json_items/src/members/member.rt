@@ -1,6 +1,6 @@
 //! Reading one member of an object.
 
-ghost use Rattle.std.specs.Prelude.{◌≡◌, map};
+ghost use Rattle.std.specs.Prelude.{◌≡◌, IfErr, map};
 ghost use Rattle.std.specs.Option.{option_map};
 ghost use Rattle.json_source.specs.Read as form;
 
@@ -9,8 +9,9 @@ use ticket_items::Refusal;
 
 /// Refuses `NotProfile` unless the value is an object with no other members than these.
 pub fn only<S: Source>(value: &S, names: &[&str]) -> Result<(), Refusal>
-    ensures { form.Gives (λ u. u) result
+    ensures read { form.Gives (λ u. u) result
         (form.provided (form.has_only (map (λ n. n.now) names.now) (S.content value.now))) }
+    ensures refused { IfErr result (λ e. e ≡ Refusal.NotProfile) }
 {
     if value.has_only(names) {
         Ok(())

@@ -33,12 +33,12 @@ in_parts d passed = two_together AddResource (provided (has_only add_resource_me
 pub returns : goal.returns
 returns g c =
     let d = g.S.Source.content c.args.value.now in
-    made_ok fault edit_fault make (parts d) (add_resource_draft d) c.both.result c.in-Ok.found _ (in_parts d c.in_ok-only.ensures) (λ p. refl) c.in-Ok.is
+    made_ok fault edit_fault make (parts d) (add_resource_draft d) c.both.result c.in-Ok.found _ (in_parts d c.in_ok-only.ensures.read) (λ p. refl) c.in-Ok.is
     (c.both.ensures is_name (λ _. true) (text_under (codes "Node") d) resource_has_names resource_has_texts (own_resource d) c.in_ok-node.ensures c.in_ok-resource.ensures)
     refl
 
 pub returns-in-Err : goal.returns-in-Err
 returns-in-Err g c =
     let d = g.S.Source.content c.args.value.now in
-    made_err fault edit_fault make (parts d) (add_resource_draft d) c.both.result _ (in_parts d c.in_ok-only.ensures) (λ p. refl) c.in-Err.is
+    made_err fault edit_fault make (parts d) (add_resource_draft d) c.both.result _ (in_parts d c.in_ok-only.ensures.read) (λ p. refl) c.in-Err.is
     (c.both.ensures is_name (λ _. true) (text_under (codes "Node") d) resource_has_names resource_has_texts (own_resource d) c.in_ok-node.ensures c.in_ok-resource.ensures)

@@ -15,7 +15,7 @@ returns-in_err-sizes g c =
     let root = c.in_ok-root.ensures in
     let same = c.as_slice.ensures ∙ root.2.shown in
     FindsAs-weaker IsTaken c.from_residual-in_err-sizes.result c.in_err-sizes.field-0.0 (group_sizes spawn c.as_slice.result.now) _ c.from_residual-in_err-sizes.ensures.1
-    (λ none. no_groups d spawn root.0 named root.1 (ap (group_sizes spawn) (sym same) ∙ none)) c.in_err-sizes.ensures
+    (λ none. no_groups d spawn root.0 named root.1 (ap (group_sizes spawn) (sym same) ∙ none)) c.in_err-sizes.ensures.read
 
 pub returns-in_err-find_below : goal.returns-in_err-find_below
 returns-in_err-find_below g c =
@@ -46,6 +46,6 @@ returns g c =
     let same = c.as_slice.ensures ∙ root.2.shown in
     let raws : List RawRow = root.0 ∷ nodes.0 in (
       _,
-      taken_read d spawn root.0 nodes.0 c.in_ok-sizes.sizes named root.1 root.2.pool (ap (group_sizes spawn) (sym same) ∙ c.in_ok-sizes.ensures) nodes.1 (sym all.bare ∙ c.if-not-bare.false),
+      taken_read d spawn root.0 nodes.0 c.in_ok-sizes.sizes named root.1 root.2.pool (ap (group_sizes spawn) (sym same) ∙ c.in_ok-sizes.ensures.read) nodes.1 (sym all.bare ∙ c.if-not-bare.false),
       record { rows = map (λ r. r.row) raws; judged = all.rows; split = refl },
     )

@@ -39,15 +39,15 @@ pub returns-in_err-shop : goal.returns-in_err-shop
 returns-in_err-shop g c =
     let d = g.S.Source.content c.args.value.now in
     handed_on c.from_residual-in_err-shop.result c.in_err-shop.field-0.0 (master_read d) c.from_residual-in_err-shop.ensures.1
-    (⊎_elim (λ memory. inl memory) (λ is. inr (ap begun (alone d c.in_ok-only.ensures ∙ is))) c.in_err-shop.ensures)
+    (⊎_elim (λ memory. inl memory) (λ is. inr (ap begun (alone d c.in_ok-only.ensures.read ∙ is))) c.in_err-shop.ensures)
 
 pub returns-in_err-master : goal.returns-in_err-master
 returns-in_err-master g c =
     let d = g.S.Source.content c.args.value.now in
-    let memory = c.in_err-master.ensures.memory (named d _ (alone d c.in_ok-only.ensures ∙ c.in_ok-shop.ensures)) in
+    let memory = c.in_err-master.ensures.memory (named d _ (alone d c.in_ok-only.ensures.read ∙ c.in_ok-shop.ensures)) in
     handed_on c.from_residual-in_err-master.result c.in_err-master.field-0.0 (master_read d) c.from_residual-in_err-master.ensures.1 (inl memory)
 
 pub returns : goal.returns
 returns g c =
     let d = g.S.Source.content c.args.value.now in
-    ap begun (alone d c.in_ok-only.ensures ∙ c.in_ok-shop.ensures) ∙ ap (λ m. Ok (Master m)) (sym c.in_ok-master.ensures.ok)
+    ap begun (alone d c.in_ok-only.ensures.read ∙ c.in_ok-shop.ensures) ∙ ap (λ m. Ok (Master m)) (sym c.in_ok-master.ensures.ok)

@@ -50,19 +50,19 @@ pub returns-in_err-only : goal.returns-in_err-only
 returns-in_err-only g c =
     let d = g.S.Source.content c.args.value.now in
     handed_on c.from_residual.result c.in_err-only.field-0.0 (worker_read d) c.from_residual.ensures.1
-    (unread c.in_err-only.field-0.0 (provided (has_only worker_members d)) (worker_read d) (λ none. ap judged (no_members d none)) c.in_err-only.ensures)
+    (unread c.in_err-only.field-0.0 (provided (has_only worker_members d)) (worker_read d) (λ none. ap judged (no_members d none)) c.in_err-only.ensures.read)
 
 pub returns-in_err-find_two : goal.returns-in_err-find_two
 returns-in_err-find_two g c =
     let d = g.S.Source.content c.args.value.now in
     handed_on c.from_residual-in_err-find_two.result c.in_err-find_two.field-0.0 (worker_read d) c.from_residual-in_err-find_two.ensures.1
-    (unread c.in_err-find_two.field-0.0 (two d) (worker_read d) (λ none. ap judged (in_parts d c.in_ok-only.ensures ∙ ap (option_map make) none)) c.in_err-find_two.ensures)
+    (unread c.in_err-find_two.field-0.0 (two d) (worker_read d) (λ none. ap judged (in_parts d c.in_ok-only.ensures.read ∙ ap (option_map make) none)) c.in_err-find_two.ensures)
 
 pub returns-in_err-name : goal.returns-in_err-name
 returns-in_err-name g c =
     let d = g.S.Source.content c.args.value.now in
     handed_on c.from_residual-in_err-name.result c.in_err-name.field-0.0 (worker_read d) c.from_residual-in_err-name.ensures.1
-    (inr (parts_refused fault make worker_has_names (λ _. true) worker_late_fault worker_in (two d) (worker_draft d) c.in_ok-find_two.field-0 c.in_err-name.field-0.0 (in_parts d c.in_ok-only.ensures) same_fault c.in_err-name.was c.in_ok-find_two.ensures))
+    (inr (parts_refused fault make worker_has_names (λ _. true) worker_late_fault worker_in (two d) (worker_draft d) c.in_ok-find_two.field-0 c.in_err-name.field-0.0 (in_parts d c.in_ok-only.ensures.read) same_fault c.in_err-name.was c.in_ok-find_two.ensures))
 
 -- the names are valid, and are asked to be two
 taken : (d : Data) (found : Result (List ℕ × List ℕ) Refusal) (name master : List ℕ) → provided (has_only worker_members d) ≡ Some tt → found ≡ Ok (name, master) → Finds fault found (two d) → worker_read d ≡ sound (unless (not (bytes_eq name master)) SameName) (worker_in (make (name, master)))
@@ -77,7 +77,7 @@ returns-in_err-worker g c =
     let same = c.in_err-worker.ensures.only in
     let one = (bytes_eq-Decides name master).1 (c.in_err-worker.ensures.refused.0 (ap Err same)) in
     handed_on c.from_residual-in_err-worker.result c.in_err-worker.field-0.0 (worker_read d) c.from_residual-in_err-worker.ensures.1
-    (inr (taken d c.in_ok-find_two.field-0 name master c.in_ok-only.ensures c.in_ok-name.was c.in_ok-find_two.ensures ∙ ap (λ b. sound (unless (not b) SameName) (worker_in (make (name, master)))) one ∙ ap Err (sym same)))
+    (inr (taken d c.in_ok-find_two.field-0 name master c.in_ok-only.ensures.read c.in_ok-name.was c.in_ok-find_two.ensures ∙ ap (λ b. sound (unless (not b) SameName) (worker_in (make (name, master)))) one ∙ ap Err (sym same)))
 
 pub returns : goal.returns
 returns g c =
@@ -85,5 +85,5 @@ returns g c =
     let name = c.in_ok-name.name in
     let master = c.in_ok-name.master in
     let two = apart name master (bytes_eq name master) refl (λ same. cc (c.in_ok-worker.ensures.refused.1 same)) in
-    taken d c.in_ok-find_two.field-0 name master c.in_ok-only.ensures c.in_ok-name.was c.in_ok-find_two.ensures
+    taken d c.in_ok-find_two.field-0 name master c.in_ok-only.ensures.read c.in_ok-name.was c.in_ok-find_two.ensures
     ∙ ap (λ b. sound (unless (not b) SameName) (worker_in (make (name, master)))) two ∙ ap (λ w. Ok (Worker w)) (sym c.in_ok-worker.ensures.ok)

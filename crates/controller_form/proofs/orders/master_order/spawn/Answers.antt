@@ -42,4 +42,4 @@ same_fault p = ap (λ b. checked_fault (order_has_names (make p)) b None) (sym (
 pub returns : goal.returns
 returns g c =
     let d = g.S.Source.content c.args.value.now in
-    mapped _ fault (first_fault order_has_names order_has_texts) make (parts d) (spawn_form d) c.in_ok-found.found c.map.result (in_parts d c.in_ok-only.ensures) same_fault (λ p x h. search rules) c.in_ok-found.ensures c.map.ensures.cases
+    mapped _ fault (first_fault order_has_names order_has_texts) make (parts d) (spawn_form d) c.in_ok-found.found c.map.result (in_parts d c.in_ok-only.ensures.read) same_fault (λ p x h. search rules) c.in_ok-found.ensures c.map.ensures.cases

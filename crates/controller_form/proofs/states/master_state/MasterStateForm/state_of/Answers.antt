@@ -92,72 +92,72 @@ returns-in_err-only g c =
     let d = g.S.Source.content c.args.value.now in
     let v = g.S.Source.content c.in_ok-controller.controller.now in
     let format = c.in_ok-format.format in
-    let reads = reads_on d v format c.in_ok-format.ensures c.in_ok-controller.ensures in
+    let reads = reads_on d v format c.in_ok-format.ensures c.in_ok-controller.ensures.read in
     handed_on c.from_residual-in_err-only.result c.in_err-only.field-0.0 (master_state_read d) c.from_residual-in_err-only.ensures.1
-    (unread c.in_err-only.field-0.0 (provided (has_only master_members v)) (master_state_read d) (λ none. reads ∙ ap judged_master (no_members format v none)) c.in_err-only.ensures)
+    (unread c.in_err-only.field-0.0 (provided (has_only master_members v)) (master_state_read d) (λ none. reads ∙ ap judged_master (no_members format v none)) c.in_err-only.ensures.read)
 
 pub returns-in_err-own : goal.returns-in_err-own
 returns-in_err-own g c =
     let d = g.S.Source.content c.args.value.now in
     let v = g.S.Source.content c.in_ok-controller.controller.now in
     let format = c.in_ok-format.format in
-    let reads = reads_on d v format c.in_ok-format.ensures c.in_ok-controller.ensures in
+    let reads = reads_on d v format c.in_ok-format.ensures c.in_ok-controller.ensures.read in
     handed_on c.from_residual-in_err-own.result c.in_err-own.field-0.0 (master_state_read d) c.from_residual-in_err-own.ensures.1
-    (unread c.in_err-own.field-0.0 (three v) (master_state_read d) (λ none. reads ∙ ap judged_master (in_parts format v c.in_ok-only.ensures ∙ ap (λ o. option_map make (both_read o (records format v))) none)) c.in_err-own.ensures)
+    (unread c.in_err-own.field-0.0 (three v) (master_state_read d) (λ none. reads ∙ ap judged_master (in_parts format v c.in_ok-only.ensures.read ∙ ap (λ o. option_map make (both_read o (records format v))) none)) c.in_err-own.ensures)
 
 pub returns-in_err-records : goal.returns-in_err-records
 returns-in_err-records g c =
     let d = g.S.Source.content c.args.value.now in
     let v = g.S.Source.content c.in_ok-controller.controller.now in
     let format = c.in_ok-format.format in
-    let reads = reads_on d v format c.in_ok-format.ensures c.in_ok-controller.ensures in
+    let reads = reads_on d v format c.in_ok-format.ensures c.in_ok-controller.ensures.read in
     handed_on c.from_residual-in_err-records.result c.in_err-records.field-0.0 (master_state_read d) c.from_residual-in_err-records.ensures.1
-    (unread c.in_err-records.field-0.0 (records format v) (master_state_read d) (λ none. reads ∙ ap judged_master (in_parts format v c.in_ok-only.ensures ∙ ap (option_map make) (none_behind (three v) (records format v) none))) c.in_err-records.ensures)
+    (unread c.in_err-records.field-0.0 (records format v) (master_state_read d) (λ none. reads ∙ ap judged_master (in_parts format v c.in_ok-only.ensures.read ∙ ap (option_map make) (none_behind (three v) (records format v) none))) c.in_err-records.ensures)
 
 pub returns-in_err-name : goal.returns-in_err-name
 returns-in_err-name g c =
     let d = g.S.Source.content c.args.value.now in
     let v = g.S.Source.content c.in_ok-controller.controller.now in
     let format = c.in_ok-format.format in
-    let reads = reads_on d v format c.in_ok-format.ensures c.in_ok-controller.ensures in
+    let reads = reads_on d v format c.in_ok-format.ensures c.in_ok-controller.ensures.read in
     let finds = c.both.ensures names texts (three v) (list_all record_has_names) (list_all record_has_texts) (records format v) c.in_ok-own.ensures c.in_ok-records.ensures in
     handed_on c.from_residual-in_err-name.result c.in_err-name.field-0.0 (master_state_read d) c.from_residual-in_err-name.ensures.1
-    (inr (reads ∙ parts_refused fault make master_has_names master_has_texts master_built_fault master_in (parts format v) (master_draft format v) c.both.result c.in_err-name.field-0.0 (in_parts format v c.in_ok-only.ensures) same_fault c.in_err-name.was finds))
+    (inr (reads ∙ parts_refused fault make master_has_names master_has_texts master_built_fault master_in (parts format v) (master_draft format v) c.both.result c.in_err-name.field-0.0 (in_parts format v c.in_ok-only.ensures.read) same_fault c.in_err-name.was finds))
 
 pub returns-in_err-spawns : goal.returns-in_err-spawns
 returns-in_err-spawns g c =
     let d = g.S.Source.content c.args.value.now in
     let v = g.S.Source.content c.in_ok-controller.controller.now in
     let format = c.in_ok-format.format in
-    let reads = reads_on d v format c.in_ok-format.ensures c.in_ok-controller.ensures in
+    let reads = reads_on d v format c.in_ok-format.ensures c.in_ok-controller.ensures.read in
     let finds = c.both.ensures names texts (three v) (list_all record_has_names) (list_all record_has_texts) (records format v) c.in_ok-own.ensures c.in_ok-records.ensures in
     let p : Parts = (((c.in_ok-name.name, c.in_ok-name.workers), c.in_ok-name.ticket), c.in_ok-name.records) in
     handed_on c.from_residual-in_err-spawns.result c.in_err-spawns.field-0.0 (master_state_read d) c.from_residual-in_err-spawns.ensures.1
-    (⊎_elim (λ memory. inl memory) (λ marked. inr (reads ∙ taken format v c.both.result p c.in_ok-only.ensures c.in_ok-name.was finds ∙ ap (λ b. with_faults (make p) b (ticket_form.built_fault c.in_ok-name.ticket)) marked.1 ∙ ap Err (sym marked.0))) c.in_err-spawns.ensures.refused)
+    (⊎_elim (λ memory. inl memory) (λ marked. inr (reads ∙ taken format v c.both.result p c.in_ok-only.ensures.read c.in_ok-name.was finds ∙ ap (λ b. with_faults (make p) b (ticket_form.built_fault c.in_ok-name.ticket)) marked.1 ∙ ap Err (sym marked.0))) c.in_err-spawns.ensures.refused)
 
 pub returns-in_err-ticket : goal.returns-in_err-ticket
 returns-in_err-ticket g c =
     let d = g.S.Source.content c.args.value.now in
     let v = g.S.Source.content c.in_ok-controller.controller.now in
     let format = c.in_ok-format.format in
-    let reads = reads_on d v format c.in_ok-format.ensures c.in_ok-controller.ensures in
+    let reads = reads_on d v format c.in_ok-format.ensures c.in_ok-controller.ensures.read in
     let finds = c.both.ensures names texts (three v) (list_all record_has_names) (list_all record_has_texts) (records format v) c.in_ok-own.ensures c.in_ok-records.ensures in
     let p : Parts = (((c.in_ok-name.name, c.in_ok-name.workers), c.in_ok-name.ticket), c.in_ok-name.records) in
     handed_on c.from_residual-in_err-ticket.result c.in_err-ticket.field-0.0 (master_state_read d) c.from_residual-in_err-ticket.ensures.1
-    (⊎_elim (λ memory. inl memory) (λ wrong. inr (reads ∙ taken format v c.both.result p c.in_ok-only.ensures c.in_ok-name.was finds ∙ ap (λ b. with_faults (make p) b (ticket_form.built_fault c.in_ok-name.ticket)) c.in_ok-spawns.ensures.bare ∙ ap (with_faults (make p) true) wrong)) c.in_err-ticket.ensures.err)
+    (⊎_elim (λ memory. inl memory) (λ wrong. inr (reads ∙ taken format v c.both.result p c.in_ok-only.ensures.read c.in_ok-name.was finds ∙ ap (λ b. with_faults (make p) b (ticket_form.built_fault c.in_ok-name.ticket)) c.in_ok-spawns.ensures.bare ∙ ap (with_faults (make p) true) wrong)) c.in_err-ticket.ensures.err)
 
 pub returns : goal.returns
 returns g c =
     let d = g.S.Source.content c.args.value.now in
     let v = g.S.Source.content c.in_ok-controller.controller.now in
     let format = c.in_ok-format.format in
-    let reads = reads_on d v format c.in_ok-format.ensures c.in_ok-controller.ensures in
+    let reads = reads_on d v format c.in_ok-format.ensures c.in_ok-controller.ensures.read in
     let finds = c.both.ensures names texts (three v) (list_all record_has_names) (list_all record_has_texts) (records format v) c.in_ok-own.ensures c.in_ok-records.ensures in
     let p : Parts = (((c.in_ok-name.name, c.in_ok-name.workers), c.in_ok-name.ticket), c.in_ok-name.records) in
     let m = known c.in_ok-name.name c.in_ok-name.workers c.in_ok-ticket.ticket c.in_ok-spawns.spawns.items in
     let same : master_in (make p) ≡ m = ap₂ (known c.in_ok-name.name c.in_ok-name.workers) (sym c.in_ok-ticket.ensures.ok) (sym c.in_ok-spawns.ensures.ok) in
     subst (Answers c.of_parts.result)
-    (sym (reads ∙ taken format v c.both.result p c.in_ok-only.ensures c.in_ok-name.was finds
+    (sym (reads ∙ taken format v c.both.result p c.in_ok-only.ensures.read c.in_ok-name.was finds
     ∙ ap (λ b. with_faults (make p) b (ticket_form.built_fault c.in_ok-name.ticket)) c.in_ok-spawns.ensures.bare
     ∙ ap (with_faults (make p) true) c.in_ok-ticket.ensures.sound
     ∙ ap (λ f. sound f (master_in (make p))) (one_left (is_master (master_in (make p))))

@@ -81,7 +81,7 @@ returns g c =
     let pool = c.in_ok-pool.ensures.0 in
     let is = c.in_ok-pool.ensures.2 in
     let bare = c.is_bare-bare.ensures ∙ ap (list_all shows_nothing) is.shown ∙ all_mapped shows_nothing (λ (m : Marked). m.shown) pool in
-    let parts = in_parts c.args.format.now d at phase pool c.in_ok-only.ensures c.in_ok-at.ensures c.in_ok-phase.ensures c.in_ok-pool.ensures.1 in
+    let parts = in_parts c.args.format.now d at phase pool c.in_ok-only.ensures.read c.in_ok-at.ensures.read c.in_ok-phase.ensures.read c.in_ok-pool.ensures.1 in
     made_ok fault (first_fault record_has_names record_has_texts) (make at phase (are_bare pool)) (both_read (four d) (Some (resources_of pool))) (record_form c.args.format.now d) c.both.result c.in-Ok.found _ parts (same_fault at phase (are_bare pool)) c.in-Ok.is
     (c.both.ensures names texts (four d) (list_all resource_has_names) (list_all resource_has_texts) (Some (resources_of pool)) c.in_ok-names.ensures is.resources)
     (ap (λ b. make at phase b c.in-Ok.found) bare)
@@ -93,6 +93,6 @@ returns-in-Err g c =
     let phase = c.in_ok-phase.phase in
     let pool = c.in_ok-pool.ensures.0 in
     let is = c.in_ok-pool.ensures.2 in
-    let parts = in_parts c.args.format.now d at phase pool c.in_ok-only.ensures c.in_ok-at.ensures c.in_ok-phase.ensures c.in_ok-pool.ensures.1 in
+    let parts = in_parts c.args.format.now d at phase pool c.in_ok-only.ensures.read c.in_ok-at.ensures.read c.in_ok-phase.ensures.read c.in_ok-pool.ensures.1 in
     made_err fault (first_fault record_has_names record_has_texts) (make at phase (are_bare pool)) (both_read (four d) (Some (resources_of pool))) (record_form c.args.format.now d) c.both.result _ parts (same_fault at phase (are_bare pool)) c.in-Err.is
     (c.both.ensures names texts (four d) (list_all resource_has_names) (list_all resource_has_texts) (Some (resources_of pool)) c.in_ok-names.ensures is.resources)

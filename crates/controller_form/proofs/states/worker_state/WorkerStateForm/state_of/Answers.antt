@@ -86,61 +86,61 @@ returns-in_err-only g c =
     let d = g.S.Source.content c.args.value.now in
     let v = g.S.Source.content c.in_ok-controller.controller.now in
     let format = c.in_ok-format.format in
-    let reads = reads_on d v format c.in_ok-format.ensures c.in_ok-controller.ensures in
+    let reads = reads_on d v format c.in_ok-format.ensures c.in_ok-controller.ensures.read in
     handed_on c.from_residual-in_err-only.result c.in_err-only.field-0.0 (worker_state_read d) c.from_residual-in_err-only.ensures.1
-    (unread c.in_err-only.field-0.0 (provided (has_only worker_members v)) (worker_state_read d) (λ none. reads ∙ ap judged_worker (no_members format v none)) c.in_err-only.ensures)
+    (unread c.in_err-only.field-0.0 (provided (has_only worker_members v)) (worker_state_read d) (λ none. reads ∙ ap judged_worker (no_members format v none)) c.in_err-only.ensures.read)
 
 pub returns-in_err-names : goal.returns-in_err-names
 returns-in_err-names g c =
     let d = g.S.Source.content c.args.value.now in
     let v = g.S.Source.content c.in_ok-controller.controller.now in
     let format = c.in_ok-format.format in
-    let reads = reads_on d v format c.in_ok-format.ensures c.in_ok-controller.ensures in
+    let reads = reads_on d v format c.in_ok-format.ensures c.in_ok-controller.ensures.read in
     handed_on c.from_residual-in_err-names.result c.in_err-names.field-0.0 (worker_state_read d) c.from_residual-in_err-names.ensures.1
-    (unread c.in_err-names.field-0.0 (two v) (worker_state_read d) (λ none. reads ∙ ap judged_worker (in_parts format v c.in_ok-only.ensures ∙ ap (λ o. option_map make (both_read o (entries format v))) none)) c.in_err-names.ensures)
+    (unread c.in_err-names.field-0.0 (two v) (worker_state_read d) (λ none. reads ∙ ap judged_worker (in_parts format v c.in_ok-only.ensures.read ∙ ap (λ o. option_map make (both_read o (entries format v))) none)) c.in_err-names.ensures)
 
 pub returns-in_err-entries : goal.returns-in_err-entries
 returns-in_err-entries g c =
     let d = g.S.Source.content c.args.value.now in
     let v = g.S.Source.content c.in_ok-controller.controller.now in
     let format = c.in_ok-format.format in
-    let reads = reads_on d v format c.in_ok-format.ensures c.in_ok-controller.ensures in
+    let reads = reads_on d v format c.in_ok-format.ensures c.in_ok-controller.ensures.read in
     handed_on c.from_residual-in_err-entries.result c.in_err-entries.field-0.0 (worker_state_read d) c.from_residual-in_err-entries.ensures.1
-    (unread c.in_err-entries.field-0.0 (entries format v) (worker_state_read d) (λ none. reads ∙ ap judged_worker (in_parts format v c.in_ok-only.ensures ∙ ap (option_map make) (none_behind (two v) (entries format v) none))) c.in_err-entries.ensures)
+    (unread c.in_err-entries.field-0.0 (entries format v) (worker_state_read d) (λ none. reads ∙ ap judged_worker (in_parts format v c.in_ok-only.ensures.read ∙ ap (option_map make) (none_behind (two v) (entries format v) none))) c.in_err-entries.ensures)
 
 pub returns-in_err-name : goal.returns-in_err-name
 returns-in_err-name g c =
     let d = g.S.Source.content c.args.value.now in
     let v = g.S.Source.content c.in_ok-controller.controller.now in
     let format = c.in_ok-format.format in
-    let reads = reads_on d v format c.in_ok-format.ensures c.in_ok-controller.ensures in
+    let reads = reads_on d v format c.in_ok-format.ensures c.in_ok-controller.ensures.read in
     let finds = c.both.ensures names texts (two v) (list_all entry_has_names) (list_all entry_has_texts) (entries format v) c.in_ok-names.ensures c.in_ok-entries.ensures in
     handed_on c.from_residual-in_err-name.result c.in_err-name.field-0.0 (worker_state_read d) c.from_residual-in_err-name.ensures.1
-    (inr (reads ∙ parts_refused fault make worker_has_names worker_has_texts worker_built_fault worker_in (parts format v) (worker_draft format v) c.both.result c.in_err-name.field-0.0 (in_parts format v c.in_ok-only.ensures) same_fault c.in_err-name.was finds))
+    (inr (reads ∙ parts_refused fault make worker_has_names worker_has_texts worker_built_fault worker_in (parts format v) (worker_draft format v) c.both.result c.in_err-name.field-0.0 (in_parts format v c.in_ok-only.ensures.read) same_fault c.in_err-name.was finds))
 
 pub returns-in_err-entries-2 : goal.returns-in_err-entries-2
 returns-in_err-entries-2 g c =
     let d = g.S.Source.content c.args.value.now in
     let v = g.S.Source.content c.in_ok-controller.controller.now in
     let format = c.in_ok-format.format in
-    let reads = reads_on d v format c.in_ok-format.ensures c.in_ok-controller.ensures in
+    let reads = reads_on d v format c.in_ok-format.ensures c.in_ok-controller.ensures.read in
     let finds = c.both.ensures names texts (two v) (list_all entry_has_names) (list_all entry_has_texts) (entries format v) c.in_ok-names.ensures c.in_ok-entries.ensures in
     let p : Parts = ((c.in_ok-name.name, c.in_ok-name.master), c.in_ok-name.entries) in
     handed_on c.from_residual-in_err-entries-2.result c.in_err-entries-2.field-0.0 (worker_state_read d) c.from_residual-in_err-entries-2.ensures.1
-    (⊎_elim (λ memory. inl memory) (λ wrong. inr (reads ∙ taken format v c.both.result p c.in_ok-only.ensures c.in_ok-name.was finds ∙ ap (with_fault (make p)) (ap parts_fault (sym c.into_vec.ensures) ∙ wrong))) c.in_err-entries-2.ensures.refused)
+    (⊎_elim (λ memory. inl memory) (λ wrong. inr (reads ∙ taken format v c.both.result p c.in_ok-only.ensures.read c.in_ok-name.was finds ∙ ap (with_fault (make p)) (ap parts_fault (sym c.into_vec.ensures) ∙ wrong))) c.in_err-entries-2.ensures.refused)
 
 pub returns : goal.returns
 returns g c =
     let d = g.S.Source.content c.args.value.now in
     let v = g.S.Source.content c.in_ok-controller.controller.now in
     let format = c.in_ok-format.format in
-    let reads = reads_on d v format c.in_ok-format.ensures c.in_ok-controller.ensures in
+    let reads = reads_on d v format c.in_ok-format.ensures c.in_ok-controller.ensures.read in
     let finds = c.both.ensures names texts (two v) (list_all entry_has_names) (list_all entry_has_texts) (entries format v) c.in_ok-names.ensures c.in_ok-entries.ensures in
     let p : Parts = ((c.in_ok-name.name, c.in_ok-name.master), c.in_ok-name.entries) in
     let w = known c.in_ok-name.name c.in_ok-name.master c.in_ok-entries-2.entries.items in
     let same : worker_in (make p) ≡ w = ap (known c.in_ok-name.name c.in_ok-name.master) (ap (map entry_in) (sym c.into_vec.ensures) ∙ sym c.in_ok-entries-2.ensures.ok) in
     subst (Answers c.of_parts.result)
-    (sym (reads ∙ taken format v c.both.result p c.in_ok-only.ensures c.in_ok-name.was finds
+    (sym (reads ∙ taken format v c.both.result p c.in_ok-only.ensures.read c.in_ok-name.was finds
     ∙ ap (with_fault (make p)) (ap parts_fault (sym c.into_vec.ensures) ∙ c.in_ok-entries-2.ensures.sound)
     ∙ ap (λ f. sound f (worker_in (make p))) (one_left (is_worker (worker_in (make p))))
     ∙ ap (λ k. sound (unless (is_worker k) BadState) k) same))
