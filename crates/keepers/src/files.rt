@@ -1,6 +1,6 @@
 //! Files read and written as wholes.
 
-ghost use Rattle.std.specs.Prelude.{◌≡◌, OnOk, IfOk, vec_len};
+ghost use Rattle.std.specs.Prelude.{◌≡◌, OnOk, IfErr, IfOk, vec_len};
 ghost use Rattle.std.specs.Io.KnownBytes.{Appends, Consumes, IsAtEnd};
 
 use crate::keep_fault::KeepFault;
@@ -50,7 +50,8 @@ fn read_to_end<R: Read>(alloc: Global, reader: &mut R) -> Result<Vec<u8>, KeepFa
 /// Writes all of the bytes. Refuses `Failed` where the system does, or interrupts a write or takes
 /// no byte of it.
 pub(crate) fn write_whole<W: Write>(writer: &mut W, bytes: &[u8]) -> Result<(), KeepFault>
-    ensures { OnOk result (Appends (W.contents writer.old) (W.contents writer.new) bytes.now) }
+    ensures ok { OnOk result (Appends (W.contents writer.old) (W.contents writer.new) bytes.now) }
+    ensures only { IfErr result (λ fault. fault ≡ KeepFault.Failed) }
 {
     let mut done = 0;
     while done < bytes.len() {

@@ -1,5 +1,7 @@
 //! Files that are saved as wholes, so that they outlast the program and the system.
 
+ghost use Rattle.std.specs.Prelude.{◌≡◌, IfErr};
+
 use crate::file_lock::{MAX_TRIES, is_same_file, lock_file, lock_named};
 use crate::files::write_whole;
 use crate::keep_fault::KeepFault;
@@ -65,7 +67,9 @@ fn replace_by<R: Files>(
     path: &str,
     permissions: Permissions,
     bytes: &[u8],
-) -> Result<(), KeepFault> {
+) -> Result<(), KeepFault>
+    ensures { IfErr result (λ fault. fault ≡ KeepFault.Failed) }
+{
     file.set_permissions(permissions)?;
     write_whole(file, bytes)?;
     file.sync_all()?;
@@ -80,7 +84,9 @@ fn make_of<R: Files>(
     new_path: &str,
     path: &str,
     bytes: &[u8],
-) -> Result<(), KeepFault> {
+) -> Result<(), KeepFault>
+    ensures { IfErr result (λ fault. fault ≡ KeepFault.Failed) }
+{
     write_whole(file, bytes)?;
     file.sync_all()?;
     fs::hard_link(rt, new_path, path)?;
