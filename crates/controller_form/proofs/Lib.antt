@@ -9,4 +9,3 @@ pub mod Named
 pub mod Together
 pub mod Refusing
 pub mod EntryMembers
-pub mod Mapped

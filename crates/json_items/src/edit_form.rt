@@ -103,11 +103,8 @@ fn add_resource<S: Source>(alloc: Global, value: &S) -> Result<Judged<Edit>, Ref
     )?;
     let node = find_under(alloc, value, "Node")?;
     let resource = Resource::find(alloc, value)?;
-    let (node, resource) = match both(node, resource) {
-        Ok(found) => found,
-        Err(refusal) => return Ok(Err(refusal)),
-    };
-    Ok(Ok(Edit::AddResource { node, resource }))
+    let found = both(node, resource);
+    Ok(found.map(|(node, resource)| Edit::AddResource { node, resource }))
 }
 
 /// An `AddLink`.

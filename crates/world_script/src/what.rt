@@ -21,13 +21,8 @@ fn worker_order<S: Source>(alloc: Global, name: &str, value: &S) -> Result<Judge
 {
     let name = id_in(alloc, name)?;
     let order = find_worker_order(alloc, value)?;
-    match both(name, order) {
-        Ok(found) => {
-            let (name, order) = found;
-            Ok(Ok(What::WorkerOrder(name, order)))
-        }
-        Err(refusal) => Ok(Err(refusal)),
-    }
+    let found = both(name, order);
+    Ok(found.map(|(name, order)| What::WorkerOrder(name, order)))
 }
 
 /// An order to the controller of a name: to the master in its form, to any other in that of

@@ -67,19 +67,18 @@ impl FormIn<Format> for StoredRecord {
         let names = find_four(alloc, value, "ID", "Node", "Worker", "RW")?;
         let pool = FoundPool::find_under(alloc, value, "RO")?;
         let bare = pool.is_bare();
-        let ((((id, node), worker), rw), ro) = match both(names, pool.resources) {
-            Ok(found) => found,
-            Err(refusal) => return Ok(Err(refusal)),
-        };
-        let spawn = SpawnRec {
-            id,
-            node,
-            worker,
-            at,
-            rw,
-            ro,
-            phase,
-        };
-        Ok(Ok(StoredRecord { spawn, bare }))
+        let found = both(names, pool.resources);
+        Ok(found.map(|((((id, node), worker), rw), ro)| {
+            let spawn = SpawnRec {
+                id,
+                node,
+                worker,
+                at,
+                rw,
+                ro,
+                phase,
+            };
+            StoredRecord { spawn, bare }
+        }))
     }
 }

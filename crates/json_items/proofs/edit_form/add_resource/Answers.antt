@@ -1,4 +1,4 @@
-use Rattle.std.proofs.Common.{◌≡◌, true, Option, List, ℕ, Some, refl}
+use Rattle.std.proofs.Common.{rules, ◌≡◌, true, Option, List, ℕ, Some, refl}
 use Rattle.std.specs.Prelude.{codes}
 use Rattle.std.specs.Option.{option_map}
 use Rattle.serde_json.specs.Data.{Data}
@@ -8,7 +8,8 @@ use Rattle.ticket_items.specs.declared.edit.Edit.TheVariants.{AddResource}
 use Rattle.ticket_items.specs.declared.refusal.Refusal.{Refusal}
 use Rattle.ticket_items.specs.declared.resource.Resource.{Resource}
 use Rattle.json_source.specs.Read.{has_only, provided, text_under}
-use Rattle.json_items.proofs.Faults.{made_err, made_ok, two_together}
+use Rattle.json_items.proofs.Faults.{two_together}
+use Rattle.json_items.proofs.Mapped.{mapped}
 use Rattle.json_items.specs.Edits.{add_resource_draft, add_resource_members, edit_has_names, edit_has_texts}
 use Rattle.json_items.specs.Judged.{both_read, first_fault, on_both}
 use Rattle.json_items.specs.Resources.{own_resource, resource_has_names, resource_has_texts}
@@ -33,12 +34,6 @@ in_parts d passed = two_together AddResource (provided (has_only add_resource_me
 pub returns : goal.returns
 returns g c =
     let d = g.S.Source.content c.args.value.now in
-    made_ok fault edit_fault make (parts d) (add_resource_draft d) c.both.result c.in-Ok.found _ (in_parts d c.in_ok-only.ensures.read) (λ p. refl) c.in-Ok.is
-    (c.both.ensures is_name (λ _. true) (text_under (codes "Node") d) resource_has_names resource_has_texts (own_resource d) c.in_ok-node.ensures c.in_ok-resource.ensures)
-    refl
-
-pub returns-in-Err : goal.returns-in-Err
-returns-in-Err g c =
-    let d = g.S.Source.content c.args.value.now in
-    made_err fault edit_fault make (parts d) (add_resource_draft d) c.both.result _ (in_parts d c.in_ok-only.ensures.read) (λ p. refl) c.in-Err.is
-    (c.both.ensures is_name (λ _. true) (text_under (codes "Node") d) resource_has_names resource_has_texts (own_resource d) c.in_ok-node.ensures c.in_ok-resource.ensures)
+    mapped _ fault edit_fault make (parts d) (add_resource_draft d) c.both-found.result c.map.result (in_parts d c.in_ok-only.ensures.read) (λ p. refl) (λ p x h. search rules)
+    (c.both-found.ensures is_name (λ _. true) (text_under (codes "Node") d) resource_has_names resource_has_texts (own_resource d) c.in_ok-node.ensures c.in_ok-resource.ensures)
+    c.map.ensures.cases

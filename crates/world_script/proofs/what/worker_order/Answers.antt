@@ -1,8 +1,8 @@
-use Rattle.std.proofs.Common.{◌≡◌, true, List, ℕ, Option, Some, None, refl}
+use Rattle.std.proofs.Common.{rules, ◌≡◌, true, List, ℕ, Option, Some, None, refl}
 use Rattle.std.specs.Option.{option_map}
 use Rattle.ticket_items.specs.Names.{is_name}
 use Rattle.ticket_items.specs.declared.refusal.Refusal.{Refusal}
-use Rattle.json_items.proofs.Faults.{made_err, made_ok}
+use Rattle.json_items.proofs.Mapped.{mapped}
 use Rattle.json_items.specs.Judged.{both_read, first_fault, on_both}
 use Rattle.worker_core.specs.declared.order.Order.{Order}
 use Rattle.controller_form.specs.Orders.WorkerForm.{order_has_names, order_has_texts, worker_order_form}
@@ -24,16 +24,10 @@ to_one : (name : List ℕ) (order : Option Order) → option_map (WorkerOrder na
 to_one name None = refl
 to_one name (Some o) = refl
 
-pub returns-in-Ok : goal.returns-in-Ok
-returns-in-Ok g c =
+pub returns : goal.returns
+returns g c =
     let name = c.args.name.now in
     let order = worker_order_form (g.S.Source.content c.args.value.now) in
-    made_ok fault what_fault make (both_read (Some name) order) (option_map (WorkerOrder name) order) c.both.result c.in-Ok.found _ (to_one name order) (λ p. refl) c.in-Ok.is
-    (c.both.ensures is_name (λ _. true) (Some name) order_has_names order_has_texts order c.in_ok-name.ensures c.in_ok-order.ensures) refl
-
-pub returns-in-Err : goal.returns-in-Err
-returns-in-Err g c =
-    let name = c.args.name.now in
-    let order = worker_order_form (g.S.Source.content c.args.value.now) in
-    made_err fault what_fault make (both_read (Some name) order) (option_map (WorkerOrder name) order) c.both.result _ (to_one name order) (λ p. refl) c.in-Err.is
-    (c.both.ensures is_name (λ _. true) (Some name) order_has_names order_has_texts order c.in_ok-name.ensures c.in_ok-order.ensures)
+    mapped _ fault what_fault make (both_read (Some name) order) (option_map (WorkerOrder name) order) c.both-found.result c.map.result (to_one name order) (λ p. refl) (λ p x h. search rules)
+    (c.both-found.ensures is_name (λ _. true) (Some name) order_has_names order_has_texts order c.in_ok-name.ensures c.in_ok-order.ensures)
+    c.map.ensures.cases

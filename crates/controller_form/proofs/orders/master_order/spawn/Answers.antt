@@ -7,6 +7,7 @@ use Rattle.serde_json.specs.Find.{as_str, get}
 use Rattle.ticket_items.specs.Names.{is_name}
 use Rattle.ticket_items.specs.declared.refusal.Refusal.{Refusal}
 use Rattle.json_source.specs.Read.{◌>>=◌, has_only, provided}
+use Rattle.json_items.proofs.Mapped.{mapped}
 use Rattle.json_items.proofs.Tests.{all_true}
 use Rattle.json_items.specs.Judged.{checked_fault, first_fault, on_both}
 use Rattle.json_items.specs.Listed.{list_form}
@@ -14,7 +15,6 @@ use Rattle.json_items.specs.Members.{three_form}
 use Rattle.master_core.specs.declared.order.Order.{Order}
 use Rattle.master_core.specs.declared.order.Order.TheVariants.{Spawn}
 use Rattle.controller_form.specs.Orders.MasterForm.{order_has_names, order_has_texts, spawn_form, spawn_members}
-use Rattle.controller_form.proofs.Mapped.{mapped}
 use Rattle.controller_form.proofs.Together.{three_together}
 use Rattle.controller_form.proofs.orders.master_order.spawn.Goals as goal
 

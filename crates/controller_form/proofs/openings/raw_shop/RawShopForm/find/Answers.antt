@@ -6,6 +6,7 @@ use Rattle.serde_json.specs.Data.{Data}
 use Rattle.serde_json.specs.Find.{as_str, get}
 use Rattle.ticket_items.specs.Names.{is_name}
 use Rattle.ticket_items.specs.declared.refusal.Refusal.{Refusal}
+use Rattle.json_items.proofs.Mapped.{mapped}
 use Rattle.json_items.proofs.Tests.{all_true}
 use Rattle.json_items.specs.Judged.{checked_fault, first_fault, on_both}
 use Rattle.json_items.specs.Listed.{list_form}
@@ -14,7 +15,6 @@ use Rattle.json_items.specs.TicketDraft.{RawTicket, ticket_draft}
 use Rattle.json_items.specs.TicketForm as ticket_form
 use Rattle.controller_form.specs.Openings.ShopForm.{shop_draft, shop_has_names, shop_has_texts}
 use Rattle.controller_form.specs.declared.openings.raw_shop.RawShop.{RawShop}
-use Rattle.controller_form.proofs.Mapped.{mapped}
 use Rattle.controller_form.proofs.Together.{three_together}
 use Rattle.controller_form.proofs.openings.raw_shop.RawShopForm.find.Goals as goal
 

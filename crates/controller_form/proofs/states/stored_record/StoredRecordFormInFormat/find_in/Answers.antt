@@ -1,4 +1,4 @@
-use Rattle.std.proofs.Common.{◌≡◌, ◌∙◌, ◌&&◌, ℕ, Bool, true, List, None, Option, Some, ap, sym}
+use Rattle.std.proofs.Common.{rules, ◌≡◌, ◌∙◌, ◌&&◌, ℕ, Bool, true, List, None, Option, Some, ap, sym}
 use Rattle.std.specs.Prelude.{codes}
 use Rattle.std.specs.List.{list_all}
 use Rattle.std.specs.Option.{option_and_then, option_map}
@@ -9,7 +9,8 @@ use Rattle.ticket_items.specs.Names.{is_name}
 use Rattle.ticket_items.specs.SpawnId.{is_spawn_number}
 use Rattle.ticket_items.specs.declared.refusal.Refusal.{Refusal}
 use Rattle.ticket_items.specs.declared.resource.Resource.{Resource}
-use Rattle.json_items.proofs.Faults.{five_together, made_err, made_ok}
+use Rattle.json_items.proofs.Faults.{five_together}
+use Rattle.json_items.proofs.Mapped.{mapped}
 use Rattle.json_items.proofs.Tests.{all_mapped, all_true}
 use Rattle.json_items.specs.Judged.{both_read, checked_fault, first_fault, on_both}
 use Rattle.json_items.specs.Listed.{list_form}
@@ -82,17 +83,6 @@ returns g c =
     let is = c.in_ok-pool.ensures.2 in
     let bare = c.is_bare-bare.ensures ∙ ap (list_all shows_nothing) is.shown ∙ all_mapped shows_nothing (λ (m : Marked). m.shown) pool in
     let parts = in_parts c.args.format.now d at phase pool c.in_ok-only.ensures.read c.in_ok-at.ensures.read c.in_ok-phase.ensures.read c.in_ok-pool.ensures.1 in
-    made_ok fault (first_fault record_has_names record_has_texts) (make at phase (are_bare pool)) (both_read (four d) (Some (resources_of pool))) (record_form c.args.format.now d) c.both.result c.in-Ok.found _ parts (same_fault at phase (are_bare pool)) c.in-Ok.is
-    (c.both.ensures names texts (four d) (list_all resource_has_names) (list_all resource_has_texts) (Some (resources_of pool)) c.in_ok-names.ensures is.resources)
-    (ap (λ b. make at phase b c.in-Ok.found) bare)
-
-pub returns-in-Err : goal.returns-in-Err
-returns-in-Err g c =
-    let d = g.S.Source.content c.args.value.now in
-    let at = c.in_ok-at.at in
-    let phase = c.in_ok-phase.phase in
-    let pool = c.in_ok-pool.ensures.0 in
-    let is = c.in_ok-pool.ensures.2 in
-    let parts = in_parts c.args.format.now d at phase pool c.in_ok-only.ensures.read c.in_ok-at.ensures.read c.in_ok-phase.ensures.read c.in_ok-pool.ensures.1 in
-    made_err fault (first_fault record_has_names record_has_texts) (make at phase (are_bare pool)) (both_read (four d) (Some (resources_of pool))) (record_form c.args.format.now d) c.both.result _ parts (same_fault at phase (are_bare pool)) c.in-Err.is
-    (c.both.ensures names texts (four d) (list_all resource_has_names) (list_all resource_has_texts) (Some (resources_of pool)) c.in_ok-names.ensures is.resources)
+    mapped _ fault (first_fault record_has_names record_has_texts) (make at phase (are_bare pool)) (both_read (four d) (Some (resources_of pool))) (record_form c.args.format.now d) c.both-found.result c.map.result parts (same_fault at phase (are_bare pool)) (λ p x h. let made : x ≡ make at phase c.is_bare-bare.result p = search rules in made ∙ ap (λ b. make at phase b p) bare)
+    (c.both-found.ensures names texts (four d) (list_all resource_has_names) (list_all resource_has_texts) (Some (resources_of pool)) c.in_ok-names.ensures is.resources)
+    c.map.ensures.cases
