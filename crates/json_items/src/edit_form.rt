@@ -78,11 +78,7 @@ fn add_node<S: Source>(alloc: Global, value: &S) -> Result<Judged<Edit>, Refusal
         &["Edit", "ID", "JobPartID", "Node", "Status", "Type"],
     )?;
     let found = find_five(alloc, value, "ID", "JobPartID", "Node", "Status", "Type")?;
-    let ((((id, job_part), node), status), kind) = match found {
-        Ok(found) => found,
-        Err(refusal) => return Ok(Err(refusal)),
-    };
-    Ok(Ok(Edit::AddNode {
+    Ok(found.map(|((((id, job_part), node), status), kind)| Edit::AddNode {
         node,
         id,
         kind,

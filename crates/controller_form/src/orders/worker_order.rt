@@ -18,11 +18,8 @@ fn edit<S: Source>(alloc: Global, value: &S) -> Result<Judged<Order>, Refusal>
         (forms.edit_form (S.content value.now)) }
 {
     only(value, &["Edit", "Order", "SpawnID"])?;
-    let (spawn, edit) = match find_two(alloc, value, "SpawnID", "Edit")? {
-        Ok(found) => found,
-        Err(refusal) => return Ok(Err(refusal)),
-    };
-    Ok(Ok(Order::Edit(spawn, edit)))
+    let found = find_two(alloc, value, "SpawnID", "Edit")?;
+    Ok(found.map(|(spawn, edit)| Order::Edit(spawn, edit)))
 }
 
 /// An order to end the work on it.

@@ -72,11 +72,8 @@ fn held<S: Source>(alloc: Global, value: &S) -> Result<Judged<StoredEntry>, Refu
     only(value, &["At", "ID", "Part", "Phase"])?;
     let at = at_under(value)?;
     let phase = stage_under(value)?;
-    let (spawn, part) = match find_two(alloc, value, "ID", "Part")? {
-        Ok(found) => found,
-        Err(refusal) => return Ok(Err(refusal)),
-    };
-    Ok(Ok(StoredEntry {
+    let found = find_two(alloc, value, "ID", "Part")?;
+    Ok(found.map(|(spawn, part)| StoredEntry {
         spawn,
         phase,
         part: Some(part),
