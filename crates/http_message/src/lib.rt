@@ -24,7 +24,6 @@ mod told;
 pub use body::Body;
 pub use kind::Kind;
 pub use length::MAX_BODY_BYTES;
-pub use looking::{MAX_FIELDS, MAX_HEAD_BYTES};
 pub use reading::{MAX_READS, read_request, receive};
 pub use received::Received;
 pub use response::{write_missing, write_response};

@@ -3,7 +3,8 @@
 ghost use Rattle.json_items.specs.Edits as edits;
 ghost use Rattle.json_items.specs.Judged.{Reads};
 
-use crate::{Form, Judged, both, find_five, find_three, find_two, find_under, only, text_under};
+use crate::members::found_members::find_five;
+use crate::{Form, Judged, both, find_three, find_two, find_under, only, text_under};
 use json_source::Source;
 use std::alloc::Global;
 use ticket_items::{Edit, Link, Refusal, Resource, Usage};

@@ -15,7 +15,7 @@ mod words;
 pub use form::{Form, FormIn, Judged};
 pub use lists::items_form::{find_list_in, push_found};
 pub use members::found_members::{
-    both, find_five, find_four, find_pool, find_three, find_two, find_under, whole_in,
+    both, find_four, find_pool, find_three, find_two, find_under, whole_in,
 };
 pub use members::member::{number_under, only, text_under};
 pub use raw::Raw;

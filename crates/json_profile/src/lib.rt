@@ -6,9 +6,7 @@ mod read;
 mod text;
 mod write;
 
-pub use json_items::{number_under, text_under};
 pub use json_reader::{FoundPool, RawPart, RawTicket};
-pub use json_source::Source;
 pub use print::{print_part, print_ticket, push_part_text, push_shown_text, push_ticket_text};
 pub use read::{edit_of, part_of, ticket_of};
 pub use text::{text_of, value_of, value_printed};

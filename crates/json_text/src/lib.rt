@@ -13,8 +13,6 @@ mod text;
 mod tickets;
 mod words;
 
-pub use items::resources::print_marked;
-pub use lists::print_list;
 pub use marked::no_marks;
 pub use members::{print_items, print_member, print_text};
 pub use parts::print_part;

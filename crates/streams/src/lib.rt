@@ -17,7 +17,7 @@ mod writing;
 pub use command::{Command, Output, finish, output_of, run_command};
 pub use counted::Counted;
 pub use fault::Fault;
-pub use input::{MAX_INPUT_BYTES, MAX_INTERRUPTIONS, read_input};
+pub use input::{MAX_INPUT_BYTES, read_input};
 pub use line::{refusal_line, refused_line};
 pub use output::write_bytes;
 pub use refused::Refused;

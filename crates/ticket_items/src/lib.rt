@@ -40,7 +40,7 @@ pub use node_row::NodeRow;
 pub use refusal::Refusal;
 pub use res_mark::ResMark;
 pub use resource::Resource;
-pub use rules::{MAX_TEXT_BYTES, is_name, is_text};
+pub use rules::{is_name, is_text};
 pub use spawn_id::SpawnId;
 pub use spawn_status::SpawnStatus;
 pub use text::Text;

@@ -1,23 +1,20 @@
 //! The nodes of a ticket in preorder, and what is found among them.
 
 ghost use Rattle.std.specs.Prelude.{◌≡◌, ◌+◌, ◌<◌, ◌≤◌, ◌&&◌, ◌==◌, false, true, length, nat_le};
-ghost use Rattle.std.specs.Prelude.{suc, IfSome};
+ghost use Rattle.std.specs.Prelude.{suc};
 ghost use Rattle.std.specs.List.{position, position_or_len};
 ghost use Rattle.std.specs.Option.{option_copied};
-ghost use Rattle.std.specs.Prelude.{Some, drop, is_some, slice_get};
+ghost use Rattle.std.specs.Prelude.{Some, drop, slice_get};
 ghost use Rattle.std.specs.Str.{bytes_eq};
-ghost use Rattle.ticket_items.specs.Ids.{are_distinct};
 ghost use Rattle.ticket_rows.specs.Outline as outline;
-ghost use Rattle.ticket_rows.specs.Place.{BoundsNodesBelow, node_places};
-ghost use Rattle.ticket_rows.specs.Place as tree;
-ghost use Rattle.ticket_rows.specs.Ticket.{IsValid, depths, has_node, node_ids, row_of};
+ghost use Rattle.ticket_rows.specs.Ticket.{depths, row_of};
 ghost use Rattle.ticket_rows.specs.Ticket as valid;
 ghost use Rattle.ticket_items.specs.declared.node_row.NodeRow.{NodeRow};
 
 use ticket_items::{Id, Name, NodeRow};
 
 /// The Status that only a spawned node shows (JDF 1.5, 4.4).
-pub const SPAWNED: &str = "Spawned";
+const SPAWNED: &str = "Spawned";
 
 /// The greatest depth of a node.
 pub const MAX_DEPTH: u32 = 32;

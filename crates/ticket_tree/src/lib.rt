@@ -14,8 +14,8 @@ pub use linked::is_linked;
 pub use part::Part;
 pub use ticket::Ticket;
 pub use ticket_items::{
-    Ancestor, Ancestors, Attrs, Audit, Audits, Duplicate, Edit, Id, Ids, Items, Link, Links,
-    MAX_TEXT_BYTES, Marks, Name, NodeRow, Refusal, ResMark, ResMarks, Resource, Resources, SpawnId,
-    SpawnIds, SpawnStatus, Text, Usage, is_name, is_text,
+    Ancestor, Ancestors, Attrs, Audit, Audits, Duplicate, Edit, Id, Ids, Items, Link, Links, Marks,
+    Name, NodeRow, Refusal, ResMark, ResMarks, Resource, Resources, SpawnId, SpawnIds, SpawnStatus,
+    Text, Usage,
 };
 pub use ticket_rows::Rows;

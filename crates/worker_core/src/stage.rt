@@ -30,7 +30,7 @@ impl Stage {
     }
 
     /// Whether the part was given up.
-    pub fn is_closed(self) -> bool
+    pub(crate) fn is_closed(self) -> bool
         ensures { result ≡ worker.is_closed_stage self }
     {
         match self {
@@ -50,7 +50,7 @@ impl Stage {
     }
 
     /// Whether there is a part: it was taken, and wasn't given up.
-    pub fn keeps_part(self) -> bool
+    pub(crate) fn keeps_part(self) -> bool
         ensures { result ≡ worker.keeps_part self }
     {
         match self {
