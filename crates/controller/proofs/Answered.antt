@@ -13,12 +13,6 @@ use Rattle.controller.specs.Step.{Makes, Step, Taking, answering, done_step, ref
 
 -- ---- an order makes its step
 
--- one that is refused
-pub refused_makes : {S : Type 0} (why : Option Refusal) (e : Refusal) (old : S) (step : Step S Message)
-    → why ≡ Some e → Makes (unless_refused why old step) old (Err e) old
-refused_makes why e old step is =
-    subst (λ o. Makes (unless_refused o old step) old (Err e) old) (sym is) (record { ok = tt; err = refl; refused = refl; memory = tt })
-
 -- one that isn't refused
 pub free_makes : {S : Type 0} (why : Option Refusal) (old : S) (step : Step S Message) (result : Result Done Refusal) (new : S)
     → why ≡ None → Makes step old result new → Makes (unless_refused why old step) old result new

@@ -4,7 +4,6 @@ pub mod MasterAgain
 pub mod WorkerAgain
 pub mod Shape
 pub mod PartsFault
-pub mod Copies
 pub mod Named
 pub mod Together
 pub mod Refusing

@@ -1,7 +1,7 @@
 -- Bytes that are read one after the other.
-use Rattle.std.proofs.Common.{◌≡◌, ◌∙◌, ℕ, ◌≤◌, ◌+◌, List, [], ◌++◌, Option, Some, None, IfSome, arith, sym, ap, subst, refl, inl, inr, ⊎_elim, append-nil}
+use Rattle.std.proofs.Common.{◌≡◌, ◌∙◌, ℕ, List, ◌++◌, Option, Some, None, IfSome, arith, sym, ap, subst, refl, inl, inr, ⊎_elim, append-nil}
 use Rattle.std.specs.Io.KnownBytes.{Consumes, IsAtEnd}
-use Rattle.std.proofs.KnownBytes.{Consumes-nil, Consumes-trans}
+use Rattle.std.proofs.KnownBytes.{Consumes-trans}
 use Rattle.streams.specs.Counts.{Counts}
 use Rattle.streams.specs.Streams.{used}
 use Rattle.streams.specs.declared.refused.Refused.{Refused}
@@ -9,11 +9,6 @@ use Rattle.streams.specs.declared.refused.Refused.TheVariants.{BadHead}
 use Rattle.http_message.specs.Head.{Head, BeginsWith}
 use Rattle.http_message.specs.Reading.{Grows, HasRead, IsHeadFault, IsMoreFault}
 use Rattle.http_message.specs.declared.kind.Kind.{Kind}
-
-pub read_none : {T : Type 0} (known : T → Option (List ℕ)) (start : ℕ) (c : Counts T) → c.calls ≤ start + 2000000
-    → HasRead start (used known c c) []
-read_none known start c within =
-    record { taken = Consumes-nil (known c.inner); on = omega arith; bound = within; unfailed = refl }
 
 -- what was read and what was read then
 pub read_then : {T : Type 0} (known : T → Option (List ℕ)) (start : ℕ) (a b c : Counts T) (bytes more : List ℕ)

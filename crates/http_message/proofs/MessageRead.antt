@@ -1,5 +1,5 @@
 -- A message whose head and body were read, and why none was.
-use Rattle.std.proofs.Common.{◌≡◌, ◌∙◌, ℕ, ◌<◌, ◌≤◌, ◌-◌, ◌+◌, true, List, ◌++◌, length, drop, slice_range, Option, Some, None, Result, Ok, Err, IfErr, IsErrAnd, IfSome, arith, sym, ap, subst, inl, inr, ⊎_elim, append_assoc, length-append}
+use Rattle.std.proofs.Common.{◌≡◌, ◌∙◌, ℕ, ◌<◌, ◌≤◌, ◌-◌, ◌+◌, true, List, ◌++◌, length, drop, slice_range, Option, Result, Ok, Err, IfErr, IsErrAnd, IfSome, arith, sym, ap, subst, inl, inr, ⊎_elim, append_assoc, length-append}
 use Rattle.std.proofs.lemmas.List.{take-append-drop, drop-append-le, length-drop}
 use Rattle.httparse.proofs.RunLemmas.{length-slice_range}
 use Rattle.httparse.specs.Spans.{span_bytes}
@@ -55,10 +55,6 @@ targeted known kind start a b bytes target told has is =
     (λ more. record { head = has.head; begins = begins_more kind bytes more has.head has.begins; is = is ∙ has.told_of.target })
 
 -- ---- why none was read
-
-if_some : {A : Type 0} (o : Option A) (P Q : A → Type 0) → ((a : A) → P a → Q a) → IfSome o P → IfSome o Q
-if_some None P Q f p = tt
-if_some (Some a) P Q f p = f a p
 
 of_http : (h : Head) (e : Refused) → head_says h ≡ Err e → is_refusal e ≡ true
 of_http h e says = sym (ap is_of_http says) ∙ said_of_http h.start h.fields

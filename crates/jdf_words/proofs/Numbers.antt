@@ -1,6 +1,6 @@
 -- What is read of the arguments that were found.
-use Rattle.std.proofs.Common.{◌≡◌, ◌≤◌, ℕ, Option, Some, None, Result, Ok, Err, IfSome, IsSomeAnd, is_some, ap, sym, subst, refl, arith}
-use Rattle.std.specs.Prelude.{option_map, unwrap_or}
+use Rattle.std.proofs.Common.{◌≡◌, ◌≤◌, ℕ, Option, Some, None, Result, Ok, Err, IsSomeAnd, is_some, ap, sym, subst, refl}
+use Rattle.std.specs.Prelude.{option_map}
 use Rattle.std.specs.Str.Parse.{ParsesUnsigned}
 use Rattle.clap.specs.Words.{IsUnsignedIn, ReadsOne, Text, one_of, one_text, rows_of}
 use Rattle.clap.specs.declared.parser.matches.Found.{Found}
@@ -37,15 +37,6 @@ at_read None r has reads = absurd has
 at_read (Some t) r has reads =
     let read = reads 0 9999999999 has in
     record { number = number_of t; read = read.0; is = refl; time = has.3 }
-
--- a limit, 5 where none is named
-pub limit_bounds : (r : Option ℕ) → IfSome r (λ n. (1 ≤ n) × (n ≤ 3600)) → (1 ≤ unwrap_or r 5) × (unwrap_or r 5 ≤ 3600)
-limit_bounds None within = (omega arith, omega arith)
-limit_bounds (Some n) within = within
-
-pub at_least : (r : Option ℕ) (high : ℕ) → IfSome r (λ n. (1 ≤ n) × (n ≤ high)) → IfSome r (λ n. 1 ≤ n)
-at_least None high within = tt
-at_least (Some n) high within = within.0
 
 pub is_some-map : {A B : Type 0} (f : A → B) (o : Option A) → is_some o ≡ is_some (option_map f o)
 is_some-map f None = refl

@@ -7,17 +7,11 @@ use Rattle.controller.specs.declared.command.Command.TheVariants.{Submit, Return
 use Rattle.controller.specs.declared.message.Message.{Message}
 use Rattle.jmf_message.specs.Items.{IsOrdered, item_data, members_data, put_each}
 use Rattle.jmf_message.specs.Written.{jmf_data, put_said, said_data, said_by}
-use Rattle.jmf_message.specs.declared.items.Item.{Item, Text, Number, Object, the_lemmas}
+use Rattle.jmf_message.specs.declared.items.Item.{Item, Object, the_lemmas}
 use Rattle.jmf_message.specs.declared.said.Said.{Said}
 use Rattle.jmf_message.specs.declared.said.Said.TheVariants as said
 
 -- ---- data
-
-pub data_text : (text : List ℕ) → item_data (Text text) ≡ string text
-data_text text = search (rules, the_lemmas)
-
-pub data_number : (n : ℕ) → item_data (Number n) ≡ number (unsigned n)
-data_number n = search (rules, the_lemmas)
 
 pub data_object : (ms : Vec (Bor (List ℕ) × Item) Global) → item_data (Object ms) ≡ object (members_data ms.items)
 data_object ms = search (rules, the_lemmas)

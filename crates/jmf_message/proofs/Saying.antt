@@ -55,9 +55,6 @@ asked_read : (j : RawJmf) (p : RawPart) (s : Said) (asked : Command) → IsAsked
 asked_read j p s asked is =
     said_read (with_part j p) s is.says ∙ ap (λ o. message_saying (with_part j p) (option_map (λ a. body_with a (copied p)) o)) is.asks
 
-pub not_asked : (j : RawJmf) (p : RawPart) (s : Said) → said_of j ≡ Ok s → asked_of p.spawn s ≡ None → draft_read (with_part j p) ≡ Err WrongMessage
-not_asked j p s is none = said_read (with_part j p) s is ∙ ap (λ o. message_saying (with_part j p) (option_map (λ a. body_with a (copied p)) o)) none
-
 -- ---- what is wrong
 
 -- what was found of the parties and of the part

@@ -1,17 +1,13 @@
 -- The table of marks, filled from the last mark to the first.
-use Rattle.std.proofs.Common.{◌≡◌, ◌∙◌, ℕ, ◌+◌, ◌<◌, Bool, true, false, cond, List, length, drop, get_or, Bor, Option, Some, None, is_eq, nat_cmp, refl, sym, ap}
+use Rattle.std.proofs.Common.{◌≡◌, ◌∙◌, ℕ, ◌+◌, ◌<◌, Bool, true, false, cond, List, length, drop, get_or, Bor, Option, Some, is_eq, nat_cmp, refl, sym, ap}
 use Rattle.std.proofs.lemmas.List.{drop_more}
 use Rattle.std.proofs.lemmas.Map.Text.{is_eq-slice_cmp}
-use Rattle.std.specs.BTreeMap.{IsEmpty, Updates, get_by, is_at}
+use Rattle.std.specs.BTreeMap.{Updates, get_by}
 use Rattle.std.specs.Cmp.Lexicographic.{slice_cmp}
-use Rattle.std.specs.Map.{lookup}
 use Rattle.std.specs.Option.{option_map}
 use Rattle.std.specs.Str.{bytes_eq}
 use Rattle.ticket_items.specs.declared.res_mark.ResMark.{ResMark}
 use Rattle.job_picture.specs.Marked.{Marked, mark_in, mark_of}
-
-pub empty_table : (table : Marked) (x : List ℕ) → IsEmpty table → mark_in table x ≡ None
-empty_table table x empty = ap (λ es. option_map (λ k. k.now) (lookup (is_at (λ y. slice_cmp nat_cmp x y.now)) es)) empty
 
 put_at : (b i : Bool) (mark : Bor ResMark) (old : Option (Bor ResMark)) → i ≡ b → option_map (λ k. k.now) (cond i (Some mark) old) ≡ cond b (Some mark.now) (option_map (λ k. k.now) old)
 put_at true true mark old e = refl

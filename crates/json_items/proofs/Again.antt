@@ -2,7 +2,7 @@
 use Rattle.std.specs.Prelude.{◌≡◌, ℕ, List, [], ◌∷◌, Option, Some, refl}
 use Rattle.std.specs.Option.{option_map}
 use Rattle.std.proofs.Common.{ap, ◌∙◌}
-use Rattle.serde_json.specs.Data.{Data, array, number, unsigned, string}
+use Rattle.serde_json.specs.Data.{Data, array, string}
 use Rattle.serde_json.specs.Find.{as_str}
 use Rattle.ticket_items.specs.Attrs.{Pairs}
 use Rattle.ticket_items.specs.declared.ancestor.Ancestor.{Ancestor}
@@ -29,7 +29,7 @@ use Rattle.json_items.specs.Edits.{add_resource_draft, add_link_draft, setting_d
 use Rattle.json_items.specs.Edits.{edit_draft, edit_data}
 use Rattle.json_items.specs.Links.{usage_form, usage_data, link_draft, link_data}
 use Rattle.json_items.specs.Listed.{data_items, each, list_form, pool_draft, texts_data}
-use Rattle.json_source.specs.Read.{◌>>=◌, number_of, attrs_draft, text_pairs}
+use Rattle.json_source.specs.Read.{◌>>=◌, attrs_draft, text_pairs}
 use Rattle.json_items.specs.Resources.{own_resource, resource_draft, resource_data, raw_data}
 use Rattle.json_items.specs.Shown.{shown_draft, spawn_status_form, spawn_status_data}
 use Rattle.json_items.specs.Resources.{Marked}
@@ -38,10 +38,7 @@ use Rattle.json_items.specs.declared.resources.shown_form.Shown.{Shown}
 pub text_again : (text : List ℕ) → as_str (string text) ≡ Some text
 text_again text = refl
 
-pub number_again : (n : ℕ) → number_of (number (unsigned n)) ≡ Some n
-number_again n = refl
-
-more_at : {X : Type 0} (o : Option X) (x : X) (rest : Option (List X)) (xs : List X) → o ≡ Some x
+pub more_at : {X : Type 0} (o : Option X) (x : X) (rest : Option (List X)) (xs : List X) → o ≡ Some x
     → rest ≡ Some xs → (o >>= λ y. option_map (λ ys. y ∷ ys) rest) ≡ Some (x ∷ xs)
 more_at o x rest xs e f =
     ap (λ p. p >>= λ y. option_map (λ ys. y ∷ ys) rest) e ∙ ap (option_map (λ ys. x ∷ ys)) f

@@ -14,11 +14,6 @@ pub all_true : {X : Type 0} (xs : List X) → list_all (λ _. true) xs ≡ true
 all_true [] = refl
 all_true (x ∷ xs) = all_true xs
 
--- what is made into itself
-pub themselves : {X : Type 0} (xs : List X) → map (λ x. x) xs ≡ xs
-themselves [] = refl
-themselves (x ∷ xs) = ap (λ ys. x ∷ ys) (themselves xs)
-
 not_false : (b : Bool) → (b ≡ false → ⊥) → b ≡ true
 not_false true h = refl
 not_false false h = absurd (h refl)

@@ -25,14 +25,11 @@ pub items_low : {X : Type 0} (form : X → Data) (most : ℕ) → ((x : X) → d
 items_low form most low [] = omega arith
 items_low form most low (x ∷ xs) = omega (arith, low x, items_low form most low xs)
 
-texts_flat : (texts : List (List ℕ)) → items_depth (data_items string texts) ≤ 0
+pub texts_flat : (texts : List (List ℕ)) → items_depth (data_items string texts) ≤ 0
 texts_flat texts = items_low string 0 (λ s. omega arith) texts
 
 pub resource_nests : (shown : Shown) (r : Resource) → depth (resource_data shown r) ≡ 2
 resource_nests shown r = omega (arith, attrs_flat r.attrs, texts_flat shown.spawn_ids)
-
-pub link_nests : (l : Link) → depth (link_data l) ≡ 1
-link_nests l = refl
 
 -- 1 for a note, else 2
 pub audit_nests : (a : Audit) → depth (audit_data a) ≤ 2

@@ -96,10 +96,6 @@ rooted d spawn root is own =
     ∙ ap (λ o. o >>= taken spawn) (node_rows-get part_members 1 d ∙ ap (λ o. o >>= λ row. option_map (λ rows. row ∷ rows) (below d)) own)
     ∙ mapped_then (below d) (λ rows. root ∷ rows) (taken spawn)
 
-pub no_root : (d : Data) (spawn : List ℕ) → text_under (codes "SpawnID") d ≡ Some spawn → own_row part_members 1 d ≡ None → taken_draft d ≡ None
-no_root d spawn is none =
-    named d spawn is ∙ ap (λ o. o >>= taken spawn) (node_rows-get part_members 1 d ∙ ap (λ o. o >>= λ row. option_map (λ rows. row ∷ rows) (below d)) none)
-
 pub no_groups : (d : Data) (spawn : List ℕ) (root : RawRow) → text_under (codes "SpawnID") d ≡ Some spawn → own_row part_members 1 d ≡ Some root → group_sizes spawn (shown_by root.pool) ≡ None → taken_draft d ≡ None
 no_groups d spawn root is own none =
     let ungrouped : grouped spawn root.pool ≡ None = sym (grouped-sizes spawn root.pool) ∙ ap (λ o. o >>= λ s. Some (sized s.own s.rw root.pool)) none in

@@ -4,7 +4,7 @@ use Rattle.std.proofs.lemmas.List.{drop_more, drop_all}
 use Rattle.json.specs.Json as json
 use Rattle.json.specs.Value.{items_view, members_view, value_view}
 use Rattle.json.specs.declared.value.Value.{Value as Tree, Object, the_lemmas}
-use Rattle.serde_json.specs.Data.{item, Members, no_members, object, put}
+use Rattle.serde_json.specs.Data.{Members, no_members, object, put}
 use Rattle.serde_json.specs.Read.{of_items, of_json, of_members}
 use Rattle.json_source.specs.Tree.{data_of, items_data, members_data, tree_data}
 
@@ -21,29 +21,6 @@ tree-Object ms = search (rules, the_lemmas)
 pub record ItemsSoFar (all : List (Tree Global)) (i : ℕ) : Type 0 where
   pub none : of_items (items_view (drop i all)) ≡ None → of_items (items_view all) ≡ None
   pub some : of_items (items_view (drop i all)) ≡ Some (items_data (items_view (drop i all))) → of_items (items_view all) ≡ Some (items_data (items_view all))
-
-pub items_begin : (all : List (Tree Global)) → ItemsSoFar all 0
-items_begin all = record { none = λ e. e; some = λ e. e }
-
-first_read : (t : Tree Global) (rest : json.Items) → of_json (value_view t) ≡ Some (tree_data t) → of_items (json.item (value_view t) rest) ≡ option_map (item (tree_data t)) (of_items rest)
-first_read t rest read = ap (option_and_then (λ d. option_map (item d) (of_items rest))) read
-
-pub one_item : (all : List (Tree Global)) (i : ℕ) (t : Tree Global) → ItemsSoFar all i → i < length all → t ≡ get_or all i t → of_json (value_view t) ≡ Some (tree_data t) → ItemsSoFar all (i + 1)
-one_item all i t so_far within is read =
-    let cut : drop i all ≡ t ∷ drop (i + 1) all = drop_more all i t within ∙ ap (λ x. x ∷ drop (i + 1) all) (sym is) in
-    let left : of_items (items_view (drop i all)) ≡ option_map (item (tree_data t)) (of_items (items_view (drop (i + 1) all))) = ap (λ ts. of_items (items_view ts)) cut ∙ first_read t (items_view (drop (i + 1) all)) read in
-    record {
-      none = λ e. so_far.none (left ∙ ap (option_map (item (tree_data t))) e);
-      some = λ e. so_far.some (left ∙ ap (option_map (item (tree_data t))) e ∙ ap (λ ts. Some (items_data (items_view ts))) (sym cut));
-    }
-
-pub no_item : (all : List (Tree Global)) (i : ℕ) (t : Tree Global) → ItemsSoFar all i → i < length all → t ≡ get_or all i t → of_json (value_view t) ≡ None → of_items (items_view all) ≡ None
-no_item all i t so_far within is read =
-    let cut : drop i all ≡ t ∷ drop (i + 1) all = drop_more all i t within ∙ ap (λ x. x ∷ drop (i + 1) all) (sym is) in
-    so_far.none (ap (λ ts. of_items (items_view ts)) cut ∙ ap (option_and_then (λ d. option_map (item d) (of_items (items_view (drop (i + 1) all))))) read)
-
-pub all_items : (all : List (Tree Global)) (i : ℕ) → ItemsSoFar all i → length all ≤ i → of_items (items_view all) ≡ Some (items_data (items_view all))
-all_items all i so_far past = let none = drop_all i all past in so_far.some (ap (λ ts. of_items (items_view ts)) none ∙ ap (λ ts. Some (items_data (items_view ts))) (sym none))
 
 -- ---- members
 

@@ -1,10 +1,10 @@
 -- Members of an object that are printed one after another.
-use Rattle.std.proofs.Common.{◌∙◌, ℕ, List, ◌∷◌, ◌++◌, Result, Ok, Err, OnOk, refl, sym, ap, append_assoc, append-nil, subst}
+use Rattle.std.proofs.Common.{◌∙◌, ℕ, List, ◌∷◌, ◌++◌, Result, Ok, Err, OnOk, refl, sym, ap, append_assoc, append-nil}
 use Rattle.json.specs.Token.{Token, key}
 use Rattle.json.specs.Written.{Written}
 use Rattle.serde_json.specs.Data.{Data, Members, no_members, member}
 use Rattle.json_text.specs.Printed.{data_tokens, member_tokens, AreMembersPrinted, IsAppended, IsReadAgain}
-use Rattle.json_text.proofs.PrintedObjects.{joined, tokens_joined, again_joined, IsOpen, more_members}
+use Rattle.json_text.proofs.PrintedObjects.{joined, IsOpen, more_members}
 
 -- ---- results
 
@@ -35,13 +35,6 @@ pub members_more : {ms : Members} {mid new : Written} (name : List ℕ) (d : Dat
 members_more {ms} {mid} {new} name d old first again rest = record {
   appended = appended_more (key name ∷ data_tokens d) (member_tokens ms) old mid new first rest.appended;
   again = (again, rest.again);
-}
-
--- some in front of others
-pub members_joined : {ms more : Members} {mid new : Written} (old : Written) → AreMembersPrinted ms old mid → AreMembersPrinted more mid new → AreMembersPrinted (joined ms more) old new
-members_joined {ms} {more} {mid} {new} old first second = record {
-  appended = subst (λ ts. IsAppended ts old new) (sym (tokens_joined ms more)) (appended_more (member_tokens ms) (member_tokens more) old mid new first.appended second.appended);
-  again = again_joined ms more first.again second.again;
 }
 
 -- ---- members in an object

@@ -35,14 +35,7 @@ unknown_is (AddNode n id kind job_part status) at = no_node_is (at.has_node n)
 unknown_is (AddResource n resource) at = no_node_is (at.has_node n)
 unknown_is (AddLink n link) at = neither_is (at.has_node n) (at.has_resource link.rref)
 
--- where neither of two is refused, what comes between them is the first
-pub none_first : (u h l : Option Refusal) → first_of (u ∷ l ∷ []) ≡ None → h ≡ first_of (u ∷ h ∷ l ∷ [])
-none_first None None None e = refl
-none_first None (Some r) l e = refl
-none_first None None (Some r) e = cc
-none_first (Some r) h l e = cc
-
--- and where it is the second that is refused, what comes between them is before it
+-- where the second of two is refused, what comes between them is before it
 pub later_first : (u h l : Option Refusal) (r : Refusal) → IsUnknown u → first_of (u ∷ l ∷ []) ≡ Some r → (r ≡ UnknownNode → ⊥) → (r ≡ UnknownResource → ⊥) → option_or h (Some r) ≡ first_of (u ∷ h ∷ l ∷ [])
 later_first None None None r kind e node resource = cc
 later_first None None (Some q) r kind e node resource = cc

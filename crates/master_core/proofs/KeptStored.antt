@@ -1,7 +1,6 @@
 -- A master of which all holds that always does passes the test of what is stored, and one that passes it is so.
-use Rattle.std.proofs.Common.{◌≡◌, ◌∙◌, ℕ, zero, suc, ◌+◌, ◌<◌, ◌==◌, ◌&&◌, Bool, true, false, List, [], ◌∷◌, drop, get_or, length, Some, slice_get, refl, sym, ap, arith, eq-eqb, Result, Ok, Err, IfOk}
-use Rattle.std.proofs.lemmas.Bool.{and_from, and_left, and_parts, eqb-true, ne_eqb}
-use Rattle.std.proofs.lemmas.List.{drop_more}
+use Rattle.std.proofs.Common.{◌≡◌, ◌∙◌, ℕ, zero, suc, ◌+◌, ◌==◌, ◌&&◌, Bool, true, List, [], ◌∷◌, Some, slice_get, refl, sym, ap, arith, eq-eqb, Result, Ok, Err, IfOk}
+use Rattle.std.proofs.lemmas.Bool.{and_from, and_parts, eqb-true}
 use Rattle.std.proofs.lemmas.List.Elements.{All-cons, All-head, All-tail}
 use Rattle.std.specs.List.{All, list_all}
 use Rattle.std.specs.Option.{option_map_or}
@@ -49,21 +48,6 @@ numbered_from n (q ∷ records) passes (suc k) r at =
 
 is_numbered : (records : List SpawnRec) → are_numbered 1 records ≡ true → IsNumbered records
 is_numbered records passes k r at = omega (arith, numbered_from 1 records passes k r at)
-
--- whether later records are numbered on, by the next of them
-pub number_next : (records : List SpawnRec) (i : ℕ) (r : SpawnRec) → i < length records → r ≡ get_or records i r → are_numbered (suc i) (drop i records) ≡ (r.id == suc i && are_numbered (suc (i + 1)) (drop (i + 1) records))
-number_next records i r within is =
-    let next : suc (suc i) ≡ suc (i + 1) = omega arith in
-    ap (are_numbered (suc i)) (drop_more records i r within ∙ ap (λ x. x ∷ drop (i + 1) records) (sym is)) ∙ ap (λ n. r.id == suc i && are_numbered n (drop (i + 1) records)) next
-
-pub number_right : (records : List SpawnRec) (i k : ℕ) (r : SpawnRec) → i < length records → r ≡ get_or records i r → suc k ≡ r.id → k ≡ i → are_numbered 1 records ≡ are_numbered (suc i) (drop i records) → are_numbered 1 records ≡ are_numbered (suc (i + 1)) (drop (i + 1) records)
-number_right records i k r within is number same so_far =
-    let own : r.id ≡ suc i = omega arith in
-    so_far ∙ number_next records i r within is ∙ ap (λ b. b && are_numbered (suc (i + 1)) (drop (i + 1) records)) (eq-eqb r.id (suc i) own)
-
-pub number_wrong : (records : List SpawnRec) (i k : ℕ) (r : SpawnRec) → i < length records → r ≡ get_or records i r → suc k ≡ r.id → (k ≡ i → ⊥) → are_numbered 1 records ≡ are_numbered (suc i) (drop i records) → are_numbered 1 records ≡ false
-number_wrong records i k r within is number other so_far =
-    so_far ∙ number_next records i r within is ∙ and_left (r.id == suc i) (are_numbered (suc (i + 1)) (drop (i + 1) records)) (ne_eqb r.id (suc i) (λ same. other (omega (arith, number, same))))
 
 -- ---- the whole
 

@@ -148,9 +148,6 @@ pub ids_of_masters : (is : List (List ℕ)) → held_ids (masters is) ≡ is
 ids_of_masters [] = refl
 ids_of_masters (i ∷ is) = ap (λ js. i ∷ js) (ids_of_masters is)
 
-pub masters-append : (is js : List (List ℕ)) → masters (is ++ js) ≡ masters is ++ masters js
-masters-append is js = map-append (λ x. (x, Master)) is js
-
 new_at : (here : Bool) (e : List ℕ × Holder) (y : List ℕ) (h : Holdings) → bytes_eq e.0 y ≡ here
     → (here || mem y (held_ids h)) ≡ false → (mem y (held_ids h) ≡ false → held_by h y ≡ None)
     → held_by (e ∷ h) y ≡ None
@@ -183,12 +180,6 @@ next_are_apart h old done more rest all apart whole so_far =
     ap (λ es. are_distinct (held_ids es ++ more)) so_far ∙ ap (λ is. are_distinct (is ++ more)) (ids_with old done)
     ∙ ap are_distinct (append_assoc (held_ids old) done more)
     ∙ front_distinct (held_ids old ++ (done ++ more)) rest (ap are_distinct (append_assoc (held_ids old) (done ++ more) rest) ∙ ap (λ is. are_distinct (held_ids old ++ is)) (sym whole) ∙ apart)
-
-pub masters_grown : (h old : Holdings) (done more all : List (List ℕ)) → h ≡ old ++ masters done
-    → all ≡ done ++ more → h ++ masters more ≡ old ++ masters all
-masters_grown h old done more all so_far whole =
-    ap (λ es. es ++ masters more) so_far ∙ append_assoc old (masters done) (masters more)
-    ∙ ap (λ es. old ++ es) (sym (ap masters whole ∙ masters-append done more))
 
 -- ---- one item more
 

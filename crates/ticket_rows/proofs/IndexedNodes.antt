@@ -19,16 +19,6 @@ use Rattle.ticket_items.specs.declared.node_row.NodeRow.{NodeRow}
 
 -- ---- what is looked for
 
--- the id that is asked for may stand on either side
-pub position-turned : (x : List ℕ) (keys : List (List ℕ))
-    → position (bytes_eq x) keys ≡ position (λ y. bytes_eq y x) keys
-position-turned x [] = refl
-position-turned x (y ∷ keys) =
-    position-cons (bytes_eq x) y keys
-    ∙ ap (λ b. cond b (Some 0) (option_map suc (position (bytes_eq x) keys))) (bytes_eq-symm x y)
-    ∙ ap (λ o. cond (bytes_eq y x) (Some 0) (option_map suc o)) (position-turned x keys)
-    ∙ sym (position-cons (λ z. bytes_eq z x) y keys)
-
 -- a key stands among the keys where what has it stands
 pub position-keys : {X : Type 0} (key : X → List ℕ) (x : List ℕ) (xs : List X)
     → position (λ y. bytes_eq y x) (map key xs) ≡ position (λ z. bytes_eq (key z) x) xs

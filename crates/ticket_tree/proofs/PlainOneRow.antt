@@ -9,7 +9,7 @@ use Rattle.std.specs.Option.{option_map}
 use Rattle.std.specs.Str.{bytes_eq}
 use Rattle.ticket_items.proofs.Apart.{mem-append, or_true, front_distinct, other_part}
 use Rattle.ticket_items.proofs.Apart.{later_distinct}
-use Rattle.ticket_rows.proofs.AtHome.{in_pool, in_pool_or_later, any-map, find-passes}
+use Rattle.ticket_rows.proofs.AtHome.{in_pool, in_pool_or_later, any-map}
 use Rattle.ticket_items.proofs.AtKey.{at_key-none}
 use Rattle.ticket_tree.proofs.ById.{Line, row_at, line_cond, pool_ids, keys_of_pool}
 use Rattle.ticket_rows.proofs.Changes.{with_resource-none}
@@ -60,17 +60,6 @@ pub resource_of-cons : (x : List ℕ) (r : NodeRow) (rows : List NodeRow)
     (resource_of rows x)
 resource_of-cons x r rows =
     ap (option_map (λ p. p.0)) (in_pool_or_later x r.id r.resources (homes rows)) ∙ first_of_pair (list_any (λ z. bytes_eq z.id x) r.resources) r.id (in_pool x r.resources) (entry_of rows x)
-
-id_here : (b : Bool) (x : List ℕ) (r : NodeRow) (old : Resource) (later : Option Resource)
-    → cond b (in_pool x r.resources) later ≡ Some old → (later ≡ Some old → old.id ≡ x) → old.id ≡ x
-id_here true x r old later found go = (bytes_eq-Decides old.id x).0 (find-passes (λ z. bytes_eq z.id x) r.resources old found)
-id_here false x r old later found go = go found
-
--- the resource of an id has it
-pub resource_of-id : (rows : List NodeRow) (x : List ℕ) (old : Resource)
-    → resource_of rows x ≡ Some old → old.id ≡ x
-resource_of-id [] x old found = cc
-resource_of-id (r ∷ rows) x old found = id_here (list_any (λ z. bytes_eq z.id x) r.resources) x r old (resource_of rows x) (sym (resource_of-cons x r rows) ∙ found) (resource_of-id rows x old)
 
 found_here : (b : Bool) (x : List ℕ) (f g : Resource → Resource) (r : NodeRow) (rows : List NodeRow)
     (old : Resource)
