@@ -1,8 +1,7 @@
 -- Records that were written are read again.
-use Rattle.std.proofs.Common.{◌≡◌, ◌∙◌, ℕ, true, List, [], ◌∷◌, map, Option, Some, refl, ap}
+use Rattle.std.proofs.Common.{◌≡◌, ◌∙◌, ℕ, true, List, [], ◌∷◌, map, Some, refl, ap}
 use Rattle.std.proofs.lemmas.Bool.{and_parts}
 use Rattle.std.specs.List.{list_all}
-use Rattle.std.specs.Option.{option_map}
 use Rattle.std.specs.Prelude.{unwrap_or}
 use Rattle.serde_json.specs.Data.{array, string}
 use Rattle.serde_json.specs.Find.{as_str}
@@ -13,7 +12,7 @@ use Rattle.spawn.specs.declared.records.phase.Phase.{Phase}
 use Rattle.spawn.specs.declared.records.phase.Phase.TheVariants.{Out, Merged, Withdrawn}
 use Rattle.spawn.specs.declared.records.spawn_rec.SpawnRec.{SpawnRec}
 use Rattle.json_items.specs.TicketDraft.{are_bare, resources_of}
-use Rattle.json_items.proofs.Again.{list_again, marked_again, text_again}
+use Rattle.json_items.proofs.Again.{list_again, marked_again, text_again, more_at}
 use Rattle.json_items.specs.Listed.{data_items, each, list_form, texts_data}
 use Rattle.json_items.specs.Resources.{all_showing, raw_data, resource_draft}
 use Rattle.json_items.specs.Shown.{nothing_shown}
@@ -73,10 +72,6 @@ record_again format r number told =
 pub number_valid : (r : SpawnRec) → spawn_has_names r ≡ true → is_spawn_number r.id ≡ true
 unfolding spawn_has_names
 number_valid r names = (and_parts _ _ (and_parts _ _ (and_parts _ _ (and_parts _ _ names).0).0).0).0
-
--- one more item that is read
-pub more_at : {X : Type 0} (o : Option X) (x : X) (rest : Option (List X)) (xs : List X) → o ≡ Some x → rest ≡ Some xs → (o >>= λ y. option_map (λ ys. y ∷ ys) rest) ≡ Some (x ∷ xs)
-more_at o x rest xs e f = ap (λ p. p >>= λ y. option_map (λ ys. y ∷ ys) rest) e ∙ ap (option_map (λ ys. x ∷ ys)) f
 
 -- records in turn
 pub records_again : (format : Format) (rs : List SpawnRec) → list_all spawn_has_names rs ≡ true → are_told_in format rs ≡ true → each (record_form format) (data_items record_data rs) ≡ Some (map bare rs)

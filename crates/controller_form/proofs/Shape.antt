@@ -3,15 +3,15 @@ use Rattle.std.proofs.Common.{◌≡◌, ◌≤◌, ℕ, false, List, [], ◌∷
 use Rattle.std.proofs.lemmas.Bool.{or_from}
 use Rattle.std.proofs.lemmas.List.Elements.{All-head, All-tail}
 use Rattle.std.specs.List.{All}
-use Rattle.serde_json.specs.Data.{depth, items_depth, string}
+use Rattle.serde_json.specs.Data.{depth, items_depth}
 use Rattle.serde_json.specs.Written.{has_float, items_have_float}
 use Rattle.ticket_tree.specs.Part.{Copied}
 use Rattle.spawn.specs.declared.records.spawn_rec.SpawnRec.{SpawnRec}
 use Rattle.json_items.specs.Listed.{data_items}
 use Rattle.json_items.specs.Resources.{all_showing}
 use Rattle.json_items.specs.Shown.{nothing_shown}
-use Rattle.json_profile.proofs.PoolShape.{items_low, pool_low}
-use Rattle.json_text.proofs.Plain.{items_plain, pool_plain}
+use Rattle.json_profile.proofs.PoolShape.{items_low, pool_low, texts_flat}
+use Rattle.json_text.proofs.Plain.{items_plain, pool_plain, texts_plain}
 use Rattle.master_core.specs.Master as master
 use Rattle.worker_core.specs.Worker as worker
 use Rattle.worker_core.specs.declared.entry.Entry.{Entry}
@@ -26,9 +26,6 @@ use Rattle.controller_form.specs.States.WorkerForm.{worker_state_data}
 
 -- ---- no float
 
-texts_plain : (texts : List (List ℕ)) → items_have_float (data_items string texts) ≡ false
-texts_plain texts = items_plain string (λ s. refl) texts
-
 record_plain : (r : SpawnRec) → has_float (record_data r) ≡ false
 record_plain r = or_from _ _ (pool_plain (all_showing nothing_shown r.ro)) (or_from _ _ (texts_plain r.rw) refl)
 
@@ -36,9 +33,6 @@ pub master_plain : (m : master.Known) → IsWritableMaster m → has_float (mast
 master_plain m known = or_from _ _ (or_from _ _ (items_plain record_data record_plain m.records) (or_from _ _ known.plain (or_from _ _ (texts_plain m.workers) refl))) refl
 
 -- ---- depth
-
-texts_flat : (texts : List (List ℕ)) → items_depth (data_items string texts) ≤ 0
-texts_flat texts = items_low string 0 (λ s. omega arith) texts
 
 record_low : (r : SpawnRec) → depth (record_data r) ≤ 4
 record_low r = omega (arith, pool_low (all_showing nothing_shown r.ro), texts_flat r.rw)

@@ -11,6 +11,7 @@ use Rattle.ticket_items.specs.Refusal.{number_of}
 use Rattle.ticket_items.specs.SpawnId.{is_spawn_number, spawn_text}
 use Rattle.ticket_items.specs.declared.refusal.Refusal.{Refusal}
 use Rattle.ticket_tree.specs.Part.{Copied}
+use Rattle.json_items.proofs.Again.{more_at}
 use Rattle.json_items.specs.PartDraft.{RawPart, part_draft}
 use Rattle.json_items.specs.PartForm as part_form
 use Rattle.json_items.specs.PartForm.{copied}
@@ -42,7 +43,7 @@ use Rattle.controller_form.specs.declared.states.format.Format.{Format}
 use Rattle.controller_form.specs.declared.states.format.Format.TheVariants.{First, Second}
 use Rattle.controller_form.specs.declared.states.stored_entry.StoredEntry.{StoredEntry}
 use Rattle.controller_form.proofs.Reading.{IsSoundDraft, all_pass, nothing_wrong, sound_draft}
-use Rattle.controller_form.proofs.RecordAgain.{more_at, number_again}
+use Rattle.controller_form.proofs.RecordAgain.{number_again}
 use Rattle.controller_form.proofs.Refusing.{nothing}
 
 -- ---- words

@@ -27,7 +27,7 @@ pub items_plain : {X : Type 0} (form : X → Data) → ((x : X) → has_float (f
 items_plain form plain [] = refl
 items_plain form plain (x ∷ xs) = or_from _ _ (plain x) (items_plain form plain xs)
 
-texts_plain : (texts : List (List ℕ)) → items_have_float (data_items string texts) ≡ false
+pub texts_plain : (texts : List (List ℕ)) → items_have_float (data_items string texts) ≡ false
 texts_plain texts = items_plain string (λ s. refl) texts
 
 pub resource_plain : (shown : Shown) (r : Resource) → has_float (resource_data shown r) ≡ false

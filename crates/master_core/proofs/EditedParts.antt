@@ -19,7 +19,6 @@ use Rattle.ticket_items.specs.declared.link.Link.{Link}
 use Rattle.ticket_items.specs.declared.node_row.NodeRow.{NodeRow}
 use Rattle.ticket_rows.proofs.Below.{Path, mem-drop, mem-node_ids}
 use Rattle.ticket_rows.proofs.NodePlaces.{nodes_from, node_places-rows}
-use Rattle.ticket_rows.proofs.Reasons.{child_new, resource_new}
 use Rattle.ticket_items.specs.Edit.{added_id, target}
 use Rattle.ticket_rows.specs.Edit.{behind_last, edited, refusal_of}
 use Rattle.ticket_rows.specs.Place.{Place, Row, Thing, node, resource, is_node}
@@ -32,6 +31,7 @@ use Rattle.ticket_tree.proofs.PlainRows.{edit_of_rows}
 use Rattle.ticket_tree.proofs.StaysValid.{edit_is_valid}
 use Rattle.ticket_tree.specs.PlainEdit.{plain_places, plain_rows, with_link}
 use Rattle.spawn.proofs.EditKeeps.{edit_keeps_claims}
+use Rattle.spawn.proofs.HoldingsEdited.{new_nowhere}
 use Rattle.spawn.proofs.Lawful.{claim_is_held}
 use Rattle.spawn.proofs.Outside.{kept_found, found_stands}
 use Rattle.spawn.proofs.PartStays.{part_stays}
@@ -229,7 +229,7 @@ found_behind p a new [] e = another a new [] (is_node new) e
 found_behind p a new (q ∷ tree) e =
     behind_by a new q tree (behind_last p new tree) _ e (found_behind p a new tree e)
 
-abbrev linked : List ℕ → Link → Place → Place
+abbrev pub linked : List ℕ → Link → Place → Place
 linked n link p = cond (bytes_eq p.id n) (record p { thing = with_link link p.thing }) p
 
 job_part_linked : (th : Thing) (link : Link) → job_part_in (with_link link th) ≡ job_part_in th
@@ -241,7 +241,7 @@ told_linked : (b : Bool) (link : Link) (p : Place)
 told_linked true link p = ap (λ j. (p.path, j)) (job_part_linked p.thing link)
 told_linked false link p = refl
 
-kind_linked : (th : Thing) (link : Link) → is_node_thing (with_link link th) ≡ is_node_thing th
+pub kind_linked : (th : Thing) (link : Link) → is_node_thing (with_link link th) ≡ is_node_thing th
 kind_linked (node kind job_part links) link = refl
 kind_linked (resource name class) link = refl
 
@@ -314,29 +314,12 @@ edit_row (AddLink n link) at rows x e other = off (bytes_eq n x) _ (rows x) e
 
 -- ---- new ids
 
-some_same : (i j : List ℕ) → Some i ≡ Some j → i ≡ j
-some_same i j e = ap (λ o. option_map_or (λ x. x) o i) e
-
--- the id that an edit adds stands nowhere
-added_new : (e : Edit) (rows : List NodeRow) (i : List ℕ) → refusal_of e rows ≡ None
-    → added_id e ≡ Some i → mem i (ids rows) ≡ false
-added_new (SetStatus n status) rows i free added = cc
-added_new (SetAttr n name value) rows i free added = cc
-added_new (SetResStatus x status) rows i free added = cc
-added_new (SetResAttr x name value) rows i free added = cc
-added_new (Note n text) rows i free added = cc
-added_new (AddNode n id kind job_part status) rows i free added =
-    ap (λ x. mem x (ids rows)) (sym (some_same id i added)) ∙ (child_new rows n id status free).2
-added_new (AddResource n x) rows i free added =
-    ap (λ y. mem y (ids rows)) (sym (some_same x.id i added)) ∙ resource_new rows n x free
-added_new (AddLink n link) rows i free added = cc
-
--- so it is none that stands
+-- the id that an edit adds is none that stands
 pub none_added : (e : Edit) (rows : List NodeRow) (x : List ℕ) → refusal_of e rows ≡ None
     → mem x (ids rows) ≡ true
     → (i : List ℕ) → added_id e ≡ Some i → bytes_eq i x ≡ false
 none_added e rows x free stands i added =
-    false_by (bytes_eq i x) (λ same. true≢false (sym stands ∙ ap (λ y. mem y (ids rows)) (sym ((bytes_eq-Decides i x).0 same)) ∙ added_new e rows i free added))
+    false_by (bytes_eq i x) (λ same. true≢false (sym stands ∙ ap (λ y. mem y (ids rows)) (sym ((bytes_eq-Decides i x).0 same)) ∙ new_nowhere e rows i free added))
 
 -- ---- what is claimed
 

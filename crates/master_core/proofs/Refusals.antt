@@ -1,7 +1,7 @@
 -- What an order or a message that isn't refused says.
 use Rattle.std.proofs.Common.{◌≡◌, ◌∙◌, cond, ℕ, ◌&&◌, Bool, true, false, not, List, [], ◌∷◌, Option, Some, None, is_some, refl, sym, ap}
 use Rattle.std.specs.List.{filter}
-use Rattle.std.specs.Option.{option_map, option_map_or}
+use Rattle.std.specs.Option.{option_map_or}
 use Rattle.std.specs.Str.{bytes_eq}
 use Rattle.ticket_items.specs.Ids.{mem}
 use Rattle.ticket_items.specs.declared.edit.Edit.{Edit}
@@ -29,6 +29,7 @@ use Rattle.spawn.specs.declared.records.phase.Phase.TheVariants.{Out, Merged, Wi
 use Rattle.spawn.specs.declared.records.spawn_rec.SpawnRec.{SpawnRec}
 use Rattle.spawn.specs.declared.tables.holder.Holder.{Holder}
 use Rattle.spawn.specs.declared.tables.holder.Holder.TheVariants as held_by
+use Rattle.spawn.proofs.PartKept.{mapped_some}
 use Rattle.merge.specs.Alike.{is_fit}
 use Rattle.master_core.specs.Master.{Known, holder, is_spawn_out, next_number, record_of}
 use Rattle.master_core.specs.Messages.{body_refusal, is_for_masters, record_refusal, return_refusal, take_refusal}
@@ -83,10 +84,6 @@ three_none None None None e = (refl, refl, refl)
 three_none None None (Some r) e = cc
 three_none None (Some r) c e = cc
 three_none (Some r) b c e = cc
-
-mapped_some : {X Y : Type 0} (f : X → Y) (o : Option X) → is_some (option_map f o) ≡ is_some o
-mapped_some f None = refl
-mapped_some f (Some x) = refl
 
 masters : (h : Option Holder) → is_some h ≡ true → option_map_or held_refusal h None ≡ None → h ≡ Some held_by.Master
 masters None known none = cc

@@ -15,7 +15,7 @@ use Rattle.ticket_items.specs.declared.resource.Resource.{Resource}
 use Rattle.ticket_rows.proofs.Below.{mem-node_ids}
 use Rattle.ticket_rows.specs.Edit.{behind_last, edited_rows, refusal_of}
 use Rattle.ticket_rows.specs.Homes.{has_resource}
-use Rattle.ticket_rows.specs.Place.{Place, Thing, node, resource, below, fixed, fixed_at, is_node, is_node_thing, node_places, nodes_in, parent, place_at, places, up}
+use Rattle.ticket_rows.specs.Place.{Place, Thing, node, below, fixed, fixed_at, is_node, node_places, nodes_in, parent, place_at, places, up}
 use Rattle.ticket_rows.specs.Ticket.{IsValid, has_node, ids}
 use Rattle.ticket_tree.proofs.OnPlaces.{stands_node, stands_resource}
 use Rattle.ticket_tree.proofs.PlainEdits.{edit_of_places}
@@ -25,7 +25,8 @@ use Rattle.spawn.specs.Claim.{is_linked_below, is_linked_outside, linked_outside
 use Rattle.spawn.specs.Records.{IsGood}
 use Rattle.spawn.specs.Stored.{stands_in}
 use Rattle.spawn.specs.declared.records.spawn_rec.SpawnRec.{SpawnRec}
-use Rattle.master_core.proofs.EditedParts.{Told, edit_told, none_added, told}
+use Rattle.spawn.proofs.StandingSets.{all_same}
+use Rattle.master_core.proofs.EditedParts.{Told, edit_told, none_added, told, kind_linked, linked}
 
 -- ---- by places
 
@@ -52,10 +53,6 @@ found_any g (p ∷ tree) x = found_at (g p) (bytes_eq p.id x) g p tree x refl (f
 has_is : (rows : List NodeRow) (x : List ℕ) → has (places rows) x ≡ has_resource rows x
 has_is rows x = sym (found_any (λ p. not (is_node p)) (places rows) x) ∙ stands_resource rows x
 
-all_same : {X : Type 0} (f g : X → Bool) (xs : List X) → ((x : X) → f x ≡ g x) → list_all f xs ≡ list_all g xs
-all_same f g [] same = refl
-all_same f g (x ∷ xs) same = ap (λ b. b && list_all f xs) (same x) ∙ ap (λ b. g x && b) (all_same f g xs same)
-
 among_is : (rows : List NodeRow) (r : SpawnRec) → stands_among (places rows) r ≡ stands_in rows r
 among_is rows r =
     ap (λ b. (is_some (up (node_places rows) r.node) && b) && list_all (λ (x : Resource). has (places rows) x.id) r.ro) (all_same (has (places rows)) (has_resource rows) r.rw (has_is rows))
@@ -80,13 +77,6 @@ any_behind_at b f q new tree rest go any = by (f q) b refl any
 any_behind : (p f : Place → Bool) (new : Place) (tree : List Place) → list_any f tree ≡ true → list_any f (behind_last p new tree) ≡ true
 any_behind p f new [] any = absurd (true≢false (sym any))
 any_behind p f new (q ∷ tree) any = any_behind_at (p q && not (list_any p tree)) f q new tree (behind_last p new tree) (any_behind p f new tree) any
-
-abbrev linked : List ℕ → Link → Place → Place
-linked n link p = cond (bytes_eq p.id n) (record p { thing = with_link link p.thing }) p
-
-kind_linked : (th : Thing) (link : Link) → is_node_thing (with_link link th) ≡ is_node_thing th
-kind_linked (node kind job_part links) link = refl
-kind_linked (resource name class) link = refl
 
 same_linked : (b : Bool) (link : Link) (p : Place) (x : List ℕ) → (not (is_node (cond b (record p { thing = with_link link p.thing }) p)) && bytes_eq (cond b (record p { thing = with_link link p.thing }) p).id x) ≡ (not (is_node p) && bytes_eq p.id x)
 same_linked true link p x = ap (λ k. not k && bytes_eq p.id x) (kind_linked p.thing link)

@@ -45,12 +45,9 @@ use Rattle.merge.specs.Putting.{node_from, with_nodes, pool_from, with_resources
 use Rattle.merge.specs.Putting.{EachMayReplaceNode, EachMayReplaceResource, MayTakeNodes}
 use Rattle.merge.specs.Putting.{MayTakeResources}
 use Rattle.merge.specs.Shape.{Fits, shape}
+use Rattle.merge.proofs.Lawful.{AllOwn}
 
 -- ---- each is found by its key
-
-abbrev OwnAll : {X : Type 0} → (X → List ℕ) → List X → List X → Type 0
-OwnAll key all [] = Unit {0}
-OwnAll key all (x ∷ xs) = (find (λ z. bytes_eq (key z) (key x)) all ≡ Some x) × OwnAll key all xs
 
 other_at : (b : Bool) (x y : List ℕ) (xs : List (List ℕ)) → bytes_eq x y ≡ b → mem x xs ≡ false
     → mem y xs ≡ true → b ≡ false
@@ -60,7 +57,7 @@ other_at false x y xs e out there = refl
 own_all : {X : Type 0} (key : X → List ℕ) (all xs : List X)
     → ((y : List ℕ) (x : X) → find (λ z. bytes_eq (key z) y) xs ≡ Some x
     → find (λ z. bytes_eq (key z) y) all ≡ Some x)
-    → are_distinct (map key xs) ≡ true → OwnAll key all xs
+    → are_distinct (map key xs) ≡ true → AllOwn key all xs
 own_all key all [] finds apart = tt
 own_all key all (x ∷ xs) finds apart =
     let parts = and_parts (not (mem (key x) (map key xs))) (are_distinct (map key xs)) apart in (
@@ -74,13 +71,13 @@ own_all key all (x ∷ xs) finds apart =
     )
 
 own_at : {X : Type 0} (b : Bool) (key : X → List ℕ) (all : List X) (x : X) (xs : List X)
-    → find (λ z. bytes_eq (key z) (key x)) all ≡ Some x → OwnAll key all xs
-    → OwnAll key all (cond b (x ∷ xs) xs)
+    → find (λ z. bytes_eq (key z) (key x)) all ≡ Some x → AllOwn key all xs
+    → AllOwn key all (cond b (x ∷ xs) xs)
 own_at true key all x xs own rest = (own, rest)
 own_at false key all x xs own rest = rest
 
 own_kept : {X : Type 0} (key : X → List ℕ) (all : List X) (f : X → Bool) (xs : List X)
-    → OwnAll key all xs → OwnAll key all (filter f xs)
+    → AllOwn key all xs → AllOwn key all (filter f xs)
 own_kept key all f [] own = tt
 own_kept key all f (x ∷ xs) own = own_at (f x) key all x (filter f xs) own.0 (own_kept key all f xs own.1)
 
@@ -108,7 +105,7 @@ one_node rows levels old new own same free =
     }
 
 each_node : (rows : List NodeRow) (levels : ℕ) (olds news : List NodeRow)
-    → OwnAll (λ r. r.id) rows olds → map shape news ≡ map shape (all_lifted levels olds)
+    → AllOwn (λ r. r.id) rows olds → map shape news ≡ map shape (all_lifted levels olds)
     → are_unreserved news ≡ true → EachMayReplaceNode rows news
 each_node rows levels olds [] own same free = tt
 each_node rows levels [] (n ∷ news) own same free = cc
@@ -160,7 +157,7 @@ one_resource rows old new own same =
     }
 
 each_resource : (rows : List NodeRow) (olds news : List Resource)
-    → OwnAll (λ x. x.id) (resources rows) olds → map fixed news ≡ map fixed olds
+    → AllOwn (λ x. x.id) (resources rows) olds → map fixed news ≡ map fixed olds
     → EachMayReplaceResource rows news
 each_resource rows olds [] own same = tt
 each_resource rows [] (n ∷ news) own same = cc

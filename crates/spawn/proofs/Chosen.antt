@@ -18,10 +18,10 @@ use Rattle.ticket_items.specs.declared.node_row.NodeRow.{NodeRow}
 use Rattle.ticket_items.specs.declared.resource.Resource.{Resource}
 use Rattle.spawn.proofs.Among.{apart_lists, distinct_back, mem_back, out_of_both}
 use Rattle.spawn.proofs.RowsBelow.{homes-append, own_pool, filter-append}
-use Rattle.spawn.proofs.HomesBelow.{ids_around, or_right}
+use Rattle.spawn.proofs.HomesBelow.{ids_around, or_right, only_at}
 use Rattle.spawn.proofs.LinkedOutside.{linked_below_is}
 use Rattle.spawn.proofs.Outside.{found_stands, inside, outside}
-use Rattle.spawn.proofs.Split.{Around}
+use Rattle.spawn.proofs.Split.{Around, all-append}
 use Rattle.spawn.proofs.Standing.{ids_apart}
 use Rattle.spawn.specs.Claim.{ids_of, is_linked_below, is_linked_outside, linked_outside}
 use Rattle.spawn.specs.Parts.{resources}
@@ -195,13 +195,6 @@ stand_pool [] rest = refl
 stand_pool (y ∷ pool) rest =
     and_from _ _ (ap (λ b. b || mem y.id (resource_ids pool ++ rest)) (bytes_eq-same y.id)) (all_too (λ x. mem x.id (resource_ids pool ++ rest)) (λ x. mem x.id (y.id ∷ resource_ids pool ++ rest)) pool (λ x there. or_right (bytes_eq y.id x.id) _ there) (stand_pool pool rest))
 
-all-append : {X : Type 0} (f : X → Bool) (xs ys : List X) → list_all f xs ≡ true
-    → list_all f ys ≡ true → list_all f (xs ++ ys) ≡ true
-all-append f [] ys p q = q
-all-append f (x ∷ xs) ys p q =
-    let parts = and_parts (f x) (list_all f xs) p in
-    and_from _ _ parts.0 (all-append f xs ys parts.1 q)
-
 -- resources of rows stand there
 pub all_stand : (rows : List NodeRow) → list_all (λ x. mem x.id (ids rows)) (resources rows) ≡ true
 all_stand [] = refl
@@ -210,11 +203,6 @@ all_stand (r ∷ rows) =
     ap (list_all f) (resources_cons r rows)
     ∙ all-append f r.resources (resources rows) (all_too (λ x. mem x.id (resource_ids r.resources ++ ids rows)) f r.resources (λ x there. or_right (bytes_eq r.id x.id) _ there) (stand_pool r.resources (ids rows)))
     (all_too (λ x. mem x.id (ids rows)) f (resources rows) (λ x there. or_right (bytes_eq r.id x.id) _ (mem_back x.id (resource_ids r.resources) (ids rows) there)) (all_stand rows))
-
-not_both : (b : Bool) (x : List ℕ) (xs ys : List (List ℕ)) → are_distinct (xs ++ ys) ≡ true
-    → mem x xs ≡ b → mem x ys ≡ true → b ≡ false
-not_both false x xs ys apart e there = refl
-not_both true x xs ys apart e there = absurd (true≢false (sym there ∙ apart_lists x xs ys apart e))
 
 pub around_kept : (rows : List NodeRow) (n : List ℕ) (q : List ℕ → Bool) → IsValid rows
     → (at : Around rows n)
@@ -230,7 +218,7 @@ around_kept rows n q valid at =
     let skips : (x : Resource) (b : Bool) → mem x.id (ids mid) ≡ b → f x ≡ ((not b && is_linked mid x.id) && q x.id) = λ x b e. ap (λ c. (not c && is_linked mid x.id) && q x.id) e in
     let first = same_where (λ x. mem x.id (ids at.front)) f g (resources at.front) (all_stand at.front) (λ x there. skips x false (out_of_both x.id (ids mid) (ids at.back) (apart_lists x.id (ids at.front) (ids mid ++ ids at.back) apart there)).0) in
     let none = none_where (λ x. mem x.id (ids mid)) f (resources mid) (all_stand mid) (λ x there. skips x true there) in
-    let last = same_where (λ x. mem x.id (ids at.back)) f g (resources at.back) (all_stand at.back) (λ x there. skips x false (not_both (mem x.id (ids mid)) x.id (ids mid) (ids at.back) later refl there)) in
+    let last = same_where (λ x. mem x.id (ids at.back)) f g (resources at.back) (all_stand at.back) (λ x there. skips x false (only_at (mem x.id (ids mid)) x.id (ids mid) (ids at.back) later refl there)) in
     ap (λ rs. filter f (resources rs)) (at.whole ∙ append_assoc at.front mid at.back)
     ∙ ap (filter f) (resources-append at.front (mid ++ at.back) ∙ ap (λ xs. resources at.front ++ xs) (resources-append mid at.back))
     ∙ filter-append f (resources at.front) (resources mid ++ resources at.back)

@@ -29,7 +29,7 @@ use Rattle.ticket_items.specs.declared.resource.Resource.{Resource}
 use Rattle.spawn.proofs.Chosen.{AllOwn, all_own, filter_as}
 use Rattle.spawn.proofs.GoodCopies.{good_node, in_rw}
 use Rattle.spawn.proofs.KeptApart.{none_passes}
-use Rattle.spawn.proofs.Outside.{found_stands, kept_found}
+use Rattle.spawn.proofs.Outside.{found_stands, kept_found, some_of}
 use Rattle.spawn.proofs.SoundPart.{false_by, node_among_ids}
 use Rattle.spawn.proofs.Standing.{held_some, ids_apart, node_stands, place_of_resource}
 use Rattle.ticket_rows.proofs.Below.{mem-node_ids}
@@ -174,10 +174,6 @@ linked_home x m res [] any all = cc
 linked_home x m res (p ∷ tree) any all =
     let parts = and_parts (are_links_above res p) (list_all (are_links_above res) tree) all in
     linked_at (below m p && links x p) x m res p tree refl any parts.0 (λ later. linked_home x m res tree later parts.1)
-
-some_of : {X : Type 0} (o : Option X) → is_some o ≡ true → (x : X) × (o ≡ Some x)
-some_of None h = cc
-some_of (Some x) h = (x, refl)
 
 new_not_linked : (rows : List NodeRow) (m x : List ℕ) → IsValid rows → mem x (ids rows) ≡ false
     → is_linked_below (places rows) m x ≡ false

@@ -22,6 +22,7 @@ use Rattle.ticket_items.specs.declared.resource.Resource.{Resource}
 use Rattle.spawn.proofs.Among.{out_of_both}
 use Rattle.spawn.proofs.Chosen.{resources_cons}
 use Rattle.spawn.specs.Parts.{lifted, resources}
+use Rattle.spawn.proofs.PartKept.{mapped_some}
 
 -- ---- entries by their keys
 
@@ -40,10 +41,6 @@ pub look-append : {V : Type 0} (ls ms : List (List ℕ × V)) (y : List ℕ)
     → look (ls ++ ms) y ≡ option_or (look ls y) (look ms y)
 look-append {V = V} ls ms y =
     ap (option_map (λ (l : List ℕ × V). l.1)) (find-append (λ l. bytes_eq l.0 y) ls ms) ∙ mapped_or (λ (l : List ℕ × V). l.1) (find (λ l. bytes_eq l.0 y) ls) (find (λ l. bytes_eq l.0 y) ms)
-
-mapped_some : {X Y : Type 0} (f : X → Y) (o : Option X) → is_some (option_map f o) ≡ is_some o
-mapped_some f None = refl
-mapped_some f (Some x) = refl
 
 -- there is one exactly for the keys
 pub some_look : {V : Type 0} (ls : List (List ℕ × V)) (y : List ℕ)

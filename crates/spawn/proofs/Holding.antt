@@ -58,7 +58,7 @@ held rows recs x h valid at =
 
 -- ---- an unknown id has no holder
 
-any_or : {X : Type 0} (f g : X → Bool) (xs : List X) → list_any f xs ≡ false → list_any g xs ≡ false
+pub any_or : {X : Type 0} (f g : X → Bool) (xs : List X) → list_any f xs ≡ false → list_any g xs ≡ false
     → list_any (λ x. f x || g x) xs ≡ false
 any_or f g [] p q = refl
 any_or f g (x ∷ xs) p q =

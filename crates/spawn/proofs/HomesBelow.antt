@@ -7,7 +7,7 @@ use Rattle.std.proofs.lemmas.List.{map-append}
 use Rattle.std.specs.List.{list_all, list_any}
 use Rattle.std.specs.Option.{option_map, option_map_or}
 use Rattle.std.specs.Str.{bytes_eq}
-use Rattle.ticket_items.proofs.Apart.{bytes_eq-same, or_false}
+use Rattle.ticket_items.proofs.Apart.{bytes_eq-same}
 use Rattle.ticket_rows.proofs.AtHome.{mem-ids, holds, home_of-cons}
 use Rattle.ticket_rows.proofs.Below.{Path, mem-drop}
 use Rattle.ticket_rows.proofs.NodePlaces.{node_ids_distinct}
@@ -24,6 +24,7 @@ use Rattle.spawn.proofs.Among.{apart_lists, out_of_both, mem_front, mem_back}
 use Rattle.spawn.proofs.Outside.{around_places}
 use Rattle.spawn.proofs.Split.{path_after, Around}
 use Rattle.spawn.specs.Claim.{links, is_linked_below}
+use Rattle.spawn.proofs.Holding.{any_or}
 
 -- ---- rows one behind the other
 
@@ -86,14 +87,6 @@ no_entry : {X : Type 0} (o : Option (X × List ℕ)) → option_map (λ e. e.1) 
     → is_some o ≡ false
 no_entry None h = refl
 no_entry (Some e) h = cc
-
-any_or : {X : Type 0} (f g : X → Bool) (xs : List X) → list_any f xs ≡ false → list_any g xs ≡ false
-    → list_any (λ x. f x || g x) xs ≡ false
-any_or f g [] p q = refl
-any_or f g (x ∷ xs) p q =
-    let one = or_parts (f x) (list_any f xs) p in
-    let two = or_parts (g x) (list_any g xs) q in
-    or_false _ _ (or_false _ _ one.0 two.0) (any_or f g xs one.1 two.1)
 
 -- what is no node's id and has no home stands nowhere
 pub homeless : (x : List ℕ) (rows : List NodeRow) → mem x (node_ids rows) ≡ false
@@ -189,7 +182,7 @@ any_first : {X : Type 0} (f : X → Bool) (xs ys : List X) → list_any f xs ≡
 any_first f [] ys h = cc
 any_first f (x ∷ xs) ys h = first_at (f x) f xs ys (any_first f xs ys) h
 
-all_later : {X : Type 0} (f : X → Bool) (xs ys : List X) → list_all f (xs ++ ys) ≡ true
+pub all_later : {X : Type 0} (f : X → Bool) (xs ys : List X) → list_all f (xs ++ ys) ≡ true
     → list_all f ys ≡ true
 all_later f [] ys all = all
 all_later f (x ∷ xs) ys all = all_later f xs ys (and_parts (f x) (list_all f (xs ++ ys)) all).1

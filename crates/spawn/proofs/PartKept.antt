@@ -32,6 +32,7 @@ use Rattle.spawn.specs.Parts.{resources_among}
 use Rattle.ticket_tree.specs.At.{rows_below}
 use Rattle.spawn.specs.Spawning.{new_record, parent_of, spawn_refusal}
 use Rattle.spawn.specs.declared.records.spawn_rec.SpawnRec.{SpawnRec}
+use Rattle.spawn.proofs.Outside.{some_of}
 
 -- ---- rows that change, each for itself
 
@@ -135,10 +136,6 @@ parent_by rows n x p high (inr at) there =
     let same : at.parent.id ≡ x = ap (λ o. option_map_or (λ i. i) o x) (sym at.above ∙ high) in
     let found : place_at (node_places rows) x ≡ Some at.parent = ap (place_at (node_places rows)) (sym same) ∙ at.there in
     (ap (λ o. option_map_or (below n) o false) found ∙ at.once, sym (stands_node rows x) ∙ ap is_some found)
-
-some_of : {X : Type 0} (o : Option X) → is_some o ≡ true → (x : X) × (o ≡ Some x)
-some_of None h = cc
-some_of (Some x) h = (x, refl)
 
 stood : (o : Option Place) → is_some (option_and_then parent o) ≡ true → (p : Place) × (o ≡ Some p)
 stood None h = cc

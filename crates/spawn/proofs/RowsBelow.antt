@@ -14,6 +14,7 @@ use Rattle.ticket_rows.specs.Ticket.{IsValid}
 use Rattle.ticket_items.specs.declared.node_row.NodeRow.{NodeRow}
 use Rattle.spawn.proofs.Split.{path_after, path_after-append, Around}
 use Rattle.spawn.specs.Parts.{resources, resources_among}
+use Rattle.spawn.proofs.HomesBelow.{all_later}
 use Rattle.ticket_tree.specs.At.{rows_below}
 use Rattle.ticket_rows.specs.Homes.{homes, homed}
 use Rattle.ticket_items.specs.declared.resource.Resource.{Resource}
@@ -37,11 +38,6 @@ any_front : {X : Type 0} (f : X → Bool) (xs ys : List X) → list_any f (xs ++
 any_front f [] ys none = none
 any_front f (x ∷ xs) ys none = any_front f xs ys (or_parts (f x) (list_any f (xs ++ ys)) none).1
 
-all_front : {X : Type 0} (f : X → Bool) (xs ys : List X) → list_all f (xs ++ ys) ≡ true
-    → list_all f ys ≡ true
-all_front f [] ys all = all
-all_front f (x ∷ xs) ys all = all_front f xs ys (and_parts (f x) (list_all f (xs ++ ys)) all).1
-
 pub kept_none : (tree : List Place) (n : List ℕ) (before : Path) (rows : List NodeRow)
     → OwnPlaces tree before rows → list_any (below n) (places_from before rows) ≡ false
     → filter (λ r. is_below tree r.id n) rows ≡ []
@@ -60,7 +56,7 @@ kept_all tree n before (r ∷ rows) own all =
     let path = path_of before r in
     let parts = and_parts (mem n path) _ all in
     ap (λ b. cond b (r ∷ filter (λ s. is_below tree s.id n) rows) (filter (λ s. is_below tree s.id n) rows)) (stands_below tree n r path true own.0 parts.0)
-    ∙ ap (λ rs. r ∷ rs) (kept_all tree n path rows own.1 (all_front (below n) (map (resource_place path) r.resources) (places_from path rows) parts.1))
+    ∙ ap (λ rs. r ∷ rs) (kept_all tree n path rows own.1 (all_later (below n) (map (resource_place path) r.resources) (places_from path rows) parts.1))
 
 filtered_at : {X : Type 0} (b : Bool) (f : X → Bool) (x : X) (xs ys : List X)
     → filter f (xs ++ ys) ≡ filter f xs ++ filter f ys

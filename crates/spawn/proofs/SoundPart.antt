@@ -84,7 +84,7 @@ pub false_by : (b : Bool) → (b ≡ true → ⊥) → b ≡ false
 false_by true never = absurd (never refl)
 false_by false never = refl
 
-true_by : (b : Bool) → (b ≡ false → ⊥) → b ≡ true
+pub true_by : (b : Bool) → (b ≡ false → ⊥) → b ≡ true
 true_by true never = refl
 true_by false never = absurd (never refl)
 

@@ -45,7 +45,7 @@ any-append f (x ∷ xs) ys p q =
     let parts = or_parts (f x) (list_any f xs) p in
     or_from _ _ parts.0 (any-append f xs ys parts.1 q)
 
-all-append : {X : Type 0} (f : X → Bool) (xs ys : List X) → list_all f xs ≡ true
+pub all-append : {X : Type 0} (f : X → Bool) (xs ys : List X) → list_all f xs ≡ true
     → list_all f ys ≡ true → list_all f (xs ++ ys) ≡ true
 all-append f [] ys p q = q
 all-append f (x ∷ xs) ys p q =

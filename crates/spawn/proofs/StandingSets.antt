@@ -13,7 +13,7 @@ use Rattle.spawn.specs.IdSet.{IsSetOf, is_in}
 use Rattle.spawn.specs.Stored.{stands_in}
 use Rattle.spawn.specs.declared.records.spawn_rec.SpawnRec.{SpawnRec}
 
-all_same : {X : Type 0} (f g : X → Bool) (xs : List X) → ((x : X) → f x ≡ g x)
+pub all_same : {X : Type 0} (f g : X → Bool) (xs : List X) → ((x : X) → f x ≡ g x)
     → list_all f xs ≡ list_all g xs
 all_same f g [] same = refl
 all_same f g (x ∷ xs) same = ap (λ b. b && list_all f xs) (same x) ∙ ap (λ b. g x && b) (all_same f g xs same)

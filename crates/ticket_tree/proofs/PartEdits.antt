@@ -31,7 +31,7 @@ use Rattle.ticket_rows.specs.Ticket.{IsValid, has_node, ids, ids_of, node_ids, i
 use Rattle.ticket_tree.proofs.ById.{node_no_resource, resource_no_node, resource_ids as pool_ids}
 use Rattle.ticket_tree.proofs.OnPlaces.{has_resource-any}
 use Rattle.ticket_tree.proofs.PlainPlaces.{places-with_row, places-with_resource}
-use Rattle.ticket_tree.proofs.PlainRows.{mem-resource_ids, changed_node, changed_resource}
+use Rattle.ticket_tree.proofs.PlainRows.{mem-resource_ids, changed_node, changed_resource, known_first, known_only, held_only}
 use Rattle.ticket_tree.specs.Laws.{PartRefusalIsOfOwnRows, PartEditIsValid, PartEditOfPlaces, PartEditOfRows}
 use Rattle.ticket_tree.specs.Part.{Copied, copied}
 use Rattle.ticket_tree.specs.PartView.{own_rows}
@@ -129,18 +129,6 @@ with_resource-copies x f (r ∷ rows) rw ro out =
     (ap (λ pool. (with_item x f r.resources ++ with_item x f rw) ++ pool) (sym (at_key-none (λ y. y.id) x f ro out))
     ∙ ap (λ pool. pool ++ with_item x f ro) (sym (map-append (λ (y : Resource). cond (bytes_eq y.id x) (f y) y) r.resources rw))
     ∙ sym (map-append (λ (y : Resource). cond (bytes_eq y.id x) (f y) y) (r.resources ++ rw) ro))
-
-held_only : (a : Bool) → first_of (unless a UnknownResource ∷ None ∷ []) ≡ None → a ≡ true
-held_only true e = refl
-held_only false e = cc
-
-known_only : (a : Bool) → first_of (unless a UnknownNode ∷ None ∷ []) ≡ None → a ≡ true
-known_only true e = refl
-known_only false e = cc
-
-known_first : (a r : Bool) → first_of (unless a UnknownNode ∷ unless (not r) ReservedStatus ∷ []) ≡ None → a ≡ true
-known_first true r e = refl
-known_first false r e = cc
 
 -- a resource that an edit may change is no copy to be read alone
 not_to_read : (rows : List NodeRow) (rw ro : List Resource) (x : List ℕ) → IsValid (with_copies rows rw ro) → (has_resource rows x || mem x (resource_ids rw)) ≡ true → mem x (resource_ids ro) ≡ false

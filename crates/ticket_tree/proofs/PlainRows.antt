@@ -126,16 +126,16 @@ touch_nothing false o = refl
 
 -- ---- what is known where an edit isn't refused
 
-known_first : (a r : Bool)
+pub known_first : (a r : Bool)
     → first_of (unless a UnknownNode ∷ unless (not r) ReservedStatus ∷ []) ≡ None → a ≡ true
 known_first true r e = refl
 known_first false r e = cc
 
-known_only : (a : Bool) → first_of (unless a UnknownNode ∷ None ∷ []) ≡ None → a ≡ true
+pub known_only : (a : Bool) → first_of (unless a UnknownNode ∷ None ∷ []) ≡ None → a ≡ true
 known_only true e = refl
 known_only false e = cc
 
-held_only : (a : Bool) → first_of (unless a UnknownResource ∷ None ∷ []) ≡ None → a ≡ true
+pub held_only : (a : Bool) → first_of (unless a UnknownResource ∷ None ∷ []) ≡ None → a ≡ true
 held_only true e = refl
 held_only false e = cc
 
