@@ -1,6 +1,6 @@
 //! Commands of JMF.
 
-ghost use Rattle.std.specs.Prelude.{◌≡◌, codes, false, map, true, IfOk, IfSome};
+ghost use Rattle.std.specs.Prelude.{◌≡◌, false, map, true, IfOk, IfSome};
 ghost use Rattle.std.specs.Option.{option_map_or};
 ghost use Rattle.serde_json.specs.Find.{get};
 ghost use Rattle.ticket_items.specs.SpawnId.{is_spawn_number};

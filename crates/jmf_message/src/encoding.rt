@@ -1,14 +1,13 @@
 //! Writing messages.
 
-ghost use Rattle.std.specs.Prelude.{◌≡◌, Ok, codes, true, IfOk, OnOk};
-ghost use Rattle.serde_json.specs.Data.{no_members, member};
+ghost use Rattle.std.specs.Prelude.{◌≡◌, Ok, true, IfOk, OnOk};
+ghost use Rattle.serde_json.specs.Data.{no_members};
 ghost use Rattle.serde_json.specs.Written.{compact_text};
 ghost use Rattle.json_text.specs.Printed.{AreMembersPrinted, IsPrinted};
-ghost use Rattle.json_text.specs.PartWritten.{part_data};
 ghost use Rattle.ticket_items.specs.Names.{is_name};
 ghost use Rattle.ticket_items.specs.SpawnId.{is_spawn_number};
 ghost use Rattle.jmf_message.specs.Decoded.{IsDecodedAs};
-ghost use Rattle.jmf_message.specs.Known.{IsKnown, IsWritten};
+ghost use Rattle.jmf_message.specs.Known.{IsKnown};
 ghost use Rattle.controller.specs.Words.{may_be_sent};
 ghost use Rattle.jmf_message.specs.Written as written;
 
@@ -19,7 +18,6 @@ use json::Writer;
 use json_profile::print_part;
 use json_text::finished;
 use std::alloc::{AllocError, Global};
-use ticket_tree::Part;
 
 /// How many bytes a text has room for in the beginning.
 const ROOM: usize = 1024;

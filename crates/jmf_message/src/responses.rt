@@ -1,8 +1,7 @@
 //! Responses of JMF.
 
-ghost use Rattle.std.specs.Prelude.{◌≡◌, codes, is_some, true, IfOk, IfSome, OnOk};
-ghost use Rattle.std.specs.Option.{option_map, option_map_or};
-ghost use Rattle.serde_json.specs.Find.{get};
+ghost use Rattle.std.specs.Prelude.{◌≡◌, is_some, true, IfOk, IfSome};
+ghost use Rattle.std.specs.Option.{option_map};
 ghost use Rattle.controller.specs.Words.{is_told};
 ghost use Rattle.ticket_items.specs.SpawnId.{is_spawn_number};
 ghost use Rattle.json_items.specs.Attributes.{attrs_data};

@@ -1,7 +1,6 @@
 //! The bars of a picture: of nodes, of resources, and of headings.
 
-ghost use Rattle.std.specs.Prelude.{◌≡◌, ◌++◌, string_bytes, IfOk, OnOk};
-ghost use Rattle.std.specs.List.{flat_map};
+ghost use Rattle.std.specs.Prelude.{◌≡◌, ◌++◌, string_bytes, IfOk};
 ghost use Rattle.job_picture.specs.Bars as bars;
 
 use crate::svg::{bar, bold};

@@ -82,7 +82,7 @@ fn spawn_of(text: &str) -> Option<u32>
 }
 
 impl SpawnId {
-    ghost use Rattle.std.specs.Prelude.{◌≡◌, ℕ, true, false, None, Some, IfOk, IfErr, MatchResult};
+    ghost use Rattle.std.specs.Prelude.{◌≡◌, ℕ, true, false, None, Some, IfOk, MatchResult};
     ghost use Rattle.ticket_items.specs.SpawnId.{is_spawn_number, spawn_of, spawn_text};
 
     /// The spawn of a number. Refuses `TooManySpawns` where it isn't one of 1 to 999,999,999. Needs

@@ -4,7 +4,7 @@ ghost use Rattle.json_items.specs.Ancestors as ancestors;
 use crate::{Form, Judged, find_two, only};
 use json_source::Source;
 use std::alloc::Global;
-use ticket_items::{Ancestor, Id, Name, Refusal};
+use ticket_items::{Ancestor, Refusal};
 
 impl Form for Ancestor {
     ghost form = { ancestors.ancestor_draft };

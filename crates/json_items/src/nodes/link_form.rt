@@ -4,7 +4,7 @@ ghost use Rattle.json_items.specs.Links as links;
 use crate::{Form, Judged, find_two, only};
 use json_source::Source;
 use std::alloc::Global;
-use ticket_items::{Id, Link, Refusal, Usage};
+use ticket_items::{Link, Refusal, Usage};
 
 impl Form for Link {
     ghost form = { links.link_draft };

@@ -1,7 +1,7 @@
 //! The calls that change one row, by itself: an audit put at a node, and a node or a resource put
 //! in the place of the one of its id.
 
-ghost use Rattle.std.specs.Prelude.{◌≡◌, None, OnOk, OnErr, IfErr, IfNone, IfSome};
+ghost use Rattle.std.specs.Prelude.{◌≡◌, OnOk, OnErr, IfErr, IfNone, IfSome};
 ghost use Rattle.ticket_rows.specs.Edit.{node_refusal};
 ghost use Rattle.ticket_rows.specs.OneRow as one;
 ghost use Rattle.ticket_rows.specs.OneRow.{MayReplaceNode, MayReplaceResource};
