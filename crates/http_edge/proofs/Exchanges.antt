@@ -1,16 +1,12 @@
 -- What comes of a request.
-use Rattle.std.proofs.Common.{◌≡◌, ◌≢◌, ◌∙◌, ◌⊎◌, ℕ, Bool, true, false, List, Option, Some, Result, Ok, Err, is_ok, IfOk, OnErr, OnOk, sym, ap, subst, refl, inl, inr, ⊎_elim}
+use Rattle.std.proofs.Common.{◌≡◌, ◌≢◌, ◌∙◌, ◌⊎◌, ℕ, Bool, true, false, List, Option, Some, Result, Ok, Err, is_ok, IfOk, OnErr, OnOk, sym, ap, subst, inl, inr}
 use Rattle.std.proofs.lemmas.Bool.{false_from_ne_true, true≢false}
 use Rattle.serde_json.specs.Data.{Data}
 use Rattle.controller.specs.declared.message.Message.{Message}
 use Rattle.ticket_items.specs.declared.refusal.Refusal.{Refusal}
-use Rattle.ticket_items.specs.declared.refusal.Refusal.TheVariants.{Memory}
 use Rattle.streams.specs.Streams.{Use}
 use Rattle.streams.specs.declared.refused.Refused.{Refused}
-use Rattle.streams.specs.declared.refused.Refused.TheVariants.{Core, ReadFailed, Stale}
-use Rattle.http_message.specs.Message.{is_refusal}
-use Rattle.http_message.specs.Reading as reading
-use Rattle.http_message.specs.declared.kind.Kind.TheVariants as kinds
+use Rattle.streams.specs.declared.refused.Refused.TheVariants.{ReadFailed, Stale}
 use Rattle.stored_state.specs.Held.{GivesNothing, Held}
 use Rattle.stored_state.specs.Step.{IsSaved, TextStep}
 use Rattle.controller.specs.declared.reply.Reply.{Reply}
@@ -36,24 +32,6 @@ fresh_of x stale refuses = false_from_ne_true stale (λ is. let wrong : true ≡
 pub never_unread : {C K : Type 0} (is_honest : K → Bool) (held : K → List ℕ) (count : K → ℕ) (save_fails : K → List ℕ → K → Type 0) (R : Refusal → Type 0) (T : List ℕ → Type 0) (old new : Held C K) (e : Refused)
     → GivesNothing is_honest held count save_fails R T old new e → e ≢ ReadFailed
 never_unread h l n sf R T old new e gives same = subst (λ x. GivesNothing h l n sf R T old new x) same gives
-
-no_refusal : (e : Refused) → is_refusal e ≡ true → e ≢ ReadFailed
-no_refusal e is same = let no : false ≡ true = sym (ap is_refusal same) ∙ is in cc
-
-not_memory : (e : Refused) → e ≡ Core Memory → e ≢ ReadFailed
-not_memory e is same = let no : Core Memory ≡ ReadFailed = sym is ∙ same in cc
-
--- why a request isn't read
-pub not_read : {C K : Type 0} (is_honest : K → Bool) (held : K → List ℕ) (count : K → ℕ) (save_fails : K → List ℕ → K → Type 0) (state_text : C → List ℕ) (does : Message → TextStep C) (start : ℕ) (u : Use) (old : Held C K) (e : Refused)
-    → reading.IsUnread kinds.Request start u e
-    → IsUnread start u old old e ⊎ ((e ≢ ReadFailed) × IsUnfailed u × StepsNot is_honest held count save_fails state_text does u.before.bytes old old e)
-not_read h l n sf t does start u old e unread =
-    ⊎_elim
-    (λ refused. inr (no_refusal e refused.0, refused.1, inl (inl (refused.0, refused.2), refl)))
-    (λ fault. ⊎_elim
-    (λ failed. inl (record { is = failed.0; failed = failed.1; unstepped = refl }))
-    (λ memory. inr (not_memory e memory.0, memory.1, inl (inr memory.0, refl))) fault)
-    unread
 
 -- ---- how it is served
 
