@@ -1,5 +1,5 @@
 -- Steps of a controller of one kind are steps of one of any kind.
-use Rattle.std.proofs.Common.{◌≡◌, ◌∙◌, ℕ, Bool, false, true, List, Option, Result, Ok, Err, IfOk, IfErr, OnOk, ap, inl, inr, option_map, refl, sym}
+use Rattle.std.proofs.Common.{◌≡◌, ◌∙◌, ℕ, Bool, false, true, List, Option, Result, Ok, Err, IfOk, IfErr, OnOk, ap, inr, option_map, refl, sym}
 use Rattle.std.proofs.lemmas.Result.{IfErr-weaker}
 use Rattle.serde_json.specs.Data.{Data}
 use Rattle.ticket_items.specs.declared.refusal.Refusal.{Refusal}
