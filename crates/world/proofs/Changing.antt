@@ -16,6 +16,7 @@ use Rattle.spawn.specs.declared.records.phase.Phase.TheVariants as recorded
 use Rattle.spawn.specs.declared.records.spawn_rec.SpawnRec.{SpawnRec}
 use Rattle.spawn.specs.declared.tables.holder.Holder.{Holder}
 use Rattle.spawn.specs.declared.tables.holder.Holder.TheVariants.{Master, Spawn}
+use Rattle.spawn.proofs.SoundPart.{true_by}
 use Rattle.merge.specs.Shape.{Fits}
 use Rattle.master_core.proofs.Recorded.{number_is}
 use Rattle.master_core.specs.Master as master
@@ -59,10 +60,6 @@ record IsOpenThere (w : State) (name : List ℕ) (s : ℕ) (e : Entry) : Type 0 
   there : slice_get w.controllers.master.records place ≡ Some spawn
   out : is_out spawn ≡ true
   shows : (x : List ℕ) → worker.has part x ≡ option_map_or (is_claimed spawn.node spawn.rw) (place_at (places w.controllers.master.ticket.rows) x) false
-
-true_by : (b : Bool) → (b ≡ false → ⊥) → b ≡ true
-true_by true never = refl
-true_by false never = absurd (never refl)
 
 -- where the part was put in the entry isn't open
 not_back : (w : State) (name : List ℕ) (s : ℕ) (e : Entry) (r : SpawnRec) → IsKept w → entry_at w.controllers.workers name s ≡ Some e → worker.is_open e ≡ true → master.record_of w.controllers.master.records s ≡ Some r → r.worker ≡ name → is_out r ≡ false → ⊥

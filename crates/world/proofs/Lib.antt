@@ -30,7 +30,7 @@ pub mod TicketSeen
 pub mod MarksShown
 pub mod SameWorkers
 pub mod Receivers
-pub mod TextsStored
+pub mod Restarts
 pub mod Unmade
 pub mod AnswersCome
 pub mod Cases

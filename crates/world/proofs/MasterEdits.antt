@@ -1,20 +1,16 @@
 -- An edit of the master in a shop: the controllers' step and the shop's agree.
-use Rattle.std.proofs.Common.{◌≡◌, ◌∙◌, ℕ, ◌&&◌, ◌||◌, not, Bool, true, false, cond, List, [], ◌∷◌, map, Option, Some, None, is_some, Err, refl, sym, ap}
+use Rattle.std.proofs.Common.{◌≡◌, ◌∙◌, ℕ, Bool, true, false, cond, List, [], ◌∷◌, Option, Some, None, is_some, Err, refl, sym, ap}
 use Rattle.std.proofs.lemmas.Bool.{true≢false}
 use Rattle.std.proofs.lemmas.Slice.Eq.{bytes_eq-Decides}
-use Rattle.std.specs.List.{find, list_any}
 use Rattle.std.specs.Option.{option_map, option_map_or}
 use Rattle.std.specs.Str.{bytes_eq}
 use Rattle.ticket_items.specs.Ids.{mem}
 use Rattle.ticket_items.specs.declared.edit.Edit.{Edit}
 use Rattle.ticket_items.specs.declared.edit.Edit.TheVariants.{SetStatus, SetAttr, SetResStatus, SetResAttr, Note, AddNode, AddResource, AddLink}
-use Rattle.ticket_items.specs.declared.link.Link.{Link}
-use Rattle.ticket_items.specs.declared.node_row.NodeRow.{NodeRow}
 use Rattle.ticket_items.specs.declared.refusal.Refusal.{Refusal}
 use Rattle.ticket_rows.proofs.Alike.{later_alike, unknown_alike}
-use Rattle.ticket_rows.proofs.Reasons.{child_new, resource_new}
 use Rattle.ticket_items.specs.Edit.{added_id, target}
-use Rattle.ticket_rows.specs.Edit.{behind_last, edited_rows, lookups, refusal_of}
+use Rattle.ticket_rows.specs.Edit.{edited_rows, lookups}
 use Rattle.ticket_rows.specs.EditRefusal.{later_refusal, unknown_refusal}
 use Rattle.ticket_rows.specs.Place.{Place, Row, place_at, places, row_in}
 use Rattle.ticket_rows.specs.Ticket.{IsValid, first_of, ids}
@@ -24,18 +20,19 @@ use Rattle.ticket_tree.proofs.OnPlaces.{stands_somewhere}
 use Rattle.ticket_tree.proofs.PlainEdits.{edit_of_places}
 use Rattle.ticket_tree.proofs.PlainRefusal.{lookups_alike}
 use Rattle.ticket_tree.proofs.PlainRows.{edit_of_rows}
-use Rattle.ticket_tree.specs.PlainEdit.{plain_changed, plain_lookups, plain_places, plain_rows, touch, with_line, with_link}
+use Rattle.ticket_tree.specs.PlainEdit.{plain_changed, plain_lookups, plain_rows, touch, with_line}
 use Rattle.controller.specs.declared.message.Message.{Message}
 use Rattle.spawn.proofs.EditKeeps.{edit_keeps_claims}
+use Rattle.spawn.proofs.HoldingsEdited.{IsOld, holder_stays, new_nowhere}
 use Rattle.spawn.proofs.Lawful.{held_is_claimed, placed}
 use Rattle.spawn.proofs.Outside.{some_of}
 use Rattle.spawn.specs.Claim.{is_claimed}
 use Rattle.spawn.specs.Laws.{StandApart}
-use Rattle.spawn.specs.Records.{is_out}
 use Rattle.spawn.specs.Table.{holder_at, holder_of, holding, holds}
 use Rattle.spawn.specs.declared.records.spawn_rec.SpawnRec.{SpawnRec}
 use Rattle.spawn.specs.declared.tables.holder.Holder.{Holder}
 use Rattle.spawn.specs.declared.tables.holder.Holder.TheVariants.{Master, Spawn}
+use Rattle.spawn.proofs.SoundPart.{false_by}
 use Rattle.master_core.proofs.Refusals.{IsFree, edit_free}
 use Rattle.master_core.specs.Master.{Known, holder}
 use Rattle.master_core.specs.Orders as orders
@@ -102,10 +99,6 @@ rows_as (AddNode n id kind job_part status) at rows others x same = line_as id _
 rows_as (AddResource n y) at rows others x same = line_as y.id _ rows others x same
 rows_as (AddLink n link) at rows others x same = touch_as n (plain_changed (AddLink n link) at) rows others x same
 
--- an id isn't the one that is added
-abbrev IsOld : Edit → List ℕ → Type 0
-IsOld e x = (i : List ℕ) → added_id e ≡ Some i → bytes_eq i x ≡ false
-
 -- what is neither the target nor new stays
 rows_stay : (e : Edit) (at : ℕ) (rows : Rows) (x : List ℕ) → bytes_eq (target e) x ≡ false → IsOld e x → plain_rows e at rows x ≡ rows x
 rows_stay (SetStatus n status) at rows x other old = untouched n (plain_changed (SetStatus n status) at) rows x other
@@ -131,82 +124,12 @@ rows_new (AddNode n id kind job_part status) at i x added own = (_, λ rows. own
 rows_new (AddResource n y) at i x added own = (_, λ rows. own_line y.id _ rows x (ap (λ o. option_map_or (λ j. bytes_eq j x) o true) added ∙ own))
 rows_new (AddLink n link) at i x added own = cc
 
--- ---- places
-
--- where something stands: its id and its path
-abbrev Spot : Type 0
-Spot = List ℕ × List (List ℕ)
-
-abbrev spot : Place → Spot
-spot p = (p.id, p.path)
-
-abbrev spot_at : List Place → List ℕ → Option Spot
-spot_at tree x = option_map spot (place_at tree x)
-
--- who holds what stands there
-abbrev holder_there : List SpawnRec → Spot → Holder
-holder_there recs s = option_map_or (λ r. Spawn r.id) (find (λ r. is_out r && (mem r.node s.1 || mem s.0 r.rw)) recs) Master
-
-by_spot : (recs : List SpawnRec) (o : Option Place) → option_map (holder_at recs) o ≡ option_map (holder_there recs) (option_map spot o)
-by_spot recs None = refl
-by_spot recs (Some p) = refl
-
-behind_by : (x : List ℕ) (new q : Place) (tree rest : List Place) (b : Bool) → bytes_eq new.id x ≡ false → place_at rest x ≡ place_at tree x → place_at (cond b (q ∷ new ∷ tree) (q ∷ rest)) x ≡ place_at (q ∷ tree) x
-behind_by x new q tree rest true other go = ap (λ b. cond (bytes_eq q.id x) (Some q) (cond b (Some new) (place_at tree x))) other
-behind_by x new q tree rest false other go = ap (λ o. cond (bytes_eq q.id x) (Some q) o) go
-
-found_behind : (f : Place → Bool) (x : List ℕ) (new : Place) (tree : List Place) → bytes_eq new.id x ≡ false → place_at (behind_last f new tree) x ≡ place_at tree x
-found_behind f x new [] other = ap (λ b. cond b (Some new) None) other
-found_behind f x new (q ∷ tree) other = behind_by x new q tree (behind_last f new tree) (f q && not (list_any f tree)) other (found_behind f x new tree other)
-
-found_one : (c : Bool) (p q : Place) (o later : Option Place) → spot p ≡ spot q → option_map spot o ≡ option_map spot later → option_map spot (cond c (Some p) o) ≡ option_map spot (cond c (Some q) later)
-found_one true p q o later same go = ap Some same
-found_one false p q o later same go = go
-
-linked_one : (b : Bool) (x : List ℕ) (link : Link) (q : Place) (xs ys : List Place) → spot_at xs x ≡ spot_at ys x → spot_at (cond b (record q { thing = with_link link q.thing }) q ∷ xs) x ≡ spot_at (q ∷ ys) x
-linked_one true x link q xs ys go = found_one (bytes_eq q.id x) (record q { thing = with_link link q.thing }) q (place_at xs x) (place_at ys x) refl go
-linked_one false x link q xs ys go = found_one (bytes_eq q.id x) q q (place_at xs x) (place_at ys x) refl go
-
-linked_spot : (n x : List ℕ) (link : Link) (tree : List Place) → spot_at (map (λ (p : Place). cond (bytes_eq p.id n) (record p { thing = with_link link p.thing }) p) tree) x ≡ spot_at tree x
-linked_spot n x link [] = refl
-linked_spot n x link (q ∷ tree) = linked_one (bytes_eq q.id n) x link q (map (λ (p : Place). cond (bytes_eq p.id n) (record p { thing = with_link link p.thing }) p) tree) tree (linked_spot n x link tree)
-
--- what isn't new stands where it stood
-spot_stays : (e : Edit) (tree : List Place) (x : List ℕ) → IsOld e x → spot_at (plain_places e tree) x ≡ spot_at tree x
-spot_stays (SetStatus n status) tree x old = refl
-spot_stays (SetAttr n name value) tree x old = refl
-spot_stays (SetResStatus y status) tree x old = refl
-spot_stays (SetResAttr y name value) tree x old = refl
-spot_stays (Note n text) tree x old = refl
-spot_stays (AddNode n id kind job_part status) tree x old = ap (option_map spot) (found_behind _ x _ tree (old id refl))
-spot_stays (AddResource n y) tree x old = ap (option_map spot) (found_behind _ x _ tree (old y.id refl))
-spot_stays (AddLink n link) tree x old = linked_spot n x link tree
-
 -- ---- holders
-
--- what stood before is held as it was
-holder_stays : (e : Edit) (at : ℕ) (rows : List NodeRow) (recs : List SpawnRec) (x : List ℕ) → IsValid rows → refusal_of e rows ≡ None → IsOld e x → holder_of (edited_rows e at rows) recs x ≡ holder_of rows recs x
-holder_stays e at rows recs x valid free old =
-    ap (λ tree. option_map (holder_at recs) (place_at tree x)) (edit_of_places e at rows valid free)
-    ∙ by_spot recs (place_at (plain_places e (places rows)) x)
-    ∙ ap (option_map (holder_there recs)) (spot_stays e (places rows) x old)
-    ∙ sym (by_spot recs (place_at (places rows) x))
 
 some_same : (i j : List ℕ) → Some i ≡ Some j → i ≡ j
 some_same i j e = ap (λ o. option_map_or (λ x. x) o i) e
 
--- the id that is added stood nowhere
-pub new_nowhere : (e : Edit) (rows : List NodeRow) (i : List ℕ) → refusal_of e rows ≡ None → added_id e ≡ Some i → mem i (ids rows) ≡ false
-new_nowhere (SetStatus n status) rows i free added = cc
-new_nowhere (SetAttr n name value) rows i free added = cc
-new_nowhere (SetResStatus x status) rows i free added = cc
-new_nowhere (SetResAttr x name value) rows i free added = cc
-new_nowhere (Note n text) rows i free added = cc
-new_nowhere (AddNode n id kind job_part status) rows i free added = ap (λ x. mem x (ids rows)) (sym (some_same id i added)) ∙ (child_new rows n id status free).2
-new_nowhere (AddResource n x) rows i free added = ap (λ y. mem y (ids rows)) (sym (some_same x.id i added)) ∙ resource_new rows n x free
-new_nowhere (AddLink n link) rows i free added = cc
-
--- so no spawn claims it
+-- no spawn claims what stood nowhere
 new_unheld : (e : Edit) (at : ℕ) (m : Known) (x : List ℕ) (p : Place) (o : Option SpawnRec) → IsValid m.ticket.rows → StandApart m.ticket.rows m.records → IsFree m e → mem x (ids m.ticket.rows) ≡ false
     → place_at (places (edited_rows e at m.ticket.rows)) x ≡ Some p → holding m.records p ≡ o → o ≡ None
 new_unheld e at m x p None valid apart free nowhere there held = refl
@@ -236,14 +159,10 @@ new_is_masters e at m i x valid apart free added own =
 abbrev later : Edit → ℕ → Controllers → Controllers
 later e at c = with_master c (orders.ordered (order.Edit e) at c.master).next
 
-other_by : (b : Bool) → (b ≡ true → ⊥) → b ≡ false
-other_by true never = absurd (never refl)
-other_by false never = refl
-
 -- what the master holds isn't what a spawn holds
 pub not_masters : (m : Known) (y x : List ℕ) (s : ℕ) → holder m y ≡ Some Master → holder m x ≡ Some (Spawn s) → bytes_eq y x ≡ false
 not_masters m y x s mine its =
-    other_by (bytes_eq y x) (λ same.
+    false_by (bytes_eq y x) (λ same.
     let one : holder m y ≡ holder m x = ap (holder m) ((bytes_eq-Decides y x).0 same) in
     cc)
 

@@ -47,7 +47,7 @@ use Rattle.master_core.proofs.OrderKept.{ordered_kept}
 use Rattle.master_core.proofs.Recorded.{found_last, get_front, get_last, number_is}
 use Rattle.master_core.proofs.Refusals.{spawn_free}
 use Rattle.master_core.specs.Master as master
-use Rattle.master_core.specs.Master.{IsNumbered, Known, holder, is_of, record_of}
+use Rattle.master_core.specs.Master.{IsNumbered, holder, is_of, record_of}
 use Rattle.master_core.specs.Orders as orders
 use Rattle.master_core.specs.Orders.{held_refusal, next_record}
 use Rattle.master_core.specs.declared.order.Order.TheVariants as order

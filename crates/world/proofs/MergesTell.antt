@@ -14,7 +14,7 @@ use Rattle.world.proofs.GoingOn.{as_often, edit_is_quiet, one_if, telling_is_qui
 use Rattle.world.proofs.MasterSpawns.{told_there}
 use Rattle.world.proofs.OrdersTell.{Tells}
 use Rattle.world.proofs.ShopTells as shops
-use Rattle.world.proofs.ShopTells.{HaveNumbers, TellsMore, is_above, phase_stays, same_rows, same_spawns, tells_none, tells_nothing, times}
+use Rattle.world.proofs.ShopTells.{HaveNumbers, TellsMore, is_above, phase_stays, same_rows, tells_none, tells_nothing, times}
 use Rattle.worker_core.specs.Worker.{end_word}
 use Rattle.worker_core.specs.declared.end.End.TheVariants.{Aborted}
 use Rattle.world.specs.MergeAudits.{GoOn, above_of, audit_tells, reply_tells}

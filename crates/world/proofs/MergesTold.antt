@@ -18,8 +18,9 @@ use Rattle.ticket_tree.proofs.OnPlaces.{stands_node, stands_somewhere}
 use Rattle.ticket_tree.specs.PlainEdit.{plain_places}
 use Rattle.controller.specs.declared.reply.Reply.{Reply}
 use Rattle.controller.specs.declared.reply.Reply.TheVariants as reply
+use Rattle.spawn.proofs.HoldingsEdited.{new_nowhere}
 use Rattle.spawn.proofs.Lawful.{parent_is_masters, placed}
-use Rattle.spawn.proofs.SoundPart.{node_among_ids}
+use Rattle.spawn.proofs.SoundPart.{node_among_ids, false_by}
 use Rattle.spawn.specs.Records as records
 use Rattle.spawn.specs.declared.records.phase.Phase as record_phase
 use Rattle.spawn.specs.declared.records.phase.Phase.TheVariants as recorded
@@ -34,7 +35,7 @@ use Rattle.world.proofs.TakenSpawns.{phase_of_entry}
 use Rattle.world.proofs.AlwaysKept.{kept_after}
 use Rattle.world.proofs.Events.{event_is_replayed, events_are_replayed}
 use Rattle.world.proofs.GoingOn.{IsNew, as_often, one_if, stays_so}
-use Rattle.world.proofs.MasterEdits.{edit_refused, new_nowhere}
+use Rattle.world.proofs.MasterEdits.{edit_refused}
 use Rattle.world.proofs.Opening.{opening_is_shown}
 use Rattle.world.proofs.MergesTell.{StandsAbove, StepTells, message_tells}
 use Rattle.world.proofs.Once.{each_is_merged_once}
@@ -235,10 +236,6 @@ none_in s (a ∷ rest) none =
     let first : one_if (answer_tells s a) ≡ 0 = ap one_if (none 0 a refl) in
     let later : told_in rest s ≡ 0 = none_in s rest (λ i b there. none (suc i) b there) in
     omega (arith, sum, first, later)
-
-false_by : (b : Bool) → (b ≡ true → ⊥) → b ≡ false
-false_by true never = absurd (never refl)
-false_by false never = refl
 
 once_more : (s : ℕ) (a : Answer) (rest : List Answer) (tells : Bool) → answer_tells s a ≡ tells → IsOnce s (a ∷ rest) → told_in rest s ≡ one_if (list_any (answer_tells s) rest) → one_if tells + told_in rest s ≡ one_if (tells || list_any (answer_tells s) rest)
 once_more s a rest true is once later =

@@ -50,7 +50,6 @@ use Rattle.world.proofs.TakenSpawns.{only_record, phase_of_entry}
 use Rattle.world.specs.Controllers.{Controllers}
 use Rattle.world.specs.Messages.{IsInOrder, entry_for}
 use Rattle.world.specs.Shop as plain
-use Rattle.world.specs.Shop.{SpawnState, has_number}
 use Rattle.world.specs.ShopActs as acts
 use Rattle.world.specs.ShopSteps as shop
 use Rattle.world.specs.Showing.{entry_of_spawn, now_shown, part_of_spawn, phase_shown, row_at, seen_shown, shop_shown, spawn_shown, tag_of}

@@ -1,7 +1,7 @@
 use Rattle.std.proofs.Common.{◌≡◌, ◌∙◌, true, false, Err, ap, sym, rules}
 use Rattle.std.proofs.lemmas.Bool.{true≢false}
 use Rattle.std.specs.Str.{bytes_eq}
-use Rattle.world.proofs.TextsStored.{none_restarts, worker_restarts}
+use Rattle.world.proofs.Restarts.{none_restarts, worker_restarts}
 use Rattle.world.proofs.WorkerPlaces.{StandsAt, found, none_there, stands_at}
 use Rattle.world.specs.Happening.{is_reached, restart_word}
 use Rattle.world.specs.Settling.{answer_without_step}
