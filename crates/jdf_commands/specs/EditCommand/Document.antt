@@ -7,24 +7,21 @@ use Rattle.serde_json.specs.Find.{get}
 use Rattle.ticket_items.specs.declared.edit.Edit.{Edit}
 use Rattle.ticket_items.specs.declared.refusal.Refusal.{Refusal}
 use Rattle.json_profile.specs.ReadAs as bytes
-use Rattle.json_items.specs.TicketDraft.{RawTicket, ticket_draft}
 use Rattle.json_items.specs.Edits.{edit_draft, edit_has_names, edit_has_texts}
 use Rattle.json_items.specs.Judged.{built_of, first_fault, judged}
 use Rattle.json_items.specs.Listed.{list_form}
 use Rattle.json_items.specs.TicketForm.{has_names, has_texts, built_fault}
 use Rattle.json_source.specs.Read.{◌>>=◌, provided, has_only, number_under}
+use Rattle.controller_form.specs.Openings.ShopForm.{ticket_under}
 use Rattle.jdf_commands.specs.declared.edit_command.document.Document.{Document}
 use Rattle.jdf_commands.specs.declared.edit_command.raw_document.RawDocument.{RawDocument}
 
 abbrev pub document_members : List (List ℕ)
 document_members = codes "At" ∷ codes "Edits" ∷ codes "Ticket" ∷ []
 
--- the drafts of what stands under `Edits` and under `Ticket`
+-- the drafts of what stands under `Edits`
 abbrev pub edits_under : Data → Option (List Edit)
 edits_under d = option_and_then (list_form edit_draft) (get (codes "Edits") d)
-
-abbrev pub ticket_under : Data → Option RawTicket
-ticket_under d = get (codes "Ticket") d >>= ticket_draft
 
 -- what the data is by its members and their kinds
 unfoldable pub document_draft : Data → Option RawDocument

@@ -1,6 +1,6 @@
 -- What is written of a step of a controller, and what is not.
 use Rattle.std.specs.Prelude.{◌≡◌, ◌⊎◌, ◌++◌, ℕ, Bool, not, List, [], ◌∷◌}
-use Rattle.std.specs.Prelude.{Option, Some, None, Result, Ok, Err, is_ok}
+use Rattle.std.specs.Prelude.{Option, Some, None, Result, is_ok}
 use Rattle.ticket_items.specs.declared.refusal.Refusal.{Refusal}
 use Rattle.ticket_items.specs.declared.refusal.Refusal.TheVariants.{Memory}
 use Rattle.controller.specs.declared.reply.Reply.{Reply}

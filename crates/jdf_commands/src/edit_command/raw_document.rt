@@ -8,6 +8,7 @@ ghost use Rattle.json_items.specs.Judged.{Reads, both_read, on_both};
 ghost use Rattle.json_items.specs.Listed.{each, list_form};
 ghost use Rattle.json_items.specs.TicketForm.{has_names, has_texts};
 ghost use Rattle.json_source.specs.Tree.{tree_data};
+ghost use Rattle.controller_form.specs.Openings.ShopForm.{ticket_under};
 ghost use Rattle.jdf_commands.specs.EditCommand.Document as document;
 
 use json_items::{Form, Judged, both, find_under, only, push_found};
@@ -57,7 +58,7 @@ fn parts_in(alloc: Global, tree: Tree<'_>) -> Result<Judged<(Items<Edit>, RawTic
     ensures { Reads (on_both (list_all edit_has_names) has_names)
         (on_both (list_all edit_has_texts) has_texts) result
         (both_read (document.edits_under (tree_data tree.entry))
-        (document.ticket_under (tree_data tree.entry))) }
+        (ticket_under (tree_data tree.entry))) }
 {
     let (edits, ticket) = members_alone(tree, "Edits", "Ticket");
     let edits = edits_in(alloc, edits.ok_or(Refusal::NotProfile)?)?;
