@@ -13,33 +13,28 @@ use Rattle.streams.specs.declared.fault.Fault.TheVariants.{Input}
 use Rattle.streams.specs.declared.refused.Refused.TheVariants.{Core}
 use Rattle.streams.specs.Ends.{IsUnread}
 use Rattle.streams.specs.Streams.{IsInput, Use}
-use Rattle.jdf_commands.specs.FileCommands.Commands.{DoesNoStep, DoesStep, Steps}
+use Rattle.jdf_commands.specs.FileCommands.Commands.{DoesNoStep, DoesStep, GivesStepOf, Steps}
 use Rattle.jdf_commands.specs.FileCommands.Opening.{IsLoaded}
 use Rattle.jdf_commands.specs.FileCommands.Step.{reply_line, text_line}
 
--- a step that is given out, and its lines
-pub step_done : {K : Type 0} (is_honest : K → Bool) (held : K → List ℕ) (IsStep : Steps) (keep : K) (input : Use) (before after : Held AnyController K) (bytes : List ℕ) (reply : Result Reply Refusal) (sent : Option (List ℕ)) (r : Result Output Fault) → IsLoaded is_honest held keep before → IsInput input bytes → is_honest after.keep ≡ is_honest before.keep → GivesStep is_honest held text_of (IsStep bytes before.controller) after reply sent → IfOk r (λ o. o.text.items ≡ reply_line reply ++ text_line sent) → IfOk r (λ o. o.refused ≡ not (is_ok reply)) → IfOk r (λ o. DoesStep is_honest held IsStep keep input o.text.items o.refused)
-step_done h l IsStep keep input before after bytes reply sent (Ok o) loaded is_input honest gives lines status =
-    record {
-      before = before;
-      loaded = loaded;
-      bytes = bytes;
-      is_input = is_input;
-      after = after;
-      gives = record {
-        step = gives.step;
-        is_step = (gives.is_step.0, lines ∙ (λ i. reply_line (gives.is_step.1 i) ++ text_line (gives.is_step.2 i)), status ∙ ap (λ s. not (is_ok s)) gives.is_step.1);
-        saved = gives.saved;
-      };
-      honest = honest ∙ loaded.honest;
-    }
-step_done h l IsStep keep input before after bytes reply sent (Err e) loaded is_input honest gives lines status = tt
+-- a step that is given out
+pub step_given : {K : Type 0} (is_honest : K → Bool) (held : K → List ℕ) (IsStep : Steps) (keep : K) (input : Use) (before after : Held AnyController K) (bytes : List ℕ) (reply : Result Reply Refusal) (sent : Option (List ℕ)) → IsLoaded is_honest held keep before → IsInput input bytes → is_honest after.keep ≡ is_honest before.keep → GivesStep is_honest held text_of (IsStep bytes before.controller) after reply sent → GivesStepOf is_honest held IsStep keep input reply sent
+step_given h l IsStep keep input before after bytes reply sent loaded is_input honest gives =
+    (bytes, is_input, after, record { before = before; loaded = loaded; gives = gives; honest = honest ∙ loaded.honest })
+
+-- and its lines
+pub step_done : {K : Type 0} (is_honest : K → Bool) (held : K → List ℕ) (IsStep : Steps) (keep : K) (input : Use) (reply : Result Reply Refusal) (sent : Option (List ℕ)) (r : Result Output Fault) → GivesStepOf is_honest held IsStep keep input reply sent → IfOk r (λ o. o.text.items ≡ reply_line reply ++ text_line sent) → IfOk r (λ o. o.refused ≡ not (is_ok reply)) → IfOk r (λ o. DoesStep is_honest held IsStep keep input o.text.items o.refused)
+step_done h l IsStep keep input reply sent (Ok o) given lines status =
+    record { reply = reply; sent = sent; given = given; written = lines; told = status }
+step_done h l IsStep keep input reply sent (Err e) given lines status = tt
 
 -- or memory ran out for these
-pub step_untold : {K A : Type 0} (is_honest : K → Bool) (held : K → List ℕ) (count : K → ℕ) (load_fails : K → K → Type 0) (save_fails : K → List ℕ → K → Type 0) (Refuses : List ℕ → AnyController → Refusal → Type 0) (IsStep : Steps) (keep : K) (input : Use) (before after : Held AnyController K) (bytes : List ℕ) (reply : Result Reply Refusal) (sent : Option (List ℕ)) (r : Result A Fault) → IsLoaded is_honest held keep before → IsInput input bytes → GivesStep is_honest held text_of (IsStep bytes before.controller) after reply sent → IfErr r (λ f. f ≡ Input (Core Memory)) → IfErr r (DoesNoStep is_honest held count load_fails save_fails Refuses IsStep keep input)
-step_untold h l n lf sf Refuses IsStep keep input before after bytes reply sent (Ok a) loaded is_input gives memory = tt
-step_untold h l n lf sf Refuses IsStep keep input before after bytes reply sent (Err f) loaded is_input gives memory =
-    inr (before, loaded, inr (bytes, is_input, after, inr (memory, record { step = gives.step; is_step = gives.is_step.0; saved = gives.saved })))
+pub step_untold : {K A : Type 0} (is_honest : K → Bool) (held : K → List ℕ) (count : K → ℕ) (load_fails : K → K → Type 0) (save_fails : K → List ℕ → K → Type 0) (Refuses : List ℕ → AnyController → Refusal → Type 0) (IsStep : Steps) (keep : K) (input : Use) (reply : Result Reply Refusal) (sent : Option (List ℕ)) (r : Result A Fault) → GivesStepOf is_honest held IsStep keep input reply sent → IfErr r (λ f. f ≡ Input (Core Memory)) → IfErr r (DoesNoStep is_honest held count load_fails save_fails Refuses IsStep keep input)
+step_untold h l n lf sf Refuses IsStep keep input reply sent (Ok a) given memory = tt
+step_untold h l n lf sf Refuses IsStep keep input reply sent (Err f) given memory =
+    let held = given.3 in
+    let gives = held.gives in
+    inr (held.before, held.loaded, inr (given.0, given.1, given.2, inr (memory, record { step = gives.step; is_step = gives.is_step.0; saved = gives.saved })))
 
 -- the input isn't read
 pub not_read : {K A : Type 0} (is_honest : K → Bool) (held : K → List ℕ) (count : K → ℕ) (load_fails : K → K → Type 0) (save_fails : K → List ℕ → K → Type 0) (Refuses : List ℕ → AnyController → Refusal → Type 0) (IsStep : Steps) (keep : K) (input : Use) (before : Held AnyController K) (r : Result A Fault) (e : Fault) → IsErrAnd r (λ f. f ≡ e) → IsLoaded is_honest held keep before → IsUnread input e → IfErr r (DoesNoStep is_honest held count load_fails save_fails Refuses IsStep keep input)

@@ -12,7 +12,7 @@ mod taking;
 
 pub use beginning::{begin, new_output};
 pub use ordering::order_output;
-pub use run::{call_output, run_file};
+pub use run::{call_output, order_in_file, run_file};
 pub use shown::{show_output, worker_text};
 pub use step::step_output;
 pub use taking::take_output;

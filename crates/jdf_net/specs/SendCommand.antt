@@ -20,10 +20,11 @@ abbrev pub answer_line : List ℕ → List ℕ
 answer_line [] = []
 answer_line (c ∷ cs) = (c ∷ cs) ++ 10 ∷ []
 
--- the answer was given out; or another status was told, or that the URL is none, and nothing was
--- written; or it gave up
-abbrev pub EndsSend : Use → Use → ℕ → Type 0
-EndsSend output told status =
+-- the answer was given out; or another status was told, and nothing was written; or the URL is
+-- none, and nothing was read or written; or it gave up
+abbrev pub EndsSend : Use → Use → Use → ℕ → Type 0
+EndsSend input output told status =
     ((answer : List ℕ) × GivesOut (answer_line answer) false output told status)
-    ⊎ ((IsUntouched output × ((status ≡ 1) ⊎ (status ≡ 2)))
-    ⊎ ((fault : Fault) × GivesUp fault output told status))
+    ⊎ ((IsUntouched output × (status ≡ 1))
+    ⊎ ((IsUntouched input × IsUntouched output × (status ≡ 2))
+    ⊎ ((fault : Fault) × GivesUp fault output told status)))

@@ -1,16 +1,16 @@
 -- What `serve` answers. Nothing is known of what stands in a file, so that of one no keeper is
 -- honest.
-use Rattle.std.specs.Prelude.{◌≡◌, ◌⊎◌, ℕ, Bool, List, Option, Some, None, IfSome}
+use Rattle.std.specs.Prelude.{◌≡◌, ◌⊎◌, ℕ, Bool, false, true, List, Option, Some, None, IfSome}
 use Rattle.std.specs.Prelude.{Result, Ok, Err, IfOk}
 use Rattle.std.specs.Option.{option_map}
 use Rattle.keepers.specs.InFile.{InFile}
-use Rattle.stored_state.specs.AnyStep.{IsHanded, text_of}
+use Rattle.stored_state.specs.AnyStep.{IsHanded}
 use Rattle.stored_state.specs.Held.{Held}
 use Rattle.stored_state.specs.Opened.{AnyController}
-use Rattle.stored_state.specs.Step.{GivesStep}
 use Rattle.stored_state.specs.declared.taken_bytes.TakenBytes.{TakenBytes}
 use Rattle.streams.specs.declared.refused.Refused.{Refused}
 use Rattle.streams.specs.declared.refused.Refused.TheVariants.{Core}
+use Rattle.streams.specs.declared.refused.Refused.TheVariants as refusals
 use Rattle.ticket_items.specs.declared.refusal.Refusal.TheVariants.{Memory}
 use Rattle.http_message.specs.Message.{HasTarget}
 use Rattle.http_message.specs.Status.{done_status, missing_status}
@@ -18,20 +18,18 @@ use Rattle.http_message.specs.declared.kind.Kind.TheVariants as kinds
 use Rattle.http_edge.specs.Exchange.{HasBody, told_of}
 use Rattle.http_edge.specs.declared.served.Served.{Served}
 use Rattle.jdf_commands.specs.Calls.{held, is_honest, kept_in}
-use Rattle.jdf_commands.specs.FileCommands.Opening.{IsLoaded}
+use Rattle.jdf_commands.specs.FileCommands.Commands.{GivesHeld}
 use Rattle.jdf_net.specs.Targets.{named_file}
 use Rattle.jdf_net.specs.declared.serve_command.place.Place.{Place}
 use Rattle.jdf_net.specs.declared.serve_command.place.Place.TheVariants as places
 
 -- the controller that a keeper held made the step of the message that the body is, at a time; what
 -- is given out is that of the step, and the state that it leaves is held
-pub record TakesHeld {K : Type 0} (is_honest : K → Bool) (held : K → List ℕ) (at : ℕ)
-    (body : List ℕ) (keep : K) (after : Held AnyController K) (given : TakenBytes) : Type 0 where
-  pub before : Held AnyController K
-  pub loaded : IsLoaded is_honest held keep before
-  pub gives : GivesStep is_honest held text_of (IsHanded at body before.controller) after
-      given.reply (option_map (λ text. text.items) given.answer)
-  pub honest : is_honest after.keep ≡ is_honest keep
+abbrev pub TakesHeld : {K : Type 0} → (K → Bool) → (K → List ℕ) → ℕ → List ℕ → K
+    → Held AnyController K → TakenBytes → Type 0
+TakesHeld is_honest held at body keep after given =
+    GivesHeld is_honest held (IsHanded at) body keep after given.reply
+    (option_map (λ text. text.items) given.answer)
 
 -- the same of the file of this path, at some time
 abbrev pub TakesInFile : List ℕ → List ℕ → TakenBytes → Type 0
@@ -67,6 +65,16 @@ pub record TellsIn (file body : List ℕ) (told : Served) : Type 0 where
 -- what is told of a request that is for no controller that is there: 404, and no refusal
 abbrev pub missing_told : Served
 missing_told = record { status = missing_status; refusal = None }
+
+-- whether a request was refused before its body was read, or may have been, as memory ran out
+abbrev pub is_early : Option Refused → Bool
+is_early (Some refusals.BadHead) = true
+is_early (Some refusals.NotPost) = true
+is_early (Some refusals.NoLength) = true
+is_early (Some refusals.TooLarge) = true
+is_early (Some refusals.Coding) = true
+is_early (Some (Core Memory)) = true
+is_early _ = false
 
 -- what came of it at the file of a folder that a target names; or why there was no step: it names
 -- none or one that isn't there, or memory ran out

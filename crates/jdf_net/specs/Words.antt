@@ -10,7 +10,7 @@ use Rattle.streams.specs.Streams.{IsUntouched, Use}
 use Rattle.jdf_words.specs.Calls.{Means}
 use Rattle.jdf_words.specs.Commands.{jdf}
 use Rattle.jdf_words.specs.declared.call.Call.{Call}
-use Rattle.jdf_words.specs.declared.call.Call.TheVariants.{Edit, Loop, Order, Send, SendOrder}
+use Rattle.jdf_words.specs.declared.call.Call.TheVariants.{Edit, Loop, Send, SendOrder}
 use Rattle.jdf_words.specs.declared.call.Call.TheVariants.{Serve}
 use Rattle.jdf_commands.specs.Calls.{EndsCall}
 use Rattle.jdf_net.specs.LoopCommand.Run.{EndsLoop}
@@ -23,9 +23,9 @@ use Rattle.jdf_net.specs.declared.words.TheConstants.{NO_CALL}
 abbrev pub EndsAnyCall : Call → Use → Use → Use → ℕ → Type 0
 EndsAnyCall Loop input output told status = EndsLoop input output told status
 EndsAnyCall (SendOrder file at url) input output told status =
-    EndsSendOrder (Order file at) input output told status
+    EndsSendOrder file at input output told status
 EndsAnyCall (Serve file listen limit requests) input output told status = EndsServe status
-EndsAnyCall (Send url file) input output told status = EndsSend output told status
+EndsAnyCall (Send url file) input output told status = EndsSend input output told status
 EndsAnyCall call input output told status = EndsCall call input output told status
 
 -- the call that words stand for: `edit` where there is none

@@ -21,7 +21,8 @@ use std::alloc::{AllocError, Global};
 use streams::Refused;
 use ticket_tree::Refusal;
 
-/// The text of a message that goes out, if one does, which is read as it again.
+/// The text of a message that goes out, if one does, which is read as it again. It takes the room
+/// of its bytes alone: who sends it may keep it for good.
 pub(crate) fn message_text(
     alloc: Global,
     message: &Option<Message>,
@@ -32,7 +33,11 @@ pub(crate) fn message_text(
     ensures again { OnOk result (IfSome message.now (λ m. IsDecodedAs (text_sent m) (Ok m))) }
 {
     match message {
-        Some(message) => Ok(Some(encode(alloc, message)?)),
+        Some(message) => {
+            let mut text = encode(alloc, message)?;
+            text.shrink_to_fit();
+            Ok(Some(text))
+        }
         None => Ok(None),
     }
 }

@@ -1,5 +1,6 @@
 -- What a command on a controller that a keeper holds writes for its input, and why it gives up.
-use Rattle.std.specs.Prelude.{◌≡◌, ◌⊎◌, ℕ, Bool, false, true, List, [], if◌then◌else◌}
+use Rattle.std.specs.Prelude.{◌≡◌, ◌⊎◌, ℕ, Bool, false, true, List, [], Option, Result}
+use Rattle.std.specs.Prelude.{if◌then◌else◌}
 use Rattle.ticket_items.specs.declared.refusal.Refusal.{Refusal}
 use Rattle.ticket_items.specs.declared.refusal.Refusal.TheVariants.{Memory}
 use Rattle.streams.specs.declared.refused.Refused.TheVariants.{Core, SaveFailed}
@@ -14,8 +15,9 @@ use Rattle.jdf_commands.specs.FileCommands.Beginning.{IsBegunAs, IsNotBegun}
 use Rattle.jdf_commands.specs.FileCommands.Opening.{IsLoaded, IsNotLoaded}
 use Rattle.jdf_commands.specs.FileCommands.Pictured.{picture_text}
 use Rattle.jdf_commands.specs.FileCommands.Shown.{master_text, worker_text}
-use Rattle.jdf_commands.specs.FileCommands.Step.{GivesNoOutput, GivesOut}
-use Rattle.stored_state.specs.Step.{TextStep}
+use Rattle.jdf_commands.specs.FileCommands.Step.{GivesNoOutput, is_refused, step_lines}
+use Rattle.controller.specs.declared.reply.Reply.{Reply}
+use Rattle.stored_state.specs.Step.{GivesStep, TextStep}
 
 -- which step the bytes are for a controller
 abbrev pub Steps : Type 1
@@ -44,17 +46,32 @@ BeginsNone save_fails false keep input fault =
 
 -- ---- a step of the controller that is held
 
--- `order` and `take`: the step that the input is, of the controller that was held, is saved, and
--- its lines are written
-pub record DoesStep {K : Type 0} (is_honest : K → Bool) (held : K → List ℕ) (IsStep : Steps)
-    (keep : K) (input : Use) (text : List ℕ) (refused : Bool) : Type 0 where
+-- the step that the bytes are, of the controller that was held, is saved, and this is given out:
+-- what is replied, and the text that goes out
+pub record GivesHeld {K : Type 0} (is_honest : K → Bool) (held : K → List ℕ) (IsStep : Steps)
+    (bytes : List ℕ) (keep : K) (after : Held AnyController K) (reply : Result Reply Refusal)
+    (sent : Option (List ℕ)) : Type 0 where
   pub before : Held AnyController K
   pub loaded : IsLoaded is_honest held keep before
-  pub bytes : List ℕ
-  pub is_input : IsInput input bytes
-  pub after : Held AnyController K
-  pub gives : GivesOut is_honest held text_of (IsStep bytes before.controller) after text refused
+  pub gives : GivesStep is_honest held text_of (IsStep bytes before.controller) after reply sent
   pub honest : is_honest after.keep ≡ is_honest keep
+
+-- the same of the input
+abbrev pub GivesStepOf : {K : Type 0} → (K → Bool) → (K → List ℕ) → Steps → K → Use
+    → Result Reply Refusal → Option (List ℕ) → Type 0
+GivesStepOf {K = K} is_honest held IsStep keep input reply sent =
+    (bytes : List ℕ) × IsInput input bytes × (after : Held AnyController K)
+    × GivesHeld is_honest held IsStep bytes keep after reply sent
+
+-- `order` and `take`: such a step is given out, its lines are written, and this tells whether it
+-- was refused
+pub record DoesStep {K : Type 0} (is_honest : K → Bool) (held : K → List ℕ) (IsStep : Steps)
+    (keep : K) (input : Use) (text : List ℕ) (refused : Bool) : Type 0 where
+  pub reply : Result Reply Refusal
+  pub sent : Option (List ℕ)
+  pub given : GivesStepOf is_honest held IsStep keep input reply sent
+  pub written : text ≡ step_lines reply sent
+  pub told : refused ≡ is_refused reply
 
 -- why no step is done of a controller that was loaded: the input isn't read, or nothing is given
 -- out

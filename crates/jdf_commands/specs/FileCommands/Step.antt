@@ -25,17 +25,14 @@ text_line None = []
 text_line (Some text) = text ++ 10 ∷ []
 
 -- the line of the reply, and that of the text that goes out
-abbrev pub step_lines : {C : Type 0} → TextStep C → List ℕ
-step_lines step = reply_line step.reply ++ text_line step.sent
+abbrev pub step_lines : Result Reply Refusal → Option (List ℕ) → List ℕ
+step_lines reply sent = reply_line reply ++ text_line sent
 
--- ---- steps that are saved
+-- whether what was asked for was refused
+abbrev pub is_refused : Result Reply Refusal → Bool
+is_refused reply = not (is_ok reply)
 
--- such a step is saved, its lines are written, and this tells whether it was refused
-abbrev pub GivesOut : {C K : Type 0} → (K → Bool) → (K → List ℕ) → (C → List ℕ)
-    → (TextStep C → Type 0) → Held C K → List ℕ → Bool → Type 0
-GivesOut is_honest held state_text IsStep new text refused =
-    SavesStep is_honest held state_text
-    (λ step. IsStep step × (text ≡ step_lines step) × (refused ≡ not (is_ok step.reply))) new
+-- ---- steps that aren't given out
 
 -- the fault that a refusal of a step is: what was given is refused, or the keeper failed
 abbrev pub fault_of : CallRefused → Fault

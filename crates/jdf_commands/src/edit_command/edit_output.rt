@@ -32,14 +32,15 @@ struct EditedTicket {
     refused: bool,
 }
 
-/// The ticket of a document after its edits. Refuses `Memory` alone.
-fn edited_document(alloc: Global, document: Document) -> Result<EditedTicket, Refusal>
+/// The ticket of a document after its edits. The output has room for so many bytes at once. Refuses
+/// `Memory` alone.
+fn edited_document(alloc: Global, document: Document, room: usize) -> Result<EditedTicket, Refusal>
     ensures done { IfOk result (λ o. IsEdited document o.lines.items o.ticket o.refused) }
     ensures memory { IfErr result (λ e. e ≡ Refusal.Memory) }
 {
     let Document { at, edits, ticket } = document;
     let mut ticket = ticket;
-    let mut lines = Vec::new(alloc);
+    let mut lines = Vec::with_capacity(alloc, room)?;
     let refused = run_edits(alloc, &mut ticket, at, edits.into_vec(), &mut lines)?;
     Ok(EditedTicket {
         ticket,
@@ -72,14 +73,16 @@ fn read_document(alloc: Global, input: Vec<u8>) -> Result<Document, Refusal>
     Ok(Document { at, edits, ticket })
 }
 
-/// The edited ticket of an input, or the first refusal of it.
+/// The edited ticket of an input, or the first refusal of it. The output has room for twice the
+/// bytes of the input at once: one that grows is copied, and the process keeps where it lay.
 fn edited_ticket(alloc: Global, input: Vec<u8>) -> Result<EditedTicket, Refusal>
     ensures done { IfOk result (λ o. (document : Document) × IsReadAs input.items (Ok document)
         × IsEdited document o.lines.items o.ticket o.refused) }
     ensures refused { IfErr result (IsRefusalOf input.items) }
 {
+    let room = input.len().saturating_mul(2);
     let document = read_document(alloc, input)?;
-    edited_document(alloc, document)
+    edited_document(alloc, document, room)
 }
 
 /// What `edit` writes for an input, or the first refusal of it: `NotJson`, `NotProfile`, `BadId`,

@@ -1,14 +1,18 @@
 //! The calls of the program, over files and streams.
 
 ghost use Rattle.std.specs.Prelude.{◌≡◌, IfErr, IfOk};
+ghost use Rattle.std.specs.Option.{option_map};
+ghost use Rattle.stored_state.specs.AnyStep.{IsNoOrder, IsOrdered};
+ghost use Rattle.jdf_commands.specs.Calls as calls;
 ghost use Rattle.jdf_commands.specs.Calls.{EndsCall, IsFaultOfCall, IsOutputOfCall};
+ghost use Rattle.jdf_commands.specs.FileCommands.Commands.{GivesStepOf};
 ghost use Rattle.streams.specs.Streams.{used};
 ghost use Rattle.streams.specs.declared.refused.Refused.TheVariants.{LoadFailed};
 ghost use Rattle.streams.specs.declared.fault.Fault.TheVariants.{Device};
 
 use crate::edit_command::Edit;
 use crate::file_commands::beginning::new_output;
-use crate::file_commands::ordering::order_output;
+use crate::file_commands::ordering::{order_output, ordered};
 use crate::file_commands::shown::show_output;
 use crate::file_commands::taking::take_output;
 use crate::world_command::WorldCommand;
@@ -16,6 +20,7 @@ use jdf_words::Call;
 use keepers::{FileKeep, FileLock, Locks};
 use std::alloc::Global;
 use std::io::{Read, Write};
+use stored_state::OrderBytes;
 use streams::{Counted, Fault, Output, Refused, finish, output_of};
 
 /// The lock of the file of this path.
@@ -26,6 +31,25 @@ fn locked<R: Locks>(rt: &R, file: &str) -> Result<FileLock<R>, Fault>
         Ok(lock) => Ok(lock),
         Err(_) => Err(Fault::Device(Refused::LoadFailed)),
     }
+}
+
+/// What an order to the controller in a file gives out, once its step is saved. It refuses, and
+/// holds the file's lock, as `run_file` says of `order`.
+pub fn order_in_file<R: Locks, I: Read>(
+    rt: &R,
+    alloc: Global,
+    file: &str,
+    at: u64,
+    reader: &mut Counted<I>,
+) -> Result<OrderBytes, Fault>
+    ensures ok { IfOk result (λ given. GivesStepOf calls.is_honest calls.held (IsOrdered at)
+        (calls.kept_in file.now) (used I.remaining reader.old reader.new)
+        given.reply (option_map (λ b. b.items) given.message)) }
+    ensures refused { IfErr result (calls.DoesNone IsNoOrder (IsOrdered at)
+        file.now (used I.remaining reader.old reader.new)) }
+{
+    let _lock = locked(rt, file)?;
+    ordered(alloc, FileKeep::new(rt, alloc, file), reader, at)
 }
 
 /// What a call writes. It refuses, and holds the file's lock, as `run_file` says.

@@ -1,10 +1,13 @@
 -- What comes of a message that is handed over.
-use Rattle.std.specs.Prelude.{◌≡◌, ◌⊎◌, ℕ, Bool, false, true, List, Option, None, Some, is_some}
+use Rattle.std.specs.Prelude.{◌≡◌, ◌⊎◌, ℕ, Bool, false, true, List, [], ◌∷◌, Option, None, Some}
+use Rattle.std.specs.Prelude.{is_some}
 use Rattle.std.specs.Prelude.{Result, Ok}
 use Rattle.serde_json.specs.Data.{Data}
 use Rattle.controller.specs.declared.message.Message.{Message}
 use Rattle.json_profile.specs.ReadAs.{IsReadAs}
 use Rattle.http_edge.specs.Exchange.{refusal_in}
+use Rattle.http_message.specs.Message.{Carries}
+use Rattle.http_message.specs.declared.kind.Kind.TheVariants as kinds
 use Rattle.stored_state.specs.Held.{Held}
 use Rattle.stored_state.specs.Step.{IsSaved, TextStep}
 use Rattle.streams.specs.declared.refused.Refused.{Refused}
@@ -29,6 +32,17 @@ ends_run _ = false
 abbrev pub told_ends_run : Option Refused → Bool
 told_ends_run None = false
 told_ends_run (Some e) = ends_run e
+
+-- these bytes, if there are any
+abbrev pub some_bytes : List ℕ → Option (List ℕ)
+some_bytes [] = None
+some_bytes (b ∷ bs) = Some (b ∷ bs)
+
+-- a response whose bytes these are has this body, if it has one
+abbrev pub IsBodyOf : List ℕ → Option (List ℕ) → Type 0
+IsBodyOf all answer =
+    (status : ℕ) × (body : List ℕ) × Carries kinds.Response all status body
+    × (answer ≡ some_bytes body)
 
 -- the receiver made one step, by some message, which is saved and is read again as it was; or none,
 -- which is refused, and then it stands as it stood

@@ -1,6 +1,7 @@
 //! A message that is handed over by an exchange over HTTP.
 
-ghost use Rattle.std.specs.Prelude.{◌≡◌, false, Some, IfNone, IfOk, IfSome};
+ghost use Rattle.std.specs.Prelude.{◌≡◌, false, true, Some, IfNone, IfOk, IfSome};
+ghost use Rattle.std.specs.Option.{option_map};
 ghost use Rattle.jdf_net.specs.LoopCommand.Handing as handing;
 ghost use Rattle.serde_json.specs.Written.{compact_text};
 ghost use Rattle.stored_state.specs.Step.{in_text};
@@ -33,7 +34,7 @@ fn ends_run(refused: &Refused) -> bool
 /// The refusal with which the run ends, if what a response tells is one.
 fn ending(told: &Option<Refused>) -> Option<Refused>
     ensures none { IfNone result (handing.told_ends_run told.now ≡ false) }
-    ensures some { IfSome result (λ e. told.now ≡ Some e) }
+    ensures some { IfSome result (λ e. (told.now ≡ Some e) × (handing.ends_run e ≡ true)) }
 {
     match told {
         None => None,
@@ -76,7 +77,10 @@ fn serve<S: Read + Write + OpenStream + Drop, C: Stored, K: Keep>(
 }
 
 /// These bytes, if there are any.
-fn some_bytes(alloc: Global, bytes: &[u8]) -> Result<Option<Vec<u8>>, AllocError> {
+fn some_bytes(alloc: Global, bytes: &[u8]) -> Result<Option<Vec<u8>>, AllocError>
+    ensures { IfOk result (λ found. option_map (λ b. b.items) found
+        ≡ handing.some_bytes bytes.now) }
+{
     if bytes.is_empty() {
         return Ok(None);
     }
@@ -84,7 +88,10 @@ fn some_bytes(alloc: Global, bytes: &[u8]) -> Result<Option<Vec<u8>>, AllocError
 }
 
 /// The body of the response that is read, if it has one. Refuses what `receive` does.
-fn received<S: Read>(alloc: Global, client: &mut S) -> Result<Option<Vec<u8>>, Refused> {
+fn received<S: Read>(alloc: Global, client: &mut S) -> Result<Option<Vec<u8>>, Refused>
+    ensures { IfOk result (λ answer. IfSome (S.remaining client.old)
+        (λ all. handing.IsBodyOf all (option_map (λ b. b.items) answer))) }
+{
     let received = receive(alloc, &mut Counted::new(client))?;
     Ok(some_bytes(alloc, received.body.as_slice())?)
 }

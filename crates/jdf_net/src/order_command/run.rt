@@ -1,21 +1,22 @@
 //! The command, from a file and a URL to its exit status.
 
-ghost use Rattle.std.specs.Prelude.{◌≤◌, length};
-ghost use Rattle.jdf_net.specs.OrderCommand.{EndsSendOrder};
-ghost use Rattle.jdf_words.specs.declared.call.Call.TheVariants.{Order};
-ghost use Rattle.streams.specs.Streams.{used};
+ghost use Rattle.std.specs.Prelude.{IfOk};
+ghost use Rattle.std.specs.Option.{option_map};
+ghost use Rattle.jdf_net.specs.OrderCommand.{EndsSendOrder, GivesOn, IsCome, IsOfAnswer, SendsOn};
 ghost use Rattle.jdf_net.specs.SendCommand.{FitsHead};
+ghost use Rattle.streams.specs.Streams.{used};
 
 use crate::order_command::send_order::SendOrder;
 use crate::send_command::{DONE, destination_of, post, tell_no_url, tell_status};
 use http_message::MAX_BODY_BYTES;
-use jdf_commands::call_output;
+use jdf_commands::{call_output, order_in_file, step_output};
 use jdf_words::Call;
 use keepers::Locks;
-use std::alloc::{AllocError, Global};
+use std::alloc::Global;
 use std::io::{Read, Write};
 use std::net::Net;
 use std::time::Clock;
+use stored_state::OrderBytes;
 use streams::{Counted, Fault, Output, Refused, finish};
 use url::Url;
 
@@ -28,24 +29,27 @@ enum Came {
     Answered(Output),
 }
 
-/// How many bytes the first line of a text has, with its end.
-fn line_length(text: &[u8]) -> usize
-    ensures { result ≤ length text.now }
+/// What `take` writes of an answer, which it hands to the controller in the file; nothing of none.
+fn taken<R: Locks>(
+    rt: &R,
+    alloc: Global,
+    order: &SendOrder<'_>,
+    answer: &[u8],
+) -> Result<Output, Fault>
+    ensures { IfOk result (λ output. IsOfAnswer order.now.file order.now.at
+        output.text.items output.refused) }
 {
-    for (place, byte) in text.iter().enumerate() {
-        if *byte == b'\n' {
-            return place + 1;
-        }
+    if answer.is_empty() {
+        return Ok(Output {
+            text: Vec::new(alloc),
+            refused: false,
+        });
     }
-    text.len()
-}
-
-/// A line without its last byte, which ends it.
-fn without_end(alloc: Global, line: &[u8]) -> Result<Vec<u8>, AllocError> {
-    match line.split_last() {
-        Some((_, text)) => Vec::from_slice(alloc, text),
-        None => Ok(Vec::new(alloc)),
-    }
+    let take = Call::Take {
+        file: order.file,
+        at: order.at,
+    };
+    call_output(rt, alloc, take, &mut Counted::new(answer))
 }
 
 /// Posts a message to a URL, and has the controller in the file take the answer, if there is one,
@@ -58,6 +62,7 @@ fn answered<R: Locks + Net + Clock>(
     message: &[u8],
 ) -> Result<Came, Fault>
     requires { FitsHead url.now }
+    ensures { IfOk result (IsCome order.now.file order.now.at) }
 {
     if message.len() > MAX_BODY_BYTES {
         return Err(Fault::Input(Refused::TooLarge));
@@ -69,51 +74,56 @@ fn answered<R: Locks + Net + Clock>(
     if received.status != DONE {
         return Ok(Came::Refused(received.status));
     }
-    let answer = received.body.as_slice();
-    if answer.is_empty() {
-        return Ok(Came::Answered(Output {
-            text: Vec::new(alloc),
-            refused: false,
-        }));
-    }
-    let take = Call::Take {
-        file: order.file,
-        at: order.at,
-    };
-    Ok(Came::Answered(call_output(rt, alloc, take, &mut Counted::new(answer))?))
+    Ok(Came::Answered(taken(rt, alloc, order, received.body.as_slice())?))
 }
 
-/// Writes what came of an order: the line of its reply, and sends on the message that stands behind
-/// it, if one does. Where the line can't be written nothing is sent.
+/// Sends a message on, and writes what comes of it. Answers the exit status.
 fn send_on<R: Locks + Net + Clock, W: Write, F: Write>(
     rt: &R,
     alloc: Global,
     order: &SendOrder<'_>,
     url: &Url,
-    mut output: Output,
+    message: &[u8],
     writer: &mut Counted<W>,
     faults: &mut Counted<F>,
 ) -> u8
     requires { FitsHead url.now }
-    ensures { result ≤ 4 }
+    ensures { SendsOn order.now.file order.now.at (used W.contents writer.old writer.new)
+        (used F.contents faults.old faults.new) result }
 {
-    let length = line_length(output.text.as_slice());
-    if length == output.text.len() {
-        return finish(Ok(output), writer, faults);
-    }
-    let message = match without_end(alloc, &output.text.as_slice()[length..]) {
-        Ok(message) => message,
-        Err(_) => return finish(Err(Fault::from(AllocError)), writer, faults),
-    };
-    output.text.truncate(length);
-    let status = finish(Ok(output), writer, faults);
-    if status != 0 {
-        return status;
-    }
-    match answered(rt, alloc, order, url, message.as_slice()) {
+    match answered(rt, alloc, order, url, message) {
         Ok(Came::Answered(output)) => finish(Ok(output), writer, faults),
         Ok(Came::Refused(status)) => tell_status(status, faults),
         Err(fault) => finish(Err(fault), writer, faults),
+    }
+}
+
+/// Writes the line of an order's reply, and sends on the message that goes out, if one does. Where
+/// the line can't be written nothing is sent. Answers the exit status.
+fn give_on<R: Locks + Net + Clock, W: Write, F: Write>(
+    rt: &R,
+    alloc: Global,
+    order: &SendOrder<'_>,
+    url: &Url,
+    given: OrderBytes,
+    writer: &mut Counted<W>,
+    faults: &mut Counted<F>,
+) -> u8
+    requires { FitsHead url.now }
+    ensures { GivesOn order.now.file order.now.at given.reply
+        (option_map (λ b. b.items) given.message) (used W.contents writer.old writer.new)
+        (used F.contents faults.old faults.new) result }
+{
+    let OrderBytes { reply, message } = given;
+    let status = finish(step_output(alloc, reply, &None), writer, faults);
+    match message {
+        Some(message) => {
+            if status != 0 {
+                return status;
+            }
+            send_on(rt, alloc, order, url, message.as_slice(), writer, faults)
+        }
+        None => status,
     }
 }
 
@@ -133,7 +143,7 @@ pub fn run_send_order<R: Locks + Net + Clock, I: Read, W: Write, F: Write>(
     writer: &mut Counted<W>,
     faults: &mut Counted<F>,
 ) -> u8
-    ensures { EndsSendOrder (Order order.now.file order.now.at)
+    ensures { EndsSendOrder order.now.file order.now.at
         (used I.remaining reader.old reader.new) (used W.contents writer.old writer.new)
         (used F.contents faults.old faults.new) result }
 {
@@ -142,12 +152,8 @@ pub fn run_send_order<R: Locks + Net + Clock, I: Read, W: Write, F: Write>(
         Ok(None) => return tell_no_url(order.url, faults),
         Err(fault) => return finish(Err(fault), writer, faults),
     };
-    let call = Call::Order {
-        file: order.file,
-        at: order.at,
-    };
-    match call_output(rt, alloc, call, reader) {
-        Ok(output) => send_on(rt, alloc, order, &url, output, writer, faults),
+    match order_in_file(rt, alloc, order.file, order.at, reader) {
+        Ok(given) => give_on(rt, alloc, order, &url, given, writer, faults),
         Err(fault) => finish(Err(fault), writer, faults),
     }
 }

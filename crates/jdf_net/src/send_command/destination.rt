@@ -1,6 +1,9 @@
 //! Where a message is sent.
 
-ghost use Rattle.std.specs.Prelude.{◌≡◌, IfOk, IfSome, IsTrue};
+ghost use Rattle.std.specs.Prelude.{◌≡◌, IfErr, IfOk, IfSome, IsTrue};
+ghost use Rattle.ticket_items.specs.declared.refusal.Refusal.TheVariants.{Memory};
+ghost use Rattle.streams.specs.declared.refused.Refused.TheVariants.{Core};
+ghost use Rattle.streams.specs.declared.fault.Fault.TheVariants.{Input};
 ghost use Rattle.jdf_net.specs.SendCommand.{FitsHead};
 
 use http_message::is_word;
@@ -32,7 +35,8 @@ fn fits_head(url: &Url) -> bool
 /// The URL that a text is, if a message can be sent there: `http://host[:port]/path`, with no user,
 /// query or fragment. Gives up for `Memory` alone.
 pub(crate) fn destination_of(alloc: Global, text: &str) -> Result<Option<Url>, Fault>
-    ensures { IfOk result (λ found. IfSome found FitsHead) }
+    ensures found { IfOk result (λ found. IfSome found FitsHead) }
+    ensures memory { IfErr result (λ fault. fault ≡ Input (Core Memory)) }
 {
     match Url::parse(alloc, text) {
         Ok(url) => {

@@ -2,6 +2,7 @@
 
 ghost use Rattle.std.specs.Prelude.{◌≡◌, ◌⊎◌, false, IfOk, IfErr};
 ghost use Rattle.jdf_net.specs.SendCommand.{EndsSend, answer_line};
+ghost use Rattle.jdf_net.specs.declared.send_command.run.Came.TheVariants.{NoUrl};
 ghost use Rattle.streams.specs.Streams.{IsUntouched, used};
 ghost use Rattle.streams.specs.declared.refused.Refused.TheVariants.{Core};
 ghost use Rattle.streams.specs.declared.fault.Fault.TheVariants.{Input};
@@ -9,8 +10,7 @@ ghost use Rattle.ticket_items.specs.declared.refusal.Refusal.TheVariants.{Memory
 
 use crate::send_command::destination::destination_of;
 use crate::send_command::exchanging::{post, read_message};
-use http_message::Received;
-use std::alloc::{AllocError, Global};
+use std::alloc::Global;
 use std::io::{Read, Write};
 use std::net::Net;
 use std::rt::Files;
@@ -31,11 +31,6 @@ enum Came {
     Answered(Vec<u8>),
 }
 
-/// The bytes of an answer.
-fn answer_of(alloc: Global, received: &Received) -> Result<Vec<u8>, AllocError> {
-    Vec::from_slice(alloc, received.body.as_slice())
-}
-
 /// Sends a message, and gives what came of it.
 fn sent<R: Files + Net + Clock, I: Read>(
     rt: &R,
@@ -43,7 +38,10 @@ fn sent<R: Files + Net + Clock, I: Read>(
     url: &str,
     file: Option<&str>,
     reader: &mut Counted<I>,
-) -> Result<Came, Fault> {
+) -> Result<Came, Fault>
+    ensures { IfOk result (λ came. came ≡ NoUrl
+        → IsUntouched (used I.remaining reader.old reader.new)) }
+{
     let url = match destination_of(alloc, url)? {
         Some(url) => url,
         None => return Ok(Came::NoUrl),
@@ -51,7 +49,7 @@ fn sent<R: Files + Net + Clock, I: Read>(
     let message = read_message(rt, alloc, file, reader)?;
     match post(rt, alloc, &url, message.as_slice()) {
         Ok(received) if received.status == DONE => {
-            Ok(Came::Answered(answer_of(alloc, &received)?))
+            Ok(Came::Answered(Vec::from_slice(alloc, received.body.as_slice())?))
         }
         Ok(received) => Ok(Came::Refused(received.status)),
         Err(refused) => Err(Fault::Device(refused)),
@@ -108,8 +106,8 @@ pub fn run_send<R: Files + Net + Clock, I: Read, W: Write, F: Write>(
     writer: &mut Counted<W>,
     faults: &mut Counted<F>,
 ) -> u8
-    ensures { EndsSend (used W.contents writer.old writer.new)
-        (used F.contents faults.old faults.new) result }
+    ensures { EndsSend (used I.remaining reader.old reader.new)
+        (used W.contents writer.old writer.new) (used F.contents faults.old faults.new) result }
 {
     match sent(rt, alloc, url, file, reader) {
         Ok(Came::Answered(answer)) => finish(answer_output(answer), writer, faults),

@@ -3,6 +3,7 @@
 ghost use Rattle.std.specs.Prelude.{◌≡◌, IfOk};
 ghost use Rattle.jdf_net.specs.ServeCommand.{Answers, IsDoneByStep, Tells, TellsIn};
 ghost use Rattle.jdf_net.specs.ServeCommand.{TellsInFolder, missing_told};
+ghost use Rattle.jdf_net.specs.ServeCommand as serve;
 
 use crate::serve_command::place::Place;
 use crate::serve_command::stepping::{is_missing, take_in_file};
@@ -115,7 +116,9 @@ pub(crate) fn serve_request<R: Locks + Clock, T: Read + Write>(
 }
 
 /// Whether a request was refused before its body was read, or may have been, as memory ran out.
-pub(crate) fn is_early(served: &Served) -> bool {
+pub(crate) fn is_early(served: &Served) -> bool
+    ensures { result ≡ serve.is_early served.now.refusal }
+{
     matches!(
         served.refusal,
         Some(
