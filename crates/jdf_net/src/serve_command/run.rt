@@ -1,6 +1,8 @@
 //! The command, from a path and an address to its exit status.
 
+ghost use Rattle.std.specs.Prelude.{◌≡◌, ◌⊎◌, IfErr};
 ghost use Rattle.jdf_net.specs.ServeCommand.{EndsServe};
+ghost use Rattle.streams.specs.declared.refused.Refused.TheVariants.{NoConnection, WriteFailed};
 
 use crate::serve_command::listening::serve_all;
 use crate::serve_command::place::Place;
@@ -14,7 +16,9 @@ use std::time::{Clock, Duration};
 use streams::{Counted, Fault, Refused, tell};
 
 /// Writes the address that a listener listens on.
-fn announce<L: OpenListener, W: Write>(listener: &L, writer: &mut W) -> Result<(), Refused> {
+fn announce<L: OpenListener, W: Write>(listener: &L, writer: &mut W) -> Result<(), Refused>
+    ensures { IfErr result (λ e. (e ≡ NoConnection) ⊎ (e ≡ WriteFailed)) }
+{
     let address = match listener.local_addr() {
         Ok(address) => address,
         Err(_) => return Err(Refused::NoConnection),
