@@ -1,6 +1,6 @@
 //! One request and its response.
 
-ghost use Rattle.std.specs.Prelude.{◌≡◌, IfOk};
+ghost use Rattle.std.specs.Prelude.{◌≡◌, IfErr, IfOk};
 ghost use Rattle.jdf_net.specs.ServeCommand.{Answers, IsDoneByStep, Tells, TellsIn};
 ghost use Rattle.jdf_net.specs.ServeCommand.{TellsInFolder, missing_told};
 ghost use Rattle.jdf_net.specs.ServeCommand as serve;
@@ -25,7 +25,8 @@ const DRAIN_SIZE: usize = 8_192;
 /// Writes the response to a request that names no controller that is there. Gives up with
 /// `WriteFailed` alone.
 fn answer_missing<W: Write>(writer: &mut Counted<W>) -> Result<Served, EdgeFault>
-    ensures { IfOk result (λ told. told ≡ missing_told) }
+    ensures told { IfOk result (λ told. told ≡ missing_told) }
+    ensures gives_up { IfErr result (λ fault. fault ≡ EdgeFault.WriteFailed) }
 {
     match write_missing(writer) {
         Ok(()) => Ok(Served {
