@@ -33,9 +33,6 @@ restarted_same t r before after kept is =
     let stale : after.stale ≡ before.stale = is.fresh ∙ sym kept.fresh in
     λ i. record { controller = controller i; keep = is.same i; stale = stale i }
 
-restarted_kept : {C : Type 0} (state_text : C → List ℕ) (state_read : Data → Result C Refusal) (before after : InMemory C) → IsKeptIn state_text state_read before → IsRestarted state_read before after → IsKeptIn state_text state_read after
-restarted_kept t r before after kept is = subst (IsKeptIn t r) (sym (restarted_same t r before after kept is)) kept
-
 done_kept : {C : Type 0} (state_text : C → List ℕ) (state_read : Data → Result C Refusal) (step : TextStep C) (after : InMemory C) (old new : List (List ℕ)) (line : EventLine) → Does state_text state_read step after old new line → IsKeptIn state_text state_read after
 done_kept t r step after old new line does =
     record { holds = does.saved.holds refl ∙ ap t (sym does.saved.after); again = does.again; fresh = does.saved.fresh }

@@ -1,5 +1,5 @@
 -- What is told of a message whose step is saved.
-use Rattle.std.proofs.Common.{◌≡◌, ◌≢◌, ◌==◌, ◌∙◌, ℕ, Bool, true, false, List, Option, Some, Result, Ok, Err, IfOk, String, string_bytes, ap, inl, inr, ⊎_elim, refl, subst, sym}
+use Rattle.std.proofs.Common.{◌≡◌, ◌≢◌, ◌==◌, ◌∙◌, ℕ, Bool, List, Option, Some, Result, Ok, Err, IfOk, String, string_bytes, ap, inl, inr, ⊎_elim, refl, subst, sym}
 use Rattle.std.proofs.lemmas.Bool.{true≢false}
 use Rattle.std.specs.Option.{option_map}
 use Rattle.std.specs.Borrow.{Bor}

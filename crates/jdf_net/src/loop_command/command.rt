@@ -16,7 +16,6 @@ use std::alloc::Global;
 use std::io::{Read, Write};
 use std::net::Net;
 use streams::{Counted, Fault, Output, Refused, finish, read_input};
-use ticket_tree::Refusal;
 use world_items::Event;
 use world_script::{Script, running_script_of};
 

@@ -10,7 +10,7 @@ use http_message::is_word;
 use std::alloc::{AllocError, Global};
 use std::io;
 use std::net::{Net, TcpStream};
-use streams::{Fault, Refused};
+use streams::Fault;
 use url::{Host, ParseError, Url};
 
 /// The port where a URL names none (RFC 9110).

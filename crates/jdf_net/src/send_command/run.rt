@@ -1,12 +1,9 @@
 //! The command, from a URL to its exit status.
 
-ghost use Rattle.std.specs.Prelude.{◌≡◌, ◌⊎◌, false, IfOk, IfErr};
+ghost use Rattle.std.specs.Prelude.{◌≡◌, false, IfOk};
 ghost use Rattle.jdf_net.specs.SendCommand.{EndsSend, answer_line};
 ghost use Rattle.jdf_net.specs.declared.send_command.run.Came.TheVariants.{NoUrl};
 ghost use Rattle.streams.specs.Streams.{IsUntouched, used};
-ghost use Rattle.streams.specs.declared.refused.Refused.TheVariants.{Core};
-ghost use Rattle.streams.specs.declared.fault.Fault.TheVariants.{Input};
-ghost use Rattle.ticket_items.specs.declared.refusal.Refusal.TheVariants.{Memory};
 
 use crate::send_command::destination::destination_of;
 use crate::send_command::exchanging::{post, read_message};

@@ -3,7 +3,6 @@
 use http_edge::{EdgeFault, Served};
 use std::io::Write;
 use std::net::SocketAddr;
-use streams::Refused;
 
 /// What came of a request in words: the status of its response, or why there is none.
 fn write_served<F: Write>(faults: &mut F, served: &Result<Served, EdgeFault>) {

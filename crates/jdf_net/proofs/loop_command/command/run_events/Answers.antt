@@ -1,7 +1,8 @@
 use Rattle.std.proofs.Common.{◌++◌, ◌∷◌, [], refl, rules, subst, sym}
 use Rattle.std.proofs.lemmas.Iterator.Adapters.{YieldsList-from_vec}
 use Rattle.jdf_net.specs.LoopCommand.Shop.{StepsAll}
-use Rattle.jdf_net.proofs.AllEvents.{all_of, one_more}
+use Rattle.jdf_net.proofs.AllEvents.{one_more}
+use Rattle.world.proofs.Runs.{all_of}
 use Rattle.jdf_net.proofs.loop_command.command.run_events.Goals as goal
 
 pub loop-event-init : goal.loop-event-init
