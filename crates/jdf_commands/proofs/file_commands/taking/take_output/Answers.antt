@@ -11,7 +11,7 @@ returns-in-Ok-clause-ok g c =
     let input = used g.I.Read.remaining c.args.reader.now c.read_input.new.reader in
     let sent = option_map (λ b. b.items) c.in-Ok.given.answer in
     let given = step_given g.K.Keep.is_honest g.K.Keep.held (IsHanded c.args.at) c.args.keep input (held_in c.in_ok-opened.opened) (held_in c.take.new.self) c.as_slice.result.now c.in-Ok.given.reply sent c.in_ok-opened.ensures.ok
-      (subst (IsInput input) (sym c.as_slice.ensures.value) c.in_ok-input.ensures.ok) c.in-Ok.ensures.honest c.in-Ok.ensures.ok in
+    (subst (IsInput input) (sym c.as_slice.ensures.value) c.in_ok-input.ensures.ok) c.in-Ok.ensures.honest c.in-Ok.ensures.ok in
     step_done g.K.Keep.is_honest g.K.Keep.held (IsHanded c.args.at) c.args.keep input c.in-Ok.given.reply sent c.step_output.result given c.step_output.ensures.lines c.step_output.ensures.status
 
 pub returns-in-Ok-clause-refused : goal.returns-in-Ok-clause-refused
@@ -19,7 +19,7 @@ returns-in-Ok-clause-refused g c =
     let input = used g.I.Read.remaining c.args.reader.now c.read_input.new.reader in
     let sent = option_map (λ b. b.items) c.in-Ok.given.answer in
     let given = step_given g.K.Keep.is_honest g.K.Keep.held (IsHanded c.args.at) c.args.keep input (held_in c.in_ok-opened.opened) (held_in c.take.new.self) c.as_slice.result.now c.in-Ok.given.reply sent c.in_ok-opened.ensures.ok
-      (subst (IsInput input) (sym c.as_slice.ensures.value) c.in_ok-input.ensures.ok) c.in-Ok.ensures.honest c.in-Ok.ensures.ok in
+    (subst (IsInput input) (sym c.as_slice.ensures.value) c.in_ok-input.ensures.ok) c.in-Ok.ensures.honest c.in-Ok.ensures.ok in
     step_untold g.K.Keep.is_honest g.K.Keep.held g.K.Keep.count g.K.Keep.load_fails g.K.Keep.save_fails (λ bytes _. IsRefusalOf bytes) (IsHanded c.args.at) c.args.keep input c.in-Ok.given.reply sent c.step_output.result given c.step_output.ensures.memory
 
 pub returns-clause-refused : goal.returns-clause-refused
