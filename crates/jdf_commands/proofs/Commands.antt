@@ -1,5 +1,5 @@
 -- Commands on a controller that a keeper holds, by the steps of the controller that was loaded.
-use Rattle.std.proofs.Common.{◌≡◌, ◌∙◌, ℕ, Bool, not, is_ok, List, ◌++◌, Option, Result, Ok, Err, IfOk, IfErr, IsErrAnd, ap, inl, inr, subst, sym}
+use Rattle.std.proofs.Common.{◌≡◌, ◌∙◌, ℕ, Bool, List, Option, Result, Ok, Err, IfOk, IfErr, IsErrAnd, inl, inr, subst, sym}
 use Rattle.ticket_items.specs.declared.refusal.Refusal.{Refusal}
 use Rattle.ticket_items.specs.declared.refusal.Refusal.TheVariants.{Memory}
 use Rattle.controller.specs.declared.reply.Reply.{Reply}
@@ -15,7 +15,7 @@ use Rattle.streams.specs.Ends.{IsUnread}
 use Rattle.streams.specs.Streams.{IsInput, Use}
 use Rattle.jdf_commands.specs.FileCommands.Commands.{DoesNoStep, DoesStep, GivesStepOf, Steps}
 use Rattle.jdf_commands.specs.FileCommands.Opening.{IsLoaded}
-use Rattle.jdf_commands.specs.FileCommands.Step.{reply_line, text_line}
+use Rattle.jdf_commands.specs.FileCommands.Step.{is_refused, step_lines}
 
 -- a step that is given out
 pub step_given : {K : Type 0} (is_honest : K → Bool) (held : K → List ℕ) (IsStep : Steps) (keep : K) (input : Use) (before after : Held AnyController K) (bytes : List ℕ) (reply : Result Reply Refusal) (sent : Option (List ℕ)) → IsLoaded is_honest held keep before → IsInput input bytes → is_honest after.keep ≡ is_honest before.keep → GivesStep is_honest held text_of (IsStep bytes before.controller) after reply sent → GivesStepOf is_honest held IsStep keep input reply sent
@@ -23,7 +23,7 @@ step_given h l IsStep keep input before after bytes reply sent loaded is_input h
     (bytes, is_input, after, record { before = before; loaded = loaded; gives = gives; honest = honest ∙ loaded.honest })
 
 -- and its lines
-pub step_done : {K : Type 0} (is_honest : K → Bool) (held : K → List ℕ) (IsStep : Steps) (keep : K) (input : Use) (reply : Result Reply Refusal) (sent : Option (List ℕ)) (r : Result Output Fault) → GivesStepOf is_honest held IsStep keep input reply sent → IfOk r (λ o. o.text.items ≡ reply_line reply ++ text_line sent) → IfOk r (λ o. o.refused ≡ not (is_ok reply)) → IfOk r (λ o. DoesStep is_honest held IsStep keep input o.text.items o.refused)
+pub step_done : {K : Type 0} (is_honest : K → Bool) (held : K → List ℕ) (IsStep : Steps) (keep : K) (input : Use) (reply : Result Reply Refusal) (sent : Option (List ℕ)) (r : Result Output Fault) → GivesStepOf is_honest held IsStep keep input reply sent → IfOk r (λ o. o.text.items ≡ step_lines reply sent) → IfOk r (λ o. o.refused ≡ is_refused reply) → IfOk r (λ o. DoesStep is_honest held IsStep keep input o.text.items o.refused)
 step_done h l IsStep keep input reply sent (Ok o) given lines status =
     record { reply = reply; sent = sent; given = given; written = lines; told = status }
 step_done h l IsStep keep input reply sent (Err e) given lines status = tt

@@ -1,5 +1,6 @@
 -- How `order` with `--send` ends.
-use Rattle.std.specs.Prelude.{◌≡◌, ◌≢◌, ◌⊎◌, ℕ, Bool, false, List, [], Option, Some, None, Result}
+use Rattle.std.specs.Prelude.{◌≡◌, ◌≢◌, ◌⊎◌, ◌≤◌, ℕ, Bool, false, List, [], Option, Some, None}
+use Rattle.std.specs.Prelude.{Result}
 use Rattle.std.specs.Borrow.{Bor}
 use Rattle.ticket_items.specs.declared.refusal.Refusal.{Refusal}
 use Rattle.ticket_items.specs.declared.refusal.Refusal.TheVariants.{Memory}
@@ -77,9 +78,15 @@ IsNowhere input output told status =
     × ((IsUntouched output × (status ≡ 2)) ⊎ GivesUp (Input (Core Memory)) output told status)
 
 -- the order is given, or it isn't, for this
-abbrev pub EndsSendOrder : Bor (List ℕ) → ℕ → Use → Ending
-EndsSendOrder file at input output told status =
+abbrev pub GivesOrder : Bor (List ℕ) → ℕ → Use → Ending
+GivesOrder file at input output told status =
     OrdersAndSends file at input output told status
     ⊎ (((fault : Fault) × DoesNone IsNoOrder (IsOrdered at) file.now input fault
     × GivesUp fault output told status)
     ⊎ IsNowhere input output told status)
+
+-- the same, and the status is that of `order`, `send` or `take`
+pub record EndsSendOrder (file : Bor (List ℕ)) (at : ℕ) (input output told : Use) (status : ℕ)
+    : Type 0 where
+  pub given : GivesOrder file at input output told status
+  pub known : status ≤ 4

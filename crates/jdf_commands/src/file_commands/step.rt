@@ -1,6 +1,6 @@
 //! What is written of a step, and why nothing is.
 
-ghost use Rattle.std.specs.Prelude.{◌≡◌, ◌++◌, false, not, is_ok, IfErr, IfOk, OnOk};
+ghost use Rattle.std.specs.Prelude.{◌≡◌, ◌++◌, false, IfErr, IfOk, OnOk};
 ghost use Rattle.streams.specs.declared.refused.Refused.TheVariants.{Core};
 ghost use Rattle.streams.specs.declared.fault.Fault.TheVariants.{Input};
 ghost use Rattle.ticket_items.specs.declared.refusal.Refusal.TheVariants.{Memory};
@@ -49,8 +49,8 @@ pub fn step_output(
     message: &Option<Vec<u8>>,
 ) -> Result<Output, Fault>
     ensures lines { IfOk result (λ output. output.text.items
-        ≡ steps.reply_line reply ++ steps.text_line (option_map (λ b. b.items) message.now)) }
-    ensures status { IfOk result (λ output. output.refused ≡ not (is_ok reply)) }
+        ≡ steps.step_lines reply (option_map (λ b. b.items) message.now)) }
+    ensures status { IfOk result (λ output. output.refused ≡ steps.is_refused reply) }
     ensures memory { IfErr result (λ f. f ≡ Input (Core Memory)) }
 {
     let mut text = reply_line(alloc, reply)?;

@@ -1,6 +1,6 @@
 //! The command, from a file and a URL to its exit status.
 
-ghost use Rattle.std.specs.Prelude.{IfOk};
+ghost use Rattle.std.specs.Prelude.{◌≤◌, IfOk};
 ghost use Rattle.std.specs.Option.{option_map};
 ghost use Rattle.jdf_net.specs.OrderCommand.{EndsSendOrder, GivesOn, IsCome, IsOfAnswer, SendsOn};
 ghost use Rattle.jdf_net.specs.SendCommand.{FitsHead};
@@ -88,8 +88,9 @@ fn send_on<R: Locks + Net + Clock, W: Write, F: Write>(
     faults: &mut Counted<F>,
 ) -> u8
     requires { FitsHead url.now }
-    ensures { SendsOn order.now.file order.now.at (used W.contents writer.old writer.new)
+    ensures sent { SendsOn order.now.file order.now.at (used W.contents writer.old writer.new)
         (used F.contents faults.old faults.new) result }
+    ensures known { result ≤ 4 }
 {
     match answered(rt, alloc, order, url, message) {
         Ok(Came::Answered(output)) => finish(Ok(output), writer, faults),
@@ -110,9 +111,10 @@ fn give_on<R: Locks + Net + Clock, W: Write, F: Write>(
     faults: &mut Counted<F>,
 ) -> u8
     requires { FitsHead url.now }
-    ensures { GivesOn order.now.file order.now.at given.reply
+    ensures given { GivesOn order.now.file order.now.at given.reply
         (option_map (λ b. b.items) given.message) (used W.contents writer.old writer.new)
         (used F.contents faults.old faults.new) result }
+    ensures known { result ≤ 4 }
 {
     let OrderBytes { reply, message } = given;
     let status = finish(step_output(alloc, reply, &None), writer, faults);

@@ -1,6 +1,9 @@
 //! The command, from a URL to its exit status.
 
-ghost use Rattle.std.specs.Prelude.{◌≡◌, false, IfOk};
+ghost use Rattle.std.specs.Prelude.{◌≡◌, false, IfErr, IfOk};
+ghost use Rattle.ticket_items.specs.declared.refusal.Refusal.TheVariants.{Memory};
+ghost use Rattle.streams.specs.declared.refused.Refused.TheVariants.{Core};
+ghost use Rattle.streams.specs.declared.fault.Fault.TheVariants.{Input};
 ghost use Rattle.jdf_net.specs.SendCommand.{EndsSend, answer_line};
 ghost use Rattle.jdf_net.specs.declared.send_command.run.Came.TheVariants.{NoUrl};
 ghost use Rattle.streams.specs.Streams.{IsUntouched, used};
@@ -57,6 +60,7 @@ fn sent<R: Files + Net + Clock, I: Read>(
 fn answer_output(mut answer: Vec<u8>) -> Result<Output, Fault>
     ensures text { IfOk result (λ output. output.text.items ≡ answer_line answer.items) }
     ensures accepted { IfOk result (λ output. output.refused ≡ false) }
+    ensures memory { IfErr result (λ fault. fault ≡ Input (Core Memory)) }
 {
     if !answer.is_empty() {
         answer.push(b'\n')?;
