@@ -1,5 +1,5 @@
 -- Steps that give nothing out.
-use Rattle.std.proofs.Common.{◌≡◌, ℕ, Bool, List, Result, Ok, Err, IfErr, IsErrAnd, ap, inl, inr, subst, sym}
+use Rattle.std.proofs.Common.{◌≡◌, ℕ, Bool, List, Result, Ok, Err, IfErr, IsErrAnd, ap, inl, inr, subst, sym, ⊎_elim}
 use Rattle.ticket_items.specs.declared.refusal.Refusal.{Refusal}
 use Rattle.stored_state.specs.Held.{GivesNothing, Held}
 use Rattle.streams.specs.declared.refused.Refused.{Refused}
@@ -11,10 +11,13 @@ held_as seen kept = record { controller = seen kept.controller; keep = kept.keep
 
 -- why nothing is given out, told by other words and of the controller as another
 pub nothing_of : {C D K : Type 0} (seen : C → D) (is_honest : K → Bool) (held : K → List ℕ) (count : K → ℕ) (save_fails : K → List ℕ → K → Type 0) (R S : Refusal → Type 0) (T U : List ℕ → Type 0) (old new : Held C K) → ((x : Refusal) → R x → S x) → ((t : List ℕ) → T t → U t) → (e : Refused) → GivesNothing is_honest held count save_fails R T old new e → GivesNothing is_honest held count save_fails S U (held_as seen old) (held_as seen new) e
-nothing_of seen h l n sf R S T U old new f g (refused.Core x) (inl why) = inl (f x why.0, ap (held_as seen) why.1)
-nothing_of seen h l n sf R S T U old new f g (refused.Core x) (inr why) =
-    inr (why.0, why.1, (why.2.0, g why.2.0 why.2.1), why.3)
-nothing_of seen h l n sf R S T U old new f g refused.SaveFailed why = (why.0, (why.1.0, g why.1.0 why.1.1, why.1.2))
+nothing_of seen h l n sf R S T U old new f g (refused.Core x) why = (
+  why.0,
+  ⊎_elim (λ same. inl (f x same.0, ap (held_as seen) same.1))
+      (λ lost. inr (lost.0, lost.1, (lost.2.0, g lost.2.0 lost.2.1), lost.3)) why.1,
+)
+nothing_of seen h l n sf R S T U old new f g refused.SaveFailed why =
+    (why.0, why.1, (why.2.0, g why.2.0 why.2.1, why.2.2))
 nothing_of seen h l n sf R S T U old new f g refused.Stale why = (why.0, ap (held_as seen) why.1)
 nothing_of seen h l n sf R S T U old new f g e why = why
 

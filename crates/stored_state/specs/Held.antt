@@ -1,6 +1,6 @@
 -- A controller beside the keeper of its state: what is shown, what is held, and what a call that
 -- gives nothing out leaves.
-use Rattle.std.specs.Prelude.{◌≡◌, ◌⊎◌, ℕ, Bool, true, List, Result}
+use Rattle.std.specs.Prelude.{◌≡◌, ◌⊎◌, ℕ, Bool, false, true, List, Result}
 use Rattle.std.specs.Prelude.{⊤}
 use Rattle.serde_json.specs.Data.{Data}
 use Rattle.keepers.specs.Keeper.{CountRose}
@@ -49,20 +49,25 @@ IsNotSaved is_honest held count save_fails text old new SaveFailed =
     FailsToSave is_honest held count save_fails text old new
 IsNotSaved is_honest held count save_fails text old new other = ⊥
 
--- why a step gives nothing out, and what that leaves. `Refuses` tells the refusals that change
--- nothing, `IsText` the text of the state that was to be saved. Where memory ran out once the step
--- was done, or the save failed, it is stale from then on
+-- why a step gives nothing out, and what that leaves. While it is stale none is tried. `Refuses`
+-- tells the refusals that change nothing, `IsText` the text of the state that was to be saved.
+-- Where memory ran out once the step was done, or the save failed, it is stale from then on
 abbrev pub GivesNothing : {C K : Type 0} → (K → Bool) → (K → List ℕ) → (K → ℕ)
     → (K → List ℕ → K → Type 0) → (Refusal → Type 0) → (List ℕ → Type 0)
     → Held C K → Held C K → Refused → Type 0
 GivesNothing is_honest held count save_fails Refuses IsText old new (Core e) =
-    (Refuses e × (new ≡ old))
+    (old.stale ≡ false)
+    × ((Refuses e × (new ≡ old))
     ⊎ ((e ≡ Memory) × (new.stale ≡ true) × ((text : List ℕ) × IsText text)
-    × HoldsSame is_honest held old.keep new.keep)
+    × HoldsSame is_honest held old.keep new.keep))
 GivesNothing is_honest held count save_fails Refuses IsText old new SaveFailed =
-    (new.stale ≡ true)
+    (old.stale ≡ false) × (new.stale ≡ true)
     × ((text : List ℕ) × IsText text
     × FailsToSave is_honest held count save_fails text old.keep new.keep)
 GivesNothing is_honest held count save_fails Refuses IsText old new Stale =
     (old.stale ≡ true) × (new ≡ old)
 GivesNothing is_honest held count save_fails Refuses IsText old new other = ⊥
+
+-- what it shows where nothing is given out: the controller before the step, or the one after it
+abbrev pub ShowsEither : {C K : Type 0} → Held C K → (C → Type 0) → Held C K → Type 0
+ShowsEither old IsAfter new = (new.controller ≡ old.controller) ⊎ IsAfter new.controller

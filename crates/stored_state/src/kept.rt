@@ -8,7 +8,7 @@ ghost use Rattle.controller.specs.Words.{may_be_sent};
 ghost use Rattle.keepers.specs.Keeper.{CountRose};
 ghost use Rattle.stored_state.specs.Cause.{caused};
 ghost use Rattle.stored_state.specs.Held.{GivesNothing, HoldsSame, IsNotLoaded};
-ghost use Rattle.stored_state.specs.Held.{IsNotSaved, IsReadAs};
+ghost use Rattle.stored_state.specs.Held.{IsNotSaved, IsReadAs, ShowsEither};
 ghost use Rattle.stored_state.specs.Message.{IsOfMessage, message_text};
 ghost use Rattle.streams.specs.declared.refused.Refused.TheVariants.{Core, LoadFailed};
 ghost use Rattle.streams.specs.declared.refused.Refused.TheVariants.{SaveFailed, Stale};
@@ -132,6 +132,7 @@ impl<C: Stored, K: Keep> Kept<C, K> {
         cause: Cause<C::Order>,
         at: u64,
     ) -> Result<OrderBytes, Refused>
+        requires { self.old.stale ≡ false }
         ensures reply { IfOk result (λ given. given.reply
             ≡ (caused C.order_step C.take_step cause at self.old.controller).reply) }
         ensures message { IfOk result (λ given. option_map (λ b. b.items) given.message
@@ -150,6 +151,8 @@ impl<C: Stored, K: Keep> Kept<C, K> {
             (λ e. e ≡ Memory) (λ text. text ≡ compact_text (C.state_data
             (caused C.order_step C.take_step cause at self.old.controller).next))
             self.old self.new) }
+        ensures shown { OnErr result (ShowsEither self.old (λ c. c
+            ≡ (caused C.order_step C.take_step cause at self.old.controller).next) self.new) }
     {
         let (Outcome { reply, answer }, _) = make(alloc, &mut self.controller, cause, at)?;
         let message = self.give_out(alloc, answer)?;
@@ -180,6 +183,8 @@ impl<C: Stored, K: Keep> Kept<C, K> {
         ensures refused { IfErr result (GivesNothing K.is_honest K.held K.count K.save_fails
             (λ e. e ≡ Memory) (λ text. text ≡ compact_text (C.state_data
             (C.order_step order at self.old.controller).next)) self.old self.new) }
+        ensures shown { OnErr result (ShowsEither self.old
+            (λ c. c ≡ (C.order_step order at self.old.controller).next) self.new) }
     {
         if self.stale {
             drop(order);
@@ -212,6 +217,8 @@ impl<C: Stored, K: Keep> Kept<C, K> {
             (IsUndecoded bytes.now) (λ text. IsOfMessage bytes.now (λ m. text
             ≡ compact_text (C.state_data (C.take_step m at self.old.controller).next)))
             self.old self.new) }
+        ensures shown { OnErr result (ShowsEither self.old (λ c. IsOfMessage bytes.now
+            (λ m. c ≡ (C.take_step m at self.old.controller).next)) self.new) }
     {
         if self.stale {
             return Err(Refused::Stale);
@@ -255,8 +262,8 @@ impl<C: Stored, K: Keep> Kept<C, K> {
         self.stale
     }
 
-    /// The controller. While it is stale it is open which state it shows: the one before the step
-    /// that could not be saved, or the one after it.
+    /// The controller. While it is stale it is open whether that is the one before the step that
+    /// could not be saved, or the one after it.
     pub fn controller(&self) -> &C
         ensures { result.now ≡ self.now.controller }
     {

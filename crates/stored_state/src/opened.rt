@@ -1,7 +1,7 @@
-ghost use Rattle.std.specs.Prelude.{◌≡◌, ◌≤◌, Ok, false, true, IfOk, IfErr, IsErr, IsErrOf};
+ghost use Rattle.std.specs.Prelude.{◌≡◌, ◌≤◌, ◌↔◌, Ok, false, true, IfOk, IfErr, IsErrOf};
 ghost use Rattle.std.specs.Option.{option_map};
 ghost use Rattle.jmf_message.specs.Decoded.{IsRefusalOf as IsUndecoded};
-ghost use Rattle.streams.specs.declared.refused.Refused.TheVariants.{LoadFailed};
+ghost use Rattle.streams.specs.declared.refused.Refused.TheVariants.{LoadFailed, Stale};
 ghost use Rattle.keepers.specs.Keeper.{CountRose};
 ghost use Rattle.stored_state.specs.AnyStep.{IsHanded, IsNoOrder, IsOrdered, text_of};
 ghost use Rattle.stored_state.specs.Held.{GivesNothing, HoldsSame, IsNotLoaded, IsReadAs};
@@ -33,14 +33,24 @@ pub enum Opened<K: Keep> {
 }
 
 impl<K: Keep> Opened<K> {
+    /// Whether another state may be held than is shown.
+    fn is_stale(&self) -> bool
+        ensures { result ≡ is_stale_in self.now }
+    {
+        match self {
+            Opened::Master(kept) => kept.is_stale(),
+            Opened::Worker(kept) => kept.is_stale(),
+        }
+    }
+
     /// Tells the controller the order that bytes are, at a time in seconds since 1970, and saves
-    /// its state. Refuses what the bytes are refused for, which changes nothing; else as
-    /// `Kept::order` does.
+    /// its state. Refuses `Stale` while it is stale; else what the bytes are refused for, which
+    /// changes nothing; and else as `Kept::order` does.
     pub fn order(&mut self, alloc: Global, bytes: &[u8], at: u64) -> Result<OrderBytes, Refused>
         ensures ok { IfOk result (λ given. GivesStep K.is_honest K.held text_of
             (IsOrdered at bytes.now (controller_in self.old)) (held_in self.new)
             given.reply (option_map (λ b. b.items) given.message)) }
-        ensures stale { is_stale_in self.old ≡ true → IsErr result }
+        ensures stale { (is_stale_in self.old ≡ true) ↔ IsErrOf result Stale }
         ensures honest { K.is_honest (keep_in self.new) ≡ K.is_honest (keep_in self.old) }
         ensures counted { K.count (keep_in self.old) ≤ K.count (keep_in self.new) }
         ensures refused { IfErr result (GivesNothing K.is_honest K.held K.count K.save_fails
@@ -48,6 +58,9 @@ impl<K: Keep> Opened<K> {
             (IsLeft text_of (IsOrdered at bytes.now (controller_in self.old)))
             (held_in self.old) (held_in self.new)) }
     {
+        if self.is_stale() {
+            return Err(Refused::Stale);
+        }
         match self {
             Opened::Master(kept) => {
                 let order = master_order(alloc, bytes)?;
@@ -66,7 +79,7 @@ impl<K: Keep> Opened<K> {
         ensures ok { IfOk result (λ given. GivesStep K.is_honest K.held text_of
             (IsHanded at bytes.now (controller_in self.old)) (held_in self.new)
             given.reply (option_map (λ b. b.items) given.answer)) }
-        ensures stale { is_stale_in self.old ≡ true → IsErr result }
+        ensures stale { (is_stale_in self.old ≡ true) ↔ IsErrOf result Stale }
         ensures honest { K.is_honest (keep_in self.new) ≡ K.is_honest (keep_in self.old) }
         ensures counted { K.count (keep_in self.old) ≤ K.count (keep_in self.new) }
         ensures refused { IfErr result (GivesNothing K.is_honest K.held K.count K.save_fails

@@ -1,10 +1,11 @@
 -- Counted calls that failed.
-use Rattle.std.proofs.Common.{◌≡◌, ◌≢◌, ℕ, ◌-◌, ◌^◌, List, Option, arith, inl, inr, ⊎_elim, ap, ◌∙◌}
+use Rattle.std.proofs.Common.{◌≡◌, ℕ, ◌-◌, ◌^◌, false, List, Option, arith, inl, inr, ⊎_elim, ap}
+use Rattle.std.proofs.Common.{◌∙◌, sym}
+use Rattle.std.proofs.lemmas.Bool.{true≢false}
 use Rattle.std.proofs.lemmas.Bool.Decides.{eqb_tells}
 use Rattle.std.specs.IoError.{error_kind}
 use Rattle.std.specs.declared.io.Error.{Error}
-use Rattle.std.specs.declared.io.ErrorKind.TheVariants.{Interrupted}
-use Rattle.streams.specs.Counts.{Counts, IsFull, CountsError, CountsFailure}
+use Rattle.streams.specs.Counts.{Counts, IsFull, CountsError, CountsFailure, is_interruption}
 use Rattle.streams.specs.Streams.{HasFailed, used}
 
 -- a call that failed is counted, unless none is counted any more
@@ -18,6 +19,7 @@ call_failed known start old new same full called =
     (eqb_tells old.calls (2 ^ 64 - 1))
 
 -- of an error that is no interruption the failure is counted
-pub was_failure : {T : Type 0} (old new : Counts T) (e : Error) → error_kind e ≢ Interrupted
-    → CountsError old new e → CountsFailure old new
-was_failure old new e uninterrupted counted = ⊎_elim (λ i. absurd (uninterrupted i.0)) (λ f. f.1) counted
+pub was_failure : {T : Type 0} (old new : Counts T) (e : Error)
+    → is_interruption (error_kind e) ≡ false → CountsError old new e → CountsFailure old new
+was_failure old new e failed counted =
+    ⊎_elim (λ i. absurd (true≢false (sym i.0 ∙ failed))) (λ f. f.1) counted

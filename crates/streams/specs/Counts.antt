@@ -1,10 +1,18 @@
 -- The counts of a reader or a writer, and what a call does to them.
-use Rattle.std.specs.Prelude.{◌≡◌, ◌≢◌, ◌<◌, ◌⊎◌, ℕ, ◌+◌, ◌-◌, ◌^◌, MatchResult, Result}
+use Rattle.std.specs.Prelude.{◌≡◌, ◌<◌, ◌⊎◌, ℕ, ◌+◌, ◌-◌, ◌^◌, Bool, true, false, MatchResult}
+use Rattle.std.specs.Prelude.{Result}
 use Rattle.std.specs.IoError.{error_kind}
 use Rattle.std.specs.declared.io.Error.{Error}
-use Rattle.std.specs.declared.io.ErrorKind.TheVariants.{Interrupted}
+use Rattle.std.specs.declared.io.ErrorKind.{ErrorKind}
+use Rattle.std.specs.declared.io.ErrorKind.TheVariants.{Interrupted, WouldBlock}
 
--- a reader or a writer with its calls: all, those that failed, and interrupted reads
+-- whether a read that answers this may be made again: it was interrupted, or would have blocked
+abbrev pub is_interruption : ErrorKind → Bool
+is_interruption Interrupted = true
+is_interruption WouldBlock = true
+is_interruption _ = false
+
+-- a reader or a writer with its calls: all, those that failed, and reads that may be made again
 pub record Counts (T : Type 0) : Type 0 where
   pub inner : T
   pub calls : ℕ
@@ -33,17 +41,17 @@ pub record CountsFailure {T : Type 0} (old new : Counts T) : Type 0 where
   pub failures : new.failures ≡ old.failures + 1
   pub interruptions : new.interruptions ≡ old.interruptions
 
--- one call was counted, a read that was interrupted
+-- one call was counted, a read that may be made again
 pub record CountsInterruption {T : Type 0} (old new : Counts T) : Type 0 where
   pub calls : new.calls ≡ old.calls + 1
   pub failures : new.failures ≡ old.failures
   pub interruptions : new.interruptions ≡ old.interruptions + 1
 
--- a read that answered an error was interrupted, or failed
+-- a read that answered an error may be made again, or failed
 abbrev pub CountsError : {T : Type 0} → Counts T → Counts T → Error → Type 0
 CountsError old new e =
-    ((error_kind e ≡ Interrupted) × CountsInterruption old new)
-    ⊎ ((error_kind e ≢ Interrupted) × CountsFailure old new)
+    ((is_interruption (error_kind e) ≡ true) × CountsInterruption old new)
+    ⊎ ((is_interruption (error_kind e) ≡ false) × CountsFailure old new)
 
 -- a read was counted by what it answered
 abbrev pub CountsRead : {T : Type 0} → Counts T → Counts T → Result ℕ Error → Type 0

@@ -1,16 +1,29 @@
-ghost use Rattle.std.specs.Prelude.{◌≡◌};
+ghost use Rattle.std.specs.Prelude.{◌≡◌, ◌<◌, length};
+ghost use Rattle.std.specs.IoError.{error_kind};
+ghost use Rattle.streams.specs.Counts as counts;
+ghost use Rattle.streams.specs.Counts.{CountsRead, CountsWrite, IsFull, SameCounts};
 
+use crate::once::{ReadOnce, WriteOnce};
+use std::io::{self, ErrorKind};
 use std::marker::Model;
 
+/// Whether a read that answers this may be made again: it was interrupted, or would have blocked.
+pub fn is_interruption(error: &io::Error) -> bool
+    ensures { result ≡ counts.is_interruption (error_kind error.now) }
+{
+    matches!(error.kind(), ErrorKind::Interrupted | ErrorKind::WouldBlock)
+}
+
 /// A reader or a writer, and how many calls of it were made, how many of these failed, and how many
-/// were reads that were interrupted. A read or write of an empty buffer isn't passed on or counted.
-/// Once 2^64 - 1 calls were made, no more are passed on, and each fails.
+/// were reads that may be made again: they were interrupted, or would have blocked. A read or write
+/// of an empty buffer isn't passed on or counted. Once 2^64 - 1 calls were made, no more are passed
+/// on, and each fails.
 #[derive(Drop)]
 pub struct Counted<T> {
-    pub(crate) inner: T,
-    pub(crate) calls: u64,
-    pub(crate) failures: u64,
-    pub(crate) interruptions: u64,
+    inner: T,
+    calls: u64,
+    failures: u64,
+    interruptions: u64,
 }
 
 impl<T> Model for Counted<T> {
@@ -56,18 +69,63 @@ impl<T> Counted<T> {
         self.calls
     }
 
-    /// How many calls failed: reads that answered an error other than that they were interrupted,
-    /// and writes that answered an error or took no byte.
+    /// How many calls failed: reads that answered an error and may not be made again, and writes
+    /// that answered an error or took no byte.
     pub fn failures(&self) -> u64
         ensures { result ≡ self.now.failures }
     {
         self.failures
     }
 
-    /// How many reads were interrupted.
+    /// How many reads were interrupted or would have blocked.
     pub fn interruptions(&self) -> u64
         ensures { result ≡ self.now.interruptions }
     {
         self.interruptions
+    }
+}
+
+impl<R: ReadOnce> Counted<R> {
+    /// Makes one read, and counts it.
+    pub(crate) fn pass_read(&mut self, buffer: &mut [u8]) -> io::Result<usize>
+        requires room { ¬ IsFull self.old }
+        ensures once { R.is_read self.old.inner self.new.inner buffer.old buffer.new result }
+        ensures called { CountsRead self.old self.new result }
+    {
+        let answer = self.inner.read_once(buffer);
+        self.calls += 1;
+        if let Err(error) = &answer {
+            if is_interruption(error) {
+                self.interruptions += 1;
+            } else {
+                self.failures += 1;
+            }
+        }
+        answer
+    }
+}
+
+impl<W: WriteOnce> Counted<W> {
+    /// Makes one write, and counts it.
+    pub(crate) fn pass_write(&mut self, bytes: &[u8]) -> io::Result<usize>
+        requires room { ¬ IsFull self.old }
+        ensures once { W.is_write self.old.inner self.new.inner bytes.now result }
+        ensures called { CountsWrite self.old self.new result }
+    {
+        let answer = self.inner.write_once(bytes);
+        self.calls += 1;
+        match answer {
+            Ok(0) | Err(_) => self.failures += 1,
+            Ok(_) => {}
+        }
+        answer
+    }
+
+    /// Makes one flush, which isn't counted.
+    pub(crate) fn pass_flush(&mut self) -> io::Result<()>
+        ensures once { W.is_flush self.old.inner self.new.inner result }
+        ensures counts { SameCounts self.old self.new }
+    {
+        self.inner.flush_once()
     }
 }

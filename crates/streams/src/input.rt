@@ -4,16 +4,16 @@ ghost use Rattle.std.specs.Prelude.{◌≡◌, IfOk, IfErr, vec_len};
 ghost use Rattle.streams.specs.Streams.{used, IsInput};
 ghost use Rattle.streams.specs.Ends.{IsUnread};
 
-use crate::counted::Counted;
+use crate::counted::{Counted, is_interruption};
 use crate::fault::Fault;
 use crate::refused::Refused;
 use std::alloc::{AllocError, Global};
-use std::io::{ErrorKind, Read};
+use std::io::Read;
 
 /// How many bytes of input are read at most.
 pub const MAX_INPUT_BYTES: usize = 4_194_304;
 
-/// How many interrupted reads of one input are made again at most.
+/// How many reads of one input that were interrupted or would have blocked are made again at most.
 pub const MAX_INTERRUPTIONS: u64 = 2_000_000;
 
 const READ_SIZE: usize = 65_536;
@@ -25,7 +25,8 @@ fn zeros(alloc: Global, size: usize) -> Result<Vec<u8>, AllocError>
     vec![in alloc; 0; size]
 }
 
-/// Reads to the end. A read that was interrupted is made again, unless `MAX_INTERRUPTIONS` were.
+/// Reads to the end. A read that was interrupted or would have blocked is made again, unless
+/// `MAX_INTERRUPTIONS` were.
 /// Refuses `TooLarge` more bytes than `MAX_INPUT_BYTES`, and then no more is read; `ReadFailed`;
 /// and `Memory`.
 pub fn read_input<R: Read>(alloc: Global, reader: &mut Counted<R>) -> Result<Vec<u8>, Fault>
@@ -45,7 +46,7 @@ pub fn read_input<R: Read>(alloc: Global, reader: &mut Counted<R>) -> Result<Vec
                 input.extend_from_slice(&buffer[..count])?;
             }
             Err(error) => {
-                if error.kind() != ErrorKind::Interrupted {
+                if !is_interruption(&error) {
                     return Err(Fault::Device(Refused::ReadFailed));
                 }
                 if reader.interruptions() - interrupted_before > MAX_INTERRUPTIONS {

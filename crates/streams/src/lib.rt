@@ -8,6 +8,7 @@ mod counted;
 mod fault;
 mod input;
 mod line;
+mod once;
 mod output;
 mod reading;
 mod refused;
@@ -15,7 +16,7 @@ mod told;
 mod writing;
 
 pub use command::{Command, Output, finish, output_of, run_command};
-pub use counted::Counted;
+pub use counted::{Counted, is_interruption};
 pub use fault::Fault;
 pub use input::{MAX_INPUT_BYTES, read_input};
 pub use line::{refusal_line, refused_line};

@@ -22,22 +22,16 @@ impl<W: Write> Write for Counted<W> {
         if bytes.is_empty() {
             return Ok(0);
         }
-        if self.calls == u64::MAX {
+        if self.calls() == u64::MAX {
             return Err(io::Error::from(ErrorKind::Other));
         }
-        let answer = self.inner.write(bytes);
-        self.calls += 1;
-        match answer {
-            Ok(0) | Err(_) => self.failures += 1,
-            Ok(_) => {}
-        }
-        answer
+        self.pass_write(bytes)
     }
 
     fn flush(&mut self) -> io::Result<()>
         ensures bytes { Keeps (W.contents self.old.inner) (W.contents self.new.inner) }
         ensures counts { SameCounts self.old self.new }
     {
-        self.inner.flush()
+        self.pass_flush()
     }
 }

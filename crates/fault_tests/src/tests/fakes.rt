@@ -3,8 +3,8 @@
 use std::alloc::Global;
 use std::io::{self, ErrorKind, Read, Write};
 
-/// A reader of a text and of spaces behind it, at most `step` bytes at a time. Its first calls are
-/// interrupted, and at the end it may fail.
+/// A reader of a text and of spaces behind it, at most `step` bytes at a time. Its first calls
+/// would block or are interrupted, in turn, and at the end it may fail.
 #[derive(Drop)]
 pub struct Source<'a> {
     pub text: &'a [u8],
@@ -33,7 +33,12 @@ impl<'a> Read for Source<'a> {
         self.calls = self.calls.saturating_add(1);
         if self.interruptions > 0 {
             self.interruptions -= 1;
-            return Err(io::Error::from(ErrorKind::Interrupted));
+            let kind = if self.interruptions % 2 == 0 {
+                ErrorKind::Interrupted
+            } else {
+                ErrorKind::WouldBlock
+            };
+            return Err(io::Error::from(kind));
         }
         let room = self.step.min(buffer.len());
         if !self.text.is_empty() {

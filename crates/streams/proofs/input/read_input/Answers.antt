@@ -16,8 +16,8 @@ returns-then-count-len-clause-err g c =
       many,
     )
 
-pub returns-then-ne-clause-err : goal.returns-then-ne-clause-err
-returns-then-ne-clause-err g c =
+pub returns-then-not-is_interruption-clause-err : goal.returns-then-not-is_interruption-clause-err
+returns-then-not-is_interruption-clause-err g c =
     let so_far = c.loop-input.invariant.4 in
     let room : 0 < length c.deref_mut.result.now = search rules in
     inl (call_failed g.R.Read.remaining c.args.reader.now c.loop-input.reader c.read.new.self so_far.unfailed (λ full. (c.in-Err.ensures.full room full).1)
