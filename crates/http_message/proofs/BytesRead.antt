@@ -1,14 +1,11 @@
 -- Bytes that are read one after the other.
-use Rattle.std.proofs.Common.{◌≡◌, ◌∙◌, ℕ, List, ◌++◌, Option, Some, None, IfSome, arith, sym, ap, subst, refl, inl, inr, ⊎_elim, append-nil}
+use Rattle.std.proofs.Common.{◌∙◌, ℕ, List, ◌++◌, Option, Some, None, IfSome, arith, sym, ap, subst, inl, inr, ⊎_elim, append-nil}
 use Rattle.std.specs.Io.KnownBytes.{Consumes, IsAtEnd}
 use Rattle.std.proofs.KnownBytes.{Consumes-trans}
 use Rattle.streams.specs.Counts.{Counts}
 use Rattle.streams.specs.Streams.{used}
 use Rattle.streams.specs.declared.refused.Refused.{Refused}
-use Rattle.streams.specs.declared.refused.Refused.TheVariants.{BadHead}
-use Rattle.http_message.specs.Head.{Head, BeginsWith}
-use Rattle.http_message.specs.Reading.{Grows, HasRead, IsHeadFault, IsMoreFault}
-use Rattle.http_message.specs.declared.kind.Kind.{Kind}
+use Rattle.http_message.specs.Reading.{HasRead, IsMoreFault}
 
 -- what was read and what was read then
 pub read_then : {T : Type 0} (known : T → Option (List ℕ)) (start : ℕ) (a b c : Counts T) (bytes more : List ℕ)
@@ -50,30 +47,3 @@ pub whatever_follows : (before after : Option (List ℕ)) (bytes : List ℕ) →
 whatever_follows None after bytes taken P p = tt
 whatever_follows (Some all) None bytes taken P p = absurd taken
 whatever_follows (Some all) (Some rest) bytes taken P p = subst P (sym taken) (p rest)
-
--- there is no head, whatever follows what was read
-pub never_headed : {T : Type 0} (known : T → Option (List ℕ)) (kind : Kind) (start : ℕ) (a b : Counts T) (bytes seen : List ℕ)
-    → HasRead start (used known a b) bytes → seen ≡ bytes
-    → ((more : List ℕ) (h : Head) → BeginsWith kind (seen ++ more) h → ⊥)
-    → IsHeadFault kind start (used known a b) BadHead
-never_headed known kind start a b bytes seen read same never =
-    inl (
-      refl,
-      read.unfailed,
-      whatever_follows _ _ bytes read.taken (λ all. (h : Head) → ¬ (BeginsWith kind all h))
-          (λ more h begins. never more h (subst (λ s. BeginsWith kind (s ++ more) h) (sym same) begins)),
-    )
-
--- there is no head in what was read, and nothing follows
-pub not_headed : {T : Type 0} (known : T → Option (List ℕ)) (kind : Kind) (start : ℕ) (a b c : Counts T) (bytes seen new : List ℕ)
-    (count : ℕ) → HasRead start (used known a b) bytes → seen ≡ bytes → ((h : Head) → BeginsWith kind seen h → ⊥)
-    → Grows start (used known b c) bytes new count → count ≡ 0 → IsHeadFault kind start (used known a c) BadHead
-not_headed known kind start a b c bytes seen new count read same none grows zero =
-    let end = grows.ended zero in
-    let whole = read_then known start a b c bytes grows.gained.more read grows.gained.read in
-    inl (
-      refl,
-      whole.unfailed,
-      all_read _ _ (bytes ++ grows.gained.more) whole.taken end.ended (λ all. (h : Head) → ¬ (BeginsWith kind all h))
-          (λ h begins. none h (subst (λ s. BeginsWith kind s h) (sym grows.gained.grown ∙ end.same ∙ sym same) begins)),
-    )

@@ -23,11 +23,11 @@ digit_at text i number within =
     digits true false is = absurd (search rules)
     digits false b is = absurd (search rules)
 
-pub number_step : (text : List ℕ) (i n m : ℕ) → IsTrue (is_number text) → i < length text
-    → n ≡ min (digits_value 10 (take i text)) 1048577
-    → m ≡ min (n * 10 + (get_or text i 0 - 48)) 1048577
-    → m ≡ min (digits_value 10 (take (i + 1) text)) 1048577
-number_step text i n m number within before now =
+pub number_step : (text : List ℕ) (i n m limit : ℕ) → IsTrue (is_number text) → i < length text
+    → n ≡ min (digits_value 10 (take i text)) limit
+    → m ≡ min (n * 10 + (get_or text i 0 - 48)) limit
+    → m ≡ min (digits_value 10 (take (i + 1) text)) limit
+number_step text i n m limit number within before now =
     let more = digits_value_more 10 text i within in
     let digit = digit_at text i number within in
     let value = digit_value_digit _ digit in

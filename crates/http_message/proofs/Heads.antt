@@ -1,5 +1,5 @@
 -- Heads at the front of an input.
-use Rattle.std.proofs.Common.{◌≡◌, ℕ, ◌+◌, ◌-◌, ◌<◌, ◌≤◌, List, [], ◌++◌, length, take, map, refl, ap, ◌∙◌, sym, subst, arith, ⊎_elim, length-take, drop, Bool, Result, Ok}
+use Rattle.std.proofs.Common.{◌≡◌, ℕ, ◌+◌, ◌-◌, ◌<◌, ◌≤◌, List, [], ◌++◌, length, take, map, refl, ap, ◌∙◌, sym, subst, arith, ⊎_elim, length-take, drop, Bool, false, Result, Ok}
 use Rattle.std.specs.Prelude.{◌==◌, bytes_eq, codes}
 use Rattle.streams.specs.declared.refused.Refused.{Refused}
 use Rattle.httparse.specs.Outcome.{IfComplete}
@@ -18,6 +18,7 @@ use Rattle.httparse.proofs.GrammarLemmas.{ReadsRequest-append, ReadsResponse-app
 use Rattle.httparse.specs.Spans.{IsWithin, IsSectionWithin, IsRequestWithin, IsResponseWithin, IsRequestOf, IsResponseOf, AreFieldsAt, span_bytes, header_bytes, name_and_value}
 use Rattle.http_message.specs.Head.{Head, StartsWith, BeginsWith, HasNoStart, HasNoHead, IsToldOf, request_seen, response_seen}
 use Rattle.http_message.specs.Says.{said}
+use Rattle.http_message.specs.Expect.{expects_continue}
 use Rattle.http_message.specs.declared.told.Told.{Told}
 use Rattle.http_message.specs.declared.start.Start.TheVariants as starts
 use Rattle.http_message.specs.declared.kind.Kind.{Kind}
@@ -71,33 +72,34 @@ complete_at : {A : Type 0} (s : Status A) (a : A) (P : A → Type 0) → s ≡ C
     → IfComplete {E = Error} (Ok s) P → P a
 complete_at s a P is holds = subst (λ s. IfComplete {E = Error} (Ok s) P) is holds
 
-pub whole_response : (bytes : List ℕ) (spans : List HeaderSpan) (s : Status ResponseSpans) (r : ResponseSpans)
+pub whole_response : (most : ℕ) (bytes : List ℕ) (spans : List HeaderSpan) (s : Status ResponseSpans) (r : ResponseSpans)
     (told : Result ℕ Refused)
     → s ≡ Complete r → length spans ≡ 64
     → IfComplete {E = Error} (Ok s) (IsResponseWithin bytes spans)
     → IfComplete {E = Error} (Ok s) (IsResponseOf bytes spans)
-    → told ≡ said starts.Response (map (header_bytes bytes) (take r.headers spans))
+    → told ≡ said most starts.Response (map (header_bytes bytes) (take r.headers spans))
     → (head : Head) × StartsWith kinds.Response bytes head
-    × IsToldOf bytes head (record { size = r.len; code = r.code; target = record { start = 0; end = 0 }; says = told })
-whole_response bytes spans s r told is room within complete says =
+    × IsToldOf most bytes head (record { size = r.len; code = r.code; target = record { start = 0; end = 0 }; says = told; expects_continue = false })
+whole_response most bytes spans s r told is room within complete says =
     let in_bytes = complete_at s r (IsResponseWithin bytes spans) is within in
     let of = complete_at s r (IsResponseOf bytes spans) is complete in (
       response_seen of.0,
       (of.0, drop r.len bytes, of.1.reads, few_fields bytes spans r.len r.headers of.0.fields room in_bytes.section of.1.fields, refl),
-      record { size = of.1.len; code = of.1.code; target = refl; says = says ∙ ap (λ fs. said starts.Response fs) of.1.fields },
+      record { size = of.1.len; code = of.1.code; target = refl; says = says ∙ ap (λ fs. said most starts.Response fs) of.1.fields; expects = refl },
     )
 
-pub whole_request : (bytes : List ℕ) (spans : List HeaderSpan) (s : Status RequestSpans) (r : RequestSpans)
-    (method post post_bytes : List ℕ) (is_post : Bool) (told : Result ℕ Refused)
+pub whole_request : (most : ℕ) (bytes : List ℕ) (spans : List HeaderSpan) (s : Status RequestSpans) (r : RequestSpans)
+    (method post post_bytes : List ℕ) (is_post : Bool) (told : Result ℕ Refused) (expects : Bool)
     → s ≡ Complete r → length spans ≡ 64
     → IfComplete {E = Error} (Ok s) (IsRequestWithin bytes spans)
     → IfComplete {E = Error} (Ok s) (IsRequestOf bytes spans)
     → method ≡ span_bytes bytes r.method → post ≡ codes "POST" → post_bytes ≡ post
     → is_post ≡ bytes_eq method post_bytes
-    → told ≡ said (starts.Request is_post (r.version == 1)) (map (header_bytes bytes) (take r.headers spans))
+    → told ≡ said most (starts.Request is_post (r.version == 1)) (map (header_bytes bytes) (take r.headers spans))
+    → expects ≡ expects_continue (starts.Request is_post (r.version == 1)) (map (header_bytes bytes) (take r.headers spans))
     → (head : Head) × StartsWith kinds.Request bytes head
-    × IsToldOf bytes head (record { size = r.len; code = 0; target = r.path; says = told })
-whole_request bytes spans s r method post post_bytes is_post told is room within complete of_method of_post of_bytes eq says =
+    × IsToldOf most bytes head (record { size = r.len; code = 0; target = r.path; says = told; expects_continue = expects })
+whole_request most bytes spans s r method post post_bytes is_post told expects is room within complete of_method of_post of_bytes eq says asks =
     let in_bytes = complete_at s r (IsRequestWithin bytes spans) is within in
     let of = complete_at s r (IsRequestOf bytes spans) is complete in
     let posts : is_post ≡ bytes_eq of.0.method (codes "POST") =
@@ -105,13 +107,19 @@ whole_request bytes spans s r method post post_bytes is_post told is room within
     let wants : (r.version == 1) ≡ (of.0.minor == 1) = ap (λ v. v == 1) of.1.version in (
       request_seen of.0,
       (of.0, drop r.len bytes, of.1.reads, few_fields bytes spans r.len r.headers of.0.fields room in_bytes.section of.1.fields, refl),
-      record { size = of.1.len; code = refl; target = of.1.path; says = says ∙ (λ i. said (starts.Request (posts i) (wants i)) (of.1.fields i)) },
+      record {
+        size = of.1.len;
+        code = refl;
+        target = of.1.path;
+        says = says ∙ (λ i. said most (starts.Request (posts i) (wants i)) (of.1.fields i));
+        expects = asks ∙ (λ i. expects_continue (starts.Request (posts i) (wants i)) (of.1.fields i));
+      },
     )
 
 -- ---- where it stands
 
 -- what stands in the front stands there in the whole
-within_front : (front behind : List ℕ) (s : Span) → IsWithin (length front) s
+pub within_front : (front behind : List ℕ) (s : Span) → IsWithin (length front) s
     → span_bytes (front ++ behind) s ≡ span_bytes front s
 within_front front behind s within =
     let low : s.start ≤ length front = omega (arith, within.0, within.1) in
@@ -120,15 +128,16 @@ within_front front behind s within =
     ∙ take-append-le (s.end - s.start) (drop s.start front) behind room
 
 -- what is told of a head in the front is told of it in the whole
-pub told_in_front : (m : ℕ) (bytes : List ℕ) (head : Head) (told : Told) → IsWithin (length (take m bytes)) told.target
-    → IsToldOf (take m bytes) head told → IsToldOf bytes head told
-told_in_front m bytes head told within of =
+pub told_in_front : (most m : ℕ) (bytes : List ℕ) (head : Head) (told : Told) → IsWithin (length (take m bytes)) told.target
+    → IsToldOf most (take m bytes) head told → IsToldOf most bytes head told
+told_in_front most m bytes head told within of =
     record {
       size = of.size;
       code = of.code;
       target = ap (λ xs. span_bytes xs told.target) (sym (take-append-drop m bytes))
           ∙ within_front (take m bytes) (drop m bytes) told.target within ∙ of.target;
       says = of.says;
+      expects = of.expects;
     }
 
 -- ---- whatever follows

@@ -3,7 +3,10 @@ pub mod Digits
 pub mod Heads
 pub mod Said
 pub mod BytesRead
-pub mod MessageRead
+pub mod LineEnds
+pub mod Making
+pub mod Pushed
+pub mod WholeRead
 pub mod OneAnswer
 pub mod Writing
 pub mod TextLemmas

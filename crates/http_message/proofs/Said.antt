@@ -7,7 +7,6 @@ use Rattle.streams.specs.declared.refused.Refused.TheVariants.{BadHead, TooLarge
 use Rattle.http_message.specs.Fields.{NamedValue, Summary, absent, once, often, is_once}
 use Rattle.http_message.specs.Message.{is_refusal}
 use Rattle.http_message.specs.Says.{is_number, length_of, length_told, is_bad, is_coded, said, said_with, under}
-use Rattle.http_message.specs.declared.length.TheConstants.{MAX_BODY_BYTES}
 use Rattle.http_message.specs.declared.start.Start.{Start}
 use Rattle.http_message.specs.declared.start.Start.TheVariants as starts
 
@@ -21,17 +20,17 @@ either : (c : Bool) (a b : Result ℕ Refused) → is_of_http a ≡ true → is_
 either true a b p q = p
 either false a b p q = q
 
-of_length : (text : List ℕ) → is_of_http (length_of text) ≡ true
+of_length : (most : ℕ) (text : List ℕ) → is_of_http (length_of most text) ≡ true
 unfolding length_of
-of_length text =
+of_length most text =
     let n = digits_value 10 text in
-    either (is_number text) (if nat_lt MAX_BODY_BYTES n then Err TooLarge else Ok n) (Err BadHead)
-    (either (nat_lt MAX_BODY_BYTES n) (Err TooLarge) (Ok n) refl refl) refl
+    either (is_number text) (if nat_lt most n then Err TooLarge else Ok n) (Err BadHead)
+    (either (nat_lt most n) (Err TooLarge) (Ok n) refl refl) refl
 
-of_told : (s : Summary) → is_of_http (length_told s) ≡ true
-of_told absent = refl
-of_told (once v) = of_length v
-of_told often = refl
+of_told : (most : ℕ) (s : Summary) → is_of_http (length_told most s) ≡ true
+of_told most absent = refl
+of_told most (once v) = of_length most v
+of_told most often = refl
 
 of_rest : (start : Start) (fields : List NamedValue) (length : Result ℕ Refused) → is_of_http length ≡ true
     → is_of_http (said_with start fields length) ≡ true
@@ -40,7 +39,7 @@ of_rest (starts.Request is_post wants_host) fields length ok =
     (either is_post _ _ (either (is_coded fields) _ _ refl ok) refl)
 of_rest starts.Response fields length ok = either (is_coded fields) _ _ refl ok
 
-pub said_of_http : (start : Start) (fields : List NamedValue) → is_of_http (said start fields) ≡ true
-said_of_http start fields =
-    let length = length_told (under (codes "content-length") fields) in
-    either (is_bad length) _ _ refl (of_rest start fields length (of_told (under (codes "content-length") fields)))
+pub said_of_http : (most : ℕ) (start : Start) (fields : List NamedValue) → is_of_http (said most start fields) ≡ true
+said_of_http most start fields =
+    let length = length_told most (under (codes "content-length") fields) in
+    either (is_bad length) _ _ refl (of_rest start fields length (of_told most (under (codes "content-length") fields)))

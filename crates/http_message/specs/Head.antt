@@ -1,11 +1,12 @@
 -- The head at the front of an input: whole, within the limits, and what it says.
-use Rattle.std.specs.Prelude.{◌≡◌, ℕ, ◌≤◌, ◌==◌, List, [], length, take, map}
+use Rattle.std.specs.Prelude.{◌≡◌, ℕ, ◌≤◌, ◌==◌, Bool, List, [], length, take, map}
 use Rattle.std.specs.Prelude.{codes, bytes_eq, Result}
 use Rattle.std.specs.Prelude.{IfOk, ⊤}
 use Rattle.streams.specs.declared.refused.Refused.{Refused}
 use Rattle.httparse.specs.Grammar.{RequestHead, ReadsRequest, print_request}
 use Rattle.httparse.specs.Grammar.{ResponseHead, ReadsResponse, print_response, status_code}
 use Rattle.httparse.specs.Spans.{IsWithin, name_and_value, span_bytes}
+use Rattle.http_message.specs.Expect.{expects_continue}
 use Rattle.http_message.specs.Fields.{NamedValue}
 use Rattle.http_message.specs.Says.{said}
 use Rattle.http_message.specs.declared.kind.Kind.{Kind}
@@ -68,16 +69,21 @@ BeginsWith kind input head = StartsWith kind (take MAX_HEAD_BYTES input) head
 abbrev pub HasNoHead : Kind → List ℕ → Type 0
 HasNoHead kind input = (head : Head) → ¬ (BeginsWith kind input head)
 
--- the length of the body, or the first refusal
-abbrev pub head_says : Head → Result ℕ Refused
-head_says head = said head.start head.fields
+-- the length of the body, of so many bytes at most, or the first refusal
+abbrev pub head_says : ℕ → Head → Result ℕ Refused
+head_says most head = said most head.start head.fields
+
+-- whether the head asks for the interim response
+abbrev pub head_expects : Head → Bool
+head_expects head = expects_continue head.start head.fields
 
 -- what is told of a head in these bytes is what the head is
-pub record IsToldOf (bytes : List ℕ) (head : Head) (told : Told) : Type 0 where
+pub record IsToldOf (most : ℕ) (bytes : List ℕ) (head : Head) (told : Told) : Type 0 where
   pub size : told.size ≡ head.size
   pub code : told.code ≡ head.code
   pub target : span_bytes bytes told.target ≡ head.target
-  pub says : told.says ≡ head_says head
+  pub says : told.says ≡ head_says most head
+  pub expects : told.expects_continue ≡ head_expects head
 
 -- the head and the target lie within the bytes, and the body within the limit
 pub record IsBounded (most len : ℕ) (told : Told) : Type 0 where

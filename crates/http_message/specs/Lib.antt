@@ -1,8 +1,10 @@
 pub mod Fields
 pub mod Seen
 pub mod Says
+pub mod Expect
 pub mod Head
 pub mod Message
+pub mod Incoming
 pub mod Reading
 pub mod Laws
 pub mod Pieces

@@ -6,15 +6,22 @@ use Rattle.streams.specs.declared.refused.Refused.TheVariants.{BadHead, NotPost,
 use Rattle.streams.specs.declared.refused.Refused.TheVariants.{TooLarge, CutShort, Coding}
 use Rattle.http_message.specs.Head.{Head, BeginsWith, HasNoHead, head_says}
 use Rattle.http_message.specs.declared.kind.Kind.{Kind}
+use Rattle.http_message.specs.declared.length.TheConstants.{MAX_BODY_BYTES}
 
--- the input begins with a head of this status, and this body stands behind it
-pub record Carries (kind : Kind) (input : List ℕ) (status : ℕ) (body : List ℕ) : Type 0 where
+-- the input begins with a head of this status, and this body stands behind it, of so many bytes at
+-- most
+pub record CarriesWithin (most : ℕ) (kind : Kind) (input : List ℕ) (status : ℕ) (body : List ℕ)
+    : Type 0 where
   pub head : Head
   pub begins : BeginsWith kind input head
-  pub says : head_says head ≡ Ok (length body)
+  pub says : head_says most head ≡ Ok (length body)
   pub code : status ≡ head.code
   pub rest : List ℕ
   pub behind : drop head.size input ≡ body ++ rest
+
+-- the same, where a body has no more bytes than is usual
+abbrev pub Carries : Kind → List ℕ → ℕ → List ℕ → Type 0
+Carries = CarriesWithin MAX_BODY_BYTES
 
 -- the input begins with a head of this target
 pub record HasTarget (kind : Kind) (input target : List ℕ) : Type 0 where
@@ -23,19 +30,23 @@ pub record HasTarget (kind : Kind) (input target : List ℕ) : Type 0 where
   pub is : target ≡ head.target
 
 -- the input ends before its body does
-pub record IsCut (kind : Kind) (input : List ℕ) : Type 0 where
+pub record IsCut (most : ℕ) (kind : Kind) (input : List ℕ) : Type 0 where
   pub head : Head
   pub begins : BeginsWith kind input head
   pub wanted : ℕ
-  pub says : head_says head ≡ Ok wanted
+  pub says : head_says most head ≡ Ok wanted
   pub short : length (drop head.size input) < wanted
 
 -- the first refusal of the input: there is no head, or what the head says, or the body is cut short
-abbrev pub IsRefusedAs : Kind → List ℕ → Refused → Type 0
-IsRefusedAs kind input e =
+abbrev pub IsRefusedWithin : ℕ → Kind → List ℕ → Refused → Type 0
+IsRefusedWithin most kind input e =
     ((e ≡ BadHead) × HasNoHead kind input)
-    ⊎ (((h : Head) × BeginsWith kind input h × (head_says h ≡ Err e))
-    ⊎ ((e ≡ CutShort) × IsCut kind input))
+    ⊎ (((h : Head) × BeginsWith kind input h × (head_says most h ≡ Err e))
+    ⊎ ((e ≡ CutShort) × IsCut most kind input))
+
+-- the same, where a body has no more bytes than is usual
+abbrev pub IsRefusedAs : Kind → List ℕ → Refused → Type 0
+IsRefusedAs = IsRefusedWithin MAX_BODY_BYTES
 
 -- what an input may be refused as
 abbrev pub is_refusal : Refused → Bool

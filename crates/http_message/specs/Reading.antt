@@ -1,16 +1,16 @@
 -- How messages are read.
-use Rattle.std.specs.Prelude.{◌≡◌, ◌⊎◌, ℕ, ◌<◌, ◌≤◌, ◌+◌, true, List, ◌++◌, length, IfSome}
+use Rattle.std.specs.Prelude.{◌≡◌, ◌⊎◌, ℕ, ◌<◌, ◌≤◌, ◌+◌, true, List, ◌++◌, IfSome}
 use Rattle.std.specs.Io.KnownBytes.{Consumes, IsAtEnd}
 use Rattle.ticket_items.specs.declared.refusal.Refusal.TheVariants.{Memory}
 use Rattle.streams.specs.Streams.{HasFailed, Use}
 use Rattle.streams.specs.declared.refused.Refused.{Refused}
-use Rattle.streams.specs.declared.refused.Refused.TheVariants.{Core, BadHead, CutShort, ReadFailed}
-use Rattle.http_message.specs.Head.{Head, BeginsWith, HasNoHead, IsToldOf, IsBounded}
-use Rattle.http_message.specs.Message.{IsRefusedAs, is_refusal}
+use Rattle.streams.specs.declared.refused.Refused.TheVariants.{Core, ReadFailed}
+use Rattle.http_message.specs.Incoming.{IsWhole}
+use Rattle.http_message.specs.Message.{IsRefusedWithin, is_refusal}
 use Rattle.http_message.specs.declared.kind.Kind.{Kind}
 use Rattle.http_message.specs.declared.length.TheConstants.{MAX_BODY_BYTES}
 use Rattle.http_message.specs.declared.reading.TheConstants.{MAX_READS}
-use Rattle.http_message.specs.declared.told.Told.{Told}
+use Rattle.http_message.specs.declared.whole.Whole.{Whole}
 
 -- no read failed
 abbrev pub IsUnfailed : Use → Type 0
@@ -49,38 +49,19 @@ pub record Grows (start : ℕ) (u : Use) (old new : List ℕ) (count : ℕ) : Ty
   pub made : u.before.calls < u.after.calls
   pub ended : count ≡ 0 → HasEnded u old new
 
--- what was read begins with a head
-pub record HasHead (kind : Kind) (start : ℕ) (u : Use) (bytes : List ℕ) (told : Told) : Type 0 where
+-- a message is whole in what was read
+pub record HasWhole (most : ℕ) (kind : Kind) (start : ℕ) (u : Use) (bytes : List ℕ) (w : Whole)
+    : Type 0 where
   pub read : HasRead start u bytes
-  pub head : Head
-  pub begins : BeginsWith kind bytes head
-  pub told_of : IsToldOf bytes head told
-  pub bounded : IsBounded MAX_BODY_BYTES (length bytes) told
-
--- there is no head, or no more was read
-abbrev pub IsHeadFault : Kind → ℕ → Use → Refused → Type 0
-IsHeadFault kind start u e =
-    ((e ≡ BadHead) × IsUnfailed u × IfSome u.before.bytes (HasNoHead kind))
-    ⊎ IsMoreFault start u e
-
--- more was read, until as many bytes were there as are wanted
-pub record Has (whole start : ℕ) (u : Use) (old new : List ℕ) : Type 0 where
-  pub gained : Gains start u old new
-  pub enough : whole ≤ length new
-
--- the reader is at its end before as many bytes are there
-pub record Ends (whole start : ℕ) (u : Use) (old new : List ℕ) : Type 0 where
-  pub gained : Gains start u old new
-  pub ended : IsAtEnd u.after.bytes
-  pub short : length new < whole
-
--- the reader ends too soon, or no more was read
-abbrev pub IsBodyFault : ℕ → ℕ → Use → List ℕ → List ℕ → Refused → Type 0
-IsBodyFault whole start u old new e =
-    ((e ≡ CutShort) × Ends whole start u old new) ⊎ IsMoreFault start u e
+  pub whole : IsWhole most kind bytes w
 
 -- why no message was read: the input is refused, or no more was read
-abbrev pub IsUnread : Kind → ℕ → Use → Refused → Type 0
-IsUnread kind start u e =
-    ((is_refusal e ≡ true) × IsUnfailed u × IfSome u.before.bytes (λ all. IsRefusedAs kind all e))
+abbrev pub IsUnreadWithin : ℕ → Kind → ℕ → Use → Refused → Type 0
+IsUnreadWithin most kind start u e =
+    ((is_refusal e ≡ true) × IsUnfailed u
+    × IfSome u.before.bytes (λ all. IsRefusedWithin most kind all e))
     ⊎ IsMoreFault start u e
+
+-- the same, where a body has no more bytes than is usual
+abbrev pub IsUnread : Kind → ℕ → Use → Refused → Type 0
+IsUnread = IsUnreadWithin MAX_BODY_BYTES

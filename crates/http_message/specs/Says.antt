@@ -9,7 +9,6 @@ use Rattle.streams.specs.declared.refused.Refused.TheVariants.{BadHead, NotPost,
 use Rattle.streams.specs.declared.refused.Refused.TheVariants.{Coding}
 use Rattle.http_message.specs.Fields.{NamedValue, Summary, absent, once, often, values_of, summary}
 use Rattle.http_message.specs.Fields.{is_once, is_absent}
-use Rattle.http_message.specs.declared.length.TheConstants.{MAX_BODY_BYTES}
 use Rattle.http_message.specs.declared.start.Start.{Start}
 use Rattle.http_message.specs.declared.start.Start.TheVariants as starts
 
@@ -17,18 +16,18 @@ use Rattle.http_message.specs.declared.start.Start.TheVariants as starts
 abbrev pub is_number : List ℕ → Bool
 is_number text = nat_lt 0 (length text) && list_all is_ascii_digit text
 
--- the number, unless it is none or above the limit
-unfoldable pub length_of : List ℕ → Result ℕ Refused
-length_of text =
+-- the number, unless it is none or above the most that may be
+unfoldable pub length_of : ℕ → List ℕ → Result ℕ Refused
+length_of most text =
     if is_number text then (
-    if nat_lt MAX_BODY_BYTES (digits_value 10 text) then Err TooLarge
+    if nat_lt most (digits_value 10 text) then Err TooLarge
     else Ok (digits_value 10 text)) else Err BadHead
 
 -- what the values of Content-Length tell
-abbrev pub length_told : Summary → Result ℕ Refused
-length_told absent = Err NoLength
-length_told (once v) = length_of v
-length_told often = Err BadHead
+abbrev pub length_told : ℕ → Summary → Result ℕ Refused
+length_told most absent = Err NoLength
+length_told most (once v) = length_of most v
+length_told most often = Err BadHead
 
 -- a length that is none
 abbrev pub is_bad : Result ℕ Refused → Bool
@@ -56,8 +55,8 @@ said_with (starts.Request is_post wants_host) fields length =
     else (if is_post then uncoded fields length else Err NotPost)
 said_with starts.Response fields length = uncoded fields length
 
--- the length of the body, or the first refusal
-abbrev pub said : Start → List NamedValue → Result ℕ Refused
-said start fields =
-    let length = length_told (under (codes "content-length") fields) in
+-- the length of the body, of so many bytes at most, or the first refusal
+abbrev pub said : ℕ → Start → List NamedValue → Result ℕ Refused
+said most start fields =
+    let length = length_told most (under (codes "content-length") fields) in
     if is_bad length then Err BadHead else said_with start fields length

@@ -10,17 +10,18 @@ ghost use Rattle.http_message.specs.Seen.{named_seen};
 use crate::field::Named;
 use streams::Refused;
 
-/// How many bytes a body has at most.
+/// How many bytes a body has at most, where nothing else is said.
 pub const MAX_BODY_BYTES: usize = 1_048_576;
 
-// The number that these digits write, and MAX_BODY_BYTES + 1 for any above.
-fn number_of(digits: &[u8]) -> usize
+// The number that these digits write, and one more than `most` for any above.
+fn number_of(digits: &[u8], most: u32) -> usize
     requires { IsTrue (rules.is_number digits.now) }
-    ensures { result ≡ min (digits_value 10 digits.now) (MAX_BODY_BYTES + 1) }
+    ensures { result ≡ min (digits_value 10 digits.now) (most + 1) }
 {
+    let above = most as usize + 1;
     let mut number = 0;
     for digit in digits {
-        number = usize::min(number * 10 + (*digit - b'0') as usize, MAX_BODY_BYTES + 1);
+        number = usize::min(number * 10 + (*digit - b'0') as usize, above);
     }
     number
 }
@@ -40,30 +41,29 @@ fn is_number(text: &[u8]) -> bool
     are_digits(text)
 }
 
-// The length that this text writes. More than `MAX_BODY_BYTES` are `TooLarge`, however many digits
-// there are.
-fn length_of(text: &[u8]) -> Result<usize, Refused>
-    ensures value { result ≡ rules.length_of text.now }
-    ensures bound { IfOk result (λ n. n ≤ MAX_BODY_BYTES) }
+// The length that this text writes. More than `most` are `TooLarge`, however many digits there are.
+fn length_of(text: &[u8], most: u32) -> Result<usize, Refused>
+    ensures value { result ≡ rules.length_of most text.now }
+    ensures bound { IfOk result (λ n. n ≤ most) }
 {
     if !is_number(text) {
         return Err(Refused::BadHead);
     }
-    let length = number_of(text);
-    if length > MAX_BODY_BYTES {
+    let length = number_of(text, most);
+    if length > most as usize {
         return Err(Refused::TooLarge);
     }
     Ok(length)
 }
 
 /// What the values of `Content-Length` tell.
-pub(crate) fn length_told(values: Named) -> Result<usize, Refused>
-    ensures value { result ≡ rules.length_told (named_seen values.entry) }
-    ensures bound { IfOk result (λ n. n ≤ MAX_BODY_BYTES) }
+pub(crate) fn length_told(values: Named, most: u32) -> Result<usize, Refused>
+    ensures value { result ≡ rules.length_told most (named_seen values.entry) }
+    ensures bound { IfOk result (λ n. n ≤ most) }
 {
     match values {
         Named::Absent => Err(Refused::NoLength),
-        Named::Once(value) => length_of(value),
+        Named::Once(value) => length_of(value, most),
         Named::Often => Err(Refused::BadHead),
     }
 }

@@ -2,8 +2,11 @@
 //! input that it stands in, and requests and responses that are written.
 #![tactic(auto)]
 
+mod arrival;
 mod body;
+mod expect;
 mod field;
+mod incoming;
 mod kind;
 pub mod laws;
 mod length;
@@ -16,17 +19,25 @@ mod received;
 mod response;
 mod says;
 mod sending;
+mod standing;
 mod start;
 mod status;
 mod target;
 mod told;
+mod wanted;
+mod whole;
 
+pub use arrival::Arrival;
 pub use body::Body;
+pub use incoming::Incoming;
 pub use kind::Kind;
 pub use length::MAX_BODY_BYTES;
 pub use reading::{MAX_READS, read_request, receive};
 pub use received::Received;
 pub use response::{write_missing, write_response};
 pub use sending::{is_word, send, send_to};
+pub use standing::Standing;
 pub use status::status_of;
 pub use target::last_segment;
+pub use wanted::Wanted;
+pub use whole::Whole;

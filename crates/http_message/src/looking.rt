@@ -6,8 +6,8 @@ ghost use Rattle.http_message.specs.Head.{IfHead, IsToldOf, IsBounded};
 ghost use Rattle.http_message.specs.declared.kind.Kind.TheVariants as kinds;
 ghost use Rattle.http_message.specs.declared.look.Look.TheVariants as looks;
 
+use crate::expect::expects_continue;
 use crate::kind::Kind;
-use crate::length::MAX_BODY_BYTES;
 use crate::look::Look;
 use crate::says::says;
 use crate::start::Start;
@@ -25,10 +25,10 @@ pub const MAX_FIELDS: usize = 64;
 // Where what a response hasn't stands.
 const NOWHERE: Span = Span { start: 0, end: 0 };
 
-fn look_for_request(bytes: &[u8]) -> Look
+fn look_for_request(bytes: &[u8], most: u32) -> Look
     ensures head { IfHead result (λ told. (head : Head) × StartsWith kinds.Request bytes.now head
-        × IsToldOf bytes.now head told) }
-    ensures bound { IfHead result (IsBounded MAX_BODY_BYTES (length bytes.now)) }
+        × IsToldOf most bytes.now head told) }
+    ensures bound { IfHead result (IsBounded most (length bytes.now)) }
     ensures part { result ≡ looks.Part → HasNoStart kinds.Request bytes.now }
     ensures never { result ≡ looks.Never
         → (more : List ℕ) → HasNoStart kinds.Request (bytes.now ++ more) }
@@ -44,7 +44,8 @@ fn look_for_request(bytes: &[u8]) -> Look
                 size: head.len,
                 code: 0,
                 target: head.path,
-                says: says(start, bytes, &fields[..head.headers]),
+                says: says(start, bytes, &fields[..head.headers], most),
+                expects_continue: expects_continue(start, bytes, &fields[..head.headers]),
             })
         }
         Ok(Status::Partial) => Look::Part,
@@ -52,10 +53,10 @@ fn look_for_request(bytes: &[u8]) -> Look
     }
 }
 
-fn look_for_response(bytes: &[u8]) -> Look
+fn look_for_response(bytes: &[u8], most: u32) -> Look
     ensures head { IfHead result (λ told. (head : Head) × StartsWith kinds.Response bytes.now head
-        × IsToldOf bytes.now head told) }
-    ensures bound { IfHead result (IsBounded MAX_BODY_BYTES (length bytes.now)) }
+        × IsToldOf most bytes.now head told) }
+    ensures bound { IfHead result (IsBounded most (length bytes.now)) }
     ensures part { result ≡ looks.Part → HasNoStart kinds.Response bytes.now }
     ensures never { result ≡ looks.Never
         → (more : List ℕ) → HasNoStart kinds.Response (bytes.now ++ more) }
@@ -66,7 +67,8 @@ fn look_for_response(bytes: &[u8]) -> Look
             size: head.len,
             code: head.code,
             target: NOWHERE,
-            says: says(Start::Response, bytes, &fields[..head.headers]),
+            says: says(Start::Response, bytes, &fields[..head.headers], most),
+            expects_continue: false,
         }),
         Ok(Status::Partial) => Look::Part,
         Err(_) => Look::Never,
@@ -74,34 +76,34 @@ fn look_for_response(bytes: &[u8]) -> Look
 }
 
 // Looks at all of the bytes.
-fn look_in(kind: Kind, bytes: &[u8]) -> Look
+fn look_in(kind: Kind, bytes: &[u8], most: u32) -> Look
     ensures head { IfHead result (λ told. (head : Head) × StartsWith kind bytes.now head
-        × IsToldOf bytes.now head told) }
-    ensures bound { IfHead result (IsBounded MAX_BODY_BYTES (length bytes.now)) }
+        × IsToldOf most bytes.now head told) }
+    ensures bound { IfHead result (IsBounded most (length bytes.now)) }
     ensures part { result ≡ looks.Part → HasNoStart kind bytes.now }
     ensures never { result ≡ looks.Never → (more : List ℕ) → HasNoStart kind (bytes.now ++ more) }
 {
     match kind {
-        Kind::Request => look_for_request(bytes),
-        Kind::Response => look_for_response(bytes),
+        Kind::Request => look_for_request(bytes, most),
+        Kind::Response => look_for_response(bytes, most),
     }
 }
 
 /// What stands at the front of the bytes: a head, no head yet, or no head whatever bytes follow.
 /// A head has at most `MAX_HEAD_BYTES` and `MAX_FIELDS`, its lines may end with LF alone, and empty
 /// lines may stand before it.
-pub(crate) fn look_for_head(kind: Kind, bytes: &[u8]) -> Look
+pub(crate) fn look_for_head(kind: Kind, bytes: &[u8], most: u32) -> Look
     ensures head { IfHead result (λ told. (head : Head) × BeginsWith kind bytes.now head
-        × IsToldOf bytes.now head told) }
-    ensures bound { IfHead result (IsBounded MAX_BODY_BYTES (length bytes.now)) }
+        × IsToldOf most bytes.now head told) }
+    ensures bound { IfHead result (IsBounded most (length bytes.now)) }
     ensures part { result ≡ looks.Part → HasNoHead kind bytes.now }
     ensures never { result ≡ looks.Never → (more : List ℕ) → HasNoHead kind (bytes.now ++ more) }
     ensures full { MAX_HEAD_BYTES ≤ length bytes.now → ¬ (result ≡ looks.Part) }
 {
     if bytes.len() < MAX_HEAD_BYTES {
-        return look_in(kind, bytes);
+        return look_in(kind, bytes, most);
     }
-    match look_in(kind, &bytes[..MAX_HEAD_BYTES]) {
+    match look_in(kind, &bytes[..MAX_HEAD_BYTES], most) {
         Look::Head(told) => Look::Head(told),
         Look::Part | Look::Never => Look::Never,
     }

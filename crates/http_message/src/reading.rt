@@ -1,4 +1,4 @@
-//! Messages that are read, no further than one read goes past them.
+//! Messages that are read, and nothing behind them but what comes with a head.
 
 ghost use Rattle.std.specs.Prelude.{◌≡◌, ◌<◌, ◌≤◌, ◌+◌, ◌-◌, ◌^◌, length, take};
 ghost use Rattle.std.specs.Prelude.{[], IfErr, IfOk, IfSome, OnOk, vec_len};
@@ -6,19 +6,18 @@ ghost use Rattle.std.specs.Io.KnownBytes.{IsAtEnd};
 ghost use Rattle.streams.specs.Streams.{used};
 ghost use Rattle.streams.specs.declared.refused.Refused.TheVariants.{ReadFailed};
 ghost use Rattle.http_message.specs.Message.{Carries, HasTarget};
-ghost use Rattle.http_message.specs.Reading.{Grows, Has, HasFailedIn, HasHead, HasRead};
-ghost use Rattle.http_message.specs.Reading.{IsBodyFault, IsHeadFault, IsMoreFault, IsUnfailed};
-ghost use Rattle.http_message.specs.Reading.{IsUnread};
+ghost use Rattle.http_message.specs.Reading.{Grows, HasFailedIn, HasRead, HasWhole};
+ghost use Rattle.http_message.specs.Reading.{IsMoreFault, IsUnfailed, IsUnread, IsUnreadWithin};
 
-use crate::body::Body;
+use crate::incoming::Incoming;
 use crate::kind::Kind;
-use crate::look::Look;
-use crate::looking::look_for_head;
+use crate::length::MAX_BODY_BYTES;
 use crate::received::Received;
-use crate::told::Told;
+use crate::standing::Standing;
+use crate::whole::Whole;
 use std::alloc::{AllocError, Global};
-use std::io::{ErrorKind, Read};
-use streams::{Counted, Refused};
+use std::io::Read;
+use streams::{Counted, Refused, is_interruption};
 
 /// How many calls of the reader are made for one message at most.
 pub const MAX_READS: u64 = 2_000_000;
@@ -33,7 +32,8 @@ fn zeros(alloc: Global, size: usize) -> Result<Vec<u8>, AllocError>
     vec![in alloc; 0; size]
 }
 
-/// Reads some bytes, none at the end. A read that was interrupted is made again.
+/// Reads some bytes, none at the end. A read that was interrupted or would have blocked is made
+/// again.
 fn read_some<R: Read>(
     reader: &mut Counted<R>,
     buffer: &mut [u8],
@@ -56,7 +56,7 @@ fn read_some<R: Read>(
         match reader.read(buffer) {
             Ok(count) => return Ok(count),
             Err(error) => {
-                if error.kind() != ErrorKind::Interrupted {
+                if !is_interruption(&error) {
                     return Err(Refused::ReadFailed);
                 }
             }
@@ -65,82 +65,63 @@ fn read_some<R: Read>(
     Err(Refused::ReadFailed)
 }
 
-/// Reads more behind the bytes, and answers how many came: none at the end.
+/// Reads a piece of a message, of at most so many bytes, and answers how many came: none at the
+/// end.
 fn read_more<R: Read>(
     reader: &mut Counted<R>,
     buffer: &mut [u8],
-    bytes: &mut Vec<u8>,
+    room: usize,
+    incoming: &mut Incoming,
     start: u64,
 ) -> Result<usize, Refused>
-    requires room { 0 < length buffer.old }
+    requires buffer { 0 < length buffer.old }
+    requires room { 0 < room }
     requires low { start ≤ reader.old.calls }
     requires high { reader.old.calls ≤ start + MAX_READS }
     ensures ok { IfOk result (Grows start (used R.remaining reader.old reader.new)
-        bytes.old.items bytes.new.items) }
+        incoming.old.bytes incoming.new.bytes) }
+    ensures kind { incoming.new.kind ≡ incoming.old.kind }
+    ensures most { incoming.new.most ≡ incoming.old.most }
     ensures fault { IfErr result (IsMoreFault start (used R.remaining reader.old reader.new)) }
     ensures low { start ≤ reader.new.calls }
     ensures high { reader.new.calls ≤ start + MAX_READS }
 {
-    let count = read_some(reader, buffer, start)?;
-    bytes.extend_from_slice(&buffer[..count])?;
+    let size = usize::min(buffer.len(), room);
+    let count = read_some(reader, &mut buffer[..size], start)?;
+    incoming.push(&buffer[..count])?;
     Ok(count)
 }
 
-/// Reads until a head is there, within its limits. Refuses `BadHead` where none comes, as soon as
-/// none can.
-fn read_head<R: Read>(
+/// Reads until a message is whole. Refuses what it is refused as, as soon as that is known.
+fn read_whole<R: Read>(
     reader: &mut Counted<R>,
-    kind: Kind,
     buffer: &mut [u8],
-    bytes: &mut Vec<u8>,
+    incoming: &mut Incoming,
     start: u64,
-) -> Result<Told, Refused>
-    requires room { 0 < length buffer.old }
-    requires none { bytes.old.items ≡ [] }
+) -> Result<Whole, Refused>
+    requires buffer { 0 < length buffer.old }
+    requires none { incoming.old.bytes ≡ [] }
     requires low { start ≤ reader.old.calls }
     requires high { reader.old.calls ≤ start + MAX_READS }
-    ensures ok { IfOk result (HasHead kind start (used R.remaining reader.old reader.new)
-        bytes.new.items) }
-    ensures fault { IfErr result (IsHeadFault kind start
+    ensures ok { IfOk result (HasWhole incoming.old.most incoming.old.kind start
+        (used R.remaining reader.old reader.new) incoming.new.bytes) }
+    ensures kind { incoming.new.kind ≡ incoming.old.kind }
+    ensures most { incoming.new.most ≡ incoming.old.most }
+    ensures unread { IfErr result (IsUnreadWithin incoming.old.most incoming.old.kind start
         (used R.remaining reader.old reader.new)) }
-    ensures low { start ≤ reader.new.calls }
     ensures high { reader.new.calls ≤ start + MAX_READS }
 {
     loop {
-        match look_for_head(kind, bytes.as_slice()) {
-            Look::Head(told) => return Ok(told),
-            Look::Never => return Err(Refused::BadHead),
-            Look::Part => {}
-        }
-        if read_more(reader, buffer, bytes, start)? == 0 {
-            return Err(Refused::BadHead);
-        }
-    }
-}
-
-/// Reads until as many bytes are there. Refuses `CutShort` where fewer come.
-fn read_body<R: Read>(
-    reader: &mut Counted<R>,
-    buffer: &mut [u8],
-    bytes: &mut Vec<u8>,
-    whole: usize,
-    start: u64,
-) -> Result<(), Refused>
-    requires room { 0 < length buffer.old }
-    requires low { start ≤ reader.old.calls }
-    requires high { reader.old.calls ≤ start + MAX_READS }
-    ensures ok { OnOk result (Has whole start (used R.remaining reader.old reader.new)
-        bytes.old.items bytes.new.items) }
-    ensures fault { IfErr result (IsBodyFault whole start (used R.remaining reader.old reader.new)
-        bytes.old.items bytes.new.items) }
-    ensures high { reader.new.calls ≤ start + MAX_READS }
-{
-    while bytes.len() < whole {
-        if read_more(reader, buffer, bytes, start)? == 0 {
-            return Err(Refused::CutShort);
+        match incoming.look() {
+            Standing::Whole(whole) => return Ok(whole),
+            Standing::Refused(refused) => return Err(refused),
+            Standing::Wanted(wanted) => {
+                if read_more(reader, buffer, wanted.room, incoming, start)? == 0 {
+                    return Err(wanted.refused);
+                }
+            }
         }
     }
-    Ok(())
 }
 
 /// Reads a message: `read_request` and `receive` tell its limits and what it is refused for.
@@ -160,28 +141,18 @@ fn read_message<R: Read>(
 {
     let start = reader.calls();
     let mut buffer = zeros(alloc, READ_SIZE)?;
-    let mut bytes = Vec::new(alloc);
-    let told = read_head(reader, kind, &mut buffer, &mut bytes, start)?;
-    let target = Vec::from_slice(alloc, told.target.of(&bytes))?;
-    let length = told.says?;
-    let whole = told.size + length;
-    match read_body(reader, &mut buffer, &mut bytes, whole, start) {
-        Ok(()) => Ok(Received {
-            status: told.code,
-            target,
-            body: Body::new(bytes, told.size, whole),
-        }),
-        Err(refused) => Err(refused),
-    }
+    let mut incoming = Incoming::new(alloc, kind, MAX_BODY_BYTES as u32);
+    let whole = read_whole(reader, &mut buffer, &mut incoming, start)?;
+    Ok(incoming.into_received(alloc, whole)?)
 }
 
 /// Reads a request (RFC 9112) and gives its target and its body. Fields have any case; what isn't
 /// named here is ignored. Refuses in this order: `BadHead` where no whole head comes within 8,192
 /// bytes and 64 fields, where HTTP/1.1 hasn't one Host, and where Content-Length isn't one field of
 /// digits alone; `NotPost`; `Coding` for any Transfer-Encoding or Content-Encoding; `NoLength`;
-/// `TooLarge` more than 1,048,576 bytes of body; `CutShort`. A read that was interrupted is made
-/// again; where one failed, or 2,000,000 were made, it refuses `ReadFailed`, and `Memory` where
-/// that runs out. Limits and refusals are our own.
+/// `TooLarge` more than 1,048,576 bytes of body; `CutShort`. A read that was interrupted or would
+/// have blocked is made again; where one failed, or 2,000,000 were made, it refuses `ReadFailed`,
+/// and `Memory` where that runs out. Limits and refusals are our own.
 pub fn read_request<R: Read>(alloc: Global, reader: &mut Counted<R>) -> Result<Received, Refused>
     ensures ok { IfOk result (λ request. IfSome (R.remaining reader.old.inner)
         (λ all. Carries Kind.Request all 0 request.body)) }

@@ -6,7 +6,7 @@ ghost use Rattle.http_message.specs.Says.{said};
 ghost use Rattle.http_message.specs.Says as rules;
 
 use crate::field::{Named, find_named};
-use crate::length::{MAX_BODY_BYTES, length_told};
+use crate::length::length_told;
 use crate::start::Start;
 use httparse::spans::HeaderSpan;
 use streams::Refused;
@@ -24,13 +24,18 @@ fn is_coded(bytes: &[u8], fields: &[HeaderSpan]) -> bool
     )
 }
 
-/// The length of the body, or the first refusal.
-pub(crate) fn says(start: Start, bytes: &[u8], fields: &[HeaderSpan]) -> Result<usize, Refused>
+/// The length of the body, of at most so many bytes, or the first refusal.
+pub(crate) fn says(
+    start: Start,
+    bytes: &[u8],
+    fields: &[HeaderSpan],
+    most: u32,
+) -> Result<usize, Refused>
     requires { All (IsHeaderWithin (length bytes.now)) fields.now }
-    ensures value { result ≡ said start (map (header_bytes bytes.now) fields.now) }
-    ensures bound { IfOk result (λ n. n ≤ MAX_BODY_BYTES) }
+    ensures value { result ≡ said most start (map (header_bytes bytes.now) fields.now) }
+    ensures bound { IfOk result (λ n. n ≤ most) }
 {
-    let length = length_told(find_named(b"content-length", bytes, fields));
+    let length = length_told(find_named(b"content-length", bytes, fields), most);
     if let Err(Refused::BadHead) = length {
         return Err(Refused::BadHead);
     }

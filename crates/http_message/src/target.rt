@@ -42,11 +42,22 @@ fn segment_start(path: &[u8]) -> usize
     0
 }
 
+/// Whether a `#` stands in a target.
+fn has_fragment(target: &[u8]) -> bool
+    ensures { result ≡ targets.has_fragment target.now }
+{
+    target.iter().any(|byte| *byte == b'#')
+}
+
 /// The last segment of a target (RFC 3986): what stands behind the last slash of its path, which
-/// ends before a `?`. Nothing of it is decoded.
+/// ends before a `?`. Nothing of it is decoded. A target with a `#` has none: a fragment is no part
+/// of a request (RFC 9112).
 pub fn last_segment(target: &[u8]) -> &[u8]
     ensures { result.now ≡ targets.last_segment target.now }
 {
+    if has_fragment(target) {
+        return &target[..0];
+    }
     let path = path_of(target);
     &path[segment_start(path)..]
 }

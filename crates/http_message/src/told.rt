@@ -12,4 +12,6 @@ pub(crate) struct Told {
     pub target: Span,
     /// How many bytes the body takes, or the first refusal.
     pub says: Result<usize, Refused>,
+    /// Whether the interim response is asked for.
+    pub expects_continue: bool,
 }

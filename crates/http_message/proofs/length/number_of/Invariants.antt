@@ -4,4 +4,4 @@ use Rattle.std.specs.Str.Parse.{digits_value}
 use Rattle.http_message.proofs.length.number_of.Given as goal
 
 abbrev pub invariant-loop-digit : goal.invariant-loop-digit
-invariant-loop-digit l = l.number ≡ min (digits_value 10 (take l.digit-index l.digits)) 1048577
+invariant-loop-digit l = l.number ≡ min (digits_value 10 (take l.digit-index l.digits)) l.above

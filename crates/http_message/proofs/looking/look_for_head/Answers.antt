@@ -7,7 +7,7 @@ use Rattle.http_message.proofs.looking.look_for_head.Goals as goal
 pub returns-then-bytes-lt-MAX_HEAD_BYTES-clause-head :
     goal.returns-then-bytes-lt-MAX_HEAD_BYTES-clause-head
 returns-then-bytes-lt-MAX_HEAD_BYTES-clause-head c =
-    subst (λ (b : List ℕ). IfHead c.look_in.result (λ told. (h : Head) × StartsWith c.args.kind b h × IsToldOf c.args.bytes.now h told))
+    subst (λ (b : List ℕ). IfHead c.look_in.result (λ told. (h : Head) × StartsWith c.args.kind b h × IsToldOf c.args.most c.args.bytes.now h told))
     (sym (few_taken 8192 c.args.bytes.now c.if-bytes-lt-MAX_HEAD_BYTES.true)) c.look_in.ensures.head
 
 pub returns-then-bytes-lt-MAX_HEAD_BYTES-clause-part :
@@ -35,12 +35,12 @@ returns-in-Head-clause-head c =
     let head = c.in-Head.ensures.head in (
       head.0,
       head.1,
-      told_in_front 8192 c.args.bytes.now head.0 c.in-Head.told c.in-Head.ensures.bound.target head.2,
+      told_in_front c.args.most 8192 c.args.bytes.now head.0 c.in-Head.told c.in-Head.ensures.bound.target head.2,
     )
 
 pub returns-in-Head-clause-bound : goal.returns-in-Head-clause-bound
 returns-in-Head-clause-bound c =
-    bounded_in 1048576 8192 c.args.bytes.now c.in-Head.told c.if-bytes-lt-MAX_HEAD_BYTES.false c.in-Head.ensures.bound
+    bounded_in c.args.most 8192 c.args.bytes.now c.in-Head.told c.if-bytes-lt-MAX_HEAD_BYTES.false c.in-Head.ensures.bound
 
 pub returns-in-Part-clause-never : goal.returns-in-Part-clause-never
 returns-in-Part-clause-never c is more head begins =

@@ -2,8 +2,8 @@ use Rattle.std.proofs.Common.{◌<◌, length, inl, refl, rules}
 use Rattle.streams.proofs.Calls.{call_failed, was_failure}
 use Rattle.http_message.proofs.reading.read_some.Goals as goal
 
-pub returns-then-ne-clause-fault : goal.returns-then-ne-clause-fault
-returns-then-ne-clause-fault g c =
+pub returns-then-not-is_interruption-clause-fault : goal.returns-then-not-is_interruption-clause-fault
+returns-then-not-is_interruption-clause-fault g c =
     let so_far = c.loop-reader.invariant.2 in
     let room : 0 < length c.loop-reader.buffer = search rules in (
       refl,

@@ -1,4 +1,4 @@
--- Nothing was read yet, and no read failed. Each turn is a read that was interrupted.
+-- Nothing was read yet, and no read failed. Each turn is a read that is to be made again.
 use Rattle.std.proofs.Common.{[], ◌<◌, ◌≤◌, ◌-◌, ◌+◌, length}
 use Rattle.streams.specs.Streams.{used}
 use Rattle.http_message.specs.Reading.{HasRead}
