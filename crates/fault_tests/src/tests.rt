@@ -6,6 +6,7 @@ mod failing_streams;
 mod fakes;
 mod file_keep;
 mod lent;
+mod memory_disk;
 mod memory_keep;
 mod steps;
 mod texts;

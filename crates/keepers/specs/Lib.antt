@@ -1,3 +1,7 @@
+pub mod Crash
+pub mod Disk
 pub mod Failing
 pub mod InFile
+pub mod InMemory
 pub mod Keeper
+pub mod Saved

@@ -1,6 +1,7 @@
 //! Keepers: what a controller's state is kept in, as one value of bytes.
 #![tactic(auto)]
 
+mod disk;
 mod failing_keep;
 mod file_keep;
 mod file_lock;
@@ -8,13 +9,18 @@ mod files;
 mod keep;
 mod keep_fault;
 mod locks;
+mod memory_disk;
 mod memory_keep;
 mod saved_file;
+mod saving;
 
+pub use disk::Disk;
 pub use failing_keep::FailingKeep;
 pub use file_keep::FileKeep;
 pub use file_lock::FileLock;
 pub use keep::Keep;
 pub use keep_fault::KeepFault;
 pub use locks::Locks;
+pub use memory_disk::MemoryDisk;
 pub use memory_keep::MemoryKeep;
+pub use saving::{load, save, save_first};
