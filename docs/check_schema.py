@@ -20,6 +20,9 @@ OF_FORM = {1, 41, 46}
 MAY_BE_ABSENT = {"Attr", "AuditPool", "JDF", "Locked", "ResourceLinkPool", "ResourcePool",
                  "SpawnIDs", "SpawnStatus", "Stop"}
 
+# The members that may be any text, with line ends.
+TEXTS = {"Text", "Value"}
+
 # What may be written beside the documents of the schema.
 WRITTEN = SCHEMA["anyOf"] + [{"$ref": "#/$defs/" + kind} for kind in ("part", "edit", "resource")]
 
@@ -129,8 +132,7 @@ class Schema:
         return any(type(value) is type(x) and value == x for x in rule["enum"])
 
     def pattern_(self, value, rule):
-        pattern = re.sub(r"\$$", r"\\Z", rule["pattern"])
-        return not isinstance(value, str) or re.search(pattern, value) is not None
+        return not isinstance(value, str) or re.search(rule["pattern"], value) is not None
 
     def maxLength_(self, value, rule):
         return not isinstance(value, str) or len(value) <= rule["maxLength"]
@@ -246,7 +248,8 @@ def fault_of(kind, text, answer):
 
 
 def spoiled(value):
-    """A value with one member more, or without one that has to be there, at each place in turn."""
+    """A value with one member more, without one that has to be there, or with a line end behind a
+    word, at each place in turn."""
     if isinstance(value, list):
         for place, item in enumerate(value):
             yield from (value[:place] + [bad] + value[place + 1:] for bad in spoiled(item))
@@ -255,6 +258,8 @@ def spoiled(value):
         for name, item in value.items():
             if name not in MAY_BE_ABSENT:
                 yield {other: x for other, x in value.items() if other != name}
+            if isinstance(item, str) and name not in TEXTS:
+                yield {**value, name: item + "\n"}
             if name != "Attr":
                 yield from ({**value, name: bad} for bad in spoiled(item))
 
