@@ -10,6 +10,10 @@ use Rattle.streams.specs.declared.refused.Refused.TheVariants as refusals
 abbrev pub done_status : ℕ
 done_status = 200
 
+-- the status where a request is to blame
+abbrev pub bad_status : ℕ
+bad_status = 400
+
 -- the status where a request names nothing that is there
 abbrev pub missing_status : ℕ
 missing_status = 404

@@ -1,5 +1,6 @@
 -- The texts of a request and of a response.
 use Rattle.std.specs.Prelude.{◌&&◌, ◌==◌, ℕ, Bool, List, [], ◌++◌, length, codes, decimal, not}
+use Rattle.std.specs.Prelude.{if◌then◌else◌}
 use Rattle.std.specs.Char.{is_ascii_graphic}
 use Rattle.std.specs.List.{list_all}
 use Rattle.std.specs.Prelude.{Option, Some, None, Result, Ok, Err, option_map}
@@ -7,7 +8,9 @@ use Rattle.std.specs.Borrow.{Bor}
 use Rattle.http.specs.StatusCode.{code_digits}
 use Rattle.streams.specs.declared.refused.Refused.{Refused}
 use Rattle.streams.specs.declared.refused.Refused.TheVariants.{NotPost}
-use Rattle.http_message.specs.Status.{done_status, missing_status, status_of, phrase_of}
+use Rattle.streams.specs.Refused.{name_of, number_of}
+use Rattle.http_message.specs.Status.{bad_status, done_status, missing_status, status_of}
+use Rattle.http_message.specs.Status.{phrase_of}
 
 -- a line of a head
 abbrev pub head_line : List ℕ → List ℕ
@@ -77,6 +80,23 @@ missing_text = status_text missing_status plain_line (codes "no controller of th
 abbrev pub response_text : Result (Option (List ℕ)) Refused → List ℕ
 response_text (Ok body) = answer_text body
 response_text (Err e) = refusal_text e
+
+-- what tells a refusal, as JSON
+abbrev pub refusal_body : Refused → List ℕ
+refusal_body e =
+    codes "{\"Name\":\"" ++ name_of e ++ codes "\",\"Refused\":" ++ decimal (number_of e) ++ codes "}"
+
+-- the response of a server to a request that was refused: where the request is to blame, its body
+-- tells the refusal
+abbrev pub told_text : Refused → List ℕ
+told_text e =
+    if status_of e == bad_status then status_text bad_status type_line (refusal_body e)
+    else refusal_text e
+
+-- the response of a server to a request that was answered or refused
+abbrev pub served_text : Result (Option (List ℕ)) Refused → List ℕ
+served_text (Ok body) = answer_text body
+served_text (Err e) = told_text e
 
 -- what was answered, with the body itself for the reference to it
 abbrev pub answer_of : Result (Option (Bor (List ℕ))) Refused → Result (Option (List ℕ)) Refused

@@ -61,7 +61,7 @@ fn write_parts<'a, W: Write>(
 }
 
 /// Writes a response of this status.
-fn write_status<W: Write>(
+pub(crate) fn write_status<W: Write>(
     writer: &mut Counted<W>,
     status: StatusCode,
     lines: &[u8],

@@ -1,15 +1,20 @@
--- A keeper in a file, as far as anything is known of it.
-use Rattle.std.specs.Prelude.{◌≡◌, ℕ, Bool, List}
+-- A keeper in the file of a disk.
+use Rattle.std.specs.Prelude.{◌≡◌, ℕ, Bool, List, unwrap_or, []}
+use Rattle.keepers.specs.Disk.{View}
 use Rattle.keepers.specs.Keeper.{CountRose}
 
--- the path of the file, whether the first save makes the file, and how many calls failed
-pub record InFile : Type 0 where
-  pub path : List ℕ
+-- the disk, and whether the first save makes the file
+pub record InFile (D : Type 0) : Type 0 where
+  pub disk : D
   pub is_new : Bool
-  pub count : ℕ
 
--- a call that fails: any may, and it changes the number of failures alone, which rises
-pub record Fails (old new : InFile) : Type 0 where
-  pub path : new.path ≡ old.path
+-- what a read of the file gives; nothing where there is none
+abbrev pub held_in : View → List ℕ
+held_in v = unwrap_or v.file []
+
+-- a call that fails: any may; the file's place is the same, and the number of failures rises
+pub record Fails {D : Type 0} (place : D → List ℕ) (count : D → ℕ) (old new : InFile D)
+    : Type 0 where
+  pub same_place : place new.disk ≡ place old.disk
   pub is_new : new.is_new ≡ old.is_new
-  pub raised : CountRose old.count new.count
+  pub raised : CountRose (count old.disk) (count new.disk)

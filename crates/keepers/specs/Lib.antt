@@ -4,4 +4,5 @@ pub mod Failing
 pub mod InFile
 pub mod InMemory
 pub mod Keeper
+pub mod OnDisk
 pub mod Saved

@@ -76,7 +76,7 @@ impl FailingKeep {
 }
 
 impl Keep for FailingKeep {
-    ghost use Rattle.std.specs.Prelude.{◌≡◌, ◌&&◌, not, true, IsErrOf};
+    ghost use Rattle.std.specs.Prelude.{◌≡◌, ◌&&◌, [], not, false, true, IsErrOf};
     ghost use Rattle.keepers.specs.Failing.{LoadFails, LoadsOrFails, SaveFails, SavesOrFails};
     ghost use Rattle.keepers.specs.Failing.{is_due};
     ghost use Rattle.keepers.specs.Keeper.{CountsFailure, Loads, Saves};
@@ -84,6 +84,20 @@ impl Keep for FailingKeep {
     ghost held = { λ keep. keep.held };
 
     ghost is_honest = { λ _. true };
+
+    ghost place = { λ _. [] };
+
+    ghost is_durable = { false };
+
+    ghost may_leave = { λ _ _. ⊥ };
+
+    ghost moment = { λ _. 0 };
+
+    ghost left_since = { λ _ _ _. ⊥ };
+
+    ghost counts_now = { λ _ _ _ _ now. now };
+
+    ghost only_now = { λ _ _ now. now };
 
     ghost count = { λ keep. keep.count };
 

@@ -1,149 +1,184 @@
-use crate::files::read_file;
+use crate::disk::Disk;
+use crate::file_lock::lock_file;
 use crate::keep::Keep;
 use crate::keep_fault::KeepFault;
 use crate::locks::Locks;
-use crate::saved_file::{make_file, replace_file};
+use crate::saving;
+use crate::system_disk::SystemDisk;
 use std::alloc::Global;
-use std::fs;
 use std::marker::Model;
 
-/// A keeper in a file (our own). Nothing is promised of the file's bytes, since others may write it
-/// too; but a call fails only where an error of the system was counted.
+/// A keeper in the file of a disk (our own). It is as honest and as durable as the disk is. Of the
+/// system's disk it is made by taking the lock of the file, and has that until it is dropped: there
+/// is none of a file that is there without its lock, and of two that work on one file, one comes
+/// after the other.
 #[derive(Drop)]
-pub struct FileKeep<'a, R: Locks> {
-    rt: &'a R,
-    alloc: Global,
-    path: &'a str,
+pub struct FileKeep<D: Disk> {
+    disk: D,
     is_new: bool,
-    failures: u64,
 }
 
-impl<'a, R: Locks> Model for FileKeep<'a, R> {
+impl<D: Disk> Model for FileKeep<D> {
     ghost use Rattle.keepers.specs.InFile.{InFile};
 
-    ghost Value = { InFile };
+    ghost Value = { InFile D };
 
-    ghost view = { λ keep. record {
-      path = keep.path.now;
-      is_new = keep.is_new;
-      count = keep.failures;
-    } };
+    ghost view = { λ keep. record { disk = keep.disk; is_new = keep.is_new } };
 }
 
-impl<'a, R: Locks> FileKeep<'a, R> {
-    ghost use Rattle.std.specs.Prelude.{◌≡◌, ◌≤◌, true, false, IsErrOf};
-    ghost use Rattle.keepers.specs.Keeper.{CountRose};
+impl<D: Disk> FileKeep<D> {
+    ghost use Rattle.std.specs.Prelude.{◌≡◌};
 
-    /// A keeper in the file of this path, which is there, and of which no call failed yet.
-    pub fn new(rt: &'a R, alloc: Global, path: &'a str) -> FileKeep<'a, R>
-        ensures { result ≡ record { path = path.now; is_new = false; count = 0 } }
+    /// A keeper in the file of this disk, which is there, or which the first save makes where
+    /// `is_new` says so.
+    pub fn over(disk: D, is_new: bool) -> FileKeep<D>
+        ensures { result ≡ record { disk = disk; is_new = is_new } }
     {
-        FileKeep {
-            rt,
-            alloc,
-            path,
-            is_new: false,
-            failures: 0,
+        FileKeep { disk, is_new }
+    }
+}
+
+impl<'a, R: Locks> FileKeep<SystemDisk<'a, R>> {
+    ghost use Rattle.std.specs.Prelude.{◌≡◌, true, false, IfErr, IfOk, IfSome};
+    ghost use Rattle.keepers.specs.OnDisk.{kept_at};
+
+    /// Waits for the lock of the file of this path, and takes it; it is a keeper in that file, of
+    /// which no call failed yet. The file is opened for writes as well as reads, as a lock over a
+    /// network wants it, and for reads alone where it may not be written: then each save is
+    /// refused. Refuses `Failed` where the system does, and where the path leads to no file, as one
+    /// of a link or of a folder. It leaves nothing behind.
+    pub fn lock(
+        rt: &'a R,
+        alloc: Global,
+        path: &'a str,
+    ) -> Result<FileKeep<SystemDisk<'a, R>>, KeepFault>
+        ensures ok { IfOk result (λ keep. keep ≡ kept_at path.now false) }
+        ensures only { IfErr result (λ fault. fault ≡ KeepFault.Failed) }
+    {
+        match lock_file(rt, path, true)? {
+            Some(file) => Ok(FileKeep::over(
+                SystemDisk::locked(rt, alloc, path, file, true),
+                false,
+            )),
+            None => Err(KeepFault::Failed),
+        }
+    }
+
+    /// The same without a wait: none where another has the lock. Nor does a save of it wait: it fails
+    /// where another has locked what is left under the draft's name.
+    pub fn try_lock(
+        rt: &'a R,
+        alloc: Global,
+        path: &'a str,
+    ) -> Result<Option<FileKeep<SystemDisk<'a, R>>>, KeepFault>
+        ensures ok { IfOk result (λ found. IfSome found (λ keep. keep ≡ kept_at path.now false)) }
+        ensures only { IfErr result (λ fault. fault ≡ KeepFault.Failed) }
+    {
+        match lock_file(rt, path, false)? {
+            Some(file) => Ok(Some(FileKeep::over(
+                SystemDisk::locked(rt, alloc, path, file, false),
+                false,
+            ))),
+            None => Ok(None),
         }
     }
 
     /// A keeper in the file of this path, which isn't there until the first save makes it; that
-    /// fails where something is there by then. No call of it failed yet.
-    pub fn create_new(rt: &'a R, alloc: Global, path: &'a str) -> FileKeep<'a, R>
-        ensures { result ≡ record { path = path.now; is_new = true; count = 0 } }
+    /// fails where something is there by then. No call of it failed yet. Once it made the file, it
+    /// has its lock.
+    pub fn create_new(rt: &'a R, alloc: Global, path: &'a str) -> FileKeep<SystemDisk<'a, R>>
+        ensures { result ≡ kept_at path.now true }
     {
-        FileKeep {
-            rt,
-            alloc,
-            path,
-            is_new: true,
-            failures: 0,
-        }
+        FileKeep::over(SystemDisk::unmade(rt, alloc, path), true)
     }
 
     /// Whether something is there under the path, be it a file, a folder or a link, also one that
     /// leads nowhere. No contract says more: others may make or remove it at any time.
     pub fn exists(&self) -> bool {
-        fs::symlink_metadata(self.rt, self.path).is_ok()
-    }
-
-    /// Puts these bytes into the file, as the first save or as a later one.
-    fn store(&self, bytes: &[u8]) -> Result<(), KeepFault> {
-        if self.is_new {
-            make_file(self.rt, self.alloc, self.path, bytes)
-        } else {
-            replace_file(self.rt, self.alloc, self.path, bytes)
-        }
-    }
-
-    /// What a call answers, which is counted if it failed.
-    fn counted<T>(&mut self, answer: Result<T, KeepFault>) -> Result<T, KeepFault>
-        ensures answer { result ≡ answer }
-        ensures path { self.new.path ≡ self.old.path }
-        ensures is_new { self.new.is_new ≡ self.old.is_new }
-        ensures kept { self.old.count ≤ self.new.count }
-        ensures raised { IsErrOf result KeepFault.Failed →
-            CountRose self.old.count self.new.count }
-    {
-        if let Err(KeepFault::Failed) = &answer {
-            self.failures = self.failures.saturating_add(1);
-        }
-        answer
+        self.disk.exists()
     }
 }
 
-impl<'a, R: Locks> Keep for FileKeep<'a, R> {
-    ghost use Rattle.std.specs.Prelude.{◌≡◌, [], false, OnOk, OnErr, IsErrOf};
-    ghost use Rattle.keepers.specs.InFile.{Fails};
-    ghost use Rattle.keepers.specs.Keeper.{CountsFailure};
+impl<D: Disk> Keep for FileKeep<D> {
+    ghost use Rattle.std.specs.Prelude.{◌≡◌, true, false, IfErr, OnOk, OnErr};
+    ghost use Rattle.keepers.specs.Crash.{LeavesOnly};
+    ghost use Rattle.keepers.specs.Disk.{KeepsFile};
+    ghost use Rattle.keepers.specs.InFile.{Fails, held_in};
+    ghost use Rattle.keepers.specs.Keeper.{CountsFailure, Loads};
+    ghost use Rattle.keepers.specs.Saved.{IsOldOrNew, SavesFile};
 
-    ghost held = { λ _. [] };
+    ghost held = { λ keep. held_in (D.view keep.disk) };
 
-    ghost is_honest = { λ _. false };
+    ghost is_honest = { λ _. D.is_honest };
 
-    ghost count = { λ keep. keep.count };
+    ghost place = { λ keep. D.place keep.disk };
 
-    ghost load_fails = { Fails };
+    ghost is_durable = { D.is_honest };
 
-    ghost save_fails = { λ old _ new. Fails old new };
+    ghost may_leave = { λ keep. (D.view keep.disk).may_leave };
+
+    ghost moment = { λ keep. D.moment keep.disk };
+
+    ghost left_since = { λ keep. D.left_since keep.disk };
+
+    ghost count = { λ keep. D.faults keep.disk };
+
+    ghost load_fails = { Fails D.place D.faults };
+
+    ghost save_fails = { λ old _ new. Fails D.place D.faults old new };
+
+    ghost counts_now = { λ keep. D.counts_now keep.disk };
+
+    ghost only_now = { λ keep. D.only_now keep.disk };
 
     /// Reads the file to its end.
     fn load(&mut self) -> Result<Vec<u8>, KeepFault>
-        ensures path { self.new.path ≡ self.old.path }
+        ensures value { D.is_honest ≡ true → Loads (held_in (D.view self.old.disk)) result }
+        ensures file { D.is_honest ≡ true →
+            KeepsFile (D.view self.old.disk) (D.view self.new.disk) }
+        ensures any_moment { D.is_honest ≡ true →
+            LeavesOnly (λ keep. D.moment keep.disk) (λ keep. D.left_since keep.disk)
+            self.old self.new (D.view self.old.disk).may_leave }
+        ensures place { D.place self.new.disk ≡ D.place self.old.disk }
         ensures is_new { self.new.is_new ≡ self.old.is_new }
-        ensures fails { IsErrOf result KeepFault.Failed → Fails self.old self.new }
-        ensures failures { CountsFailure self.old.count self.new.count result }
+        ensures failures { CountsFailure (D.faults self.old.disk) (D.faults self.new.disk) result }
     {
-        if self.failures == u64::MAX {
+        if self.disk.failures() == u64::MAX {
             return Err(KeepFault::Failed);
         }
-        let answer = read_file(self.rt, self.alloc, self.path);
-        self.counted(answer)
+        saving::load(&mut self.disk)
     }
 
-    /// Writes the bytes to a file beside it, with `.new` behind its name and with its permissions,
-    /// syncs that, renames it, and syncs the folder. A file that is to be made gets its name only
-    /// where nothing has that. What is left under the other name, as by a program that was ended,
-    /// is removed, once nobody has its lock; and so it is where the save fails. Refuses `Failed`
-    /// also where the path leads to no file, as one of a link, or to one that may not be written.
+    /// Writes the bytes to a draft beside the file, with `.new` behind its name and with its
+    /// permissions, syncs that, renames it, and syncs the folder. A file that is to be made gets
+    /// its name only where nothing has that. What is left under the draft's name, as by a program
+    /// that was ended, is removed, once nobody has its lock; and so it is where the save fails.
+    /// Refuses `Failed` also where the path leads to no file, as one of a link, or to one that may
+    /// not be written.
     fn save(&mut self, bytes: &[u8]) -> Result<(), KeepFault>
-        ensures path { self.new.path ≡ self.old.path }
+        ensures saves { D.is_honest ≡ true →
+            SavesFile (D.view self.old.disk) bytes.now (D.view self.new.disk) result }
+        ensures any_moment { D.is_honest ≡ true →
+            LeavesOnly (λ keep. D.moment keep.disk) (λ keep. D.left_since keep.disk)
+            self.old self.new (IsOldOrNew (D.view self.old.disk).may_leave bytes.now) }
+        ensures place { D.place self.new.disk ≡ D.place self.old.disk }
+        ensures only { IfErr result (λ fault. fault ≡ KeepFault.Failed) }
+        ensures failures { CountsFailure (D.faults self.old.disk) (D.faults self.new.disk) result }
         ensures made { OnOk result (self.new.is_new ≡ false) }
         ensures is_new { OnErr result (self.new.is_new ≡ self.old.is_new) }
-        ensures fails { IsErrOf result KeepFault.Failed → Fails self.old self.new }
-        ensures failures { CountsFailure self.old.count self.new.count result }
     {
-        if self.failures == u64::MAX {
+        if self.disk.failures() == u64::MAX {
             return Err(KeepFault::Failed);
         }
-        let answer = self.store(bytes);
-        if answer.is_ok() {
+        if self.is_new {
+            saving::save_first(&mut self.disk, bytes)?;
             self.is_new = false;
+            return Ok(());
         }
-        self.counted(answer)
+        saving::save(&mut self.disk, bytes)
     }
 
     fn failures(&self) -> u64 {
-        self.failures
+        self.disk.failures()
     }
 }

@@ -2,6 +2,8 @@
 #![tactic(auto)]
 
 mod disk;
+mod draft_file;
+mod draft_path;
 mod failing_keep;
 mod file_keep;
 mod file_lock;
@@ -11,16 +13,16 @@ mod keep_fault;
 mod locks;
 mod memory_disk;
 mod memory_keep;
-mod saved_file;
 mod saving;
+mod system_disk;
 
 pub use disk::Disk;
 pub use failing_keep::FailingKeep;
 pub use file_keep::FileKeep;
-pub use file_lock::FileLock;
 pub use keep::Keep;
 pub use keep_fault::KeepFault;
 pub use locks::Locks;
 pub use memory_disk::MemoryDisk;
 pub use memory_keep::MemoryKeep;
 pub use saving::{load, save, save_first};
+pub use system_disk::SystemDisk;

@@ -28,11 +28,25 @@ impl MemoryKeep {
 }
 
 impl Keep for MemoryKeep {
-    ghost use Rattle.std.specs.Prelude.{◌≡◌, true, IfOk, OnOk, OnErr, IfErr};
+    ghost use Rattle.std.specs.Prelude.{◌≡◌, [], false, true, IfOk, OnOk, OnErr, IfErr};
 
     ghost held = { λ keep. keep };
 
     ghost is_honest = { λ _. true };
+
+    ghost place = { λ _. [] };
+
+    ghost is_durable = { false };
+
+    ghost may_leave = { λ _ _. ⊥ };
+
+    ghost moment = { λ _. 0 };
+
+    ghost left_since = { λ _ _ _. ⊥ };
+
+    ghost counts_now = { λ _ _ _ _ now. now };
+
+    ghost only_now = { λ _ _ now. now };
 
     ghost count = { λ _. 0 };
 

@@ -1,1 +1,4 @@
 pub mod Reading
+pub mod Coming
+pub mod Giving
+pub mod Turning

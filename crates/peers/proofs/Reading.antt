@@ -15,7 +15,7 @@ use Rattle.peers.specs.declared.event.Event.{Event}
 use Rattle.peers.specs.declared.event.Event.TheVariants as events
 
 -- nothing is read of what stays
-nothing_read : (known : Option (List ℕ)) → Consumes known known []
+pub nothing_read : (known : Option (List ℕ)) → Consumes known known []
 nothing_read None = tt
 nothing_read (Some all) = refl
 
@@ -66,7 +66,7 @@ pub failed : {T : Type 0} (known : T → Option (List ℕ)) (now : ℕ) (w : Wan
     → new ≡ closed (with_came came s) → ReadsOn known now w before after old new events.Closed
 failed known now w before after old s new came a same read arrives is left =
     let gave = gave_as known w.room before after s.came came a arrivals.Failed is (record { read = read; arrives = arrives }) in
-    (inl gave.read, left_closed w.room (known before.inner) (known after.inner) old s new came same gave.arrives.0 left)
+    (inl gave.read, left_closed w.room (known before.inner) (known after.inner) old s new came same gave.arrives.0 left, gave.arrives.1)
 
 empty_of : (bytes : List ℕ) → length bytes ≡ 0 → bytes ≡ []
 empty_of [] none = refl
@@ -80,6 +80,7 @@ ended_empty known now w before after old s new came a same read arrives is none 
     let came_is : came ≡ old.came = gave.arrives.0 ∙ ap (λ o. o.came) same in (
       inr (inl (gave.read, empty_of old.came.bytes (ap (λ k. length k.bytes) (sym came_is) ∙ none))),
       left_closed w.room (known before.inner) (known after.inner) old s new came same gave.arrives.0 left,
+      gave.arrives.1,
     )
 
 pub ended : {T : Type 0} (known : T → Option (List ℕ)) (now : ℕ) (w : Wanted) (before after : Counts T) (old s new : Seen) (came : Came) (a : Arrival)

@@ -1,1 +1,4 @@
 pub mod Peer
+pub mod Client
+pub mod Calls
+pub mod Turn

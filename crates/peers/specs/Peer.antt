@@ -58,6 +58,14 @@ pub record IsPeer (phase : Phase) (asked : Bool) (out : List ℕ) (done : ℕ) :
   pub within : done ≤ length out
   pub unanswered : is_open phase ≡ true → out ≡ interim asked
 
+-- nothing but the interim response is among what is written
+abbrev pub IsUnanswered : Seen → Type 0
+IsUnanswered s = s.out ≡ interim s.asked
+
+-- how many bytes are kept: those that came of the request, and all that is written
+abbrev pub kept_bytes : Seen → ℕ
+kept_bytes s = min (length s.came.bytes + length s.out) (2 ^ 64 - 1)
+
 -- a moment so much later
 abbrev pub later : ℕ → ℕ → ℕ
 later now time = min (now + time) (2 ^ 64 - 1)
@@ -219,7 +227,7 @@ ReadsOn known now w before after old new (events.Refused e) =
     IsRead before after arrivals.Ended × (e ≡ w.refused) × (new ≡ waiting now old)
     × Idles (known before.inner) (known after.inner) × IsAtEnd (known after.inner)
 ReadsOn known now w before after old new events.Closed =
-    EndsHere before after old × (new ≡ closed old)
+    EndsHere before after old × (new ≡ closed old) × Idles (known before.inner) (known after.inner)
 ReadsOn known now w before after old new _ = ⊥
 
 -- memory ran out for what is wanted

@@ -110,6 +110,15 @@ impl Peer {
         self.done < self.out.as_slice().len()
     }
 
+    /// How many bytes are kept of it: of its request, and of what is written to it.
+    pub fn held(&self) -> usize
+        ensures { result ≡ peers.kept_bytes self.now }
+    {
+        self.incoming
+            .len()
+            .saturating_add(self.out.as_slice().len())
+    }
+
     /// Closes it, if its deadline has come.
     pub fn on_time(&mut self, now: u64)
         ensures { self.new ≡ peers.at_time now self.old }
@@ -325,6 +334,8 @@ impl Peer {
             peers.Lingers self.old self.new result }
         ensures quiet { peers.is_quiet self.old.phase ≡ true →
             (self.new ≡ self.old) × (stream.new ≡ stream.old) × (result ≡ events.Wait) }
+        ensures unanswered { peers.is_open self.old.phase ≡ true →
+            peers.IsUnanswered self.old }
     {
         match self.phase {
             Phase::Reading => match self.on_request(alloc, stream, buffer, now) {

@@ -9,3 +9,6 @@ pub mod Rested
 pub mod Cause
 pub mod Station
 pub mod Told
+pub mod Snapshot
+pub mod Saved
+pub mod TakingAll

@@ -3,21 +3,16 @@ use Rattle.std.specs.Prelude.{Bool, Result, Ok, Err}
 use Rattle.std.specs.Result.{result_map_both}
 use Rattle.serde_json.specs.Data.{Data}
 use Rattle.ticket_items.specs.declared.refusal.Refusal.{Refusal}
-use Rattle.master_core.specs.Master as master
-use Rattle.worker_core.specs.Worker as worker
 use Rattle.controller_form.specs.States.MasterForm.{master_state_read}
 use Rattle.controller_form.specs.States.WorkerForm.{worker_state_read}
 use Rattle.stored_state.specs.Held.{Held}
 use Rattle.stored_state.specs.Kind.{kind_in}
+pub use Rattle.stored_state.specs.declared.any_controller.AnyController.{AnyController}
+pub use Rattle.stored_state.specs.declared.any_controller.AnyController.TheVariants.{Master as of_master, Worker as of_worker}
 use Rattle.stored_state.specs.declared.kind.Kind.{Kind}
 use Rattle.stored_state.specs.declared.kind.Kind.TheVariants as kinds
 use Rattle.stored_state.specs.declared.opened.Opened.{Opened}
 use Rattle.stored_state.specs.declared.opened.Opened.TheVariants as opened
-
--- a master or a worker
-pub data AnyController : Type 0 where
-  of_master : master.Known → AnyController
-  of_worker : worker.Known → AnyController
 
 -- what data is read as, where this is its kind or the refusal of that
 abbrev pub state_read_as : Result Kind Refusal → Data → Result AnyController Refusal

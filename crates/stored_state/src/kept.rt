@@ -68,6 +68,7 @@ impl<C: Stored, K: Keep> Kept<C, K> {
         ensures again { IfOk result (λ kept. K.is_honest kept.keep ≡ true →
             IsReadAs C.state_read (K.held kept.keep) (Ok kept.controller)) }
         ensures honest { IfOk result (λ kept. K.is_honest kept.keep ≡ K.is_honest keep) }
+        ensures place { IfOk result (λ kept. K.place kept.keep ≡ K.place keep) }
         ensures fresh { IfOk result (λ kept. kept.stale ≡ false) }
         ensures only { IfErr result (λ e. (e ≡ SaveFailed) ⊎ (e ≡ Core Memory)) }
         ensures failures { IsErrOf result SaveFailed → (after : K)
@@ -87,6 +88,7 @@ impl<C: Stored, K: Keep> Kept<C, K> {
             IsReadAs C.state_read (K.held keep) (Ok kept.controller)) }
         ensures held { IfOk result (λ kept. HoldsSame K.is_honest K.held keep kept.keep) }
         ensures honest { IfOk result (λ kept. K.is_honest kept.keep ≡ K.is_honest keep) }
+        ensures place { IfOk result (λ kept. K.place kept.keep ≡ K.place keep) }
         ensures fresh { IfOk result (λ kept. kept.stale ≡ false) }
         ensures refused { IfErr result
             (IsNotLoaded C.state_read (K.is_honest keep) (K.held keep)) }
@@ -115,6 +117,7 @@ impl<C: Stored, K: Keep> Kept<C, K> {
         ensures again { OnOk result (K.is_honest self.old.keep ≡ true →
             IsReadAs C.state_read (K.held self.new.keep) (Ok self.old.controller)) }
         ensures honest { K.is_honest self.new.keep ≡ K.is_honest self.old.keep }
+        ensures place { K.place self.new.keep ≡ K.place self.old.keep }
         ensures counted { K.count self.old.keep ≤ K.count self.new.keep }
         ensures refused { IfErr result (IsNotSaved K.is_honest K.held K.count K.save_fails
             (compact_text (C.state_data self.old.controller)) self.old.keep self.new.keep) }
@@ -146,6 +149,7 @@ impl<C: Stored, K: Keep> Kept<C, K> {
         ensures again { OnOk result (K.is_honest self.old.keep ≡ true →
             IsReadAs C.state_read (K.held self.new.keep) (Ok self.new.controller)) }
         ensures honest { K.is_honest self.new.keep ≡ K.is_honest self.old.keep }
+        ensures place { K.place self.new.keep ≡ K.place self.old.keep }
         ensures counted { K.count self.old.keep ≤ K.count self.new.keep }
         ensures refused { IfErr result (GivesNothing K.is_honest K.held K.count K.save_fails
             (λ e. e ≡ Memory) (λ text. text ≡ compact_text (C.state_data
@@ -179,6 +183,7 @@ impl<C: Stored, K: Keep> Kept<C, K> {
             IsReadAs C.state_read (K.held self.new.keep) (Ok self.new.controller)) }
         ensures stale { (self.old.stale ≡ true) ↔ IsErrOf result Stale }
         ensures honest { K.is_honest self.new.keep ≡ K.is_honest self.old.keep }
+        ensures place { K.place self.new.keep ≡ K.place self.old.keep }
         ensures counted { K.count self.old.keep ≤ K.count self.new.keep }
         ensures refused { IfErr result (GivesNothing K.is_honest K.held K.count K.save_fails
             (λ e. e ≡ Memory) (λ text. text ≡ compact_text (C.state_data
@@ -212,6 +217,7 @@ impl<C: Stored, K: Keep> Kept<C, K> {
             IsReadAs C.state_read (K.held self.new.keep) (Ok self.new.controller)) }
         ensures stale { (self.old.stale ≡ true) ↔ IsErrOf result Stale }
         ensures honest { K.is_honest self.new.keep ≡ K.is_honest self.old.keep }
+        ensures place { K.place self.new.keep ≡ K.place self.old.keep }
         ensures counted { K.count self.old.keep ≤ K.count self.new.keep }
         ensures refused { IfErr result (GivesNothing K.is_honest K.held K.count K.save_fails
             (IsUndecoded bytes.now) (λ text. IsOfMessage bytes.now (λ m. text
@@ -240,6 +246,7 @@ impl<C: Stored, K: Keep> Kept<C, K> {
         ensures fresh { OnOk result (self.new.stale ≡ false) }
         ensures held { HoldsSame K.is_honest K.held self.old.keep self.new.keep }
         ensures honest { K.is_honest self.new.keep ≡ K.is_honest self.old.keep }
+        ensures place { K.place self.new.keep ≡ K.place self.old.keep }
         ensures counted { K.count self.old.keep ≤ K.count self.new.keep }
         ensures refused { IfErr result
             (IsNotLoaded C.state_read (K.is_honest self.old.keep) (K.held self.old.keep)) }

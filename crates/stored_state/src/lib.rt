@@ -1,6 +1,7 @@
 //! Controllers whose states are kept: each step is saved before anything of it is given out.
 #![tactic(auto)]
 
+mod any_controller;
 mod cause;
 mod kept;
 mod kind;
@@ -9,12 +10,16 @@ mod opened;
 mod order_bytes;
 mod orders;
 mod resting;
+mod saved;
+mod snapshot;
 mod station;
 mod stored;
 mod storing;
 mod taken_bytes;
+mod taking_all;
 mod told;
 
+pub use any_controller::AnyController;
 pub use cause::Cause;
 pub use controller::Controller;
 pub use kept::Kept;
@@ -22,7 +27,10 @@ pub use kind::{Kind, kind_of};
 pub use made::Made;
 pub use opened::{Opened, open_any};
 pub use order_bytes::OrderBytes;
+pub use saved::Saved;
+pub use snapshot::Snapshot;
 pub use station::Station;
 pub use stored::Stored;
 pub use streams::Refused;
 pub use taken_bytes::TakenBytes;
+pub use taking_all::take_all;

@@ -9,14 +9,12 @@ ghost use Rattle.stored_state.specs.Opened.{any_state_read, controller_in, held_
 ghost use Rattle.stored_state.specs.Opened.{keep_in};
 ghost use Rattle.stored_state.specs.Step.{GivesStep, IsLeft};
 
+use crate::any_controller::controller_of;
 use crate::kept::Kept;
-use crate::kind::{Kind, kind_of};
 use crate::order_bytes::OrderBytes;
 use crate::orders::{master_order, worker_order};
 use crate::storing::load_bytes;
 use crate::taken_bytes::TakenBytes;
-use controller_form::StateForm;
-use json_source::{Scratch, tree_of};
 use keepers::Keep;
 use master_core::Master;
 use std::alloc::Global;
@@ -52,6 +50,7 @@ impl<K: Keep> Opened<K> {
             given.reply (option_map (λ b. b.items) given.message)) }
         ensures stale { (is_stale_in self.old ≡ true) ↔ IsErrOf result Stale }
         ensures honest { K.is_honest (keep_in self.new) ≡ K.is_honest (keep_in self.old) }
+        ensures place { K.place (keep_in self.new) ≡ K.place (keep_in self.old) }
         ensures counted { K.count (keep_in self.old) ≤ K.count (keep_in self.new) }
         ensures refused { IfErr result (GivesNothing K.is_honest K.held K.count K.save_fails
             (IsNoOrder bytes.now (controller_in self.old))
@@ -81,6 +80,7 @@ impl<K: Keep> Opened<K> {
             given.reply (option_map (λ b. b.items) given.answer)) }
         ensures stale { (is_stale_in self.old ≡ true) ↔ IsErrOf result Stale }
         ensures honest { K.is_honest (keep_in self.new) ≡ K.is_honest (keep_in self.old) }
+        ensures place { K.place (keep_in self.new) ≡ K.place (keep_in self.old) }
         ensures counted { K.count (keep_in self.old) ≤ K.count (keep_in self.new) }
         ensures refused { IfErr result (GivesNothing K.is_honest K.held K.count K.save_fails
             (IsUndecoded bytes.now)
@@ -104,6 +104,8 @@ pub fn open_any<K: Keep>(alloc: Global, mut keep: K) -> Result<Opened<K>, Refuse
         (λ opened. HoldsSame K.is_honest K.held keep (keep_in opened)) }
     ensures honest { IfOk result
         (λ opened. K.is_honest (keep_in opened) ≡ K.is_honest keep) }
+    ensures place { IfOk result
+        (λ opened. K.place (keep_in opened) ≡ K.place keep) }
     ensures fresh { IfOk result (λ opened. is_stale_in opened ≡ false) }
     ensures refused { IfErr result
         (IsNotLoaded any_state_read (K.is_honest keep) (K.held keep)) }
@@ -111,10 +113,8 @@ pub fn open_any<K: Keep>(alloc: Global, mut keep: K) -> Result<Opened<K>, Refuse
         × K.load_fails keep after × CountRose (K.count keep) (K.count after) }
 {
     let bytes = load_bytes(&mut keep)?;
-    let mut scratch = Scratch::new(alloc);
-    let tree = tree_of(alloc, bytes.as_slice(), &mut scratch)?;
-    match kind_of(&tree)? {
-        Kind::Master => Ok(Opened::Master(Kept::fresh(Master::state_of(alloc, &tree)?, keep))),
-        Kind::Worker => Ok(Opened::Worker(Kept::fresh(Worker::state_of(alloc, &tree)?, keep))),
+    match controller_of(alloc, bytes.as_slice()) {
+        Ok(controller) => Ok(controller.beside(keep)),
+        Err(refusal) => Err(Refused::Core(refusal)),
     }
 }

@@ -57,6 +57,7 @@ pub(crate) fn save_step<C: Stored, K: Keep>(
     ensures again { OnOk result (K.is_honest keep.old ≡ true →
         IsReadAs C.state_read (K.held keep.new) (Ok controller.now)) }
     ensures honest { K.is_honest keep.new ≡ K.is_honest keep.old }
+    ensures place { K.place keep.new ≡ K.place keep.old }
     ensures counted { K.count keep.old ≤ K.count keep.new }
     ensures refused { IfErr result (IsNotSaved K.is_honest K.held K.count K.save_fails
         (compact_text (C.state_data controller.now)) keep.old keep.new) }
@@ -71,6 +72,7 @@ pub(crate) fn save_step<C: Stored, K: Keep>(
 pub(crate) fn save<K: Keep>(keep: &mut K, text: &[u8]) -> Result<(), Refused>
     ensures held { OnOk result (K.is_honest keep.old ≡ true → K.held keep.new ≡ text.now) }
     ensures honest { K.is_honest keep.new ≡ K.is_honest keep.old }
+    ensures place { K.place keep.new ≡ K.place keep.old }
     ensures counted { K.count keep.old ≤ K.count keep.new }
     ensures refused { IfErr result
         (IsNotSaved K.is_honest K.held K.count K.save_fails text.now keep.old keep.new) }
@@ -87,6 +89,7 @@ pub(crate) fn load_bytes<K: Keep>(keep: &mut K) -> Result<Vec<u8>, Refused>
     ensures ok { IfOk result (λ b. K.is_honest keep.old ≡ true → b.items ≡ K.held keep.old) }
     ensures held { HoldsSame K.is_honest K.held keep.old keep.new }
     ensures honest { K.is_honest keep.new ≡ K.is_honest keep.old }
+    ensures place { K.place keep.new ≡ K.place keep.old }
     ensures counted { K.count keep.old ≤ K.count keep.new }
     ensures fails { IsErrOf result LoadFailed → K.load_fails keep.old keep.new }
     ensures failures { IsErrOf result LoadFailed → CountRose (K.count keep.old) (K.count keep.new) }
@@ -117,6 +120,7 @@ pub(crate) fn load<C: Stored, K: Keep>(alloc: Global, keep: &mut K) -> Result<C,
         IsReadAs C.state_read (K.held keep.old) (Ok c)) }
     ensures held { HoldsSame K.is_honest K.held keep.old keep.new }
     ensures honest { K.is_honest keep.new ≡ K.is_honest keep.old }
+    ensures place { K.place keep.new ≡ K.place keep.old }
     ensures counted { K.count keep.old ≤ K.count keep.new }
     ensures fails { IsErrOf result LoadFailed → K.load_fails keep.old keep.new }
     ensures failures { IsErrOf result LoadFailed → CountRose (K.count keep.old) (K.count keep.new) }

@@ -1,0 +1,5 @@
+pub mod Differing
+pub mod Turning
+pub mod Keeping
+pub mod Running
+pub mod Taking

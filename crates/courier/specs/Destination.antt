@@ -1,0 +1,71 @@
+-- What is out to one destination, and what becomes of it.
+use Rattle.std.specs.Prelude.{◌≡◌, ℕ, ◌+◌, ◌*◌, ◌≤◌, ◌<◌, ◌^◌, ◌-◌, ◌==◌, min}
+use Rattle.std.specs.Prelude.{Bool, true, false, not, ◌&&◌, List, [], ◌∷◌, ◌++◌, length, take, drop}
+use Rattle.std.specs.BTreeSet.{BTreeSet}
+use Rattle.courier.specs.declared.TheConstants.{FIRST_DELAY, LAST_DELAY}
+use Rattle.courier.specs.Items.{all_differ, IsSetOf}
+
+-- the items that are out, the next one first; whether that one is in flight; when the next may be
+-- sent; when the last try ended; and how long is waited behind a failure (milliseconds)
+pub record Destination : Type 0 where
+  pub items : List ℕ
+  pub flying : Bool
+  pub due : ℕ
+  pub since : ℕ
+  pub delay : ℕ
+
+-- something may be sent: there is some, and none is in flight
+abbrev pub waits : Destination → Bool
+waits d = not d.flying && not (length d.items == 0)
+
+-- a new one, with nothing out
+abbrev pub new_at : ℕ → Destination
+new_at now = record { items = []; flying = false; due = now; since = now; delay = FIRST_DELAY }
+
+-- one more item is out
+abbrev pub with_item : ℕ → Destination → Destination
+with_item item d = record d { items = d.items ++ item ∷ [] }
+
+-- the first is in flight
+abbrev pub begun : Destination → Destination
+begun d = record d { flying = true }
+
+-- the try failed: its item goes behind the others, and the next waits, twice as long each time
+abbrev pub failed : ℕ → Destination → Destination
+failed now d =
+    record {
+      items = drop 1 d.items ++ take 1 d.items;
+      flying = false;
+      due = min (now + d.delay) (2 ^ 64 - 1);
+      since = now;
+      delay = min (2 * d.delay) LAST_DELAY;
+    }
+
+-- it was answered: its item is out no longer, and the next may be sent at once
+abbrev pub settled : ℕ → Destination → Destination
+settled now d =
+    record {
+      items = drop 1 d.items;
+      flying = false;
+      due = now;
+      since = now;
+      delay = FIRST_DELAY;
+    }
+
+-- it wasn't sent, since it is out no longer
+abbrev pub withdrawn : Destination → Destination
+withdrawn d = record d { items = drop 1 d.items; flying = false }
+
+-- what always holds: a delay is one of the allowed, the next is due no later than the longest delay
+-- behind the last try, what is in flight is out, and nothing is out twice
+pub record IsPaced (d : Destination) : Type 0 where
+  pub long : FIRST_DELAY ≤ d.delay
+  pub short : d.delay ≤ LAST_DELAY
+  pub soon : d.due ≤ d.since + LAST_DELAY
+  pub some : d.flying ≡ true → 0 < length d.items
+  pub differ : all_differ d.items ≡ true
+
+-- the same, and the set of the items that are out
+pub record IsLine (d : Destination) (known : BTreeSet ℕ) : Type 0 where
+  pub paced : IsPaced d
+  pub same : IsSetOf d.items known

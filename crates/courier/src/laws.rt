@@ -1,0 +1,34 @@
+//! Laws of the words that the contracts of this crate use. Each function does nothing: its contract
+//! is the law.
+
+ghost use Rattle.courier.specs.Laws as law;
+
+/// Nothing is given for a destination while something is in flight to it.
+pub fn one_is_given_at_once()
+    ensures { law.OneAtOnce }
+{}
+
+/// What is settled is never given again, unless it is put again.
+pub fn what_is_settled_never_comes_back()
+    ensures { law.NoneComesBack }
+{}
+
+/// What is out comes nearer with each end of a try, whatever is done besides.
+pub fn each_comes_nearer()
+    ensures { law.EachComesNearer }
+{}
+
+/// What fails goes behind the others of its destination.
+pub fn what_fails_goes_behind()
+    ensures { law.WhatFailsGoesBehind }
+{}
+
+/// While a destination waits whose moment has passed, each other has at most one try.
+pub fn each_takes_its_turn()
+    ensures { law.EachTakesItsTurn }
+{}
+
+/// Waiting doubles with each failure in a row, from the first delay to the last.
+pub fn delays_double()
+    ensures { law.DelaysDouble }
+{}

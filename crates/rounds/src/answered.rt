@@ -1,0 +1,16 @@
+use controller::Reply;
+use http_edge::Served;
+use peers::Client;
+
+/// A client who has the response to a request.
+#[derive(Drop)]
+pub struct Answered<S> {
+    /// Under which number the client is kept.
+    pub key: usize,
+    /// The client; none where memory ran out for the response, and then it is closed.
+    pub client: Option<Client<S>>,
+    /// What is told of the request.
+    pub told: Served,
+    /// What its message was taken as, if it was taken.
+    pub reply: Option<Reply>,
+}

@@ -1,0 +1,13 @@
+//! A round of a server: the requests that wait for one controller and their responses, and the
+//! controllers that are kept in memory.
+#![tactic(auto)]
+
+mod answered;
+mod line;
+mod saved_states;
+mod waiting;
+
+pub use answered::Answered;
+pub use line::{answer_all, refuse, refuse_all};
+pub use saved_states::SavedStates;
+pub use waiting::Waiting;

@@ -1,0 +1,259 @@
+//! The requests that wait for one controller, and their responses.
+
+ghost use Rattle.std.specs.Prelude.{◌≡◌, ◌≤◌, [], map, length, IfErr, IfOk, vec_capacity};
+ghost use Rattle.ticket_items.specs.declared.refusal.Refusal.TheVariants.{Memory};
+ghost use Rattle.http_edge.specs.Exchange as exchanges;
+ghost use Rattle.http_message.specs.Status.{status_of as status_for};
+ghost use Rattle.http_message.specs.Texts.{answer_of};
+ghost use Rattle.rounds.specs.Line as line;
+ghost use Rattle.rounds.specs.Line.{AreAnswered, AreRefused, IsAnswered, StepsLine};
+ghost use Rattle.stored_state.specs.TakingAll.{TakesAll, TakesNone};
+
+use crate::answered::Answered;
+use crate::waiting::Waiting;
+use controller::Reply;
+use http_edge::Served;
+use http_message::{served_bytes, status_of};
+use keepers::Keep;
+use peers::Asked;
+use std::alloc::{AllocError, Global};
+use stored_state::{Saved, TakenBytes, take_all};
+use streams::Refused;
+use ticket_items::Refusal;
+
+/// The bodies of those who wait.
+fn bodies_of<S>(alloc: Global, waiting: &[Waiting<S>]) -> Result<Vec<&[u8]>, AllocError>
+    ensures { IfOk result (λ bodies. map (λ b. b.now) bodies.items
+        ≡ line.bodies_of waiting.now) }
+{
+    let mut bodies = Vec::with_capacity(alloc, waiting.len())?;
+    for one in waiting {
+        bodies.push(one.request.body.as_slice())?;
+    }
+    Ok(bodies)
+}
+
+/// What a message was taken as, if it was.
+fn reply_of(came: &Result<TakenBytes, Refused>) -> Option<Reply>
+    ensures { result ≡ line.reply_of came.now }
+{
+    match came {
+        Ok(taken) => taken.reply.ok(),
+        Err(_) => None,
+    }
+}
+
+/// What is told of a message that was taken so.
+fn told_of_reply(reply: Result<Reply, Refusal>) -> Option<Refused>
+    ensures { result ≡ exchanges.refusal_in reply }
+{
+    match reply {
+        Ok(_) => None,
+        Err(refusal) => Some(Refused::Core(refusal)),
+    }
+}
+
+/// What is told of a request of which this came.
+fn told_of(came: &Result<TakenBytes, Refused>) -> Served
+    ensures { result ≡ exchanges.told_of came.now }
+{
+    match came {
+        Ok(taken) => Served {
+            status: 200,
+            refusal: told_of_reply(taken.reply),
+        },
+        Err(refused) => Served {
+            status: status_of(*refused).as_u16(),
+            refusal: Some(*refused),
+        },
+    }
+}
+
+/// The text of an answer, if there is one, or why there is no step.
+fn answer_in(came: &Result<TakenBytes, Refused>) -> Result<Option<&[u8]>, Refused>
+    ensures { answer_of result ≡ exchanges.answer_in came.now }
+{
+    match came {
+        Ok(taken) => match &taken.answer {
+            Some(text) => Ok(Some(text.as_slice())),
+            None => Ok(None),
+        },
+        Err(refused) => Err(*refused),
+    }
+}
+
+/// A client with the response to what came of the request.
+fn answer<S: Drop>(
+    alloc: Global,
+    key: usize,
+    asked: Asked<S>,
+    came: &Result<TakenBytes, Refused>,
+    now: u64,
+) -> Answered<S>
+    ensures { IsAnswered now came.now key asked result }
+{
+    let client = match served_bytes(alloc, &answer_in(came)) {
+        Ok(response) => asked.answer(response.as_slice(), now).ok(),
+        Err(_) => {
+            drop(asked);
+            None
+        }
+    };
+    Answered {
+        key,
+        client,
+        told: told_of(came),
+        reply: reply_of(came),
+    }
+}
+
+/// A client with the response to a request that is refused.
+pub fn refuse<S: Drop>(
+    alloc: Global,
+    key: usize,
+    asked: Asked<S>,
+    refused: Refused,
+    now: u64,
+) -> Answered<S>
+    ensures { IsAnswered now (Err refused) key asked result }
+{
+    answer(alloc, key, asked, &Err(refused), now)
+}
+
+/// Refuses each of these clients.
+pub fn refuse_all<S: Drop>(
+    alloc: Global,
+    waiting: Vec<Waiting<S>>,
+    mut answered: Vec<Answered<S>>,
+    refused: Refused,
+    now: u64,
+) -> Vec<Answered<S>>
+    requires empty { answered.items ≡ [] }
+    requires room { length waiting.items ≤ vec_capacity answered }
+    ensures { AreRefused now refused waiting.items result.items }
+{
+    let came = Err(refused);
+    for one in waiting {
+        let Waiting {
+            key,
+            asked,
+            request,
+        } = one;
+        drop(request);
+        answered.push_reserved(answer(alloc, key, asked, &came, now));
+    }
+    answered
+}
+
+/// What came of a message that was handed on.
+fn came_of(given: Result<TakenBytes, Refusal>) -> Result<TakenBytes, Refused>
+    ensures { result ≡ line.came_of given }
+{
+    match given {
+        Ok(taken) => Ok(taken),
+        Err(refusal) => Err(Refused::Core(refusal)),
+    }
+}
+
+/// A client with the response to a message that was handed on.
+fn give<S: Drop>(
+    alloc: Global,
+    key: usize,
+    asked: Asked<S>,
+    taken: Result<TakenBytes, Refusal>,
+    now: u64,
+) -> Answered<S>
+    ensures { IsAnswered now (line.came_of taken) key asked result }
+{
+    answer(alloc, key, asked, &came_of(taken), now)
+}
+
+/// Answers each of these clients by what the message was taken as.
+fn give_all<S: Drop>(
+    alloc: Global,
+    waiting: Vec<Waiting<S>>,
+    mut answered: Vec<Answered<S>>,
+    given: Vec<Result<TakenBytes, Refusal>>,
+    now: u64,
+) -> Vec<Answered<S>>
+    requires empty { answered.items ≡ [] }
+    requires room { length waiting.items ≤ vec_capacity answered }
+    requires each { length given.items ≡ length waiting.items }
+    ensures { AreAnswered now (map line.came_of given.items) waiting.items result.items }
+{
+    for (one, taken) in waiting.into_iter().zip(given) {
+        let Waiting {
+            key,
+            asked,
+            request,
+        } = one;
+        drop(request);
+        answered.push_reserved(give(alloc, key, asked, taken, now));
+    }
+    answered
+}
+
+/// Why nothing is given out where the controller isn't loaded or saved, as clients are told it:
+/// what a file holds is refused for is none of their business.
+fn refused_to_clients(refused: Refused) -> Refused
+    ensures { status_for result ≡ 503 }
+{
+    match refused {
+        Refused::Core(Refusal::Memory) | Refused::SaveFailed => refused,
+        _ => Refused::LoadFailed,
+    }
+}
+
+/// Hands the messages of these clients, one after the other, to the controller that a keeper holds.
+fn taken<K: Keep, S>(
+    alloc: Global,
+    keep: &mut K,
+    last: Option<Saved>,
+    waiting: &[Waiting<S>],
+    at: u64,
+) -> Result<(Vec<Result<TakenBytes, Refusal>>, Option<Saved>), Refused>
+    ensures ok { IfOk result (λ taken. TakesAll K.is_honest K.held at
+        (line.bodies_of waiting.now) taken.0.items taken.1 keep.old keep.new) }
+    ensures each { IfOk result (λ taken. length taken.0.items ≡ length waiting.now) }
+    ensures none { IfErr result (TakesNone K.is_honest K.held K.place K.count K.load_fails
+        K.save_fails at (line.bodies_of waiting.now) keep.old keep.new) }
+    ensures place { K.place keep.new ≡ K.place keep.old }
+{
+    let bodies = match bodies_of(alloc, waiting) {
+        Ok(bodies) => bodies,
+        Err(_) => {
+            drop(last);
+            return Err(Refused::Core(Refusal::Memory));
+        }
+    };
+    take_all(alloc, keep, last, bodies.as_slice(), at)
+}
+
+/// Hands the messages of the clients who wait for the controller that a keeper holds to it, one
+/// after the other, at a time in seconds since 1970, saves its state once behind the last, and
+/// gives each client the response at this moment, in milliseconds. Gives the controller with the
+/// text that was saved. Where it can't be loaded or saved, each client is refused with a status of
+/// 503.
+pub fn answer_all<K: Keep, S: Drop>(
+    alloc: Global,
+    keep: &mut K,
+    last: Option<Saved>,
+    waiting: Vec<Waiting<S>>,
+    answered: Vec<Answered<S>>,
+    at: u64,
+    now: u64,
+) -> (Vec<Answered<S>>, Option<Saved>)
+    requires empty { answered.items ≡ [] }
+    requires room { length waiting.items ≤ vec_capacity answered }
+    ensures steps { StepsLine K.is_honest K.held K.place K.count K.load_fails K.save_fails at now
+        keep.old keep.new waiting.items result.0.items result.1 }
+    ensures place { K.place keep.new ≡ K.place keep.old }
+{
+    match taken(alloc, keep, last, waiting.as_slice(), at) {
+        Ok((given, saved)) => (give_all(alloc, waiting, answered, given, now), saved),
+        Err(refused) => {
+            let refused = refused_to_clients(refused);
+            (refuse_all(alloc, waiting, answered, refused, now), None)
+        }
+    }
+}
