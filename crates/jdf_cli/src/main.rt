@@ -3,9 +3,12 @@
 //! for messages. `jdf_cli --help` shows each.
 #![tactic(auto)]
 
+mod prompt;
+
+use crate::prompt::Prompt;
 use jdf_net::{NO_CALL, run_words};
 use std::alloc::AllocError;
-use std::io::{ErrorKind, Result, Write};
+use std::io::{ErrorKind, IsTerminal, Result, Write};
 use std::process::ExitCode;
 use std::{env, io};
 use streams::{Counted, Fault, finish};
@@ -22,12 +25,15 @@ fn words_of(rt: &HostRuntime) -> Result<Vec<String>> {
 fn main(rt: HostRuntime) -> ExitCode {
     let mut writer = Counted::new(io::writer(&rt));
     let mut faults = Counted::new(rt.stderr());
+    let input = rt.reader();
+    let is_typed = input.is_terminal();
+    let mut reader = Counted::new(Prompt::new(input, rt.stderr(), is_typed));
     let status = match words_of(&rt) {
         Ok(words) => run_words(
             &rt,
             rt.alloc(),
             words.as_slice(),
-            &mut Counted::new(rt.reader()),
+            &mut reader,
             &mut writer,
             &mut faults,
         ),

@@ -1,48 +1,28 @@
 -- Commands on a controller that a keeper holds, by the steps of the controller that was loaded.
-use Rattle.std.proofs.Common.{◌≡◌, ◌∙◌, ℕ, Bool, List, Option, Result, Ok, Err, IfOk, IfErr, IsErrAnd, inl, inr, subst, sym}
+use Rattle.std.proofs.Common.{◌≡◌, ℕ, Bool, List, Option, Result, Ok, Err, IfErr, inr, subst}
+use Rattle.std.specs.Prelude.{IsErrAnd}
 use Rattle.ticket_items.specs.declared.refusal.Refusal.{Refusal}
 use Rattle.ticket_items.specs.declared.refusal.Refusal.TheVariants.{Memory}
 use Rattle.controller.specs.declared.reply.Reply.{Reply}
-use Rattle.stored_state.specs.AnyStep.{text_of}
+use Rattle.keepers.specs.InFile.{InFile}
+use Rattle.keepers.specs.OnDisk.{OnDisk}
 use Rattle.stored_state.specs.Held.{Held}
-use Rattle.stored_state.specs.Opened.{AnyController}
-use Rattle.stored_state.specs.Step.{GivesStep}
-use Rattle.streams.specs.declared.command.Output.{Output}
+use Rattle.stored_state.specs.declared.any_controller.AnyController.{AnyController}
 use Rattle.streams.specs.declared.fault.Fault.{Fault}
 use Rattle.streams.specs.declared.fault.Fault.TheVariants.{Input}
 use Rattle.streams.specs.declared.refused.Refused.TheVariants.{Core}
-use Rattle.streams.specs.Ends.{IsUnread}
-use Rattle.streams.specs.Streams.{IsInput, Use}
-use Rattle.jdf_commands.specs.FileCommands.Commands.{DoesNoStep, DoesStep, GivesStepOf, Steps}
-use Rattle.jdf_commands.specs.FileCommands.Opening.{IsLoaded}
-use Rattle.jdf_commands.specs.FileCommands.Step.{is_refused, step_lines}
+use Rattle.jdf_commands.specs.Calls as calls
+use Rattle.jdf_commands.specs.FileCommands.Commands.{DoesNoStep, GivesHeld, Steps}
 
--- a step that is given out
-pub step_given : {K : Type 0} (is_honest : K → Bool) (held : K → List ℕ) (IsStep : Steps) (keep : K) (input : Use) (before after : Held AnyController K) (bytes : List ℕ) (reply : Result Reply Refusal) (sent : Option (List ℕ)) → IsLoaded is_honest held keep before → IsInput input bytes → is_honest after.keep ≡ is_honest before.keep → GivesStep is_honest held text_of (IsStep bytes before.controller) after reply sent → GivesStepOf is_honest held IsStep keep input reply sent
-step_given h l IsStep keep input before after bytes reply sent loaded is_input honest gives =
-    (bytes, is_input, after, record { before = before; loaded = loaded; gives = gives; honest = honest ∙ loaded.honest })
+-- memory ran out once a step was saved
+pub untold : {K A : Type 0} (is_honest : K → Bool) (held place : K → List ℕ) (count : K → ℕ) (load_fails : K → K → Type 0) (save_fails : K → List ℕ → K → Type 0) (Refuses : List ℕ → AnyController → Refusal → Type 0) (IsStep : Steps) (bytes : List ℕ) (keep : K) (after : Held AnyController K) (reply : Result Reply Refusal) (sent : Option (List ℕ)) (r : Result A Fault) → IsErrAnd r (λ f. f ≡ Input (Core Memory)) → GivesHeld is_honest held place IsStep bytes keep after reply sent → IfErr r (DoesNoStep is_honest held place count load_fails save_fails Refuses IsStep bytes keep)
+untold h l p n lf sf Refuses IsStep bytes keep after reply sent (Ok a) memory given = tt
+untold h l p n lf sf Refuses IsStep bytes keep after reply sent (Err f) memory given =
+    let gives = given.gives in
+    inr (given.before, given.loaded, after, inr (memory, record { step = gives.step; is_step = gives.is_step.0; saved = gives.saved }))
 
--- and its lines
-pub step_done : {K : Type 0} (is_honest : K → Bool) (held : K → List ℕ) (IsStep : Steps) (keep : K) (input : Use) (reply : Result Reply Refusal) (sent : Option (List ℕ)) (r : Result Output Fault) → GivesStepOf is_honest held IsStep keep input reply sent → IfOk r (λ o. o.text.items ≡ step_lines reply sent) → IfOk r (λ o. o.refused ≡ is_refused reply) → IfOk r (λ o. DoesStep is_honest held IsStep keep input o.text.items o.refused)
-step_done h l IsStep keep input reply sent (Ok o) given lines status =
-    record { reply = reply; sent = sent; given = given; written = lines; told = status }
-step_done h l IsStep keep input reply sent (Err e) given lines status = tt
-
--- or memory ran out for these
-pub step_untold : {K A : Type 0} (is_honest : K → Bool) (held : K → List ℕ) (count : K → ℕ) (load_fails : K → K → Type 0) (save_fails : K → List ℕ → K → Type 0) (Refuses : List ℕ → AnyController → Refusal → Type 0) (IsStep : Steps) (keep : K) (input : Use) (reply : Result Reply Refusal) (sent : Option (List ℕ)) (r : Result A Fault) → GivesStepOf is_honest held IsStep keep input reply sent → IfErr r (λ f. f ≡ Input (Core Memory)) → IfErr r (DoesNoStep is_honest held count load_fails save_fails Refuses IsStep keep input)
-step_untold h l n lf sf Refuses IsStep keep input reply sent (Ok a) given memory = tt
-step_untold h l n lf sf Refuses IsStep keep input reply sent (Err f) given memory =
-    let held = given.3 in
-    let gives = held.gives in
-    inr (held.before, held.loaded, inr (given.0, given.1, given.2, inr (memory, record { step = gives.step; is_step = gives.is_step.0; saved = gives.saved })))
-
--- the input isn't read
-pub not_read : {K A : Type 0} (is_honest : K → Bool) (held : K → List ℕ) (count : K → ℕ) (load_fails : K → K → Type 0) (save_fails : K → List ℕ → K → Type 0) (Refuses : List ℕ → AnyController → Refusal → Type 0) (IsStep : Steps) (keep : K) (input : Use) (before : Held AnyController K) (r : Result A Fault) (e : Fault) → IsErrAnd r (λ f. f ≡ e) → IsLoaded is_honest held keep before → IsUnread input e → IfErr r (DoesNoStep is_honest held count load_fails save_fails Refuses IsStep keep input)
-not_read h l n lf sf Refuses IsStep keep input before (Ok a) e same loaded unread = absurd same
-not_read h l n lf sf Refuses IsStep keep input before (Err f) e same loaded unread =
-    inr (before, loaded, inl (subst (IsUnread input) (sym same) unread))
-
--- a fault that is one by other words
-pub fault_as : {A : Type 0} (P Q : Fault → Type 0) (r : Result A Fault) → ((f : Fault) → P f → Q f) → IfErr r P → IfErr r Q
-fault_as P Q (Ok a) f why = tt
-fault_as P Q (Err e) f why = f e why
+-- the keeper in a file that was locked does no step
+pub none_in_file : {A : Type 0} (Refuses : List ℕ → AnyController → Refusal → Type 0) (IsStep : Steps) (file bytes : List ℕ) (keep : InFile OnDisk) (r : Result A Fault) → keep ≡ calls.kept_in file → IfErr r (DoesNoStep calls.is_honest calls.held calls.place calls.count calls.load_fails calls.save_fails Refuses IsStep bytes keep) → IfErr r (calls.DoesNoneOf Refuses IsStep file bytes)
+none_in_file Refuses IsStep file bytes keep (Ok a) is why = tt
+none_in_file Refuses IsStep file bytes keep (Err f) is why =
+    inr (subst (λ k. DoesNoStep calls.is_honest calls.held calls.place calls.count calls.load_fails calls.save_fails Refuses IsStep bytes k f) is why)

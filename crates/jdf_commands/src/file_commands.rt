@@ -1,7 +1,10 @@
 //! The commands that keep a controller's state in a file: to make it, to give it an order, to hand
 //! it a message, and to show it; and the calls of the program, these and the others.
 
+mod answers;
 mod beginning;
+mod noted;
+mod notes;
 mod opening;
 mod ordering;
 mod pictured;
@@ -10,9 +13,11 @@ mod shown;
 mod step;
 mod taking;
 
-pub use beginning::{begin, new_output};
-pub use ordering::order_output;
-pub use run::{call_output, order_in_file, run_file};
-pub use shown::{show_output, worker_text};
+pub use answers::{answer_output, refusal_told, refused_by};
+pub use beginning::begin;
+pub use noted::{Noted, finish_noting};
+pub use ordering::{Ordered, order_in_file, order_noted};
+pub use run::{call_output, run_file};
+pub use shown::worker_text;
 pub use step::step_output;
-pub use taking::take_output;
+pub use taking::take_in_file;

@@ -9,8 +9,8 @@ mod world_command;
 
 pub use edit_command::run_edit;
 pub use file_commands::{
-    begin, call_output, new_output, order_in_file, order_output, run_file, show_output,
-    step_output, take_output, worker_text,
+    Noted, Ordered, answer_output, begin, call_output, finish_noting, order_in_file, order_noted,
+    refusal_told, refused_by, run_file, step_output, take_in_file, worker_text,
 };
 pub use shown_master::push_shown;
 pub use world_command::{push_line, run_world};

@@ -1,5 +1,6 @@
 pub mod Taking
 mod AllEvents
+mod Answered
 mod AnyCalls
 mod EventLines
 mod FileNames

@@ -1,11 +1,22 @@
 -- How `send` ends.
-use Rattle.std.specs.Prelude.{◌≡◌, ◌⊎◌, ◌++◌, ◌∷◌, ℕ, List, [], false, true}
+use Rattle.std.specs.Prelude.{◌≡◌, ◌≢◌, ◌⊎◌, ◌++◌, ◌∷◌, ℕ, List, [], false, true, Option, Some, None}
+use Rattle.std.specs.Prelude.{MatchResult, Result, Ok, Err, String, string_bytes}
+use Rattle.std.specs.declared.alloc.Global.{Global}
 use Rattle.url.specs.Parts.{Parts, text_between}
 use Rattle.url.specs.declared.slicing.Position.TheVariants.{AfterPort, BeforeUsername}
+use Rattle.ticket_items.specs.declared.refusal.Refusal.{Refusal}
+use Rattle.ticket_items.specs.declared.refusal.Refusal.TheVariants.{Memory}
+use Rattle.controller.specs.declared.message.Message.{Message}
+use Rattle.jmf_message.specs.Decoded.{IsDecodedAs, IsRefusalOf}
 use Rattle.http_message.specs.Texts.{is_word}
-use Rattle.streams.specs.Ends.{GivesOut, GivesUp}
-use Rattle.streams.specs.Streams.{IsUntouched, Use}
+use Rattle.streams.specs.Ends.{GivesOut, GivesUp, Tells}
+use Rattle.streams.specs.Fault.{fault_status}
+use Rattle.streams.specs.Streams.{IsUntouched, Stream, Use}
+use Rattle.streams.specs.declared.refused.Refused.TheVariants.{Core}
 use Rattle.streams.specs.declared.fault.Fault.{Fault}
+use Rattle.streams.specs.declared.fault.Fault.TheVariants.{Input}
+use Rattle.jdf_commands.specs.FileCommands.Answers.{IsRefusedBy, refusal_told}
+use Rattle.jdf_commands.specs.FileCommands.Notes.{TellsNotes}
 
 -- what stands between `//` and the path of a URL
 abbrev pub authority_of : Parts → List ℕ
@@ -20,11 +31,68 @@ abbrev pub answer_line : List ℕ → List ℕ
 answer_line [] = []
 answer_line (c ∷ cs) = (c ∷ cs) ++ 10 ∷ []
 
--- the answer was given out; or another status was told, and nothing was written; or the URL is
--- none, and nothing was read or written; or it gave up
+-- ---- what an answer tells
+
+-- the answer refuses a message, and the line tells who refused
+pub record RefusesBy (answer line : List ℕ) : Type 0 where
+  pub message : Message
+  pub decoded : IsDecodedAs answer (Ok message)
+  pub number : ℕ
+  pub told : refusal_told message.body ≡ Some number
+  pub is : IsRefusedBy number message.sender line
+
+-- there is no answer, or one that refuses none
+abbrev pub RefusesNone : List ℕ → Type 0
+RefusesNone answer =
+    (answer ≡ [])
+    ⊎ ((message : Message) × IsDecodedAs answer (Ok message)
+    × (refusal_told message.body ≡ None))
+
+-- this is the line that tells who refused, if an answer refuses
+abbrev pub IsRefusalIn : List ℕ → Option (String Global) → Type 0
+IsRefusalIn answer None = RefusesNone answer
+IsRefusalIn answer (Some line) = RefusesBy answer (string_bytes line)
+
+-- why it isn't told whether an answer refuses: it is no message, or memory ran out
+abbrev pub IsUntold : List ℕ → Fault → Type 0
+IsUntold answer fault =
+    (fault ≡ Input (Core Memory))
+    ⊎ ((e : Refusal) × (fault ≡ Input (Core e)) × IsRefusalOf answer e)
+
+-- how that is told, and with which status
+abbrev pub TellsRefusal : Result (Option (String Global)) Fault → Use → ℕ → Type 0
+TellsRefusal (Ok None) told status = IsUntouched told × (status ≡ 0)
+TellsRefusal (Ok (Some line)) told status = TellsNotes (string_bytes line) told × (status ≡ 1)
+TellsRefusal (Err fault) told status = Tells fault told × (status ≡ fault_status fault)
+
+-- it is told of this answer
+abbrev pub TellsOfAnswer : List ℕ → Use → ℕ → Type 0
+TellsOfAnswer answer told status =
+    (refusal : Result (Option (String Global)) Fault)
+    × MatchResult refusal (IsRefusalIn answer) (IsUntold answer)
+    × TellsRefusal refusal told status
+
+-- ---- how it ends
+
+-- the line of the answer is given out, or there is no memory for it
+abbrev pub GivesAnswer : List ℕ → Use → Use → ℕ → Type 0
+GivesAnswer answer output told status =
+    GivesOut (answer_line answer) false output told status
+    ⊎ GivesUp (Input (Core Memory)) output told status
+
+-- that wasn't done; or it was, and behind it is told whether the answer refuses
+abbrev pub EndsAnswer : List ℕ → Use → Use → ℕ → Type 0
+EndsAnswer answer output told status =
+    (GivesAnswer answer output told status × (status ≢ 0))
+    ⊎ ((tells : Stream)
+    × GivesAnswer answer output (record { before = told.before; after = tells }) 0
+    × TellsOfAnswer answer (record { before = tells; after = told.after }) status)
+
+-- an answer came, and that is given out; or another status was told, and nothing was written; or
+-- the URL is none, and nothing was read or written; or it gave up
 abbrev pub EndsSend : Use → Use → Use → ℕ → Type 0
 EndsSend input output told status =
-    ((answer : List ℕ) × GivesOut (answer_line answer) false output told status)
+    ((answer : List ℕ) × EndsAnswer answer output told status)
     ⊎ ((IsUntouched output × (status ≡ 1))
     ⊎ ((IsUntouched input × IsUntouched output × (status ≡ 2))
     ⊎ ((fault : Fault) × GivesUp fault output told status)))

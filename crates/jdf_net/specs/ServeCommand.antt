@@ -4,9 +4,10 @@ use Rattle.std.specs.Prelude.{◌≡◌, ◌⊎◌, ℕ, Bool, false, true, List
 use Rattle.std.specs.Prelude.{Result, Ok, Err, IfOk}
 use Rattle.std.specs.Option.{option_map}
 use Rattle.keepers.specs.InFile.{InFile}
+use Rattle.keepers.specs.OnDisk.{OnDisk}
 use Rattle.stored_state.specs.AnyStep.{IsHanded}
 use Rattle.stored_state.specs.Held.{Held}
-use Rattle.stored_state.specs.Opened.{AnyController}
+use Rattle.stored_state.specs.declared.any_controller.AnyController.{AnyController}
 use Rattle.stored_state.specs.declared.taken_bytes.TakenBytes.{TakenBytes}
 use Rattle.streams.specs.declared.refused.Refused.{Refused}
 use Rattle.streams.specs.declared.refused.Refused.TheVariants.{Core}
@@ -17,7 +18,7 @@ use Rattle.http_message.specs.Status.{done_status, missing_status}
 use Rattle.http_message.specs.declared.kind.Kind.TheVariants as kinds
 use Rattle.http_edge.specs.Exchange.{HasBody, told_of}
 use Rattle.http_edge.specs.declared.served.Served.{Served}
-use Rattle.jdf_commands.specs.Calls.{held, is_honest, kept_in}
+use Rattle.jdf_commands.specs.Calls.{held, is_honest, kept_in, place}
 use Rattle.jdf_commands.specs.FileCommands.Commands.{GivesHeld}
 use Rattle.jdf_net.specs.Targets.{named_file}
 use Rattle.jdf_net.specs.declared.serve_command.place.Place.{Place}
@@ -25,17 +26,17 @@ use Rattle.jdf_net.specs.declared.serve_command.place.Place.TheVariants as place
 
 -- the controller that a keeper held made the step of the message that the body is, at a time; what
 -- is given out is that of the step, and the state that it leaves is held
-abbrev pub TakesHeld : {K : Type 0} → (K → Bool) → (K → List ℕ) → ℕ → List ℕ → K
-    → Held AnyController K → TakenBytes → Type 0
-TakesHeld is_honest held at body keep after given =
-    GivesHeld is_honest held (IsHanded at) body keep after given.reply
+abbrev pub TakesHeld : {K : Type 0} → (K → Bool) → (K → List ℕ) → (K → List ℕ) → ℕ → List ℕ
+    → K → Held AnyController K → TakenBytes → Type 0
+TakesHeld is_honest held place at body keep after given =
+    GivesHeld is_honest held place (IsHanded at) body keep after given.reply
     (option_map (λ text. text.items) given.answer)
 
 -- the same of the file of this path, at some time
 abbrev pub TakesInFile : List ℕ → List ℕ → TakenBytes → Type 0
 TakesInFile file body given =
-    (at : ℕ) × (after : Held AnyController InFile)
-    × TakesHeld is_honest held at body (kept_in file) after given
+    (at : ℕ) × (after : Held AnyController (InFile OnDisk))
+    × TakesHeld is_honest held place at body (kept_in file) after given
 
 -- ---- which controller a request is for
 

@@ -31,12 +31,24 @@ impl<'a, R: Clock, S: Drop> Until<'a, R, S> {
     fn left(&self) -> io::Result<Duration>
         ensures some { IfOk result (λ left. 0 < as_nanos left) }
     {
-        let left = self.limit.saturating_sub(self.start.elapsed(self.clock)?);
-        if left.is_zero() {
-            return Err(ErrorKind::TimedOut.into());
-        }
-        Ok(left)
+        time_left(self.clock, self.start, self.limit)
     }
+}
+
+/// What is left of a limit from a start on, which is some. Refuses where nothing is, or where the
+/// clock can't be read.
+pub(crate) fn time_left<R: Clock>(
+    clock: &R,
+    start: Instant,
+    limit: Duration,
+) -> io::Result<Duration>
+    ensures { IfOk result (λ left. 0 < as_nanos left) }
+{
+    let left = limit.saturating_sub(start.elapsed(clock)?);
+    if left.is_zero() {
+        return Err(ErrorKind::TimedOut.into());
+    }
+    Ok(left)
 }
 
 impl<'a, R: Clock, S: OpenStream> Until<'a, R, S> {

@@ -17,16 +17,17 @@ pub(crate) const PROGRAM: &str = "Keeps the tickets of a print shop: edits one, 
     With no word at all it edits a ticket, as `jdf_cli edit` does.";
 
 /// A line of words for each command.
-pub(crate) const EXAMPLES: &str = "Examples:\n  \
-    jdf_cli edit < brochure.json\n  \
-    jdf_cli world < shop.json\n  \
-    jdf_cli loop < shop.json\n  \
-    jdf_cli new mis.json < start.json\n  \
-    jdf_cli order mis.json --at 1767225600 < order.json\n  \
-    jdf_cli take press.json --at 1767225605 < message.json\n  \
-    jdf_cli show mis.json\n  \
-    jdf_cli serve press.json --listen 127.0.0.1:8010\n  \
-    jdf_cli send http://127.0.0.1:8010/jmf message.json";
+pub(crate) const EXAMPLES: &str = "Examples, at the top of the repository:\n  \
+    jdf_cli edit < examples/brochure.json\n  \
+    jdf_cli world < examples/shop.json\n  \
+    jdf_cli loop < examples/lost.json\n  \
+    jdf_cli new mis < examples/shop/mis.json\n  \
+    jdf_cli new press < examples/shop/press.json\n  \
+    jdf_cli order mis --at 1767225600 < examples/shop/spawn.json > sent\n  \
+    sed 1d sent | jdf_cli take press --at 1767225605\n  \
+    jdf_cli show mis\n  \
+    jdf_cli serve press --listen 127.0.0.1:8010 &\n  \
+    sed 1d sent | jdf_cli send http://127.0.0.1:8010/jmf";
 
 pub(crate) const EDIT: Help = Help {
     about: "Edits a ticket: reads it and its edits, prints a line for each edit and the ticket",
@@ -34,7 +35,7 @@ pub(crate) const EDIT: Help = Help {
         Reads from standard input a ticket and its edits. Prints a line for each edit, whether\n\
         it was made or why it was refused, and then the ticket. With no word at all, the program\n\
         does the same.",
-    example: "Example:\n  jdf_cli edit < brochure.json",
+    example: "Example:\n  jdf_cli edit < examples/brochure.json",
 };
 
 pub(crate) const WORLD: Help = Help {
@@ -42,24 +43,25 @@ pub(crate) const WORLD: Help = Help {
     long_about: "Runs a whole shop, a master and its workers.\n\n\
         Reads from standard input the script of a shop. Prints a line for each event, and then\n\
         the master's ticket.",
-    example: "Example:\n  jdf_cli world < shop.json",
+    example: "Example:\n  jdf_cli world < examples/shop.json",
 };
 
 pub(crate) const LOOP: Help = Help {
     about: "Runs a shop over the network: reads its script, prints what `world` prints",
     long_about: "Runs a whole shop, a master and its workers, over the machine's own network.\n\n\
-        Reads from standard input the script of a shop. Each message is sent over HTTP to a\n\
-        controller that listens on 127.0.0.1. Prints a line for each event, and then the\n\
-        master's ticket, as `world` does.",
-    example: "Example:\n  jdf_cli loop < shop.json",
+        Reads from standard input the script of a shop in which no controller stops. Each\n\
+        message is sent over HTTP to a controller that listens on 127.0.0.1. Prints a line for\n\
+        each event, and then the master's ticket, as `world` does.",
+    example: "Example:\n  jdf_cli loop < examples/lost.json",
 };
 
 pub(crate) const NEW: Help = Help {
     about: "Begins a controller: reads what it begins with, keeps it in FILE, prints nothing",
     long_about: "Begins a controller, a master or a worker, and keeps it in FILE.\n\n\
         Reads from standard input what it begins with: a master's name, its workers and its\n\
-        ticket, or a worker's name and its master's. Prints nothing.",
-    example: "Example:\n  jdf_cli new mis.json < start.json",
+        ticket, or a worker's name and its master's. Each master of a shop needs a name of its\n\
+        own. Prints nothing.",
+    example: "Example:\n  jdf_cli new mis < examples/shop/mis.json",
 };
 
 pub(crate) const ORDER: Help = Help {
@@ -67,16 +69,18 @@ pub(crate) const ORDER: Help = Help {
     long_about: "Gives the controller that is kept in FILE an order, at the time N.\n\n\
         Reads from standard input the order. Prints the reply and the message that goes out.\n\n\
         With --send, the message isn't printed, but sent over HTTP to the controller that listens\n\
-        at URL, and its answer is taken, at the time N as well. Prints the reply to each.",
-    example: "Examples:\n  jdf_cli order mis.json --at 1767225600 < order.json\n  \
-        jdf_cli order mis.json --at 1767225600 --send http://127.0.0.1:8010/jmf < order.json",
+        at URL, and its answer is taken, at the time N as well. Prints the reply to each, and\n\
+        what the answer says.",
+    example: "Examples:\n  jdf_cli order mis --at 1767225600 < examples/shop/spawn.json\n  \
+        jdf_cli order mis --at 1767225600 --send http://127.0.0.1:8010/jmf \
+        < examples/shop/spawn.json",
 };
 
 pub(crate) const TAKE: Help = Help {
     about: "Hands a controller a message: reads it, prints the reply and the answer",
     long_about: "Hands the controller that is kept in FILE a message, at the time N.\n\n\
         Reads from standard input the message. Prints the reply and the answer.",
-    example: "Example:\n  jdf_cli take press.json --at 1767225605 < message.json",
+    example: "Example:\n  sed 1d sent | jdf_cli take press --at 1767225605",
 };
 
 pub(crate) const SHOW: Help = Help {
@@ -86,7 +90,7 @@ pub(crate) const SHOW: Help = Help {
         that a worker has.\n\n\
         With --picture, prints a picture of it as SVG, which a browser shows: the nodes and\n\
         resources, and in colour what is with whom.",
-    example: "Examples:\n  jdf_cli show mis.json\n  jdf_cli show mis.json --picture > mis.svg",
+    example: "Examples:\n  jdf_cli show mis\n  jdf_cli show mis --picture > mis.svg",
 };
 
 pub(crate) const SERVE: Help = Help {
@@ -97,7 +101,7 @@ pub(crate) const SERVE: Help = Help {
         Reads nothing from standard input. Prints the address that it listens on, and on\n\
         standard error a line for each request. Port 0 stands for any port that is free.\n\
         `order`, `take` and `show` may go on beside it.",
-    example: "Example:\n  jdf_cli serve press.json --listen 127.0.0.1:8010",
+    example: "Example:\n  jdf_cli serve press --listen 127.0.0.1:8010",
 };
 
 pub(crate) const SEND: Help = Help {
@@ -105,5 +109,5 @@ pub(crate) const SEND: Help = Help {
     long_about: "Sends a message over HTTP to the controller that listens at URL.\n\n\
         Reads the message from FILE, or from standard input where no FILE is named. Prints the\n\
         answer.",
-    example: "Example:\n  jdf_cli send http://127.0.0.1:8010/jmf message.json",
+    example: "Example:\n  sed 1d sent | jdf_cli send http://127.0.0.1:8010/jmf",
 };

@@ -9,7 +9,9 @@ use Rattle.controller_form.specs.Openings.OpeningForm.{opening_read}
 use Rattle.controller_form.specs.declared.openings.opening.Opening.{Opening}
 use Rattle.controller_form.specs.declared.openings.opening.Opening.TheVariants as opening
 use Rattle.stored_state.specs.Held.{Held}
-use Rattle.stored_state.specs.Opened.{AnyController, of_master, of_worker}
+use Rattle.stored_state.specs.declared.any_controller.AnyController.{AnyController}
+use Rattle.stored_state.specs.declared.any_controller.AnyController.TheVariants.{Master as of_master}
+use Rattle.stored_state.specs.declared.any_controller.AnyController.TheVariants.{Worker as of_worker}
 use Rattle.stored_state.specs.AnyStep.{text_of}
 
 -- the controller of an opening
@@ -17,20 +19,22 @@ abbrev pub controller_of : Opening → AnyController
 controller_of (opening.Master m) = of_master m
 controller_of (opening.Worker w) = of_worker w
 
--- a new controller stands beside its keeper, which holds its state if it is honest
-pub record IsBegun {C K : Type 0} (is_honest : K → Bool) (held : K → List ℕ)
+-- a new controller stands beside its keeper, in the same place, which holds its state if it is
+-- honest
+pub record IsBegun {C K : Type 0} (is_honest : K → Bool) (held place : K → List ℕ)
     (state_text : C → List ℕ) (keep : K) (controller : C) (kept : Held C K) : Type 0 where
   pub shown : kept.controller ≡ controller
   pub holds : is_honest kept.keep ≡ true → held kept.keep ≡ state_text controller
   pub honest : is_honest kept.keep ≡ is_honest keep
+  pub placed : place kept.keep ≡ place keep
   pub fresh : kept.stale ≡ false
 
 -- the controller that the bytes begin, so
-pub record IsBegunAs {K : Type 0} (is_honest : K → Bool) (held : K → List ℕ) (keep : K)
+pub record IsBegunAs {K : Type 0} (is_honest : K → Bool) (held place : K → List ℕ) (keep : K)
     (bytes : List ℕ) (kept : Held AnyController K) : Type 0 where
   pub opening : Opening
   pub read : IsReadAs opening_read bytes (Ok opening)
-  pub begun : IsBegun is_honest held text_of keep (controller_of opening) kept
+  pub begun : IsBegun is_honest held place text_of keep (controller_of opening) kept
 
 -- why a new controller isn't kept, by the text of its state: memory ran out, or the save failed
 abbrev pub IsNotKept : {K : Type 0} → (K → List ℕ → K → Type 0) → K → List ℕ → Fault → Type 0

@@ -9,12 +9,15 @@ use Rattle.streams.specs.declared.fault.Fault.TheVariants.{Input, Device}
 use Rattle.streams.specs.Ends.{IsUnread}
 use Rattle.streams.specs.Streams.{IsInput, IsUntouched, Use}
 use Rattle.stored_state.specs.Held.{Held}
-use Rattle.stored_state.specs.Opened.{AnyController, of_master, of_worker}
+use Rattle.stored_state.specs.declared.any_controller.AnyController.{AnyController}
+use Rattle.stored_state.specs.declared.any_controller.AnyController.TheVariants.{Master as of_master}
+use Rattle.stored_state.specs.declared.any_controller.AnyController.TheVariants.{Worker as of_worker}
 use Rattle.stored_state.specs.AnyStep.{text_of}
 use Rattle.jdf_commands.specs.FileCommands.Beginning.{IsBegunAs, IsNotBegun}
 use Rattle.jdf_commands.specs.FileCommands.Opening.{IsLoaded, IsNotLoaded}
 use Rattle.jdf_commands.specs.FileCommands.Pictured.{picture_text}
 use Rattle.jdf_commands.specs.FileCommands.Shown.{master_text, worker_text}
+use Rattle.jdf_commands.specs.FileCommands.Notes.{notes_of}
 use Rattle.jdf_commands.specs.FileCommands.Step.{GivesNoOutput, is_refused, step_lines}
 use Rattle.controller.specs.declared.reply.Reply.{Reply}
 use Rattle.stored_state.specs.Step.{GivesStep, TextStep}
@@ -26,13 +29,13 @@ Steps = List ℕ → AnyController → TextStep AnyController → Type 0
 -- ---- a new controller
 
 -- `new` where there is no controller yet: what the input begins is held, and nothing is written
-pub record Begins {K : Type 0} (is_honest : K → Bool) (held : K → List ℕ) (is_there : Bool)
-    (keep : K) (input : Use) (text : List ℕ) (refused : Bool) : Type 0 where
+pub record Begins {K : Type 0} (is_honest : K → Bool) (held place : K → List ℕ) (is_there : Bool)
+    (keep : K) (input : Use) (after : Held AnyController K) (text : List ℕ) (refused : Bool)
+    : Type 0 where
   pub absent : is_there ≡ false
   pub bytes : List ℕ
   pub is_input : IsInput input bytes
-  pub after : Held AnyController K
-  pub begun : IsBegunAs is_honest held keep bytes after
+  pub begun : IsBegunAs is_honest held place keep bytes after
   pub written : text ≡ []
   pub accepted : refused ≡ false
 
@@ -47,52 +50,54 @@ BeginsNone save_fails false keep input fault =
 -- ---- a step of the controller that is held
 
 -- the step that the bytes are, of the controller that was held, is saved, and this is given out:
--- what is replied, and the text that goes out
-pub record GivesHeld {K : Type 0} (is_honest : K → Bool) (held : K → List ℕ) (IsStep : Steps)
+-- what is replied, and the text that goes out; all in the same place
+pub record GivesHeld {K : Type 0} (is_honest : K → Bool) (held place : K → List ℕ) (IsStep : Steps)
     (bytes : List ℕ) (keep : K) (after : Held AnyController K) (reply : Result Reply Refusal)
     (sent : Option (List ℕ)) : Type 0 where
   pub before : Held AnyController K
-  pub loaded : IsLoaded is_honest held keep before
+  pub loaded : IsLoaded is_honest held place keep before
   pub gives : GivesStep is_honest held text_of (IsStep bytes before.controller) after reply sent
   pub honest : is_honest after.keep ≡ is_honest keep
+  pub placed : place after.keep ≡ place keep
 
 -- the same of the input
-abbrev pub GivesStepOf : {K : Type 0} → (K → Bool) → (K → List ℕ) → Steps → K → Use
-    → Result Reply Refusal → Option (List ℕ) → Type 0
-GivesStepOf {K = K} is_honest held IsStep keep input reply sent =
-    (bytes : List ℕ) × IsInput input bytes × (after : Held AnyController K)
-    × GivesHeld is_honest held IsStep bytes keep after reply sent
+abbrev pub GivesStepOf : {K : Type 0} → (K → Bool) → (K → List ℕ) → (K → List ℕ) → Steps → K → Use
+    → Held AnyController K → Result Reply Refusal → Option (List ℕ) → Type 0
+GivesStepOf is_honest held place IsStep keep input after reply sent =
+    (bytes : List ℕ) × IsInput input bytes
+    × GivesHeld is_honest held place IsStep bytes keep after reply sent
 
--- `order` and `take`: such a step is given out, its lines are written, and this tells whether it
--- was refused
-pub record DoesStep {K : Type 0} (is_honest : K → Bool) (held : K → List ℕ) (IsStep : Steps)
-    (keep : K) (input : Use) (text : List ℕ) (refused : Bool) : Type 0 where
-  pub reply : Result Reply Refusal
-  pub sent : Option (List ℕ)
-  pub given : GivesStepOf is_honest held IsStep keep input reply sent
-  pub written : text ≡ step_lines reply sent
-  pub told : refused ≡ is_refused reply
+-- a step is given out so, which leaves this state, and what the step and that have noted is noted
+pub record GivesNoting {K : Type 0} (Gives : Held AnyController K → Type 0)
+    (notes_behind : AnyController → List ℕ) (notes : List ℕ) : Type 0 where
+  pub after : Held AnyController K
+  pub given : Gives after
+  pub noted : notes ≡ notes_behind after.controller
 
--- why no step is done of a controller that was loaded: the input isn't read, or nothing is given
--- out
-abbrev pub LoadedDoesNone : {K : Type 0} → (K → Bool) → (K → List ℕ) → (K → ℕ)
-    → (K → List ℕ → K → Type 0) → (List ℕ → AnyController → Refusal → Type 0) → Steps → Use
-    → Held AnyController K → Fault → Type 0
-LoadedDoesNone {K = K} is_honest held count save_fails Refuses IsStep input before fault =
-    IsUnread input fault
-    ⊎ ((bytes : List ℕ) × IsInput input bytes × (after : Held AnyController K)
+-- why nothing is given out of the step that the bytes are, of the controller that a keeper holds:
+-- none is loaded; or one is, and nothing is given out of that
+abbrev pub DoesNoStep : {K : Type 0} → (K → Bool) → (K → List ℕ) → (K → List ℕ) → (K → ℕ)
+    → (K → K → Type 0) → (K → List ℕ → K → Type 0)
+    → (List ℕ → AnyController → Refusal → Type 0) → Steps → List ℕ → K → Fault → Type 0
+DoesNoStep {K = K} is_honest held place count load_fails save_fails Refuses IsStep bytes keep fault =
+    IsNotLoaded is_honest held load_fails keep fault
+    ⊎ ((before : Held AnyController K) × IsLoaded is_honest held place keep before
+    × (after : Held AnyController K)
     × GivesNoOutput is_honest held count save_fails text_of (Refuses bytes before.controller)
     (IsStep bytes before.controller) before after fault)
 
--- why `order` and `take` give up: no controller is loaded, and the input isn't read; or no step is
--- done of the one that is
-abbrev pub DoesNoStep : {K : Type 0} → (K → Bool) → (K → List ℕ) → (K → ℕ) → (K → K → Type 0)
-    → (K → List ℕ → K → Type 0) → (List ℕ → AnyController → Refusal → Type 0) → Steps → K → Use
-    → Fault → Type 0
-DoesNoStep {K = K} is_honest held count load_fails save_fails Refuses IsStep keep input fault =
-    (IsUntouched input × IsNotLoaded is_honest held load_fails keep fault)
-    ⊎ ((before : Held AnyController K) × IsLoaded is_honest held keep before
-    × LoadedDoesNone is_honest held count save_fails Refuses IsStep input before fault)
+-- `order` and `take`: such a step is given out, its lines are written, this tells whether it was
+-- refused, and what its reply and the state then have noted is noted
+pub record DoesStep {K : Type 0} (is_honest : K → Bool) (held place : K → List ℕ) (IsStep : Steps)
+    (notes_behind : Result Reply Refusal → AnyController → List ℕ) (keep : K) (input : Use)
+    (text : List ℕ) (refused : Bool) (notes : List ℕ) : Type 0 where
+  pub reply : Result Reply Refusal
+  pub sent : Option (List ℕ)
+  pub after : Held AnyController K
+  pub given : GivesStepOf is_honest held place IsStep keep input after reply sent
+  pub written : text ≡ step_lines reply sent
+  pub told : refused ≡ is_refused reply
+  pub noted : notes ≡ notes_behind reply after.controller
 
 -- ---- a look at the controller that is held
 
@@ -105,16 +110,11 @@ shown_text (of_worker w) = worker_text w
 abbrev pub shown_as : Bool → AnyController → List ℕ
 shown_as picture c = if picture then picture_text c else shown_text c
 
--- `show`: what the controller that was held shows, or its picture
-pub record Shows {K : Type 0} (picture : Bool) (is_honest : K → Bool) (held : K → List ℕ)
-    (keep : K) (text : List ℕ) (refused : Bool) : Type 0 where
+-- `show`: what the controller that was held shows, or its picture, and what it has noted
+pub record Shows {K : Type 0} (picture : Bool) (is_honest : K → Bool) (held place : K → List ℕ)
+    (keep : K) (text : List ℕ) (refused : Bool) (notes : List ℕ) : Type 0 where
   pub opened : Held AnyController K
-  pub loaded : IsLoaded is_honest held keep opened
+  pub loaded : IsLoaded is_honest held place keep opened
   pub shown : text ≡ shown_as picture opened.controller
   pub accepted : refused ≡ false
-
--- why `show` gives up: no controller is loaded, or memory ran out
-abbrev pub ShowsNone : {K : Type 0} → (K → Bool) → (K → List ℕ) → (K → K → Type 0) → K → Fault
-    → Type 0
-ShowsNone is_honest held load_fails keep fault =
-    IsNotLoaded is_honest held load_fails keep fault ⊎ (fault ≡ Input (Core Memory))
+  pub noted : notes ≡ notes_of opened.controller

@@ -5,7 +5,9 @@ use Rattle.job_picture.specs.Bars.{heading}
 use Rattle.job_picture.specs.PartPicture.{entry_line, part_lines}
 use Rattle.job_picture.specs.Picture.{picture_of}
 use Rattle.job_picture.specs.Svg.{svg}
-use Rattle.stored_state.specs.Opened.{AnyController, of_master, of_worker}
+use Rattle.stored_state.specs.declared.any_controller.AnyController.{AnyController}
+use Rattle.stored_state.specs.declared.any_controller.AnyController.TheVariants.{Master as of_master}
+use Rattle.stored_state.specs.declared.any_controller.AnyController.TheVariants.{Worker as of_worker}
 use Rattle.ticket_tree.specs.Part.{Copied}
 use Rattle.worker_core.specs.Worker as worker
 use Rattle.worker_core.specs.declared.entry.Entry.{Entry}

@@ -15,9 +15,12 @@ use Rattle.stored_state.specs.Step.{IsLeft, SavesStep, TextStep}
 
 -- ---- what is written
 
--- the line of a reply or a refusal
+-- the text of a reply or a refusal, and its line
+abbrev pub reply_text : Result Reply Refusal → List ℕ
+reply_text reply = answer_text (record { word = word_of reply; number = None })
+
 abbrev pub reply_line : Result Reply Refusal → List ℕ
-reply_line reply = answer_text (record { word = word_of reply; number = None }) ++ 10 ∷ []
+reply_line reply = reply_text reply ++ 10 ∷ []
 
 -- a text on a line of its own, if there is one
 abbrev pub text_line : Option (List ℕ) → List ℕ

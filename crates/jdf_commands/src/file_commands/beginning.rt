@@ -1,12 +1,15 @@
 //! New controllers beside their keeper.
 
-ghost use Rattle.std.specs.Prelude.{IfOk, IfErr};
+ghost use Rattle.std.specs.Prelude.{◌≡◌, [], IfOk, IfErr};
 ghost use Rattle.serde_json.specs.Written.{compact_text};
+ghost use Rattle.stored_state.specs.Held.{Held};
 ghost use Rattle.stored_state.specs.Opened.{held_in};
+ghost use Rattle.stored_state.specs.declared.any_controller.AnyController.{AnyController};
 ghost use Rattle.jdf_commands.specs.FileCommands.Beginning as begins;
 ghost use Rattle.jdf_commands.specs.FileCommands.Commands.{Begins, BeginsNone};
 ghost use Rattle.streams.specs.Streams.{used};
 
+use crate::file_commands::noted::Noted;
 use crate::file_commands::step::{fault_of, unrefused};
 use controller_form::{Opening, opening_of};
 use keepers::Keep;
@@ -18,7 +21,7 @@ use streams::{Counted, Fault, Output, Refused, read_input};
 /// A controller beside its keeper, which holds its state from then on. Refuses as `Device`
 /// `SaveFailed`, and `Memory`.
 fn kept_of<C: Stored, K: Keep>(alloc: Global, controller: C, keep: K) -> Result<Kept<C, K>, Fault>
-    ensures ok { IfOk result (begins.IsBegun K.is_honest K.held
+    ensures ok { IfOk result (begins.IsBegun K.is_honest K.held K.place
         (λ c. compact_text (C.state_data c)) keep controller) }
     ensures refused { IfErr result (begins.IsNotKept K.save_fails keep
         (compact_text (C.state_data controller))) }
@@ -32,7 +35,7 @@ fn kept_of<C: Stored, K: Keep>(alloc: Global, controller: C, keep: K) -> Result<
 /// The controller that the input begins, beside its keeper, which holds its state from then on.
 /// Refuses as `Input` what the input is refused for, and `Memory`; and as `Device` `SaveFailed`.
 pub fn begin<K: Keep>(alloc: Global, keep: K, input: &[u8]) -> Result<Opened<K>, Fault>
-    ensures ok { IfOk result (λ opened. begins.IsBegunAs K.is_honest K.held keep input.now
+    ensures ok { IfOk result (λ opened. begins.IsBegunAs K.is_honest K.held K.place keep input.now
         (held_in opened)) }
     ensures refused { IfErr result (begins.IsNotBegun K.save_fails keep input.now) }
 {
@@ -42,16 +45,18 @@ pub fn begin<K: Keep>(alloc: Global, keep: K, input: &[u8]) -> Result<Opened<K>,
     }
 }
 
-/// What `new` writes once its keeper holds what the input begins: nothing. Where there is a
-/// controller already, it refuses `SaveFailed` as `Device`, and the input isn't read.
-pub fn new_output<K: Keep, I: Read>(
+/// What `new` writes once its keeper holds what the input begins, which is nothing, and the
+/// controller beside its keeper. Where there is a controller already, it refuses `SaveFailed` as
+/// `Device`, and the input isn't read.
+fn new_output<K: Keep, I: Read>(
     alloc: Global,
     keep: K,
     is_there: bool,
     reader: &mut Counted<I>,
-) -> Result<Output, Fault>
-    ensures ok { IfOk result (λ output. Begins K.is_honest K.held is_there keep
-        (used I.remaining reader.old reader.new) output.text.items output.refused) }
+) -> Result<(Output, Opened<K>), Fault>
+    ensures ok { IfOk result (λ begun. Begins K.is_honest K.held K.place is_there keep
+        (used I.remaining reader.old reader.new) (held_in begun.1)
+        begun.0.text.items begun.0.refused) }
     ensures refused { IfErr result (BeginsNone K.save_fails is_there keep
         (used I.remaining reader.old reader.new)) }
 {
@@ -59,6 +64,25 @@ pub fn new_output<K: Keep, I: Read>(
         return Err(Fault::Device(Refused::SaveFailed));
     }
     let input = read_input(alloc, reader)?;
-    begin(alloc, keep, input.as_slice())?;
-    Ok(unrefused(Vec::new(alloc)))
+    let opened = begin(alloc, keep, input.as_slice())?;
+    Ok((unrefused(Vec::new(alloc)), opened))
+}
+
+/// The same, where nothing is noted and the keeper is let go.
+pub(crate) fn new_noted<K: Keep, I: Read>(
+    alloc: Global,
+    keep: K,
+    is_there: bool,
+    reader: &mut Counted<I>,
+) -> Result<Noted, Fault>
+    ensures ok { IfOk result (λ noted. ((after : Held AnyController K)
+        × Begins K.is_honest K.held K.place is_there keep
+        (used I.remaining reader.old reader.new) after
+        noted.output.text.items noted.output.refused) × (noted.notes.items ≡ [])) }
+    ensures refused { IfErr result (BeginsNone K.save_fails is_there keep
+        (used I.remaining reader.old reader.new)) }
+{
+    let (output, opened) = new_output(alloc, keep, is_there, reader)?;
+    drop(opened);
+    Ok(Noted::bare(alloc, output))
 }

@@ -1,22 +1,89 @@
-//! The controller that a keeper holds.
+//! The controller that a keeper holds, and what the file of a path holds.
 
-ghost use Rattle.std.specs.Prelude.{IfOk, IfErr};
+ghost use Rattle.std.specs.Prelude.{◌≡◌, true, IfOk, IfErr};
 ghost use Rattle.stored_state.specs.Opened.{held_in};
+ghost use Rattle.jdf_commands.specs.Calls as calls;
+ghost use Rattle.jdf_commands.specs.Calls.{IsNotOpened};
 ghost use Rattle.jdf_commands.specs.FileCommands.Opening.{IsLoaded, IsNotLoaded};
+ghost use Rattle.streams.specs.declared.refused.Refused.TheVariants.{LoadFailed};
+ghost use Rattle.streams.specs.declared.fault.Fault.TheVariants.{Device};
 
-use keepers::Keep;
+use keepers::{FileKeep, Keep, Locks, SystemDisk};
 use std::alloc::Global;
-use stored_state::{Opened, open_any};
+use stored_state::{Opened, Refused, Snapshot, open_any};
 use streams::Fault;
 
 /// The controller whose state a keeper holds, beside the keeper. What is refused is a fault of the
 /// device.
 pub(crate) fn opened<K: Keep>(alloc: Global, keep: K) -> Result<Opened<K>, Fault>
-    ensures ok { IfOk result (λ opened. IsLoaded K.is_honest K.held keep (held_in opened)) }
+    ensures ok { IfOk result (λ opened. IsLoaded K.is_honest K.held K.place keep (held_in opened)) }
     ensures refused { IfErr result (IsNotLoaded K.is_honest K.held K.load_fails keep) }
 {
     match open_any(alloc, keep) {
         Ok(opened) => Ok(opened),
         Err(refused) => Err(Fault::Device(refused)),
+    }
+}
+
+/// The same, where the text of a snapshot isn't read once more.
+fn opened_as_seen<K: Keep>(alloc: Global, keep: K, snapshot: Snapshot) -> Result<Opened<K>, Fault>
+    ensures ok { IfOk result (λ opened. IsLoaded K.is_honest K.held K.place keep (held_in opened)) }
+    ensures refused { IfErr result (IsNotLoaded K.is_honest K.held K.load_fails keep) }
+{
+    match snapshot.open(alloc, keep) {
+        Ok(opened) => Ok(opened),
+        Err(refused) => Err(Fault::Device(refused)),
+    }
+}
+
+/// The same, whether there is a snapshot or not.
+pub(crate) fn opened_again<K: Keep>(
+    alloc: Global,
+    keep: K,
+    seen: Option<Snapshot>,
+) -> Result<Opened<K>, Fault>
+    ensures ok { IfOk result (λ opened. IsLoaded K.is_honest K.held K.place keep (held_in opened)) }
+    ensures refused { IfErr result (IsNotLoaded K.is_honest K.held K.load_fails keep) }
+{
+    match seen {
+        Some(snapshot) => opened_as_seen(alloc, keep, snapshot),
+        None => opened(alloc, keep),
+    }
+}
+
+/// The keeper in the file of this path, which has its lock: it waits for that.
+pub(crate) fn locked<'a, R: Locks>(
+    rt: &'a R,
+    alloc: Global,
+    file: &'a str,
+) -> Result<FileKeep<SystemDisk<'a, R>>, Fault>
+    ensures ok { IfOk result (λ keep. keep ≡ calls.kept_in file.now) }
+    ensures refused { IfErr result (λ fault. fault ≡ Device LoadFailed) }
+{
+    match FileKeep::lock(rt, alloc, file) {
+        Ok(keep) => Ok(keep),
+        Err(_) => Err(Fault::Device(Refused::LoadFailed)),
+    }
+}
+
+/// What a keeper holds. What is refused is a fault of the device.
+fn snapshot_in<K: Keep>(alloc: Global, mut keep: K) -> Result<Snapshot, Fault>
+    ensures text { IfOk result (λ snapshot. K.is_honest keep ≡ true →
+        snapshot.text ≡ K.held keep) }
+    ensures refused { IfErr result (IsNotLoaded K.is_honest K.held K.load_fails keep) }
+{
+    match Snapshot::of(alloc, &mut keep) {
+        Ok(snapshot) => Ok(snapshot),
+        Err(refused) => Err(Fault::Device(refused)),
+    }
+}
+
+/// What the file of this path holds. The file is locked while it is read, and no longer.
+pub(crate) fn snapshot_of<R: Locks>(rt: &R, alloc: Global, file: &str) -> Result<Snapshot, Fault>
+    ensures { IfErr result (IsNotOpened file.now) }
+{
+    match locked(rt, alloc, file) {
+        Ok(keep) => snapshot_in(alloc, keep),
+        Err(fault) => Err(fault),
     }
 }

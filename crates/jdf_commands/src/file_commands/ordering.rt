@@ -1,54 +1,175 @@
-//! Orders to the controller that a keeper holds.
+//! Orders to the controller in a file.
 
-ghost use Rattle.std.specs.Prelude.{IfOk, IfErr};
+ghost use Rattle.std.specs.Prelude.{◌≡◌, IfOk, IfErr};
 ghost use Rattle.std.specs.Option.{option_map};
-ghost use Rattle.jdf_commands.specs.FileCommands.Commands.{DoesNoStep, DoesStep, GivesStepOf};
+ghost use Rattle.jdf_commands.specs.Calls as calls;
+ghost use Rattle.jdf_commands.specs.Calls.{DoesNone, DoesNoneOf};
+ghost use Rattle.jdf_commands.specs.FileCommands.Commands.{DoesNoStep, DoesStep, GivesHeld};
+ghost use Rattle.jdf_commands.specs.FileCommands.Commands.{GivesNoting, GivesStepOf};
+ghost use Rattle.jdf_commands.specs.FileCommands.Notes.{notes_of_order};
+ghost use Rattle.jdf_commands.specs.FileCommands.Step.{is_refused, step_lines};
 ghost use Rattle.stored_state.specs.AnyStep.{IsNoOrder, IsOrdered};
+ghost use Rattle.stored_state.specs.Opened.{held_in};
 ghost use Rattle.streams.specs.Streams.{used};
+ghost use Rattle.streams.specs.declared.refused.Refused.TheVariants.{Core};
+ghost use Rattle.streams.specs.declared.fault.Fault.TheVariants.{Input};
+ghost use Rattle.ticket_items.specs.declared.refusal.Refusal.TheVariants.{Memory};
 
-use crate::file_commands::opening::opened;
+use crate::file_commands::noted::Noted;
+use crate::file_commands::notes::notes_of_order;
+use crate::file_commands::opening::{locked, opened_again, snapshot_of};
 use crate::file_commands::step::{fault_of, step_output};
-use keepers::Keep;
+use controller::Reply;
+use keepers::{Keep, Locks};
 use std::alloc::Global;
 use std::io::Read;
-use stored_state::OrderBytes;
-use streams::{Counted, Fault, Output, read_input};
+use stored_state::{Opened, OrderBytes, Snapshot};
+use streams::{Counted, Fault, read_input};
+use ticket_tree::Refusal;
 
-/// What an order gives out, once its step is saved. Where no controller is loaded, the input isn't
-/// read.
-pub(crate) fn ordered<K: Keep, I: Read>(
+/// What an order to the controller in a file gives out once its step is saved.
+#[derive(Drop)]
+pub struct Ordered {
+    /// What the controller replies, or why it refused the order.
+    pub reply: Result<Reply, Refusal>,
+    /// The text of the message that goes out, if one does.
+    pub message: Option<Vec<u8>>,
+    /// What is noted of the reply and of the state then. Lines.
+    pub notes: Vec<u8>,
+}
+
+/// What an order to the controller that a keeper holds gives out, once its step is saved, and the
+/// controller beside its keeper as it is then. The text of a snapshot isn't read once more.
+fn order_held<K: Keep>(
     alloc: Global,
     keep: K,
-    reader: &mut Counted<I>,
+    seen: Option<Snapshot>,
+    input: &[u8],
     at: u64,
-) -> Result<OrderBytes, Fault>
-    ensures ok { IfOk result (λ given. GivesStepOf K.is_honest K.held (IsOrdered at) keep
-        (used I.remaining reader.old reader.new)
-        given.reply (option_map (λ b. b.items) given.message)) }
-    ensures refused { IfErr result (DoesNoStep K.is_honest K.held K.count K.load_fails
-        K.save_fails IsNoOrder (IsOrdered at) keep (used I.remaining reader.old reader.new)) }
+) -> Result<(OrderBytes, Opened<K>), Fault>
+    ensures ok { IfOk result (λ given. GivesHeld K.is_honest K.held K.place (IsOrdered at)
+        input.now keep (held_in given.1)
+        given.0.reply (option_map (λ b. b.items) given.0.message)) }
+    ensures refused { IfErr result (DoesNoStep K.is_honest K.held K.place K.count K.load_fails
+        K.save_fails IsNoOrder (IsOrdered at) input.now keep) }
 {
-    let mut opened = opened(alloc, keep)?;
-    let input = read_input(alloc, reader)?;
-    match opened.order(alloc, input.as_slice(), at) {
-        Ok(given) => Ok(given),
+    let mut opened = opened_again(alloc, keep, seen)?;
+    match opened.order(alloc, input, at) {
+        Ok(given) => Ok((given, opened)),
         Err(refused) => Err(fault_of(refused)),
     }
 }
 
-/// What `order` writes, once the step is saved. Where no controller is loaded, the input isn't
-/// read.
-pub fn order_output<K: Keep, I: Read>(
+/// What such an order gives out, and what is noted of it; the keeper is let go.
+fn order_given<K: Keep>(
     alloc: Global,
     keep: K,
-    reader: &mut Counted<I>,
+    seen: Option<Snapshot>,
+    input: &[u8],
     at: u64,
-) -> Result<Output, Fault>
-    ensures ok { IfOk result (λ output. DoesStep K.is_honest K.held (IsOrdered at) keep
-        (used I.remaining reader.old reader.new) output.text.items output.refused) }
-    ensures refused { IfErr result (DoesNoStep K.is_honest K.held K.count K.load_fails
-        K.save_fails IsNoOrder (IsOrdered at) keep (used I.remaining reader.old reader.new)) }
+) -> Result<Ordered, Fault>
+    ensures ok { IfOk result (λ given. GivesNoting
+        (λ after. GivesHeld K.is_honest K.held K.place (IsOrdered at) input.now keep after
+        given.reply (option_map (λ b. b.items) given.message))
+        (notes_of_order given.reply) given.notes.items) }
+    ensures refused { IfErr result (DoesNoStep K.is_honest K.held K.place K.count K.load_fails
+        K.save_fails IsNoOrder (IsOrdered at) input.now keep) }
 {
-    let given = ordered(alloc, keep, reader, at)?;
-    step_output(alloc, given.reply, &given.message)
+    let (given, opened) = order_held(alloc, keep, seen, input, at)?;
+    let notes = notes_of_order(alloc, &given.reply, &opened)?;
+    let OrderBytes { reply, message } = given;
+    Ok(Ordered {
+        reply,
+        message,
+        notes,
+    })
+}
+
+/// What an order to the controller in a file gives out, once its step is saved. Of a file that
+/// holds the text of the snapshot still, that isn't read once more.
+fn order_locked<R: Locks>(
+    rt: &R,
+    alloc: Global,
+    file: &str,
+    seen: Snapshot,
+    input: &[u8],
+    at: u64,
+) -> Result<Ordered, Fault>
+    ensures ok { IfOk result (λ given. GivesNoting
+        (λ after. GivesHeld calls.is_honest calls.held calls.place (IsOrdered at)
+        input.now (calls.kept_in file.now) after
+        given.reply (option_map (λ b. b.items) given.message))
+        (notes_of_order given.reply) given.notes.items) }
+    ensures refused { IfErr result (DoesNoneOf IsNoOrder (IsOrdered at) file.now input.now) }
+{
+    match locked(rt, alloc, file) {
+        Ok(keep) => order_given(alloc, keep, Some(seen), input, at),
+        Err(fault) => Err(fault),
+    }
+}
+
+/// What an order to the controller in a file gives out, once its step is saved, and what is noted
+/// of it. The file is looked at first, and where it holds no controller nothing is read. While the
+/// input is read the file isn't locked: a step that somebody else makes meanwhile comes before this
+/// one. It isn't locked any more once this is given out. Refuses as `run_file` says of `order`.
+pub fn order_in_file<R: Locks, I: Read>(
+    rt: &R,
+    alloc: Global,
+    file: &str,
+    at: u64,
+    reader: &mut Counted<I>,
+) -> Result<Ordered, Fault>
+    ensures ok { IfOk result (λ given. GivesNoting
+        (λ after. GivesStepOf calls.is_honest calls.held calls.place (IsOrdered at)
+        (calls.kept_in file.now) (used I.remaining reader.old reader.new) after
+        given.reply (option_map (λ b. b.items) given.message))
+        (notes_of_order given.reply) given.notes.items) }
+    ensures refused { IfErr result (DoesNone IsNoOrder (IsOrdered at)
+        file.now (used I.remaining reader.old reader.new)) }
+{
+    let snapshot = snapshot_of(rt, alloc, file)?;
+    let input = read_input(alloc, reader)?;
+    order_locked(rt, alloc, file, snapshot, input.as_slice(), at)
+}
+
+/// What is written and noted of an order's step that gave this out, and has this noted: the line of
+/// the reply, and the text that goes out. Refuses `Memory` alone.
+pub fn order_noted(
+    alloc: Global,
+    reply: Result<Reply, Refusal>,
+    message: &Option<Vec<u8>>,
+    notes: Vec<u8>,
+) -> Result<Noted, Fault>
+    ensures lines { IfOk result (λ noted. noted.output.text.items
+        ≡ step_lines reply (option_map (λ b. b.items) message.now)) }
+    ensures status { IfOk result (λ noted. noted.output.refused ≡ is_refused reply) }
+    ensures notes { IfOk result (λ noted. noted.notes.items ≡ notes.items) }
+    ensures memory { IfErr result (λ f. f ≡ Input (Core Memory)) }
+{
+    match step_output(alloc, reply, message) {
+        Ok(output) => Ok(Noted { output, notes }),
+        Err(fault) => Err(fault),
+    }
+}
+
+/// What `order` writes and notes, once the step is saved.
+pub(crate) fn order_output<R: Locks, I: Read>(
+    rt: &R,
+    alloc: Global,
+    file: &str,
+    at: u64,
+    reader: &mut Counted<I>,
+) -> Result<Noted, Fault>
+    ensures ok { IfOk result (λ noted. DoesStep calls.is_honest calls.held calls.place (IsOrdered at)
+        notes_of_order (calls.kept_in file.now) (used I.remaining reader.old reader.new)
+        noted.output.text.items noted.output.refused noted.notes.items) }
+    ensures refused { IfErr result (DoesNone IsNoOrder (IsOrdered at)
+        file.now (used I.remaining reader.old reader.new)) }
+{
+    let Ordered {
+        reply,
+        message,
+        notes,
+    } = order_in_file(rt, alloc, file, at, reader)?;
+    order_noted(alloc, reply, &message, notes)
 }

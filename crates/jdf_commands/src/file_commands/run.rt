@@ -1,89 +1,68 @@
 //! The calls of the program, over files and streams.
 
-ghost use Rattle.std.specs.Prelude.{◌≡◌, IfErr, IfOk};
-ghost use Rattle.std.specs.Option.{option_map};
-ghost use Rattle.stored_state.specs.AnyStep.{IsNoOrder, IsOrdered};
+ghost use Rattle.std.specs.Prelude.{◌≡◌, Bool, [], false, IfErr, IfOk};
+ghost use Rattle.keepers.specs.InFile.{InFile};
+ghost use Rattle.keepers.specs.OnDisk.{OnDisk};
+ghost use Rattle.stored_state.specs.Held.{Held};
+ghost use Rattle.stored_state.specs.declared.any_controller.AnyController.{AnyController};
 ghost use Rattle.jdf_commands.specs.Calls as calls;
 ghost use Rattle.jdf_commands.specs.Calls.{EndsCall, IsFaultOfCall, IsOutputOfCall};
-ghost use Rattle.jdf_commands.specs.FileCommands.Commands.{GivesStepOf};
+ghost use Rattle.jdf_commands.specs.FileCommands.Commands.{Begins, BeginsNone};
 ghost use Rattle.streams.specs.Streams.{used};
-ghost use Rattle.streams.specs.declared.refused.Refused.TheVariants.{LoadFailed};
-ghost use Rattle.streams.specs.declared.fault.Fault.TheVariants.{Device};
 
 use crate::edit_command::Edit;
-use crate::file_commands::beginning::new_output;
-use crate::file_commands::ordering::{order_output, ordered};
+use crate::file_commands::beginning::new_noted;
+use crate::file_commands::noted::{Noted, finish_noting};
+use crate::file_commands::ordering::order_output;
 use crate::file_commands::shown::show_output;
 use crate::file_commands::taking::take_output;
 use crate::world_command::WorldCommand;
 use jdf_words::Call;
-use keepers::{FileKeep, FileLock, Locks};
+use keepers::{FileKeep, Locks};
 use std::alloc::Global;
 use std::io::{Read, Write};
-use stored_state::OrderBytes;
-use streams::{Counted, Fault, Output, Refused, finish, output_of};
+use streams::{Counted, Fault, Refused, output_of};
 
-/// The lock of the file of this path.
-fn locked<R: Locks>(rt: &R, file: &str) -> Result<FileLock<R>, Fault>
-    ensures { IfErr result (λ fault. fault ≡ Device LoadFailed) }
-{
-    match FileLock::take(rt, file) {
-        Ok(lock) => Ok(lock),
-        Err(_) => Err(Fault::Device(Refused::LoadFailed)),
-    }
-}
-
-/// What an order to the controller in a file gives out, once its step is saved. It refuses, and
-/// holds the file's lock, as `run_file` says of `order`.
-pub fn order_in_file<R: Locks, I: Read>(
+/// What `new` writes, once the controller is kept in a file that is made for it.
+fn new_in_file<R: Locks, I: Read>(
     rt: &R,
     alloc: Global,
     file: &str,
-    at: u64,
     reader: &mut Counted<I>,
-) -> Result<OrderBytes, Fault>
-    ensures ok { IfOk result (λ given. GivesStepOf calls.is_honest calls.held (IsOrdered at)
-        (calls.kept_in file.now) (used I.remaining reader.old reader.new)
-        given.reply (option_map (λ b. b.items) given.message)) }
-    ensures refused { IfErr result (calls.DoesNone IsNoOrder (IsOrdered at)
-        file.now (used I.remaining reader.old reader.new)) }
+) -> Result<Noted, Fault>
+    ensures ok { IfOk result (λ noted. ((after : Held AnyController (InFile OnDisk))
+        × Begins calls.is_honest calls.held calls.place false (calls.made_in file.now)
+        (used I.remaining reader.old reader.new) after
+        noted.output.text.items noted.output.refused) × (noted.notes.items ≡ [])) }
+    ensures refused { IfErr result (λ fault. (is_there : Bool)
+        × BeginsNone calls.save_fails is_there (calls.made_in file.now)
+        (used I.remaining reader.old reader.new) fault) }
 {
-    let _lock = locked(rt, file)?;
-    ordered(alloc, FileKeep::new(rt, alloc, file), reader, at)
+    let keep = FileKeep::create_new(rt, alloc, file);
+    let is_there = keep.exists();
+    new_noted(alloc, keep, is_there, reader)
 }
 
-/// What a call writes. It refuses, and holds the file's lock, as `run_file` says.
+/// What a call writes and notes. It refuses, and holds the file's lock, as `run_file` says.
 pub fn call_output<R: Locks, I: Read>(
     rt: &R,
     alloc: Global,
     call: Call<'_>,
     reader: &mut Counted<I>,
-) -> Result<Output, Fault>
-    ensures ok { IfOk result (λ output. IsOutputOfCall call.entry
-        (used I.remaining reader.old reader.new) output.text.items output.refused) }
+) -> Result<Noted, Fault>
+    ensures ok { IfOk result (λ noted. IsOutputOfCall call.entry
+        (used I.remaining reader.old reader.new)
+        noted.output.text.items noted.output.refused noted.notes.items) }
     ensures refused { IfErr result
         (IsFaultOfCall call.entry (used I.remaining reader.old reader.new)) }
 {
     match call {
-        Call::Edit => output_of::<Edit, I>(alloc, reader),
-        Call::World => output_of::<WorldCommand, I>(alloc, reader),
-        Call::New { file } => {
-            let keep = FileKeep::create_new(rt, alloc, file);
-            let is_there = keep.exists();
-            new_output(alloc, keep, is_there, reader)
-        }
-        Call::Order { file, at } => {
-            let _lock = locked(rt, file)?;
-            order_output(alloc, FileKeep::new(rt, alloc, file), reader, at)
-        }
-        Call::Take { file, at } => {
-            let _lock = locked(rt, file)?;
-            take_output(alloc, FileKeep::new(rt, alloc, file), reader, at)
-        }
-        Call::Show { file, picture } => {
-            let _lock = locked(rt, file)?;
-            show_output(alloc, FileKeep::new(rt, alloc, file), picture)
-        }
+        Call::Edit => Ok(Noted::bare(alloc, output_of::<Edit, I>(alloc, reader)?)),
+        Call::World => Ok(Noted::bare(alloc, output_of::<WorldCommand, I>(alloc, reader)?)),
+        Call::New { file } => new_in_file(rt, alloc, file, reader),
+        Call::Order { file, at } => order_output(rt, alloc, file, at, reader),
+        Call::Take { file, at } => take_output(rt, alloc, file, at, reader),
+        Call::Show { file, picture } => show_output(rt, alloc, file, picture),
         Call::Loop | Call::SendOrder { .. } | Call::Serve { .. } | Call::Send { .. } => {
             Err(Fault::Device(Refused::NoConnection))
         }
@@ -100,7 +79,12 @@ pub fn call_output<R: Locks, I: Read>(
 /// read, and it gives up as `NoConnection`, with status 4.
 ///
 /// While it works on the controller in a file it holds the file's lock, and waits for that: of two
-/// calls on one file, one comes after the other. A step is saved before anything of it is written.
+/// calls on one file, one comes after the other. While `order` and `take` wait for their input they
+/// hold none: they look at the file first, and where it holds no controller they read nothing; what
+/// they step is the controller that it holds once the input is there. A step is saved before
+/// anything of it is written. Behind what `show` and an edit write, each part that a worker keeps
+/// with three quarters of the bytes that a message has at most over HTTP, or more, is noted in
+/// `faults`.
 pub fn run_file<R: Locks, I: Read, W: Write, F: Write>(
     rt: &R,
     alloc: Global,
@@ -112,5 +96,5 @@ pub fn run_file<R: Locks, I: Read, W: Write, F: Write>(
     ensures { EndsCall call.now (used I.remaining reader.old reader.new)
         (used W.contents writer.old writer.new) (used F.contents faults.old faults.new) result }
 {
-    finish(call_output(rt, alloc, *call, reader), writer, faults)
+    finish_noting(call_output(rt, alloc, *call, reader), writer, faults)
 }

@@ -1,21 +1,28 @@
 //! What `show` writes of a controller.
 
-ghost use Rattle.std.specs.Prelude.{◌≡◌, ◌++◌, string_bytes, IfOk, IfErr, OnOk};
+ghost use Rattle.std.specs.Prelude.{◌≡◌, ◌⊎◌, ◌++◌, string_bytes, IfOk, IfErr, OnOk};
 ghost use Rattle.stored_state.specs.Opened.{held_in};
-ghost use Rattle.jdf_commands.specs.FileCommands.Commands.{Shows, ShowsNone, shown_as};
+ghost use Rattle.jdf_commands.specs.Calls as calls;
+ghost use Rattle.jdf_commands.specs.Calls.{IsNotOpened};
+ghost use Rattle.jdf_commands.specs.FileCommands.Commands.{Shows, shown_as};
+ghost use Rattle.jdf_commands.specs.FileCommands.Opening.{IsNotLoaded};
 ghost use Rattle.jdf_commands.specs.FileCommands.Shown as shown;
+ghost use Rattle.streams.specs.declared.refused.Refused.TheVariants.{Core};
+ghost use Rattle.streams.specs.declared.fault.Fault.TheVariants.{Input};
 ghost use Rattle.ticket_items.specs.declared.refusal.Refusal.TheVariants.{Memory};
 
-use crate::file_commands::opening::opened;
+use crate::file_commands::noted::Noted;
+use crate::file_commands::notes::notes_of;
+use crate::file_commands::opening::{locked, opened};
 use crate::file_commands::pictured::{master_picture, worker_picture};
 use crate::file_commands::step::unrefused;
 use crate::shown_master::push_shown;
 use json_profile::push_part_text;
-use keepers::Keep;
+use keepers::{Keep, Locks};
 use master_core::Master;
 use std::alloc::{AllocError, Global};
 use stored_state::Opened;
-use streams::{Fault, Output};
+use streams::Fault;
 use ticket_tree::{Part, Refusal};
 use worker_core::{End, Entry, Stage, Worker};
 
@@ -110,12 +117,34 @@ fn text_shown<K: Keep>(alloc: Global, opened: &Opened<K>, picture: bool) -> Resu
     }
 }
 
-/// What `show` writes: what the controller shows, or its picture.
-pub fn show_output<K: Keep>(alloc: Global, keep: K, picture: bool) -> Result<Output, Fault>
-    ensures ok { IfOk result (λ output. Shows picture K.is_honest K.held keep output.text.items
-        output.refused) }
-    ensures refused { IfErr result (ShowsNone K.is_honest K.held K.load_fails keep) }
+/// What `show` writes of the controller that a keeper holds, which is what that shows or its
+/// picture, and what it notes of it.
+fn kept_shown<K: Keep>(alloc: Global, keep: K, picture: bool) -> Result<Noted, Fault>
+    ensures ok { IfOk result (λ noted. Shows picture K.is_honest K.held K.place keep
+        noted.output.text.items noted.output.refused noted.notes.items) }
+    ensures refused { IfErr result (λ fault. IsNotLoaded K.is_honest K.held K.load_fails keep fault
+        ⊎ (fault ≡ Input (Core Memory))) }
 {
     let opened = opened(alloc, keep)?;
-    Ok(unrefused(text_shown(alloc, &opened, picture)?))
+    let output = unrefused(text_shown(alloc, &opened, picture)?);
+    let notes = notes_of(alloc, &opened)?;
+    Ok(Noted { output, notes })
+}
+
+/// The same of the controller in a file. Refuses as `run_file` says of `show`.
+pub(crate) fn show_output<R: Locks>(
+    rt: &R,
+    alloc: Global,
+    file: &str,
+    picture: bool,
+) -> Result<Noted, Fault>
+    ensures ok { IfOk result (λ noted. Shows picture calls.is_honest calls.held calls.place
+        (calls.kept_in file.now) noted.output.text.items noted.output.refused noted.notes.items) }
+    ensures refused { IfErr result (λ fault. IsNotOpened file.now fault
+        ⊎ (fault ≡ Input (Core Memory))) }
+{
+    match locked(rt, alloc, file) {
+        Ok(keep) => kept_shown(alloc, keep, picture),
+        Err(fault) => Err(fault),
+    }
 }

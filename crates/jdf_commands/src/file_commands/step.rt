@@ -1,6 +1,6 @@
 //! What is written of a step, and why nothing is.
 
-ghost use Rattle.std.specs.Prelude.{◌≡◌, ◌++◌, false, IfErr, IfOk, OnOk};
+ghost use Rattle.std.specs.Prelude.{◌≡◌, ◌++◌, false, string_bytes, IfErr, IfOk, OnOk};
 ghost use Rattle.streams.specs.declared.refused.Refused.TheVariants.{Core};
 ghost use Rattle.streams.specs.declared.fault.Fault.TheVariants.{Input};
 ghost use Rattle.ticket_items.specs.declared.refusal.Refusal.TheVariants.{Memory};
@@ -14,21 +14,28 @@ use ticket_tree::Refusal;
 use world_items::{Answer, Word};
 use world_script::answer_text;
 
-/// The line of a reply or a refusal.
-fn reply_line(alloc: Global, reply: Result<Reply, Refusal>) -> Result<Vec<u8>, AllocError>
-    ensures { IfOk result (λ line. line.items ≡ steps.reply_line reply) }
+/// The text of a reply or a refusal.
+pub(crate) fn reply_text(alloc: Global, reply: Result<Reply, Refusal>) -> Result<String, AllocError>
+    ensures { IfOk result (λ text. string_bytes text ≡ steps.reply_text reply) }
 {
     let answer = Answer {
         word: Word::of(reply),
         number: None,
     };
-    let mut line = answer_text(alloc, &answer)?.into_bytes();
+    answer_text(alloc, &answer)
+}
+
+/// The line of a reply or a refusal.
+fn reply_line(alloc: Global, reply: Result<Reply, Refusal>) -> Result<Vec<u8>, AllocError>
+    ensures { IfOk result (λ line. line.items ≡ steps.reply_line reply) }
+{
+    let mut line = reply_text(alloc, reply)?.into_bytes();
     line.push(b'\n')?;
     Ok(line)
 }
 
 /// Appends a text on a line of its own, if there is one.
-fn push_text(lines: &mut Vec<u8>, text: &Option<Vec<u8>>) -> Result<(), AllocError>
+pub(crate) fn push_text(lines: &mut Vec<u8>, text: &Option<Vec<u8>>) -> Result<(), AllocError>
     ensures { OnOk result (lines.new.items
         ≡ lines.old.items ++ steps.text_line (option_map (λ b. b.items) text.now)) }
 {

@@ -2,22 +2,25 @@
 
 ghost use Rattle.std.specs.Prelude.{◌≤◌, IfOk};
 ghost use Rattle.std.specs.Option.{option_map};
-ghost use Rattle.jdf_net.specs.OrderCommand.{EndsSendOrder, GivesOn, IsCome, IsOfAnswer, SendsOn};
+ghost use Rattle.jdf_net.specs.OrderCommand.{EndsSendOrder, GivesOn, GivesOrder, IsCome};
+ghost use Rattle.jdf_net.specs.OrderCommand.{IsWrittenOf, SendsOn};
 ghost use Rattle.jdf_net.specs.SendCommand.{FitsHead};
 ghost use Rattle.streams.specs.Streams.{used};
 
 use crate::order_command::send_order::SendOrder;
 use crate::send_command::{DONE, destination_of, post, tell_no_url, tell_status};
 use http_message::MAX_BODY_BYTES;
-use jdf_commands::{call_output, order_in_file, step_output};
-use jdf_words::Call;
+use jdf_commands::{
+    Ordered, answer_output, finish_noting, order_in_file, order_noted, step_output, take_in_file,
+};
+use jmf_message::{Reply, decode};
 use keepers::Locks;
 use std::alloc::Global;
 use std::io::{Read, Write};
 use std::net::Net;
 use std::time::Clock;
-use stored_state::OrderBytes;
 use streams::{Counted, Fault, Output, Refused, finish};
+use ticket_tree::Refusal;
 use url::Url;
 
 /// What came of a message that was sent on.
@@ -29,14 +32,14 @@ enum Came {
     Answered(Output),
 }
 
-/// What `take` writes of an answer, which it hands to the controller in the file; nothing of none.
+/// What is written of an answer, which it hands to the controller in the file; nothing of none.
 fn taken<R: Locks>(
     rt: &R,
     alloc: Global,
     order: &SendOrder<'_>,
     answer: &[u8],
 ) -> Result<Output, Fault>
-    ensures { IfOk result (λ output. IsOfAnswer order.now.file order.now.at
+    ensures { IfOk result (λ output. IsWrittenOf order.now.file order.now.at answer.now
         output.text.items output.refused) }
 {
     if answer.is_empty() {
@@ -45,15 +48,13 @@ fn taken<R: Locks>(
             refused: false,
         });
     }
-    let take = Call::Take {
-        file: order.file,
-        at: order.at,
-    };
-    call_output(rt, alloc, take, &mut Counted::new(answer))
+    let given = take_in_file(rt, alloc, order.file, None, answer, order.at)?;
+    let message = decode(alloc, answer)?;
+    answer_output(alloc, &given, &message)
 }
 
-/// Posts a message to a URL, and has the controller in the file take the answer, if there is one,
-/// as `take` does. Gives up as `send` and `take` do.
+/// Posts a message to a URL, and has the controller in the file take the answer, if there is one.
+/// Gives up as `send` and `take` do.
 fn answered<R: Locks + Net + Clock>(
     rt: &R,
     alloc: Global,
@@ -99,44 +100,79 @@ fn send_on<R: Locks + Net + Clock, W: Write, F: Write>(
     }
 }
 
-/// Writes the line of an order's reply, and sends on the message that goes out, if one does. Where
-/// the line can't be written nothing is sent. Answers the exit status.
+/// Writes the line of an order's reply, and sends on the message that goes out. Where the line
+/// can't be written nothing is sent. Answers the exit status.
 fn give_on<R: Locks + Net + Clock, W: Write, F: Write>(
     rt: &R,
     alloc: Global,
     order: &SendOrder<'_>,
     url: &Url,
-    given: OrderBytes,
+    reply: Result<Reply, Refusal>,
+    message: &[u8],
     writer: &mut Counted<W>,
     faults: &mut Counted<F>,
 ) -> u8
     requires { FitsHead url.now }
-    ensures given { GivesOn order.now.file order.now.at given.reply
-        (option_map (λ b. b.items) given.message) (used W.contents writer.old writer.new)
-        (used F.contents faults.old faults.new) result }
+    ensures given { GivesOn order.now.file order.now.at reply
+        (used W.contents writer.old writer.new) (used F.contents faults.old faults.new) result }
     ensures known { result ≤ 4 }
 {
-    let OrderBytes { reply, message } = given;
     let status = finish(step_output(alloc, reply, &None), writer, faults);
+    if status != 0 {
+        return status;
+    }
+    send_on(rt, alloc, order, url, message, writer, faults)
+}
+
+/// Gives out what an order gives out. Answers the exit status.
+fn give_out<R: Locks + Net + Clock, W: Write, F: Write>(
+    rt: &R,
+    alloc: Global,
+    order: &SendOrder<'_>,
+    url: &Url,
+    given: Ordered,
+    writer: &mut Counted<W>,
+    faults: &mut Counted<F>,
+) -> u8
+    requires { FitsHead url.now }
+    ensures given { GivesOrder order.now.file order.now.at given.reply
+        (option_map (λ b. b.items) given.message) given.notes.items
+        (used W.contents writer.old writer.new) (used F.contents faults.old faults.new) result }
+    ensures known { result ≤ 4 }
+{
+    let Ordered {
+        reply,
+        message,
+        notes,
+    } = given;
     match message {
         Some(message) => {
-            if status != 0 {
-                return status;
-            }
-            send_on(rt, alloc, order, url, message.as_slice(), writer, faults)
+            drop(notes);
+            give_on(
+                rt,
+                alloc,
+                order,
+                url,
+                reply,
+                message.as_slice(),
+                writer,
+                faults,
+            )
         }
-        None => status,
+        None => finish_noting(order_noted(alloc, reply, &None, notes), writer, faults),
     }
 }
 
 /// Gives the controller in a file the order that the input is, as `order` does, and writes the line
 /// of its reply. A message that goes out is posted to the controller that serves at a URL, as
 /// `send` does, in place of being written; the answer is handed to the controller in the file, as
-/// `take` does at the same time, and what that writes is written. Each step is saved before its
-/// line is written; the file is locked for each step alone. Answers the exit status: 0; 1 where the
-/// order, the message or the answer was refused; for a text that is no such URL 2, and then nothing
-/// is read; else that of the fault, which is told, as of `order`, `send` or `take`. The message may
-/// have been taken then; it can be sent once more by `Resend`.
+/// `take` does at the same time, and what came of it is written: the reply, with the Status of the
+/// queue entry behind it where the message was taken, and where it was refused a line more that
+/// tells who refused. Each step is saved before its line is written; the file is locked for each
+/// step alone. Answers the exit status: 0; 1 where the order, the message or the answer was
+/// refused; for a text that is no such URL 2, and then nothing is read; else that of the fault,
+/// which is told, as of `order`, `send` or `take`. The message may have been taken then; it can be
+/// sent once more by `Resend`.
 pub fn run_send_order<R: Locks + Net + Clock, I: Read, W: Write, F: Write>(
     rt: &R,
     alloc: Global,
@@ -155,7 +191,7 @@ pub fn run_send_order<R: Locks + Net + Clock, I: Read, W: Write, F: Write>(
         Err(fault) => return finish(Err(fault), writer, faults),
     };
     match order_in_file(rt, alloc, order.file, order.at, reader) {
-        Ok(given) => give_on(rt, alloc, order, &url, given, writer, faults),
+        Ok(given) => give_out(rt, alloc, order, &url, given, writer, faults),
         Err(fault) => finish(Err(fault), writer, faults),
     }
 }

@@ -6,10 +6,12 @@ ghost use Rattle.streams.specs.declared.refused.Refused.TheVariants.{Core};
 ghost use Rattle.streams.specs.declared.fault.Fault.TheVariants.{Input};
 ghost use Rattle.jdf_net.specs.SendCommand.{FitsHead};
 
+use crate::until::time_left;
 use http_message::is_word;
 use std::alloc::{AllocError, Global};
 use std::io;
-use std::net::{Net, TcpStream};
+use std::net::{Net, TcpStream, ToSocketAddrs};
+use std::time::{Clock, Duration, Instant};
 use streams::Fault;
 use url::{Host, ParseError, Url};
 
@@ -50,13 +52,37 @@ pub(crate) fn destination_of(alloc: Global, text: &str) -> Result<Option<Url>, F
     }
 }
 
-/// A connection to the host that a URL names.
-pub(crate) fn connect<R: Net>(rt: &R, url: &Url) -> io::Result<R::Stream> {
+/// A connection to the host that a URL names: over the first of its addresses that answers, within
+/// what is left of a limit from a start on. How long it takes to look up a name isn't limited.
+pub(crate) fn connect<R: Net + Clock>(
+    rt: &R,
+    url: &Url,
+    start: Instant,
+    limit: Duration,
+) -> io::Result<R::Stream> {
     let port = url.port().unwrap_or(HTTP_PORT);
     match url.host() {
-        Some(Host::Domain(name)) => TcpStream::connect(rt, (name, port)),
-        Some(Host::Ipv4(address)) => TcpStream::connect(rt, (address, port)),
-        Some(Host::Ipv6(address)) => TcpStream::connect(rt, (address, port)),
+        Some(Host::Domain(name)) => connect_within(rt, (name, port), start, limit),
+        Some(Host::Ipv4(address)) => connect_within(rt, (address, port), start, limit),
+        Some(Host::Ipv6(address)) => connect_within(rt, (address, port), start, limit),
         None => Err(io::ErrorKind::InvalidInput.into()),
     }
+}
+
+/// A connection over the first of these addresses that answers.
+fn connect_within<R: Net + Clock, A: ToSocketAddrs>(
+    rt: &R,
+    addresses: A,
+    start: Instant,
+    limit: Duration,
+) -> io::Result<R::Stream> {
+    let mut last = io::Error::from(io::ErrorKind::NotFound);
+    for address in addresses.to_socket_addrs(rt)? {
+        let left = time_left(rt, start, limit)?;
+        match TcpStream::connect_timeout(rt, &address, left) {
+            Ok(stream) => return Ok(stream),
+            Err(error) => last = error,
+        }
+    }
+    Err(last)
 }

@@ -3,14 +3,14 @@
 ghost use Rattle.jdf_net.specs.SendCommand.{FitsHead};
 
 use crate::send_command::destination::connect;
-use crate::until::Until;
+use crate::until::{Until, time_left};
 use http_message::{MAX_BODY_BYTES, Received, receive, send_to};
 use std::alloc::Global;
 use std::fs;
-use std::io::Read;
+use std::io::{self, Read};
 use std::net::Net;
 use std::rt::Files;
-use std::time::{Clock, Duration};
+use std::time::{Clock, Duration, Instant};
 use streams::{Counted, Fault, Refused, read_input};
 use url::Url;
 
@@ -40,9 +40,19 @@ pub(crate) fn read_message<R: Files, I: Read>(
     Ok(message)
 }
 
+/// A connection to the host that a URL names, for `EXCHANGE_SECONDS` at most from now on, of which
+/// it may take some until there is one.
+fn connection<'a, R: Net + Clock>(rt: &'a R, url: &Url) -> io::Result<Until<'a, R, R::Stream>> {
+    let start = Instant::now(rt)?;
+    let limit = Duration::from_secs(EXCHANGE_SECONDS);
+    let stream = connect(rt, url, start, limit)?;
+    let left = time_left(rt, start, limit)?;
+    Until::new(rt, stream, left)
+}
+
 /// Posts a message to a URL, and reads the response, for `EXCHANGE_SECONDS` at most. Refuses
-/// `NoConnection`, also where the clock can't be read; `WriteFailed`; and what `receive` refuses
-/// the response for.
+/// `NoConnection`, also where none is there within that time and where the clock can't be read;
+/// `WriteFailed`; and what `receive` refuses the response for.
 pub(crate) fn post<R: Net + Clock>(
     rt: &R,
     alloc: Global,
@@ -51,10 +61,7 @@ pub(crate) fn post<R: Net + Clock>(
 ) -> Result<Received, Refused>
     requires { FitsHead url.now }
 {
-    let Ok(stream) = connect(rt, url) else {
-        return Err(Refused::NoConnection);
-    };
-    let Ok(stream) = Until::new(rt, stream, Duration::from_secs(EXCHANGE_SECONDS)) else {
+    let Ok(stream) = connection(rt, url) else {
         return Err(Refused::NoConnection);
     };
     let mut stream = Counted::new(stream);

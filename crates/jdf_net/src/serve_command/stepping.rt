@@ -1,11 +1,15 @@
 //! The step of a message, under the lock of the file.
 
-ghost use Rattle.std.specs.Prelude.{IfOk};
+ghost use Rattle.std.specs.Prelude.{◌≡◌, ℕ, IfErr, IfOk};
+ghost use Rattle.jdf_commands.specs.Calls.{kept_in};
+ghost use Rattle.streams.specs.declared.refused.Refused.TheVariants.{LoadFailed};
+ghost use Rattle.stored_state.specs.Held.{Held};
 ghost use Rattle.stored_state.specs.Opened.{held_in};
+ghost use Rattle.stored_state.specs.declared.any_controller.AnyController.{AnyController};
 ghost use Rattle.jdf_commands.specs.FileCommands.Opening.{IsLoaded};
 ghost use Rattle.jdf_net.specs.ServeCommand.{TakesHeld, TakesInFile};
 
-use keepers::{FileKeep, FileLock, Keep, Locks};
+use keepers::{FileKeep, Keep, Locks, SystemDisk};
 use std::alloc::Global;
 use std::fs;
 use std::io::ErrorKind;
@@ -24,7 +28,7 @@ pub(crate) fn now<R: Clock>(clock: &R) -> Option<u64> {
 /// The controller whose state a keeper holds, beside the keeper. Refuses `LoadFailed` where none is
 /// loaded, whatever for.
 fn loaded<K: Keep>(alloc: Global, keep: K) -> Result<Opened<K>, Refused>
-    ensures { IfOk result (λ opened. IsLoaded K.is_honest K.held keep (held_in opened)) }
+    ensures { IfOk result (λ opened. IsLoaded K.is_honest K.held K.place keep (held_in opened)) }
 {
     match open_any(alloc, keep) {
         Ok(opened) => Ok(opened),
@@ -41,12 +45,57 @@ fn take_body<K: Keep>(
     body: &[u8],
     at: u64,
 ) -> Result<(TakenBytes, Opened<K>), Refused>
-    ensures { IfOk result (λ taken. TakesHeld K.is_honest K.held at body.now keep
+    ensures { IfOk result (λ taken. TakesHeld K.is_honest K.held K.place at body.now keep
         (held_in taken.1) taken.0) }
 {
     let mut opened = loaded(alloc, keep)?;
     let given = opened.take(alloc, body, at)?;
     Ok((given, opened))
+}
+
+/// The same, and the keeper is let go.
+fn body_taken<K: Keep>(alloc: Global, keep: K, body: &[u8], at: u64) -> Result<TakenBytes, Refused>
+    ensures { IfOk result (λ given. (after : Held AnyController K)
+        × TakesHeld K.is_honest K.held K.place at body.now keep after given) }
+{
+    let (given, opened) = take_body(alloc, keep, body, at)?;
+    drop(opened);
+    Ok(given)
+}
+
+/// The keeper in the file of this path, which has its lock: it waits for that.
+fn locked<'a, R: Locks>(
+    rt: &'a R,
+    alloc: Global,
+    file: &'a str,
+) -> Result<FileKeep<SystemDisk<'a, R>>, Refused>
+    ensures ok { IfOk result (λ keep. keep ≡ kept_in file.now) }
+    ensures refused { IfErr result (λ refused. refused ≡ LoadFailed) }
+{
+    match FileKeep::lock(rt, alloc, file) {
+        Ok(keep) => Ok(keep),
+        Err(_) => Err(Refused::LoadFailed),
+    }
+}
+
+/// The same at the time of the clock. Refuses `ReadFailed` where that tells no time since 1970, and
+/// then nothing is changed.
+fn take_now<R: Clock, K: Keep>(
+    rt: &R,
+    alloc: Global,
+    keep: K,
+    body: &[u8],
+) -> Result<TakenBytes, Refused>
+    ensures { IfOk result (λ given. (at : ℕ) × (after : Held AnyController K)
+        × TakesHeld K.is_honest K.held K.place at body.now keep after given) }
+{
+    match now(rt) {
+        Some(at) => body_taken(alloc, keep, body, at),
+        None => {
+            drop(keep);
+            Err(Refused::ReadFailed)
+        }
+    }
 }
 
 /// Hands the controller that is kept in a file the message that a body is, at the time of the
@@ -61,15 +110,10 @@ pub(crate) fn take_in_file<R: Locks + Clock>(
 ) -> Result<TakenBytes, Refused>
     ensures { IfOk result (TakesInFile file.now body.now) }
 {
-    let _lock = match FileLock::take(rt, file) {
-        Ok(lock) => lock,
-        Err(_) => return Err(Refused::LoadFailed),
-    };
-    let Some(at) = now(rt) else {
-        return Err(Refused::ReadFailed);
-    };
-    let (given, _opened) = take_body(alloc, FileKeep::new(rt, alloc, file), body, at)?;
-    Ok(given)
+    match locked(rt, alloc, file) {
+        Ok(keep) => take_now(rt, alloc, keep, body),
+        Err(refused) => Err(refused),
+    }
 }
 
 /// Whether the system says that nothing is there under a path. No contract says more: others may
@@ -84,10 +128,6 @@ pub(crate) fn is_missing<R: Files>(rt: &R, path: &str) -> bool {
 /// Whether a controller can be loaded of a file. Refuses `LoadFailed`, what the file holds is
 /// refused for, and `Memory`.
 pub(crate) fn check_file<R: Locks>(rt: &R, alloc: Global, file: &str) -> Result<(), Refused> {
-    let _lock = match FileLock::take(rt, file) {
-        Ok(lock) => lock,
-        Err(_) => return Err(Refused::LoadFailed),
-    };
-    open_any(alloc, FileKeep::new(rt, alloc, file))?;
+    open_any(alloc, locked(rt, alloc, file)?)?;
     Ok(())
 }

@@ -9,4 +9,5 @@ returns g c =
       loaded = c.in_ok-opened.ensures;
       gives = c.in_ok-given.ensures.ok;
       honest = c.take.ensures.honest ∙ c.in_ok-opened.ensures.honest;
+      placed = c.take.ensures.place ∙ c.in_ok-opened.ensures.placed;
     }

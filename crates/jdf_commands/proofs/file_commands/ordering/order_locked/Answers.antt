@@ -1,0 +1,15 @@
+use Rattle.std.proofs.Common.{IfOk, option_map, subst}
+use Rattle.stored_state.specs.AnyStep.{IsNoOrder, IsOrdered}
+use Rattle.jdf_commands.specs.Calls.{held, is_honest, place}
+use Rattle.jdf_commands.specs.FileCommands.Commands.{GivesHeld, GivesNoting}
+use Rattle.jdf_commands.specs.FileCommands.Notes.{notes_of_order}
+use Rattle.jdf_commands.proofs.Commands.{none_in_file}
+use Rattle.jdf_commands.proofs.file_commands.ordering.order_locked.Goals as goal
+
+pub returns-in-Ok-clause-ok : goal.returns-in-Ok-clause-ok
+returns-in-Ok-clause-ok g c =
+    subst (λ keep. IfOk c.order_given.result (λ given. GivesNoting (λ after. GivesHeld is_honest held place (IsOrdered c.args.at) c.args.input.now keep after given.reply (option_map (λ b. b.items) given.message)) (notes_of_order given.reply) given.notes.items)) c.in-Ok.ensures.ok c.order_given.ensures.ok
+
+pub returns-in-Ok-clause-refused : goal.returns-in-Ok-clause-refused
+returns-in-Ok-clause-refused g c =
+    none_in_file IsNoOrder (IsOrdered c.args.at) c.args.file.now c.args.input.now c.in-Ok.keep c.order_given.result c.in-Ok.ensures.ok c.order_given.ensures.refused

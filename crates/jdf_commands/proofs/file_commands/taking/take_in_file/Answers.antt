@@ -1,0 +1,19 @@
+use Rattle.std.proofs.Common.{IfOk, option_map, subst}
+use Rattle.jmf_message.specs.Decoded.{IsRefusalOf}
+use Rattle.keepers.specs.InFile.{InFile}
+use Rattle.keepers.specs.OnDisk.{OnDisk}
+use Rattle.stored_state.specs.AnyStep.{IsHanded}
+use Rattle.stored_state.specs.Held.{Held}
+use Rattle.stored_state.specs.declared.any_controller.AnyController.{AnyController}
+use Rattle.jdf_commands.specs.Calls.{held, is_honest, place}
+use Rattle.jdf_commands.specs.FileCommands.Commands.{GivesHeld}
+use Rattle.jdf_commands.proofs.Commands.{none_in_file}
+use Rattle.jdf_commands.proofs.file_commands.taking.take_in_file.Goals as goal
+
+pub returns-in-Ok-clause-ok : goal.returns-in-Ok-clause-ok
+returns-in-Ok-clause-ok g c =
+    subst (λ keep. IfOk c.take_given.result (λ given. (after : Held AnyController (InFile OnDisk)) × GivesHeld is_honest held place (IsHanded c.args.at) c.args.bytes.now keep after given.reply (option_map (λ b. b.items) given.answer))) c.in-Ok.ensures.ok c.take_given.ensures.ok
+
+pub returns-in-Ok-clause-refused : goal.returns-in-Ok-clause-refused
+returns-in-Ok-clause-refused g c =
+    none_in_file (λ bytes _. IsRefusalOf bytes) (IsHanded c.args.at) c.args.file.now c.args.bytes.now c.in-Ok.keep c.take_given.result c.in-Ok.ensures.ok c.take_given.ensures.refused
