@@ -1,18 +1,25 @@
 #!/usr/bin/env python3
-"""Programs whose allocations are refused: allocations.py PROGRAM REFUSED_ORDERS [--each N]
+"""Programs whose allocations are refused: allocations.py PROGRAM REFUSED_ORDERS [--cases CASES]
+[--each N]
 
 A small library stands between a program and the allocator, and refuses the allocation of one
-number, or all from one on. A command of each kind runs so, from its first allocation on until
-twenty runs meet none. Each run ends with `Refused 90 Memory` and status 1, or as if nothing had been
+number, or all from one on. A command of each kind runs so, from its first allocation on until many
+runs meet none. Each run ends with `Refused 90 Memory` and status 1, or as if nothing had been
 refused, and leaves FILE as it was or as the step leaves it; an edit tells it on its own line.
 --each 10 tries every tenth allocation.
 
 A server, too, is refused each of its allocations in turn: it doesn't begin, or answers a message
 with a 503, and takes the same as it comes once more.
 
-Or it refuses all from a line that the program writes until it has written the next. REFUSED_ORDERS
-is that of crates/refused_orders, which writes such a line before each order that it gives to a
-controller, and then the answer.
+Or it refuses all from a line that the program writes until it has written the next, or the one of
+a number among these. REFUSED_ORDERS is that of crates/refused_orders, which writes such a line
+before each call, and then what comes of it. An order to a controller beside its keeper, a message
+over HTTP and a script in a world are refused each allocation of the call in turn, and what they
+leave is looked at.
+
+CASES is the program of crates/cases. Some of its cases call what no command calls; a few of each
+kind are refused each allocation in turn, and come to what they ever come to, or to `Refused 90
+Memory`.
 """
 import argparse
 import collections
@@ -29,12 +36,20 @@ import faults
 import processes
 from processes import PROGRAM, asked, passes, wants
 
-# So many runs in a row that end well show that there are no more allocations.
-ENOUGH = 20
+# So many runs in a row that end well show that there are no more allocations. Behind an event a
+# world makes some that it does without.
+ENOUGH = 100
 # What the orders are, and the answers to them.
 ORDERS = os.path.join(os.path.dirname(processes.HERE), "crates/refused_orders")
-# What refuses allocations: those from REFUSED_FROM to REFUSED_TO, the first being 1; and all from a
-# write of the bytes REFUSED_BEHIND to the end of the next write.
+# The cases; the words of those that call what no command calls, and need no file; and how many of
+# each word are tried.
+CASES = os.path.join(os.path.dirname(processes.HERE), "crates/cases")
+WORDS = ("value ticket change part state state_value message id new_text edited_copy shop spawned"
+         " part_rows new_id tree part_tree below subtree home").split()
+FEW = 4
+# What refuses allocations: those from REFUSED_FROM to REFUSED_TO, the first being 1; and from a
+# write of the bytes REFUSED_BEHIND to the end of the next write all, or the one of the number
+# REFUSED_CALL.
 REFUSES = """
 #include <stdlib.h>
 #include <string.h>
@@ -44,7 +59,7 @@ REFUSES = """
 void *__libc_malloc(size_t size);
 void *__libc_realloc(void *old, size_t size);
 
-static unsigned long made, from, to;
+static unsigned long made, from, to, call, behind;
 static const char *mark;
 static int is_behind;
 
@@ -56,18 +71,21 @@ static unsigned long number(const char *name) {
 __attribute__((constructor)) static void begin(void) {
     from = number("REFUSED_FROM");
     to = number("REFUSED_TO");
+    call = number("REFUSED_CALL");
     mark = getenv("REFUSED_BEHIND");
     made = 0;
 }
 
 static int refused(void) {
     made++;
-    return is_behind || (from && from <= made && made <= to);
+    behind += is_behind;
+    return (is_behind && (!call || behind == call)) || (from && from <= made && made <= to);
 }
 
 ssize_t write(int file, const void *bytes, size_t count) {
     ssize_t written = syscall(SYS_write, file, bytes, count);
     is_behind = mark && count == strlen(mark) && !memcmp(bytes, mark, count);
+    behind = 0;
     return written;
 }
 
@@ -175,28 +193,149 @@ def served(given, before, number):
     return statuses, re.sub(rb'"At":[0-9]+', b"", processes.content("press"))
 
 
+def given_lines():
+    """The orders to controllers alone, as lines with their states; and each other call, with the
+    state in front of it."""
+    orders, calls, state = [], [], ""
+    for line in processes.content(os.path.join(ORDERS, "stdin")).decode().split("\n"):
+        word, tab, _ = line.partition("\t")
+        state = state if tab else line
+        if word and tab:
+            calls.append((word, state, line))
+        elif line:
+            orders.append(line)
+    return orders, calls
+
+
+def called(lines, **refused):
+    """What the program of the calls writes for these lines, while allocations are refused so."""
+    env = dict(os.environ, LD_PRELOAD=LIBRARY, REFUSED_BEHIND="Prepared\n", **refused)
+    ran = subprocess.run([ARGS.refused_orders], input="\n".join(lines).encode(), timeout=60,
+                         capture_output=True, env=env)
+    wants((ran.returncode, ran.stderr), (0, b""))
+    return ran.stdout.decode()
+
+
 def orders_are_refused_without_memory():
     """Each refusal comes as ever, and what else would be done tells that memory ran out."""
-    given, told = (processes.content(os.path.join(ORDERS, name)) for name in ("stdin", "stdout"))
-    assert b"\nRefused" in told and b"\nDone\n" in told, "an order of each kind is wanted"
-    ran = subprocess.run([ARGS.refused_orders], input=given, capture_output=True, timeout=60,
-                         env=dict(os.environ, LD_PRELOAD=LIBRARY, REFUSED_BEHIND="Prepared\n"))
-    wants((ran.returncode, ran.stderr), (0, b""))
-    wanted = told.decode().replace("\nDone\n", "\n" + faults.MEMORY)
-    for lines in itertools.zip_longest(ran.stdout.decode().split("\n"), wanted.split("\n")):
+    orders, _ = given_lines()
+    told = called(orders, REFUSED_CALL=str(1 << 62))
+    assert "\nRefused" in told and "\nDone\n" in told, "an order of each kind is wanted"
+    wanted = told.replace("\nDone\n", "\n" + faults.MEMORY)
+    for lines in itertools.zip_longest(called(orders).split("\n"), wanted.split("\n")):
         wants(*lines)
-    print(f"  {told.count(b'Refused')} refusals without memory")
+    print(f"  {told.count('Refused')} refusals without memory")
+
+
+def each_allocation(run):
+    """What comes of a run while no allocation is refused; and the numbers of those that change it,
+    each with what comes then, up to so many in a row that don't."""
+    whole, changed, number, fine = run(1 << 62), [], 0, 0
+    while fine < ENOUGH:
+        number += 1
+        came = run(number)
+        fine = fine + 1 if came == whole else 0
+        if not fine:
+            changed.append((number, came))
+    return whole, changed
+
+
+def a_call_is_refused_each_allocation():
+    """An order that was refused memory before its step leaves the state, and behind it the old
+    state and a stale controller, until that is loaded again; it is done then as ever. A message
+    over HTTP is answered with a 503 and taken as it comes again. Of a script in a world a front
+    happens, and the rest then, as ever. All of these come."""
+    for word, state, line in given_lines()[1]:
+        whole, changed = each_allocation(
+            lambda number: called([state, line], REFUSED_CALL=str(number)))
+        wanted = LEFT[word](state, line, whole)
+        for number, told in changed:
+            assert told in wanted, f"{word}, allocation {number}: {told!r}"
+        counts = collections.Counter(wanted.index(told) for _, told in changed)
+        print(f"  {word} without an allocation: {[counts[end] for end in range(len(wanted))]}")
+        wants(len(counts), len(wanted))
+
+
+def left_by_order(state, line, whole):
+    """What comes of an order: the controller is stale beside its state; or the state is as it was,
+    but where the step itself needs no memory, as a new Status doesn't."""
+    ends = whole.removeprefix("Prepared\n")
+    words = ["Stale\nRefused 58 Stale\n", "Fresh\n"][:1 if "SetStatus" in line else 2]
+    return [f"Prepared\n{faults.MEMORY}{left}{state}\n{ends}" for left in words]
+
+
+def left_by_message(_state, _line, whole):
+    """What comes of a message: a 503, and then the response."""
+    response = whole.removeprefix("Prepared\n")
+    response = response[:len(response) // 2]
+    wants(whole, f"Prepared\n{response}{response}")
+    return [f"Prepared\n{UNSAVED}\n{response}"]
+
+
+def left_by_script(_state, _line, whole):
+    """What comes of a script: all its lines, and that the world stands where it begins, or behind
+    one of the events that change something."""
+    lines = whole.removeprefix("Prepared\nRan\n").splitlines(keepends=True)
+    fronts = [0, *(at for at, line in enumerate(lines, 1)
+                   if not line.startswith(("Noted", "Refused", "Stopped")))]
+    return ["".join([f"Prepared\n{faults.MEMORY}", *lines[:at], "From here\n", *lines[at:]])
+            for at in fronts]
+
+
+LEFT = {"kept": left_by_order, "serve": left_by_message, "world": left_by_script}
+UNSAVED = "HTTP/1.1 503 Service Unavailable\r\nContent-Length: 0\r\nConnection: close\r\n\r\n"
+
+
+def few_cases():
+    """The words of cases with a few of each, if there are some those that aren't refused."""
+    found = {word: [] for word in WORDS}
+    for line in processes.content(os.path.join(CASES, "stdin")).split(b"\n"):
+        word = re.split(b"[ \t]", line)[0].decode()
+        if word in found:
+            found[word].append(line)
+    return [(word, line) for word in WORDS for line in sorted(found[word], key=is_refused)[:FEW]]
+
+
+def is_refused(line):
+    return b"Refused" in of_case(line, 1 << 62)[1]
+
+
+def of_case(line, number):
+    """What comes of a case while the allocation of a number is refused."""
+    with refused_to_programs(number, number):
+        ran = subprocess.run([ARGS.cases], input=line, capture_output=True, timeout=60)
+    return ran.returncode, ran.stdout
+
+
+def a_case_is_refused_each_allocation():
+    """A call that no command makes comes to what it ever comes to, or is refused memory; so is the
+    reading of the case."""
+    told = collections.Counter()
+    for word, line in few_cases():
+        whole, changed = each_allocation(lambda number: of_case(line, number))
+        wants(whole[0], 0)
+        for number, came in changed:
+            assert came in (REFUSED, UNREAD), f"{line}, allocation {number}: {came}"
+            told[word] += came == REFUSED
+    print(f"  cases without an allocation: {dict(told)}")
+    wants({word for word in told if told[word]}, set(WORDS))
+
+
+REFUSED = (0, faults.MEMORY.encode())
+UNREAD = (1, b"")
 
 
 def arguments():
     parser = argparse.ArgumentParser()
     parser.add_argument("program")
     parser.add_argument("refused_orders", type=os.path.abspath)
+    parser.add_argument("--cases", type=os.path.abspath, default=os.path.join(CASES, "out/cases"))
     parser.add_argument("--each", type=int, default=1)
     return parser.parse_args()
 
 
-TESTS = [orders_are_refused_without_memory, one_allocation_is_refused,
+TESTS = [orders_are_refused_without_memory, a_call_is_refused_each_allocation,
+         a_case_is_refused_each_allocation, one_allocation_is_refused,
          all_allocations_from_one_on_are_refused, a_message_is_served_without_memory]
 ARGS = arguments()
 FOLDER = tempfile.mkdtemp()

@@ -1,15 +1,16 @@
 #!/usr/bin/env python3
 """Types what the documents tell to type: documents.py PROGRAM
 
-The lines of README.md and of docs/FIRST_DAY.md that are fenced as `sh` are run as they stand, from the first to the last, each document in one shell
+The lines of README.md and of docs/FIRST_DAY.md that are fenced as `sh`, and the examples that the
+program's help gives, are run as they stand, from the first to the last, each document in one shell
 in a folder of its own, which has the program where `build-unproved` leaves it. Only ports differ:
 each is a free one. What isn't run here builds or proves: for `rt` stands a script that runs the
 program, and `./build-unproved` and `./check` are left out.
 
 A comment behind a line tells what comes of it. Between its commas, colons and semicolons, what
 begins with a capital letter or a brace is a line that is printed, or the front of one where ` ..`
-stands stands behind it, and `status N` is the status, else 0, with no refusal printed. Where the text says
-`prints` between the lines and a fenced block, the block is what is printed.
+stands behind it, and `status N` is the status, else 0, with no refusal printed. Where the text
+says `prints` between the lines and a fenced block, the block is what is printed.
 
 The last line says how many documents passed. The lines of one end within two minutes, or fail.
 """
@@ -50,10 +51,12 @@ class Line:
         status = re.search(r"\bstatus (\d+)", told)
         self.status = int(status[1]) if status else 0
         self.printed = None
+        # Of an example of the help nothing is told, and it may be one in which some are refused.
+        self.is_example = False
 
     def fault(self, status, printed):
         """What is wrong with what came of it, or None."""
-        if status != self.status:
+        if status != self.status and not (self.is_example and status == 1):
             return f"status {status}, and not {self.status}"
         if self.printed is not None:
             if len(printed) != len(self.printed) or not all(map(is_line, printed, self.printed)):
@@ -64,7 +67,9 @@ class Line:
             if not any(is_line(line, wanted) for line in rest):
                 return f"no line `{wanted}`"
         is_refused = any(line.startswith(("Refused", "error")) for line in printed)
-        return "a refusal of which the document says nothing" if is_refused and not status else None
+        if is_refused and not status and not self.is_example:
+            return "a refusal of which the document says nothing"
+        return None
 
 
 def is_line(line, wanted):
@@ -106,6 +111,20 @@ def commands_of(document):
         end = block.end()
     assert len(lines) > 5, "too few lines"
     return lines
+
+
+def commands_of_help(program):
+    """The examples of the program's help."""
+    text = subprocess.run([program, "--help"], capture_output=True, text=True).stderr
+    lines = re.findall(r"^  (.*)$", text[text.index("\nExamples"):], re.M)
+    assert len(lines) > 5, "too few examples"
+    examples = [Line(line) for line in ['export PATH="$PWD/out:$PATH"', *lines]]
+    for example in examples:
+        example.is_example = True
+        if example.text.endswith("&"):
+            address = re.search(r"127\.0\.0\.1:\d+", example.text)
+            example.wanted = [f"Listening on {address[0]}"]
+    return examples
 
 
 # ---- typing it
@@ -151,7 +170,8 @@ def script(lines, ports):
     typed = []
     for number, line in enumerate(lines):
         told = f'"$TOLD"/{number}'
-        typed += [f"exec > {told} 2>&1", ports.put(line.text).rstrip("\n"), f"echo $? > {told}.status"]
+        command = ports.put(line.text).rstrip("\n")
+        typed += [f"exec > {told} 2>&1", command, f"echo $? > {told}.status"]
         if line.text.split("  #")[0].rstrip().endswith("&") and line.wanted:
             wanted = ports.put(line.wanted[0])
             typed.append(f"until grep -qF -- '{wanted}' {told}; do sleep 0.05; done")
@@ -212,6 +232,7 @@ def passes(name, lines, program):
 def main():
     program = os.path.abspath(sys.argv[1])
     documents = [(name, commands_of(name)) for name in ("README.md", "docs/FIRST_DAY.md")]
+    documents.append(("--help", commands_of_help(program)))
     passed = sum([passes(name, lines, program) for name, lines in documents])
     print(f"documents: {passed} passed, {len(documents) - passed} failed")
     sys.exit(passed != len(documents))

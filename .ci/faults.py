@@ -187,6 +187,24 @@ def a_save_is_cut_off():
     print(f"  {sum(counts)} saves that were cut off")
 
 
+def a_full_file_ends_who_does_not_ignore_its_signal():
+    """As shells and service managers start it: then what was written stays until the next save."""
+    def limit():
+        resource.setrlimit(resource.RLIMIT_CORE, (0, 0))
+        resource.setrlimit(resource.RLIMIT_FSIZE, (EACH, EACH))
+    for step in steps():
+        if step.words[0] in ("take", "order", "new"):
+            ran = subprocess.run([PROGRAM, *step.words], input=step.given.encode(),
+                                 capture_output=True, preexec_fn=limit, timeout=60)
+            wants((ran.returncode, ran.stdout, ran.stderr), (-signal.SIGXFSZ, b"", b""))
+            left = files()
+            wants(len(left.pop(step.words[1] + ".new")), EACH)
+            wants(left, step.before)
+            wants(run(*step.words, given=step.given), step.fine)
+            wants(files(), step.after)
+            restore(step.before)
+
+
 def files_run_out():
     counts = []
     for step in steps():
@@ -231,6 +249,7 @@ def nobody_reads_what_is_printed():
 TESTS = [
     memory_runs_out_at_each_page,
     a_save_is_cut_off,
+    a_full_file_ends_who_does_not_ignore_its_signal,
     files_run_out,
     streams_that_cannot_be_read,
     streams_that_cannot_be_written,

@@ -38,6 +38,10 @@ OF_A_SPAWN = ("Spawned|Sent|Finished|Merged|Already|Noted|Taken|Again|Acked|Aske
               "Freed")
 REPLIES = f"Edited|(?:{OF_A_SPAWN}) S[1-9][0-9]{{0,8}}"
 LINE = re.compile(f"(?:{REFUSED}|{REPLIES}|Stopped|Restarted|NoMessage)(?: #[1-9][0-9]*)?")
+# The line of an answer that refuses, and who refused; refusals by their numbers have names but for
+# those of HTTP and files, which no answer tells.
+REFUSED_BY = re.compile(r"Refused ([1-9]\d*)(?: (\w+))? by [A-Za-z_][A-Za-z0-9_.-]{0,63}")
+STATUS = re.compile(r" (?:Running|Completed|Aborted)$")
 # The most that a run needs beside its input.
 ROOM = 4 << 20
 # Large inputs that need more than they should, lists of `{"a":1}` and of `[1,1]`, and how many
@@ -180,6 +184,19 @@ def are_lines(lines):
         CAME[line.partition(" ")[0]] += 1
         if found["number"]:
             wants(NAMES.get(found["number"]) == found["name"], "a line", line)
+
+
+def are_answers(lines):
+    """The lines of answers that were taken: with the Status of the queue entry, or who refused."""
+    for line in lines:
+        refused = REFUSED_BY.fullmatch(line)
+        if not refused:
+            are_lines([STATUS.sub("", line)])
+            continue
+        number, name = refused.groups()
+        is_named = int(number) < 50 or int(number) == 90
+        wants(name == (NAMES.get(number) if is_named else None), "a line", line)
+        CAME["Refused .. by"] += 1
 
 
 # ---- cases
@@ -325,13 +342,19 @@ def run_sent(chance, folder):
     response = damaged(chance, answered(chance, kind))
     with answering(response) as url:
         ran = Ran(["send", url], message(chance, kind))
-    if ran.status == 1:
-        wants(NOT_TAKEN.fullmatch(ran.told), "told", ran.told)
+    if ran.status == 1 and NOT_TAKEN.fullmatch(ran.told):
         wants(ran.out == "", "printed", ran.out)
         return
-    ends_well(ran)
-    wants(ran.status in (0, 4), "status", ran.status)
-    if ran.status == 0:
+    if ran.status == 1:
+        wants(REFUSED_BY.fullmatch(ran.told[:-1]), "told", ran.told)
+        are_answers(ran.told.splitlines())
+        wants(is_of(ran, response), "printed", ran.out[:300])
+        return
+    # What is printed of a response may be no message, which is told behind it.
+    ends_well(ran, is_begun=ran.out != "")
+    wants(ran.status in (0, 3, 4), "status", ran.status)
+    wants(ran.status != 3 or ran.out != "", "nothing printed beside status 3")
+    if ran.status in (0, 3):
         wants(b" 200" in response[:40], "200 was read of", response[:40])
         wants(is_of(ran, response), "printed", ran.out[:300])
 
@@ -346,7 +369,9 @@ def run_order_sent(chance, folder):
     if not NOT_TAKEN.fullmatch(ran.told):
         ends_well(ran, is_begun=ran.out != "")
     # A command that comes as the response is answered, as `take` does.
-    are_lines(line for line in ran.out.split("\n")[:-1] if not line.startswith("{"))
+    lines = [line for line in ran.out.split("\n")[:-1] if not line.startswith("{")]
+    are_lines(lines[:1])
+    are_answers(lines[1:])
     wants(ran.status != 3 or ran.out or content("state.json") == held, "the file has changed")
     wants(Ran(["show", "state.json"], b"").status == 0, "what was saved isn't read")
 

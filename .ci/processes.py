@@ -516,7 +516,8 @@ def a_target_that_names_no_controller_is_answered_so():
     before = content("shop/press"), content("mis.new"), content("shop/press.old")
     targets = ("/", "/jmf/", "/press/", "/..", "/../mis.new", "/press/..", "/.", "/press.old", "/press.new",
                "/mis.new", "/mis", "/jmf/none", "/%70ress", "/press%2e", "/?press", "?/press", "*",
-               "/1press", "/" + 65 * "a", "/press:80", "/Press")
+               "/1press", "/" + 65 * "a", "/press:80", "/Press", "/press#", "/jmf/none#/press",
+               "/press#/press", "#/press", "/press?#", "http://h/none#/press")
     with Served("shop") as shop:
         for target in targets:
             with shop.connect() as connection:
@@ -540,7 +541,7 @@ def one_file_is_served_whatever_the_target():
     open_shop()
     message = order("mis", spawn("cover", "press", ["cover.sheets"]))[1]
     with Served("press") as press:
-        for target in ("/", "/..", "/jmf/none", "/mis", "?", "*"):
+        for target in ("/", "/..", "/jmf/none", "/mis", "?", "*", "/#"):
             wants(asked(press, request(message, target=target)), 200)
     wants(len(run("show", "press")[1].splitlines()), 1)
 
@@ -624,7 +625,7 @@ def an_order_goes_out_and_its_answer_is_taken():
     finish = json.dumps({"Order": "Finish", "SpawnID": "S1", "Status": "Completed"})
     with Served("press") as press, Served("mis") as mis:
         given = ("order", "mis", "--at", AT, "--send", press.url())
-        wants(run(*given, given=cover), (0, "Spawned S1\nNoted S1\n", ""))
+        wants(run(*given, given=cover), (0, "Spawned S1\nNoted S1 Running\n", ""))
         wants(run("show", "press")[1].split(" ")[:2], ["S1", "Open"])
     given = ("order", "press", "--at", AT, "--send", mis.url())
     wants(run(*given, given=finish), (4, "Finished S1\n", "Refused 61 NoConnection\n"))
@@ -637,7 +638,7 @@ def an_order_goes_out_and_its_answer_is_taken():
         wants(run(*given, given=resend), (1, "Sent S1\n", told))
     with Served("mis") as mis:
         given = ("order", "press", "--at", AT, "--send", mis.url())
-        wants(run(*given, given=resend), (0, "Sent S1\nAcked S1\n", ""))
+        wants(run(*given, given=resend), (0, "Sent S1\nAcked S1 Completed\n", ""))
         wants(run("show", "press"), (0, "S1 Closed Completed\n", ""))
         wants(run(*given, given=resend)[:2], (1, "Refused 37 Acknowledged\n"))
         wants(run(*given, given=finish)[:2], (1, "Refused 31 NotOpen\n"))
@@ -651,7 +652,9 @@ def what_a_worker_has_not_begun_is_had_back():
         given = ("order", "mis", "--at", AT, "--send", bindery.url())
         wants(run(*given, given=withdraw), (0, "Asked S1\nFreed S1\n", ""))
         wants(run("show", "bindery"), (0, "S1 Declined\n", ""))
-        wants(run("take", "mis", "--at", AT, given=send(bindery, late)), (0, "Noted S1\n", ""))
+        status, answer, told = run("send", bindery.url(), given=late)
+        wants((status, told), (1, "Refused 38 Declined by bindery\n"))
+        wants(run("take", "mis", "--at", AT, given=answer), (0, "Noted S1\n", ""))
         wants(run("show", "bindery"), (0, "S1 Declined\n", ""))
         wants(run(*given, given=withdraw)[:2], (1, "Refused 16 NotOut\n"))
     wants(order("mis", spawn("finish", "press", ["brochures"]))[0], "Spawned S2")

@@ -1,8 +1,9 @@
 //! HTTP: what a controller in a file answers to a request, what is sent, and what is received.
 
 use crate::case::{Case, number_in};
+use crate::files::locked;
 use http_edge::{Counted, Served, receive, send, serve_one};
-use keepers::{FileKeep, Keep, Locks};
+use keepers::{Keep, Locks};
 use std::alloc::{AllocError, Global};
 use stored_state::{Kept, Opened, Stored, open_any};
 use streams::{Refused, refused_line};
@@ -37,7 +38,8 @@ fn serve_file<R: Locks>(
     request: &[u8],
     writer: &mut Counted<Vec<u8>>,
 ) -> Option<Served> {
-    match open_any(alloc, FileKeep::new(rt, alloc, file)) {
+    let keep = locked(rt, alloc, file).ok()?;
+    match open_any(alloc, keep) {
         Ok(Opened::Master(mut kept)) => serve_kept(alloc, &mut kept, at, request, writer),
         Ok(Opened::Worker(mut kept)) => serve_kept(alloc, &mut kept, at, request, writer),
         Err(_) => None,

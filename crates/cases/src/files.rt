@@ -1,10 +1,23 @@
 //! Files as they are.
 
+use keepers::{FileKeep, Locks, SystemDisk};
 use std::alloc::Global;
 use std::fs;
 use std::io::Read;
 use std::rt::Files;
 use streams::Refused;
+
+/// The keeper in a file, which has its lock.
+pub fn locked<'a, R: Locks>(
+    rt: &'a R,
+    alloc: Global,
+    file: &'a str,
+) -> Result<FileKeep<SystemDisk<'a, R>>, Refused> {
+    match FileKeep::lock(rt, alloc, file) {
+        Ok(keep) => Ok(keep),
+        Err(_) => Err(Refused::LoadFailed),
+    }
+}
 
 /// `file FILE`: puts what is read into a file.
 pub fn put<R: Files>(rt: &R, alloc: Global, file: &str, bytes: &[u8]) -> Result<Vec<u8>, Refused> {

@@ -1,8 +1,9 @@
 //! A master's ticket: who holds what of it, and what it shows.
 
+use crate::files::locked;
 use crate::forms::line_of;
 use json_profile::shown_value;
-use keepers::{FileKeep, Locks};
+use keepers::Locks;
 use master_core::Master;
 use spawn::Holder;
 use std::alloc::{AllocError, Global};
@@ -19,7 +20,7 @@ pub fn line_in<R: Locks>(
     file: &str,
     ids: &[String],
 ) -> Result<Vec<u8>, Refused> {
-    match open_any(alloc, FileKeep::new(rt, alloc, file))? {
+    match open_any(alloc, locked(rt, alloc, file)?)? {
         Opened::Master(kept) => Ok(line_for(alloc, word, kept.controller(), ids)?),
         Opened::Worker(_) => Err(Refused::Core(Refusal::NotProfile)),
     }

@@ -1,7 +1,7 @@
 //! Words that the program doesn't have: files as they are, and calls that it never makes by itself.
 
 use crate::case::Case;
-use crate::{files, forms, masters, places, states, trees, worlds};
+use crate::{calls, changers, files, forms, masters, places, states, trees, worlds};
 use jmf_message::Message;
 use keepers::Locks;
 use std::alloc::{AllocError, Global};
@@ -42,10 +42,11 @@ fn called<R: Locks>(
         ("marked", [file]) => Some(masters::line_in(rt, alloc, word, file.as_str(), &[])),
         ("below" | "subtree" | "home", ids) => Some(places::place(alloc, word, ids, input)),
         ("kept", [name]) => Some(worlds::kept(alloc, name.as_str(), input)),
+        ("changers", ids) => Some(changers::changers(alloc, ids, input)),
         ("tree", rows) => Some(trees::tree(alloc, rows)),
         ("part_tree", rows) => Some(trees::part_tree(alloc, rows)),
         (_, []) => form_again(alloc, word, input),
-        _ => None,
+        _ => calls::called(alloc, word, words, input),
     }
 }
 
@@ -57,8 +58,10 @@ fn form_again(alloc: Global, word: &str, input: &[u8]) -> Option<Result<Vec<u8>,
         "change" => Some(forms::again::<Edit>(alloc, input)),
         "part" => Some(forms::again::<Part>(alloc, input)),
         "state" => Some(states::again(alloc, input)),
+        "state_value" => Some(states::value_again(alloc, input)),
         "message" => Some(forms::sent_again::<Message>(alloc, input)),
         "id" => Some(forms::id_line::<Message>(alloc, input)),
+        "new_text" => Some(calls::new_text(alloc, input)),
         _ => None,
     }
 }

@@ -4,7 +4,7 @@ use super::lent::Lent;
 use super::loads;
 use super::texts::{NO_ENTRY, OPEN_ENTRY, SUBMIT};
 use http_edge::{Counted, Cut, CutReader, CutWriter, EdgeFault, Served, serve_one};
-use keepers::{Keep, MemoryKeep};
+use keepers::{FailingKeep, Keep, MemoryKeep};
 use std::alloc::{AllocError, Global};
 use std::test::Fail;
 use stored_state::{Kept, Refused, Stored};
@@ -12,8 +12,14 @@ use worker_core::Worker;
 
 const HEAD: &str = "POST /jmf HTTP/1.1\r\nHost: press\r\nContent-Length: 809\r\n\r\n";
 
+const NO_MESSAGE: &str = "POST /jmf HTTP/1.1\r\nHost: press\r\nContent-Length: 2\r\n\r\n{}";
+
 const RESPONSE: &str =
     "HTTP/1.1 200 OK\r\nContent-Type: application/json\r\nContent-Length: 227\r\nConnection: close\r\n\r\n{\"JMF\":{\"ReceiverID\":\"mis\",\"Response\":{\"ID\":\"Q.S1.a\",\"QueueEntry\":{\"QueueEntryID\":\"S1\",\"Status\":\"Running\"},\"Reason\":0,\"ReturnCode\":0,\"Type\":\"SubmitQueueEntry\",\"refID\":\"Q.S1\"},\"SenderID\":\"press\",\"TimeStamp\":110,\"Version\":\"1.5\"}}";
+
+/// What is written where the step can't be saved, and from then on.
+const UNSAVED: &str =
+    "HTTP/1.1 503 Service Unavailable\r\nContent-Length: 0\r\nConnection: close\r\n\r\n";
 
 /// What is cut, and at which call; no call has the number 0.
 type CutAt = (Cut, usize);
@@ -164,6 +170,56 @@ fn a_write_fails(rt: HostRuntime) -> Result<(), Fail> {
                 "{at}"
             );
         }
+    }
+    Ok(())
+}
+
+/// Whether a request is answered so that its step couldn't be saved, for this refusal.
+fn is_told_unsaved<C: Stored, K: Keep>(
+    alloc: Global,
+    kept: &mut Kept<C, K>,
+    request: &[u8],
+    refused: Refused,
+) -> bool {
+    let mut reader = Counted::new(request);
+    let mut writer = Counted::new(Vec::new(alloc));
+    let served = serve_one(alloc, &mut reader, &mut writer, kept, 110);
+    let written = writer.into_inner();
+    match served {
+        Ok(told) => {
+            told.status == 503
+                && told.refusal == Some(refused)
+                && written.as_slice() == UNSAVED.as_bytes()
+        }
+        Err(_) => false,
+    }
+}
+
+/// Whether a part whose save fails, and a body that is no message behind it, are answered so.
+fn are_told_unsaved<C: Stored, K: Keep>(alloc: Global, keep: K, request: &[u8]) -> bool {
+    let opened: Result<Kept<C, K>, Refused> = Kept::open(alloc, keep);
+    match opened {
+        Ok(mut kept) => {
+            is_told_unsaved(alloc, &mut kept, request, Refused::SaveFailed)
+                && is_told_unsaved(alloc, &mut kept, NO_MESSAGE.as_bytes(), Refused::Stale)
+        }
+        Err(_) => false,
+    }
+}
+
+/// Whether a worker of which the first save fails, and leaves the new state or the old, answers so.
+fn tells_unsaved(alloc: Global, request: &[u8], leaves_new: bool) -> Result<bool, AllocError> {
+    let bytes = Vec::from_slice(alloc, NO_ENTRY.as_bytes())?;
+    let keep = FailingKeep::new(bytes, 2, leaves_new);
+    Ok(are_told_unsaved::<Worker, FailingKeep>(alloc, keep, request))
+}
+
+#[test]
+fn a_save_fails(rt: HostRuntime) -> Result<(), Fail> {
+    let request = request(rt.alloc())?;
+    for leaves_new in [false, true] {
+        let told = tells_unsaved(rt.alloc(), request.as_slice(), leaves_new)?;
+        assert!(rt; told, "{leaves_new}");
     }
     Ok(())
 }

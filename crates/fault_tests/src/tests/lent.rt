@@ -20,6 +20,20 @@ impl<'a, K: Keep> Keep for Lent<'a, K> {
 
     ghost is_honest = { λ lent. K.is_honest lent.keep.now };
 
+    ghost place = { λ lent. K.place lent.keep.now };
+
+    ghost is_durable = { K.is_durable };
+
+    ghost may_leave = { λ lent. K.may_leave lent.keep.now };
+
+    ghost moment = { λ lent. K.moment lent.keep.now };
+
+    ghost left_since = { λ lent. K.left_since lent.keep.now };
+
+    ghost counts_now = { λ lent. K.counts_now lent.keep.now };
+
+    ghost only_now = { λ lent. K.only_now lent.keep.now };
+
     ghost count = { λ lent. K.count lent.keep.now };
 
     ghost load_fails = { λ old new. K.load_fails old.keep.now new.keep.now };
