@@ -30,12 +30,16 @@ WRITTEN = SCHEMA["anyOf"] + [{"$ref": "#/$defs/" + kind} for kind in ("part", "e
 INPUTS = {"": "editInput", "edit": "editInput", "world": "script", "new": "opening",
           "take": "message", "message": "message", "id": "message", "part": "part",
           "ticket": "ticket", "below": "ticket", "home": "ticket", "subtree": "ticket",
-          "change": "edit", "kept": "script"}
+          "change": "edit", "kept": "script", "changers": "script"}
 
 # Words of the driver alone, whose answer is one line, or none. The answer to any other is what the
 # program prints and tells, and its status on a line.
 ONE_LINE = {"text", "holders", "marked", "value", "ticket", "change", "part", "message", "id",
-            "state", "kept", "tree", "part_tree", "below", "home", "subtree"}
+            "state", "kept", "tree", "part_tree", "below", "home", "subtree", "changers",
+            "state_value", "new_text", "new_id", "shop", "part_rows"}
+
+# Those whose answer is two lines, or a refusal.
+TWO_LINES = {"edited_copy", "spawned"}
 
 # How many lines the answer to `send` has behind its first: a head, and a body of one line.
 SENT_LINES = 6
@@ -73,7 +77,9 @@ def answer_to(word, held, answers):
         answer += [next(answers) for _ in range(held.count("\n"))]
     if word == "send":
         return answer + [next(answers) for _ in range(SENT_LINES)]
-    if word == "receive" and answer[0].startswith("Refused "):
+    if word in TWO_LINES and not answer[0].startswith("Refused "):
+        return answer + [next(answers)]
+    if word in ("receive", *TWO_LINES) and answer[0].startswith("Refused "):
         return answer
     while word != "file" and word not in ONE_LINE and not answer[-1].startswith("status "):
         answer.append(next(answers))
