@@ -14,6 +14,7 @@ use Rattle.stored_state.specs.TakingAll.{TakesAll, TakesNone}
 use Rattle.stored_state.specs.declared.any_controller.AnyController.{AnyController}
 use Rattle.stored_state.specs.declared.taken_bytes.TakenBytes.{TakenBytes}
 use Rattle.rounds.specs.declared.answered.Answered.{Answered}
+use Rattle.rounds.specs.declared.taken_from.TakenFrom.{TakenFrom}
 use Rattle.rounds.specs.declared.waiting.Waiting.{Waiting}
 
 -- what came of a message that was handed on
@@ -21,14 +22,15 @@ abbrev pub came_of : Result TakenBytes Refusal → Result TakenBytes Refused
 came_of (Ok taken) = Ok taken
 came_of (Err e) = Err (Core e)
 
--- what a message was taken as, if it was
-abbrev pub reply_told : Result Reply Refusal → Option Reply
-reply_told (Ok reply) = Some reply
-reply_told (Err e) = None
+-- what a message from this sender was taken as, if it was
+abbrev pub reply_from : List ℕ → Result Reply Refusal → Option TakenFrom
+reply_from sender (Ok reply) = Some (record { reply = reply; sender = sender })
+reply_from sender (Err e) = None
 
-abbrev pub reply_of : Result TakenBytes Refused → Option Reply
-reply_of (Ok taken) = reply_told taken.reply
-reply_of (Err e) = None
+-- what a message was taken as and from whom, if it was
+abbrev pub taken_of : Result TakenBytes Refused → Option TakenFrom
+taken_of (Ok taken) = reply_from taken.sender taken.reply
+taken_of (Err e) = None
 
 -- the bodies of those who wait
 abbrev pub bodies_of : {S : Type 0} → List (Waiting S) → List (List ℕ)
@@ -45,7 +47,7 @@ pub record IsAnswered {S : Type 0} (now : ℕ) (came : Result TakenBytes Refused
   pub same : a.key ≡ key
   pub response : IfSome a.client (λ c. c ≡ with_response (served_text (answer_in came)) now asked)
   pub told : a.told ≡ told_of came
-  pub reply : a.reply ≡ reply_of came
+  pub taken : a.taken ≡ taken_of came
 
 -- each of those who waited is answered, in turn, by what came of the request
 abbrev pub AreAnswered : {S : Type 0} → ℕ → List (Result TakenBytes Refused) → List (Waiting S)

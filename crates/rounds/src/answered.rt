@@ -1,4 +1,4 @@
-use controller::Reply;
+use crate::taken_from::TakenFrom;
 use http_edge::Served;
 use peers::Client;
 
@@ -11,6 +11,6 @@ pub struct Answered<S> {
     pub client: Option<Client<S>>,
     /// What is told of the request.
     pub told: Served,
-    /// What its message was taken as, if it was taken.
-    pub reply: Option<Reply>,
+    /// What its message was taken as and from whom, if it was taken.
+    pub taken: Option<TakenFrom>,
 }

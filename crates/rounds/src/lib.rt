@@ -5,9 +5,11 @@
 mod answered;
 mod line;
 mod saved_states;
+mod taken_from;
 mod waiting;
 
 pub use answered::Answered;
 pub use line::{answer_all, refuse, refuse_all};
 pub use saved_states::SavedStates;
+pub use taken_from::TakenFrom;
 pub use waiting::Waiting;

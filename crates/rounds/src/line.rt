@@ -10,6 +10,7 @@ ghost use Rattle.rounds.specs.Line.{AreAnswered, AreRefused, IsAnswered, StepsLi
 ghost use Rattle.stored_state.specs.TakingAll.{TakesAll, TakesNone};
 
 use crate::answered::Answered;
+use crate::taken_from::TakenFrom;
 use crate::waiting::Waiting;
 use controller::Reply;
 use http_edge::Served;
@@ -19,7 +20,7 @@ use peers::Asked;
 use std::alloc::{AllocError, Global};
 use stored_state::{Saved, TakenBytes, take_all};
 use streams::Refused;
-use ticket_items::Refusal;
+use ticket_items::{Id, Refusal};
 
 /// The bodies of those who wait.
 fn bodies_of<S>(alloc: Global, waiting: &[Waiting<S>]) -> Result<Vec<&[u8]>, AllocError>
@@ -33,12 +34,33 @@ fn bodies_of<S>(alloc: Global, waiting: &[Waiting<S>]) -> Result<Vec<&[u8]>, All
     Ok(bodies)
 }
 
-/// What a message was taken as, if it was.
-fn reply_of(came: &Result<TakenBytes, Refused>) -> Option<Reply>
-    ensures { result ≡ line.reply_of came.now }
+/// What a message from this sender was taken as, if it was.
+fn reply_from(sender: Id, reply: Result<Reply, Refusal>) -> Option<TakenFrom>
+    ensures { result ≡ line.reply_from sender reply }
+{
+    match reply {
+        Ok(reply) => Some(TakenFrom { reply, sender }),
+        Err(_) => {
+            drop(sender);
+            None
+        }
+    }
+}
+
+/// What a message was taken as and from whom, if it was.
+fn taken_of(came: Result<TakenBytes, Refused>) -> Option<TakenFrom>
+    ensures { result ≡ line.taken_of came }
 {
     match came {
-        Ok(taken) => taken.reply.ok(),
+        Ok(taken) => {
+            let TakenBytes {
+                sender,
+                reply,
+                answer,
+            } = taken;
+            drop(answer);
+            reply_from(sender, reply)
+        }
         Err(_) => None,
     }
 }
@@ -87,12 +109,12 @@ fn answer<S: Drop>(
     alloc: Global,
     key: usize,
     asked: Asked<S>,
-    came: &Result<TakenBytes, Refused>,
+    came: Result<TakenBytes, Refused>,
     now: u64,
 ) -> Answered<S>
-    ensures { IsAnswered now came.now key asked result }
+    ensures { IsAnswered now came key asked result }
 {
-    let client = match served_bytes(alloc, &answer_in(came)) {
+    let client = match served_bytes(alloc, &answer_in(&came)) {
         Ok(response) => asked.answer(response.as_slice(), now).ok(),
         Err(_) => {
             drop(asked);
@@ -102,8 +124,8 @@ fn answer<S: Drop>(
     Answered {
         key,
         client,
-        told: told_of(came),
-        reply: reply_of(came),
+        told: told_of(&came),
+        taken: taken_of(came),
     }
 }
 
@@ -117,7 +139,7 @@ pub fn refuse<S: Drop>(
 ) -> Answered<S>
     ensures { IsAnswered now (Err refused) key asked result }
 {
-    answer(alloc, key, asked, &Err(refused), now)
+    answer(alloc, key, asked, Err(refused), now)
 }
 
 /// Refuses each of these clients.
@@ -132,7 +154,7 @@ pub fn refuse_all<S: Drop>(
     requires room { length waiting.items ≤ vec_capacity answered }
     ensures { AreRefused now refused waiting.items result.items }
 {
-    let came = Err(refused);
+    let why = &refused;
     for one in waiting {
         let Waiting {
             key,
@@ -140,7 +162,7 @@ pub fn refuse_all<S: Drop>(
             request,
         } = one;
         drop(request);
-        answered.push_reserved(answer(alloc, key, asked, &came, now));
+        answered.push_reserved(refuse(alloc, key, asked, *why, now));
     }
     answered
 }
@@ -165,7 +187,7 @@ fn give<S: Drop>(
 ) -> Answered<S>
     ensures { IsAnswered now (line.came_of taken) key asked result }
 {
-    answer(alloc, key, asked, &came_of(taken), now)
+    answer(alloc, key, asked, came_of(taken), now)
 }
 
 /// Answers each of these clients by what the message was taken as.

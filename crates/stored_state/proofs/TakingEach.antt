@@ -9,23 +9,24 @@ use Rattle.controller.specs.declared.outcome.Outcome.{Outcome}
 use Rattle.jmf_message.specs.Decoded.{IsDecodedAs, IsRefusalOf as IsUndecoded}
 use Rattle.stored_state.specs.Message.{message_text}
 use Rattle.stored_state.specs.Step.{IsTaken, TextStep, in_text}
-use Rattle.stored_state.specs.TakingAll.{Gives, IsTakenBy, TakesEach, TakesOne, given_as, given_of}
+use Rattle.stored_state.specs.TakingAll.{AreSentBy, Gives, IsTakenBy, TakesEach, TakesOne, given_as, given_of}
 use Rattle.stored_state.specs.declared.taken_bytes.TakenBytes.{TakenBytes}
 
 -- ---- one
 
 pub gives_refused : {C : Type 0} (IsStep : List ℕ → C → TextStep C → Type 0) (bytes : List ℕ) (c next : C) (e : Refusal) → IsUndecoded bytes e → next ≡ c → Gives IsStep (bytes ∷ []) c (Err e ∷ []) next
 gives_refused IsStep bytes c next e why same =
-    record { steps = Err e ∷ []; each = (next, (why, same), refl); gives = refl }
+    record { steps = Err e ∷ []; each = (next, (why, same), refl); gives = refl; senders = tt }
 
-pub gives_taken : {C : Type 0} (take : Message → C → Step C Message) (bytes : List ℕ) (m : Message) (c next : C) (outcome : Outcome) (taken : TakenBytes) → IsDecodedAs bytes (Ok m) → outcome_step outcome next ≡ take m c → taken.reply ≡ outcome.reply → option_map (λ b. b.items) taken.answer ≡ option_map message_text outcome.answer → Gives (IsTakenBy take) (bytes ∷ []) c (Ok taken ∷ []) next
-gives_taken take bytes m c next outcome taken decoded is says goes =
+pub gives_taken : {C : Type 0} (take : Message → C → Step C Message) (bytes : List ℕ) (m : Message) (c next : C) (outcome : Outcome) (taken : TakenBytes) → IsDecodedAs bytes (Ok m) → taken.sender ≡ m.sender → outcome_step outcome next ≡ take m c → taken.reply ≡ outcome.reply → option_map (λ b. b.items) taken.answer ≡ option_map message_text outcome.answer → Gives (IsTakenBy take) (bytes ∷ []) c (Ok taken ∷ []) next
+gives_taken take bytes m c next outcome taken decoded from is says goes =
     let reply = says ∙ ap (λ s. s.reply) is in
     let sent = goes ∙ ap (λ s. option_map message_text s.sent) is in
     record {
       steps = Ok (in_text (take m c)) ∷ [];
       each = (next, (record { message = m; decoded = decoded; holds = refl }, ap (λ s. s.next) is), refl);
       gives = λ i. Ok (record { reply = reply i; sent = sent i }) ∷ [];
+      senders = (record { message = m; decoded = decoded; holds = sym from }, tt);
     }
 
 -- ---- some, and then more
@@ -37,12 +38,22 @@ each_append IsStep (b ∷ bodies) more c mid last [] others before after = absur
 each_append IsStep (b ∷ bodies) more c mid last (s ∷ steps) others before after =
     (before.0, before.1, each_append IsStep bodies more before.0 mid last steps others before.2 after)
 
+senders_append : (bodies more : List (List ℕ)) (given others : List (Result TakenBytes Refusal)) → AreSentBy bodies given → AreSentBy more others → AreSentBy (bodies ++ more) (given ++ others)
+senders_append [] more [] others before after = after
+senders_append [] more (g ∷ given) others before after = absurd before
+senders_append (b ∷ bodies) more [] others before after = absurd before
+senders_append (b ∷ bodies) more (Ok taken ∷ given) others before after =
+    (before.0, senders_append bodies more given others before.1 after)
+senders_append (b ∷ bodies) more (Err e ∷ given) others before after =
+    senders_append bodies more given others before after
+
 gives_append : {C : Type 0} (IsStep : List ℕ → C → TextStep C → Type 0) (bodies more : List (List ℕ)) (c mid last : C) (given others : List (Result TakenBytes Refusal)) → Gives IsStep bodies c given mid → Gives IsStep more mid others last → Gives IsStep (bodies ++ more) c (given ++ others) last
 gives_append IsStep bodies more c mid last given others before after =
     record {
       steps = before.steps ++ after.steps;
       each = each_append IsStep bodies more c mid last before.steps after.steps before.each after.each;
       gives = map-append given_as given others ∙ ap (λ xs. xs ++ map given_as others) before.gives ∙ ap (λ xs. map given_of before.steps ++ xs) after.gives ∙ sym (map-append given_of before.steps after.steps);
+      senders = senders_append bodies more given others before.senders after.senders;
     }
 
 -- and the next
@@ -101,6 +112,7 @@ module _ {C D : Type 0} (seen : C → D) (IsStep : List ℕ → C → TextStep C
         steps = map step_as gives.steps;
         each = each_as bodies c last gives.steps go gives.each;
         gives = gives.gives ∙ all_same gives.steps;
+        senders = gives.senders;
       }
 
 -- a step of a controller by the message that bytes are is one of it as another

@@ -1,7 +1,7 @@
 -- Steps that give nothing out.
-use Rattle.std.proofs.Common.{◌≡◌, ℕ, Bool, List, Result, Ok, Err, IfErr, IsErrAnd, ap, inl, inr, subst, sym, ⊎_elim}
+use Rattle.std.proofs.Common.{◌≡◌, ℕ, Bool, List, Result, Ok, Err, IfErr, IsErrAnd, OnErr, ap, inl, inr, subst, sym, ⊎_elim}
 use Rattle.ticket_items.specs.declared.refusal.Refusal.{Refusal}
-use Rattle.stored_state.specs.Held.{GivesNothing, Held}
+use Rattle.stored_state.specs.Held.{GivesNothing, Held, ShowsEither}
 use Rattle.streams.specs.declared.refused.Refused.{Refused}
 use Rattle.streams.specs.declared.refused.Refused.TheVariants as refused
 
@@ -24,3 +24,9 @@ nothing_of seen h l n sf R S T U old new f g e why = why
 pub err_as : {A E : Type 0} (P : E → Type 0) (r : Result A E) (e : E) → IsErrAnd r (λ f. f ≡ e) → P e → IfErr r P
 err_as P (Ok a) e same p = tt
 err_as P (Err f) e same p = subst P (sym same) p
+
+-- what is shown where no step is told of
+pub shown_as : {A E C K : Type 0} (P Q : C → Type 0) (r : Result A E) (old new : Held C K) → ((c : C) → P c → Q c) → ShowsEither old P new → OnErr r (ShowsEither old Q new)
+shown_as P Q (Ok a) old new f shown = tt
+shown_as P Q (Err e) old new f (inl same) = inl same
+shown_as P Q (Err e) old new f (inr is) = inr (f new.controller is)

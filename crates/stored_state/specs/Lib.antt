@@ -4,6 +4,7 @@ pub mod Opened
 pub mod Step
 pub mod AnyStep
 pub mod Message
+pub mod Sender
 pub mod Resting
 pub mod Rested
 pub mod Cause

@@ -1,5 +1,5 @@
 -- Messages that a controller takes one after the other, with one save behind the last.
-use Rattle.std.specs.Prelude.{◌≡◌, ℕ, Bool, true, List, [], ◌∷◌, map, Option, Some, None}
+use Rattle.std.specs.Prelude.{◌≡◌, ⊤, ℕ, Bool, true, List, [], ◌∷◌, map, Option, Some, None}
 use Rattle.std.specs.Prelude.{IfNone, IfSome, Result, Ok, Err, is_err}
 use Rattle.std.specs.List.{list_all}
 use Rattle.std.specs.Option.{option_map}
@@ -12,6 +12,7 @@ use Rattle.jmf_message.specs.Decoded.{IsRefusalOf as IsUndecoded}
 use Rattle.stored_state.specs.AnyStep.{IsHanded, text_of}
 use Rattle.stored_state.specs.Held.{FailsToSave, HoldsSame, IsNotLoaded, IsReadAs}
 use Rattle.stored_state.specs.Opened.{AnyController, any_state_read}
+use Rattle.stored_state.specs.Sender.{IsSentBy}
 use Rattle.stored_state.specs.Step.{IsTaken, Step, TextStep, in_text}
 use Rattle.stored_state.specs.declared.taken_bytes.TakenBytes.{TakenBytes}
 use Rattle.streams.specs.declared.refused.Refused.{Refused}
@@ -57,6 +58,14 @@ given_as taken =
     result_map_both (λ t. record { reply = t.reply; sent = option_map (λ b. b.items) t.answer })
     (λ e. e) taken
 
+-- each message that was taken stands beside who sent it
+abbrev pub AreSentBy : List (List ℕ) → List (Result TakenBytes Refusal) → Type 0
+AreSentBy [] [] = ⊤
+AreSentBy (bytes ∷ bodies) (Ok taken ∷ given) =
+    IsSentBy bytes taken.sender × AreSentBy bodies given
+AreSentBy (bytes ∷ bodies) (Err e ∷ given) = AreSentBy bodies given
+AreSentBy bodies given = ⊥
+
 -- such bodies came to a controller, and this was given out of them in turn
 pub record Gives {C : Type 0} (IsStep : List ℕ → C → TextStep C → Type 0)
     (bodies : List (List ℕ)) (c : C) (given : List (Result TakenBytes Refusal)) (last : C)
@@ -64,6 +73,7 @@ pub record Gives {C : Type 0} (IsStep : List ℕ → C → TextStep C → Type 0
   pub steps : List (Result (TextStep C) Refusal)
   pub each : TakesEach IsStep bodies c steps last
   pub gives : map given_as given ≡ map given_of steps
+  pub senders : AreSentBy bodies given
 
 -- ---- saved behind the last
 

@@ -10,6 +10,7 @@ ghost use Rattle.stored_state.specs.Cause.{caused};
 ghost use Rattle.stored_state.specs.Held.{GivesNothing, HoldsSame, IsNotLoaded};
 ghost use Rattle.stored_state.specs.Held.{IsNotSaved, IsReadAs, ShowsEither};
 ghost use Rattle.stored_state.specs.Message.{IsOfMessage, message_text};
+ghost use Rattle.stored_state.specs.Sender.{IsSentBy};
 ghost use Rattle.streams.specs.declared.refused.Refused.TheVariants.{Core, LoadFailed};
 ghost use Rattle.streams.specs.declared.refused.Refused.TheVariants.{SaveFailed, Stale};
 
@@ -24,6 +25,7 @@ use keepers::Keep;
 use std::alloc::Global;
 use std::marker::Model;
 use streams::Refused;
+use ticket_tree::Duplicate;
 
 /// A controller beside the keeper of its state (our own). Each step is saved before anything of it
 /// is given out. Once a step could not be saved it is stale: another state may be held than is
@@ -210,6 +212,7 @@ impl<C: Stored, K: Keep> Kept<C, K> {
             × (given.reply ≡ (C.take_step m at self.old.controller).reply)
             × (option_map (λ b. b.items) given.answer
             ≡ option_map message_text (C.take_step m at self.old.controller).sent))) }
+        ensures sender { IfOk result (λ given. IsSentBy bytes.now given.sender) }
         ensures fresh { OnOk result (self.new.stale ≡ false) }
         ensures held { OnOk result (K.is_honest self.old.keep ≡ true →
             K.held self.new.keep ≡ compact_text (C.state_data self.new.controller)) }
@@ -230,8 +233,10 @@ impl<C: Stored, K: Keep> Kept<C, K> {
             return Err(Refused::Stale);
         }
         let message = decode(alloc, bytes)?;
+        let sender = message.sender.copy(alloc)?;
         let given = self.step(alloc, Cause::Message(message), at)?;
         Ok(TakenBytes {
+            sender,
             reply: given.reply,
             answer: given.message,
         })

@@ -7,6 +7,7 @@ ghost use Rattle.stored_state.specs.AnyStep.{IsHanded, IsNoOrder, IsOrdered, tex
 ghost use Rattle.stored_state.specs.Held.{GivesNothing, HoldsSame, IsNotLoaded, IsReadAs};
 ghost use Rattle.stored_state.specs.Opened.{any_state_read, controller_in, held_in, is_stale_in};
 ghost use Rattle.stored_state.specs.Opened.{keep_in};
+ghost use Rattle.stored_state.specs.Sender.{IsSentBy};
 ghost use Rattle.stored_state.specs.Step.{GivesStep, IsLeft};
 
 use crate::any_controller::controller_of;
@@ -78,6 +79,7 @@ impl<K: Keep> Opened<K> {
         ensures ok { IfOk result (λ given. GivesStep K.is_honest K.held text_of
             (IsHanded at bytes.now (controller_in self.old)) (held_in self.new)
             given.reply (option_map (λ b. b.items) given.answer)) }
+        ensures sender { IfOk result (λ given. IsSentBy bytes.now given.sender) }
         ensures stale { (is_stale_in self.old ≡ true) ↔ IsErrOf result Stale }
         ensures honest { K.is_honest (keep_in self.new) ≡ K.is_honest (keep_in self.old) }
         ensures place { K.place (keep_in self.new) ≡ K.place (keep_in self.old) }

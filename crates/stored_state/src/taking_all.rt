@@ -22,11 +22,12 @@ use jmf_message::decode;
 use keepers::Keep;
 use std::alloc::{AllocError, Global};
 use streams::Refused;
-use ticket_tree::Refusal;
+use ticket_tree::{Duplicate, Id, Refusal};
 
-/// What an outcome gives out.
-fn bytes_of(alloc: Global, outcome: Outcome) -> Result<TakenBytes, AllocError>
+/// What an outcome gives out, of a message from this sender.
+fn bytes_of(alloc: Global, sender: Id, outcome: Outcome) -> Result<TakenBytes, AllocError>
     requires { IfSome outcome.answer (λ m. may_be_sent m.body ≡ true) }
+    ensures sender { IfOk result (λ taken. taken.sender ≡ sender) }
     ensures reply { IfOk result (λ taken. taken.reply ≡ outcome.reply) }
     ensures answer { IfOk result (λ taken. option_map (λ b. b.items) taken.answer
         ≡ option_map text_sent outcome.answer) }
@@ -35,6 +36,7 @@ fn bytes_of(alloc: Global, outcome: Outcome) -> Result<TakenBytes, AllocError>
     let text = message_text(alloc, &answer);
     drop(answer);
     Ok(TakenBytes {
+        sender,
         reply,
         answer: text?,
     })
@@ -57,11 +59,15 @@ fn take_one<C: Stored>(
         Ok(message) => message,
         Err(refusal) => return Ok((Err(refusal), true)),
     };
+    let sender = match message.sender.copy(alloc) {
+        Ok(sender) => sender,
+        Err(AllocError) => return Ok((Err(Refusal::Memory), true)),
+    };
     let (outcome, is_same) = match make(alloc, controller, Cause::Message(message), at) {
         Ok(made) => made,
         Err(AllocError) => return Ok((Err(Refusal::Memory), true)),
     };
-    let taken = bytes_of(alloc, outcome)?;
+    let taken = bytes_of(alloc, sender, outcome)?;
     Ok((Ok(taken), is_same))
 }
 

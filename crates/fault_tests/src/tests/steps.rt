@@ -86,7 +86,7 @@ fn taken<K: Keep>(
     opened: &mut Opened<K>,
     step: &Step,
 ) -> Result<OrderBytes, Refused> {
-    let TakenBytes { reply, answer } = opened.take(alloc, step.text.as_bytes(), step.at)?;
+    let TakenBytes { reply, answer, .. } = opened.take(alloc, step.text.as_bytes(), step.at)?;
     Ok(OrderBytes {
         reply,
         message: answer,

@@ -14,7 +14,7 @@ push_reserved-requires g c =
 pub loop-one-preserved : goal.loop-one-preserved
 loop-one-preserved g c =
     record {
-      refused = refused_more c.args.now c.args.refused c.loop-one.yielded c.loop-one.answered.items c.push_reserved.new.self.items c.in-Some.one c.answer.result c.loop-one.invariant.refused c.answer.ensures c.push_reserved.ensures.items;
+      refused = refused_more c.args.now c.args.refused c.loop-one.yielded c.loop-one.answered.items c.push_reserved.new.self.items c.in-Some.one c.refuse.result c.loop-one.invariant.refused c.refuse.ensures c.push_reserved.ensures.items;
       room = omega arith;
     }
 
