@@ -34,7 +34,7 @@ import tempfile
 
 import faults
 import processes
-from processes import PROGRAM, asked, passes, wants
+from processes import PROGRAM, passes, wants
 
 # So many runs in a row that end well show that there are no more allocations. Behind an event a
 # world makes some that it does without.
@@ -159,8 +159,9 @@ def refusing(step, first, last):
 
 
 def a_message_is_served_without_memory():
-    """A message that comes to a server while an allocation is refused is taken, or refused with a
-    503; the same is answered as ever then, and FILE ends as ever."""
+    """A message that comes to a server while an allocation is refused is taken, refused with a 503,
+    or its connection is closed at once; the same is answered as ever then, and FILE ends as ever.
+    """
     for name, begins in (("mis", faults.OPENING), ("press", '{"Master":"mis","Worker":"press"}')):
         wants(processes.run("new", name, given=begins), (0, "", ""))
     given = processes.request(faults.order("mis", faults.SPAWN))
@@ -172,25 +173,39 @@ def a_message_is_served_without_memory():
         told[statuses] += 1
         if statuses:
             ends.add(end)
-        fine = fine + 1 if statuses == (200, 200) else 0
+        fine = fine + 1 if statuses == (200, 200, 200) else 0
     print(f"  a server without memory: {dict(told)}")
-    wants((len(ends), set(told)), (1, {None, (503, 200), (200, 503), (200, 200)}))
+    allowed = {None, (200, 200, 200)}
+    for fault in (503, "closed"):
+        allowed |= {(fault, 200, 200), (200, fault, 200), (200, 200, fault)}
+    wants((len(ends), told[None] > 0, set(told) - allowed), (1, True, set()))
 
 
 def served(given, before, number):
     """How a server that is refused the allocation of this number answers a message and the same
-    once more, if it begins at all; and the state that it leaves, but for the times."""
+    twice more, if it begins at all; and the state that it leaves, but for the times."""
     with open("press", "wb") as file:
         file.write(before)
     try:
         with refused_to_programs(number, number):
-            press = processes.Served("press", "--requests", "2")
+            press = processes.Served("press", "--clients", "1")
     except AssertionError:
         return None, before
     with press:
-        statuses = (asked(press, given), asked(press, given))
-        wants(press.process.wait(timeout=30), 0)
+        statuses = tuple(asked_or_closed(press, given) for _ in range(3))
+        wants(press.process.poll(), None)
     return statuses, re.sub(rb'"At":[0-9]+', b"", processes.content("press"))
+
+
+def asked_or_closed(press, given):
+    """The status of the response, or that the connection is closed with none; soon, each of them."""
+    with press.connect() as connection:
+        connection.settimeout(3)
+        with contextlib.suppress(ConnectionError):
+            connection.sendall(given)
+            if text := processes.response(connection):
+                return processes.status_in(text)
+    return "closed"
 
 
 def given_lines():

@@ -325,15 +325,25 @@ def ask(chance, port, kind):
         parts = []
         while part := connection.recv(65536):
             parts.append(part)
-    response = b"".join(parts)
+    response = b"".join(parts).removeprefix(b"HTTP/1.1 100 Continue\r\n\r\n")
+    if given == b"":
+        wants(response == b"", "a response to nothing", response[:200])
+        return 0
     head, empty, body = response.partition(b"\r\n\r\n")
     status = re.match(rb"HTTP/1\.1 (200|400|405|411|413|501|503) [A-Z][A-Za-z ]+\r\n", head)
     wants(status and empty, "the response", response[:200])
     wants(b"Connection: close" in head, "the response", response[:200])
     wants(int(re.search(rb"Content-Length: (\d+)", head)[1]) == len(body), "a body of", len(body))
     if status[1] != b"200":
-        wants(body == b"" and content("state.json") == before, "refused, and the file has changed")
+        wants(content("state.json") == before, "refused, and the file has changed")
+        wants(body == b"" if status[1] != b"400" else is_refusal(body), "a body", body[:200])
     return len(given)
+
+
+def is_refusal(body):
+    """Whether a body tells a refusal."""
+    told = re.fullmatch(rb'\{"Name":"(\w+)","Refused":([1-9]\d*)\}', body)
+    return told and NAMES.get(told[2].decode()) == told[1].decode()
 
 
 def run_sent(chance, folder):

@@ -288,6 +288,16 @@ def a_killed_command_leaves_the_old_or_the_new():
 # ---- controllers that are served
 
 
+LINE = re.compile(r"[1-9]\d* [\d.]+:[1-9]\d* (\S.*) \d+ ms")
+
+
+def told_of(line):
+    """What a line of a server tells, without the time, the client, and how long that was there."""
+    found = LINE.fullmatch(line)
+    assert found, f"a line {line!r}"
+    return found[1]
+
+
 class Served:
     """A controller in a file that is served, on a port that stays where it is started again."""
 
@@ -316,8 +326,18 @@ class Served:
     def connect(self):
         return socket.create_connection(("127.0.0.1", self.port), timeout=30)
 
-    def log(self):
-        return content(self.file + ".log").decode()
+    def log(self, count=0):
+        """What it told, once that has so many lines: a line comes behind its response."""
+        until = time.monotonic() + 30
+        while True:
+            text = content(self.file + ".log").decode()
+            if text.count("\n") >= count or time.monotonic() > until:
+                return text
+            time.sleep(0.01)
+
+    def told(self, count):
+        """What is told of so many requests, without the times and the clients."""
+        return [told_of(line) for line in self.log(count).splitlines()]
 
     def __enter__(self):
         return self
@@ -339,11 +359,18 @@ def response(connection):
     return b"".join(parts).decode()
 
 
+def status_in(text):
+    """The status of a response."""
+    found = re.match(r"HTTP/1\.1 (\d{3}) ", text)
+    assert found, f"no response: {text[:200]!r}"
+    return int(found[1])
+
+
 def asked(served, given):
     """The status of the response to these bytes."""
     with served.connect() as connection:
         connection.sendall(given)
-        return int(response(connection).split(" ")[1])
+        return status_in(response(connection))
 
 
 def order(name, given):
@@ -405,7 +432,8 @@ def a_day_over_the_network():
     with Served("mis") as mis, Served("press") as press, Served("bindery") as bindery:
         shop = {"mis": mis, "press": press, "bindery": bindery}
         wants(the_day(lambda name, message: send(shop[name], message)), by_hand)
-        wants([line.split()[2] for line in press.log().splitlines()], 3 * ["200"])
+        wants(press.told(3), ["press 200 Taken S1 from mis", "press 200 Taken S2 from mis",
+                             "press 200 Again S1 from mis"])
 
 
 def a_slow_client_is_cut_off():
@@ -414,12 +442,11 @@ def a_slow_client_is_cut_off():
     with Served("press", "--limit", "2") as press, press.connect() as slow:
         start = time.monotonic()
         slow.sendall(b"POST /jmf HTTP/1.1\r\nHost: h\r\n")
-        other = subprocess.Popen([PROGRAM, "send", press.url()], stdin=subprocess.PIPE,
-                                 stdout=subprocess.PIPE)
-        other.stdin.write(message.encode())
-        other.stdin.close()
-        # The file is free while a client drips.
+        # The file is free while a client drips, and the others are answered.
+        assert send(press, message)
         wants(run("show", "press")[0], 0)
+        wants(press.told(1), ["press 200 Taken S1 from mis"])
+        assert time.monotonic() - start < 1.5, "another waits for a slow client"
         while time.monotonic() - start < 10:
             try:
                 slow.sendall(b"x")
@@ -427,8 +454,7 @@ def a_slow_client_is_cut_off():
                 break
             time.sleep(0.1)
         assert 1.5 < time.monotonic() - start < 6, "cut off at another time"
-        assert other.stdout.read() and other.wait() == 0
-        wants([line.split(" ", 2)[2] for line in press.log().splitlines()], ["no request", "200"])
+        wants(press.told(2), ["press 200 Taken S1 from mis", "- no request"])
 
 
 def many_clients_at_once():
@@ -446,7 +472,7 @@ def many_clients_at_once():
                 clients[-1][1].close()
         for kind, client in clients:
             if kind:
-                status = int(response(client).split(" ")[1])
+                status = status_in(response(client))
                 client.close()
                 wants(status, wanted.get(kind, 200))
     wants(len(run("show", "press")[1].splitlines()), 1)
@@ -457,7 +483,7 @@ def an_early_answer_comes_to_the_client():
     with Served("mis") as mis:
         wants(asked(mis, b"PUT / HTTP/1.1\r\nHost: h\r\nContent-Length: 300000\r\n\r\n" + 300000 * b"x"), 405)
         wants(asked(mis, b"POST / HTTP/1.1\r\nHost: h\r\n\r\n"), 411)
-        wants(asked(mis, b"POST / HTTP/1.1\r\nHost: h\r\nContent-Length: 2000000\r\n\r\n" + 400000 * b"x"), 413)
+        wants(asked(mis, b"POST / HTTP/1.1\r\nHost: h\r\nContent-Length: 67108865\r\n\r\n" + 400000 * b"x"), 413)
         wants(asked(mis, request("", "Transfer-Encoding: chunked\r\n")), 501)
 
 
@@ -469,6 +495,9 @@ def what_cannot_be_served_is_told():
     os.remove("mis")
     begin()
     wants(run("serve", "mis", "--listen", "nowhere")[::2], (4, "Refused 61 NoConnection\n"))
+    for option, number in (("--clients", "0"), ("--clients", "65537"), ("--body", "0"),
+                           ("--body", "1073741825"), ("--memory", "1048575"), ("--limit", "3601")):
+        wants(run("serve", "mis", "--listen", "127.0.0.1:0", option, number)[:2], (2, ""))
     with Served("mis", "--requests", "2") as mis:
         os.rename("mis", "away")
         wants(asked(mis, request("{}")), 503)
@@ -493,9 +522,13 @@ def a_folder_is_served():
         wants(asked(shop, request(cover, target="/jmf/mis")), 200)
         wants(asked(shop, request(cover, target="/press?mis/bindery")), 200)
         wants(asked(shop, request("{}", target="/jmf/press")), 400)
-        # A line is written behind its response, and before the next connection is taken.
         wants(asked(shop, request("{}", target="/jmf/none")), 404)
-        wants([line.split()[2] for line in shop.log().splitlines()[:7]], 6 * ["200"] + ["400"])
+        told = {"press 200 Taken S1 from mis", "bindery 200 Taken S2 from mis",
+                "mis 200 Noted S1 from press", "mis 200 Noted S2 from bindery",
+                "mis 200 45 WrongMessage", "press 200 Again S1 from mis",
+                "press 400 41 NotProfile", "- 404"}
+        # Of clients at one moment the lines may come in any order.
+        wants(set(shop.told(8)), told)
     for name in ("press", "bindery"):
         wants(len(run("show", "shop/" + name)[1].splitlines()), 1)
 
@@ -523,7 +556,7 @@ def a_target_that_names_no_controller_is_answered_so():
             with shop.connect() as connection:
                 connection.sendall(request(message, target=target))
                 wants((target, response(connection)), (target, MISSING))
-        wants(shop.log().splitlines()[0].split(" ", 2)[2], "404")
+        wants(shop.told(1)[0], "- 404")
         wants(run("send", shop.url("/jmf/none"), given=message), (1, "", "Refused by the controller: 404\n"))
         # What is there and is no file of a controller is told as it is for one file.
         for target in ("/folder", "/link"):

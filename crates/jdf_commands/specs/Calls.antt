@@ -94,7 +94,7 @@ IsOutputOfCall (Show file picture) input text refused notes =
     IsUntouched input × Shows picture is_honest held place (kept_in file.now) text refused notes
 IsOutputOfCall Loop input text refused notes = ⊥
 IsOutputOfCall (SendOrder file at url) input text refused notes = ⊥
-IsOutputOfCall (Serve file listen limit requests) input text refused notes = ⊥
+IsOutputOfCall (Serve file listen limits requests) input text refused notes = ⊥
 IsOutputOfCall (Send url file) input text refused notes = ⊥
 
 -- a call over the network isn't run over files alone, and nothing is read
@@ -115,7 +115,7 @@ IsFaultOfCall (Show file picture) input fault =
     IsUntouched input × (IsNotOpened file.now fault ⊎ (fault ≡ Input (Core Memory)))
 IsFaultOfCall Loop input fault = IsOfNetwork input fault
 IsFaultOfCall (SendOrder file at url) input fault = IsOfNetwork input fault
-IsFaultOfCall (Serve file listen limit requests) input fault = IsOfNetwork input fault
+IsFaultOfCall (Serve file listen limits requests) input fault = IsOfNetwork input fault
 IsFaultOfCall (Send url file) input fault = IsOfNetwork input fault
 
 -- how a call ends: with what it writes and notes, or with why it gives up

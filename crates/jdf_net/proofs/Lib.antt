@@ -1,4 +1,3 @@
-pub mod Taking
 mod AllEvents
 mod Answered
 mod AnyCalls

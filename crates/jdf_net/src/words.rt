@@ -49,13 +49,13 @@ fn run_call<R: Locks + Net + Clock, I: Read, W: Write, F: Write>(
         Call::Serve {
             file,
             listen,
-            limit,
+            limits,
             requests,
         } => {
             let service = Service {
                 path: file,
                 listen,
-                limit: *limit,
+                limits: *limits,
                 requests: *requests,
             };
             run_serve(rt, alloc, &service, writer, faults)

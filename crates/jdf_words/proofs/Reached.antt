@@ -1,5 +1,6 @@
 -- Words without fault name one of the commands, with what it wants.
-use Rattle.std.proofs.Common.{◌≡◌, ◌∙◌, ◌&&◌, ◌||◌, Bool, true, false, cond, not, List, [], ◌∷◌, Option, Some, None, IfSome, IsSomeAnd, All, find, codes, is_some, refl, sym, ap, subst, inl, inr, bytes_eq, option_and_then, option_map, slice_get, true≢false}
+use Rattle.std.proofs.Common.{◌≡◌, ◌∙◌, ◌&&◌, ◌||◌, ℕ, Bool, true, false, cond, not, List, [], ◌∷◌, Option, Some, None, IfSome, IsSomeAnd, All, find, codes, is_some, map, refl, sym, ap, subst, inl, inr, bytes_eq, option_and_then, option_map, slice_get, true≢false}
+use Rattle.std.specs.List.{filter}
 use Rattle.std.specs.Option.{option_map_or}
 use Rattle.std.proofs.lemmas.Bool.{or_cases, or_parts}
 use Rattle.std.proofs.lemmas.Slice.Eq.{bytes_eq-Decides}
@@ -11,11 +12,12 @@ use Rattle.clap.specs.Simple.{Shape, built, built_leaf, entered, inherited, labe
 use Rattle.clap.specs.Takes.{is_given, value_passes}
 use Rattle.clap.specs.Walk.{Row, Rule, Text, answers_to, nothing_held, row_text, rows_after, stop_after}
 use Rattle.clap.specs.Values.{IsUnsignedIn}
+use Rattle.clap.specs.declared.builder.value_parser.ValueParser.{ValueParser}
 use Rattle.clap.specs.declared.builder.value_parser.ValueParser.TheVariants as parser
 use Rattle.clap.specs.declared.parser.matches.ValueSource.{ValueSource}
 use Rattle.clap.specs.declared.parser.matches.ValueSource.TheVariants.{CommandLine}
 use Rattle.clap.proofs.ValueTestLemmas.{accepts-Accepts}
-use Rattle.jdf_words.specs.Calls.{HasAt, HasFile, HasServing, HasText, IsCall}
+use Rattle.jdf_words.specs.Calls.{HasAt, HasFile, HasServing, HasText, IsCall, IsWithin}
 use Rattle.jdf_words.specs.Commands.{at_rule, bare, command, file_rule, jdf, order_rules, send_rules, serve_rules, show_rules}
 use Rattle.jdf_words.proofs.Walks.{AsksNoHelp, IsIn, IsMade, IsPlainRule, found_in, level_passed, made}
 
@@ -107,7 +109,10 @@ serving_plain a (inl is) = rw is (inl (refl, refl, refl), inl refl)
 serving_plain a (inr (inl is)) = rw is (inl (refl, refl, refl), inl refl)
 serving_plain a (inr (inr (inl is))) = rw is (inl (refl, refl, refl), inl refl)
 serving_plain a (inr (inr (inr (inl is)))) = rw is (inl (refl, refl, refl), inl refl)
-serving_plain a (inr (inr (inr (inr is)))) = help_plain (codes "serve") a is
+serving_plain a (inr (inr (inr (inr (inl is))))) = rw is (inl (refl, refl, refl), inl refl)
+serving_plain a (inr (inr (inr (inr (inr (inl is)))))) = rw is (inl (refl, refl, refl), inl refl)
+serving_plain a (inr (inr (inr (inr (inr (inr (inl is))))))) = rw is (inl (refl, refl, refl), inl refl)
+serving_plain a (inr (inr (inr (inr (inr (inr (inr is))))))) = help_plain (codes "serve") a is
 
 sending_plain : (a : Rule) → IsIn a sending.rules → IsPlainRule a
 sending_plain a (inl is) = rw is (inl (refl, refl, refl), inl refl)
@@ -141,52 +146,45 @@ value_holds c id P rows all each = go (find (λ r. bytes_eq r.id id) rows) refl
         let named = subst (λ (x : Row). bytes_eq x.id id ≡ true) made_row.5 here in
         subst (λ x. IfSome (row_text x) P) (sym made_row.5) (each made_row.0 made_row.2 made_row.3 named made_row.4)
 
--- only the rule of N is called so, and what passes it is a time
-at_passes : (name : Text) (a : Rule) (text : Text) → IsIn a (timed name).rules → bytes_eq a.id (codes "at") ≡ true → value_passes a text ≡ true
-    → IsSomeAnd (row_text (made a CommandLine text)) (IsUnsignedIn 0 9999999999)
-at_passes name a text (inl is) named passes = let bad : false ≡ true = rw is at named in cc
-at_passes name a text (inr (inl is)) named passes = rw is (accepts-Accepts false (parser.Unsigned 0 9999999999) text (rw is at passes))
-at_passes name a text (inr (inr (inl is))) named passes = let bad : false ≡ true = rw is at named in cc
-at_passes name a text (inr (inr (inr none))) named passes = absurd none
+-- how the values of the arguments of a name are read
+abbrev parsers_of : Text → List Rule → List (Option ValueParser)
+parsers_of id c = map (λ a. a.parser) (filter (λ a. bytes_eq a.id id) c)
 
-at_given : (name : Text) (rows : List Row) → All (IsMade (timed name).rules) rows → is_given (codes "at") rows ≡ true → HasAt rows
-at_given name rows all given =
-    let row = given_row (timed name).rules (codes "at") rows all given in
-    subst (λ o. IsSomeAnd (option_and_then row_text o) (IsUnsignedIn 0 9999999999)) (sym row.found) (at_passes name row.rule row.text row.among row.named row.passes)
+among_parsers : (id : Text) (c : List Rule) (a : Rule) → IsIn a c → bytes_eq a.id id ≡ true → IsIn a.parser (parsers_of id c)
+among_parsers id [] a none named = absurd none
+among_parsers id (b ∷ c) a (inl is) named =
+    let here : bytes_eq b.id id ≡ true = subst (λ (r : Rule). bytes_eq r.id id ≡ true) is named in
+    rw here (inl (ap (λ (r : Rule). r.parser) is))
+among_parsers id (b ∷ c) a (inr is) named = go (bytes_eq b.id id) (among_parsers id c a is named)
+  where
+    go : (here : Bool) → IsIn a.parser (parsers_of id c)
+        → IsIn a.parser (map (λ r. r.parser) (cond here (b ∷ filter (λ r. bytes_eq r.id id) c) (filter (λ r. bytes_eq r.id id) c)))
+    go true rest = inr rest
+    go false rest = rest
 
--- the same of an order
-order_at_passes : (a : Rule) (text : Text) → IsIn a ordering.rules → bytes_eq a.id (codes "at") ≡ true → value_passes a text ≡ true
-    → IsSomeAnd (row_text (made a CommandLine text)) (IsUnsignedIn 0 9999999999)
-order_at_passes a text (inl is) named passes = let bad : false ≡ true = rw is at named in cc
-order_at_passes a text (inr (inl is)) named passes = rw is (accepts-Accepts false (parser.Unsigned 0 9999999999) text (rw is at passes))
-order_at_passes a text (inr (inr (inl is))) named passes = let bad : false ≡ true = rw is at named in cc
-order_at_passes a text (inr (inr (inr (inl is)))) named passes = let bad : false ≡ true = rw is at named in cc
-order_at_passes a text (inr (inr (inr (inr none)))) named passes = absurd none
+-- where only one argument is called so, and is a number within bounds, what passes is one
+number_passes : (c : List Rule) (id : Text) (low high : ℕ) → parsers_of id c ≡ Some (parser.Unsigned low high) ∷ []
+    → (a : Rule) (text : Text) → IsIn a c → bytes_eq a.id id ≡ true → value_passes a text ≡ true
+    → IfSome (row_text (made a CommandLine text)) (IsUnsignedIn low high)
+number_passes c id low high only a text among named passes = go (subst (IsIn a.parser) only (among_parsers id c a among named))
+  where
+    go : IsIn a.parser (Some (parser.Unsigned low high) ∷ []) → IfSome (row_text (made a CommandLine text)) (IsUnsignedIn low high)
+    go (inl is) = rw is (accepts-Accepts a.ignore_case (parser.Unsigned low high) text (rw is at passes))
+    go (inr none) = absurd none
 
-order_at_given : (rows : List Row) → All (IsMade ordering.rules) rows → is_given (codes "at") rows ≡ true → HasAt rows
-order_at_given rows all given =
-    let row = given_row ordering.rules (codes "at") rows all given in
-    subst (λ o. IsSomeAnd (option_and_then row_text o) (IsUnsignedIn 0 9999999999)) (sym row.found) (order_at_passes row.rule row.text row.among row.named row.passes)
+-- N that was given is a time
+at_given : (c : List Rule) (rows : List Row) → parsers_of (codes "at") c ≡ Some (parser.Unsigned 0 9999999999) ∷ [] → All (IsMade c) rows
+    → is_given (codes "at") rows ≡ true → HasAt rows
+at_given c rows only all given =
+    let row = given_row c (codes "at") rows all given in
+    subst (λ o. IsSomeAnd (option_and_then row_text o) (IsUnsignedIn 0 9999999999)) (sym row.found)
+    (number_passes c (codes "at") 0 9999999999 only row.rule row.text row.among row.named row.passes)
 
--- only the rules of the limit and of the number of requests are called so
-limit_passes : (a : Rule) (text : Text) → IsIn a serving.rules → bytes_eq a.id (codes "limit") ≡ true → value_passes a text ≡ true
-    → IfSome (row_text (made a CommandLine text)) (IsUnsignedIn 1 3600)
-limit_passes a text (inl is) named passes = let bad : false ≡ true = rw is at named in cc
-limit_passes a text (inr (inl is)) named passes = let bad : false ≡ true = rw is at named in cc
-limit_passes a text (inr (inr (inl is))) named passes = rw is (accepts-Accepts false (parser.Unsigned 1 3600) text (rw is at passes))
-limit_passes a text (inr (inr (inr (inl is)))) named passes = let bad : false ≡ true = rw is at named in cc
-limit_passes a text (inr (inr (inr (inr (inl is))))) named passes = let bad : false ≡ true = rw is at named in cc
-limit_passes a text (inr (inr (inr (inr (inr none))))) named passes = absurd none
-
-requests_passes : (a : Rule) (text : Text) → IsIn a serving.rules → bytes_eq a.id (codes "requests") ≡ true → value_passes a text ≡ true
-    → IfSome (row_text (made a CommandLine text)) (IsUnsignedIn 1 18446744073709551615)
-requests_passes a text (inl is) named passes = let bad : false ≡ true = rw is at named in cc
-requests_passes a text (inr (inl is)) named passes = let bad : false ≡ true = rw is at named in cc
-requests_passes a text (inr (inr (inl is))) named passes = let bad : false ≡ true = rw is at named in cc
-requests_passes a text (inr (inr (inr (inl is)))) named passes =
-    rw is (accepts-Accepts false (parser.Unsigned 1 18446744073709551615) text (rw is at passes))
-requests_passes a text (inr (inr (inr (inr (inl is))))) named passes = let bad : false ≡ true = rw is at named in cc
-requests_passes a text (inr (inr (inr (inr (inr none))))) named passes = absurd none
+-- an option of `serve` is a number within bounds, or isn't there
+serving_within : (id : Text) (low high : ℕ) (rows : List Row) → parsers_of id serving.rules ≡ Some (parser.Unsigned low high) ∷ []
+    → All (IsMade serving.rules) rows → IsWithin id low high rows
+serving_within id low high rows only all =
+    value_holds serving.rules id (IsUnsignedIn low high) rows all (number_passes serving.rules id low high only)
 
 -- `serve` has its FILE and its ADDR, and `send` its URL
 serving_has : (words : List Text) → level_fault serving [] nothing_held words false [] ≡ []
@@ -196,11 +194,15 @@ serving_has words e =
     let rows = rows_after serving.rules [] words in
     let file = or_parts (not (is_given (codes "FILE") rows)) _ (none_missing _ passed.checks) in
     let listen = or_parts (not (is_given (codes "listen") rows)) false file.1 in
-    let limit = value_holds serving.rules (codes "limit") (IsUnsignedIn 1 3600) rows passed.rows limit_passes in
-    let requests = value_holds serving.rules (codes "requests") (IsUnsignedIn 1 18446744073709551615) rows passed.rows requests_passes in (
-      text_given serving.rules (codes "FILE") _ passed.rows (there _ file.0),
-      (text_given serving.rules (codes "listen") _ passed.rows (there _ listen.0), limit, requests),
-    )
+    let has : HasServing rows = record {
+      listen = text_given serving.rules (codes "listen") rows passed.rows (there _ listen.0);
+      seconds = serving_within (codes "limit") 1 3600 rows refl passed.rows;
+      clients = serving_within (codes "clients") 1 65536 rows refl passed.rows;
+      body = serving_within (codes "body") 1 1073741824 rows refl passed.rows;
+      memory = serving_within (codes "memory") 1048576 1099511627776 rows refl passed.rows;
+      requests = serving_within (codes "requests") 1 18446744073709551615 rows refl passed.rows;
+    } in
+    (text_given serving.rules (codes "FILE") rows passed.rows (there _ file.0), has)
 
 sending_has : (words : List Text) → level_fault sending [] nothing_held words false [] ≡ [] → HasText (codes "URL") (rows_after sending.rules [] words)
 sending_has words e =
@@ -225,7 +227,7 @@ timed_has name words e =
     let file = or_parts (not (is_given (codes "FILE") (rows_after (timed name).rules [] words))) _ (none_missing _ passed.checks) in
     let time = or_parts (not (is_given (codes "at") (rows_after (timed name).rules [] words))) false file.1 in (
       text_given (timed name).rules (codes "FILE") _ passed.rows (there _ file.0),
-      at_given name _ passed.rows (there _ time.0),
+      at_given (timed name).rules _ refl passed.rows (there _ time.0),
     )
 
 ordering_has : (words : List Text) → level_fault ordering [] nothing_held words false [] ≡ []
@@ -235,7 +237,7 @@ ordering_has words e =
     let file = or_parts (not (is_given (codes "FILE") (rows_after ordering.rules [] words))) _ (none_missing _ passed.checks) in
     let time = or_parts (not (is_given (codes "at") (rows_after ordering.rules [] words))) false file.1 in (
       text_given ordering.rules (codes "FILE") _ passed.rows (there _ file.0),
-      order_at_given _ passed.rows (there _ time.0),
+      at_given ordering.rules _ refl passed.rows (there _ time.0),
     )
 
 -- ---- the program

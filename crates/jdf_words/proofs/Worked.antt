@@ -87,11 +87,12 @@ serve = codes "serve" ∷ codes "job.json" ∷ codes "--listen" ∷ codes "h:1" 
 
 serve_is : (takes jdf serve ≡ true) × (name_in (subcommand_of jdf serve) ≡ Some (codes "serve")) × (file_in (subcommand_of jdf serve) ≡ Some (codes "job.json"))
     × (text_in (codes "listen") (subcommand_of jdf serve) ≡ Some (codes "h:1")) × (number_in (codes "limit") (subcommand_of jdf serve) ≡ None)
-    × (number_in (codes "requests") (subcommand_of jdf serve) ≡ None)
+    × (number_in (codes "clients") (subcommand_of jdf serve) ≡ None) × (number_in (codes "body") (subcommand_of jdf serve) ≡ None)
+    × (number_in (codes "memory") (subcommand_of jdf serve) ≡ None) × (number_in (codes "requests") (subcommand_of jdf serve) ≡ None)
 unfolding jdf clap_on_literals
-serve_is = (refl, refl, refl, refl, refl, refl)
+serve_is = (refl, refl, refl, refl, refl, refl, refl, refl, refl)
 
--- options may stand before FILE, and the limit goes up to an hour
+-- options may stand before FILE, and the longest time goes up to an hour
 abbrev bounded : List Text
 bounded = codes "serve" ∷ codes "--limit=3600" ∷ codes "--requests" ∷ codes "1" ∷ codes "--listen=h:1" ∷ codes "job.json" ∷ []
 
@@ -99,6 +100,23 @@ bounded_is : (takes jdf bounded ≡ true) × (file_in (subcommand_of jdf bounded
     × (number_in (codes "limit") (subcommand_of jdf bounded) ≡ Some 3600) × (number_in (codes "requests") (subcommand_of jdf bounded) ≡ Some 1)
 unfolding jdf clap_on_literals
 bounded_is = (refl, refl, refl, refl)
+
+-- the least and the most of the other limits
+abbrev least : List Text
+least = codes "serve" ∷ codes "job.json" ∷ codes "--listen=h:1" ∷ codes "--clients=1" ∷ codes "--body=1" ∷ codes "--memory=1048576" ∷ []
+
+least_is : (takes jdf least ≡ true) × (number_in (codes "clients") (subcommand_of jdf least) ≡ Some 1)
+    × (number_in (codes "body") (subcommand_of jdf least) ≡ Some 1) × (number_in (codes "memory") (subcommand_of jdf least) ≡ Some 1048576)
+unfolding jdf clap_on_literals
+least_is = (refl, refl, refl, refl)
+
+abbrev most : List Text
+most = codes "serve" ∷ codes "job.json" ∷ codes "--listen=h:1" ∷ codes "--clients=65536" ∷ codes "--body=1073741824" ∷ codes "--memory=1099511627776" ∷ []
+
+most_is : (takes jdf most ≡ true) × (number_in (codes "clients") (subcommand_of jdf most) ≡ Some 65536)
+    × (number_in (codes "body") (subcommand_of jdf most) ≡ Some 1073741824) × (number_in (codes "memory") (subcommand_of jdf most) ≡ Some 1099511627776)
+unfolding jdf clap_on_literals
+most_is = (refl, refl, refl, refl)
 
 abbrev send : List Text
 send = codes "send" ∷ codes "http://h/jmf" ∷ codes "message.json" ∷ []
@@ -152,6 +170,30 @@ no_time_at_all = refl
 too_long : takes jdf (codes "serve" ∷ codes "job.json" ∷ codes "--listen=h:1" ∷ codes "--limit=3601" ∷ []) ≡ false
 unfolding jdf clap_on_literals
 too_long = refl
+
+no_clients : takes jdf (codes "serve" ∷ codes "job.json" ∷ codes "--listen=h:1" ∷ codes "--clients=0" ∷ []) ≡ false
+unfolding jdf clap_on_literals
+no_clients = refl
+
+too_many_clients : takes jdf (codes "serve" ∷ codes "job.json" ∷ codes "--listen=h:1" ∷ codes "--clients=65537" ∷ []) ≡ false
+unfolding jdf clap_on_literals
+too_many_clients = refl
+
+no_body : takes jdf (codes "serve" ∷ codes "job.json" ∷ codes "--listen=h:1" ∷ codes "--body=0" ∷ []) ≡ false
+unfolding jdf clap_on_literals
+no_body = refl
+
+too_large_a_body : takes jdf (codes "serve" ∷ codes "job.json" ∷ codes "--listen=h:1" ∷ codes "--body=1073741825" ∷ []) ≡ false
+unfolding jdf clap_on_literals
+too_large_a_body = refl
+
+too_little_memory : takes jdf (codes "serve" ∷ codes "job.json" ∷ codes "--listen=h:1" ∷ codes "--memory=1048575" ∷ []) ≡ false
+unfolding jdf clap_on_literals
+too_little_memory = refl
+
+too_much_memory : takes jdf (codes "serve" ∷ codes "job.json" ∷ codes "--listen=h:1" ∷ codes "--memory=1099511627777" ∷ []) ≡ false
+unfolding jdf clap_on_literals
+too_much_memory = refl
 
 no_requests : takes jdf (codes "serve" ∷ codes "job.json" ∷ codes "--listen=h:1" ∷ codes "--requests=0" ∷ []) ≡ false
 unfolding jdf clap_on_literals

@@ -16,6 +16,7 @@ use Rattle.jdf_words.specs.declared.call.Call.TheVariants.{New, Order, Take, Sho
 use Rattle.jdf_words.specs.declared.call.Call.TheVariants.{SendOrder}
 use Rattle.jdf_words.specs.declared.call_fault.CallFault.{CallFault}
 use Rattle.jdf_words.specs.declared.call_fault.CallFault.TheVariants.{Clap, Memory}
+use Rattle.jdf_words.specs.declared.serve_limits.ServeLimits.{ServeLimits}
 
 -- the name of the command that was found
 abbrev pub name_in : Option (Text × List Row) → Option Text
@@ -56,12 +57,24 @@ abbrev pub IsTimed : Text → Text → ℕ → Option (Text × List Row) → Typ
 IsTimed name file at found = (name_in found ≡ Some name) × (file_in found ≡ Some file)
     × (at_in found ≡ Some at) × (at ≤ 9999999999)
 
--- what was found is `serve`, on this FILE at this ADDR, with this limit, 5 where none is named, and
--- this number of requests
-abbrev pub IsServe : Text → Text → ℕ → Option ℕ → Option (Text × List Row) → Type 0
-IsServe file listen limit requests found = (name_in found ≡ Some (codes "serve"))
+-- the number is that of an option, or this other where it isn't there, and within bounds
+abbrev pub IsNumberOr : Text → ℕ → ℕ → ℕ → ℕ → Option (Text × List Row) → Type 0
+IsNumberOr id otherwise low high number found =
+    (number ≡ unwrap_or (number_in id found) otherwise) × (low ≤ number) × (number ≤ high)
+
+-- the limits of `serve` are those that were found, each another number where it isn't there
+pub record AreLimits (limits : ServeLimits) (found : Option (Text × List Row)) : Type 0 where
+  pub seconds : IsNumberOr (codes "limit") 5 1 3600 limits.seconds found
+  pub clients : IsNumberOr (codes "clients") 1024 1 65536 limits.clients found
+  pub body : IsNumberOr (codes "body") 67108864 1 1073741824 limits.body found
+  pub memory : IsNumberOr (codes "memory") 268435456 1048576 1099511627776 limits.memory found
+
+-- what was found is `serve`, on this FILE at this ADDR, with these limits and this number of
+-- requests
+abbrev pub IsServe : Text → Text → ServeLimits → Option ℕ → Option (Text × List Row) → Type 0
+IsServe file listen limits requests found = (name_in found ≡ Some (codes "serve"))
     × (file_in found ≡ Some file) × (text_in (codes "listen") found ≡ Some listen)
-    × (limit ≡ unwrap_or (number_in (codes "limit") found) 5) × (1 ≤ limit) × (limit ≤ 3600)
+    × AreLimits limits found
     × (requests ≡ number_in (codes "requests") found) × IfSome requests (λ n. 1 ≤ n)
 
 -- what was found is `send`, to this URL, of the message in this FILE where one is named
@@ -98,9 +111,13 @@ abbrev pub HasAt : List Row → Type 0
 HasAt rows = IsSomeAnd (one_of (codes "at") rows) (IsUnsignedIn 0 9999999999)
 
 -- what `serve` wants beside FILE is among them
-abbrev pub HasServing : List Row → Type 0
-HasServing rows = HasText (codes "listen") rows × IsWithin (codes "limit") 1 3600 rows
-    × IsWithin (codes "requests") 1 18446744073709551615 rows
+pub record HasServing (rows : List Row) : Type 0 where
+  pub listen : HasText (codes "listen") rows
+  pub seconds : IsWithin (codes "limit") 1 3600 rows
+  pub clients : IsWithin (codes "clients") 1 65536 rows
+  pub body : IsWithin (codes "body") 1 1073741824 rows
+  pub memory : IsWithin (codes "memory") 1048576 1099511627776 rows
+  pub requests : IsWithin (codes "requests") 1 18446744073709551615 rows
 
 -- what was found is one of the commands, with what it wants
 pub record IsCall (found : Text × List Row) : Type 0 where
@@ -125,8 +142,8 @@ Means (Take file at) found = IsTimed (codes "take") file.now at found
 Means (Show file picture) found =
     (name_in found ≡ Some (codes "show")) × (file_in found ≡ Some file.now)
     × (picture ≡ is_set_in (codes "picture") found)
-Means (Serve file listen limit requests) found =
-    IsServe file.now listen.now limit requests found
+Means (Serve file listen limits requests) found =
+    IsServe file.now listen.now limits requests found
 Means (Send url file) found = IsSend url.now (option_map (λ path. path.now) file) found
 
 -- the fault says what clap's error says: that memory ran out, or else that error itself

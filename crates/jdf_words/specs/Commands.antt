@@ -47,13 +47,26 @@ listen_rule = record (option_rule (codes "listen")) { required = true }
 abbrev pub limit_rule : Rule
 limit_rule = number_rule (codes "limit") 1 3600
 
--- `--requests N`, any number but 0
+-- `--clients COUNT`, up to 65,536
+abbrev pub clients_rule : Rule
+clients_rule = number_rule (codes "clients") 1 65536
+
+-- `--body BYTES`, up to a GiB
+abbrev pub body_rule : Rule
+body_rule = number_rule (codes "body") 1 1073741824
+
+-- `--memory BYTES`, from a MiB up to a TiB
+abbrev pub memory_rule : Rule
+memory_rule = number_rule (codes "memory") 1048576 1099511627776
+
+-- `--requests COUNT`, any number but 0
 abbrev pub requests_rule : Rule
 requests_rule = number_rule (codes "requests") 1 18446744073709551615
 
 -- what `serve` takes
 abbrev pub serve_rules : List Rule
-serve_rules = file_rule ∷ listen_rule ∷ limit_rule ∷ requests_rule ∷ []
+serve_rules = file_rule ∷ listen_rule ∷ limit_rule ∷ clients_rule ∷ body_rule ∷ memory_rule
+    ∷ requests_rule ∷ []
 
 -- URL, any text, which has to be there
 abbrev pub url_rule : Rule

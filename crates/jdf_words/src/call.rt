@@ -1,3 +1,5 @@
+use crate::serve_limits::ServeLimits;
+
 /// What the words of the command line call for (our own commands).
 #[derive(Clone, Copy)]
 pub enum Call<'a> {
@@ -50,8 +52,8 @@ pub enum Call<'a> {
         file: &'a str,
         /// The address to listen on, as a host and a port.
         listen: &'a str,
-        /// The longest time for a connection, in seconds, from 1 to 3,600.
-        limit: u64,
+        /// What it keeps to while it answers.
+        limits: ServeLimits,
         /// How many connections to answer, at least 1. `None`: no end.
         requests: Option<u64>,
     },

@@ -1,13 +1,15 @@
 //! The commands of the program and their arguments, as `clap` is told of them.
 
-ghost use Rattle.std.specs.Prelude.{◌≡◌, [], ◌∷◌, IfOk, codes, false, true};
+ghost use Rattle.std.specs.Prelude.{◌≡◌, [], ◌∷◌, IfOk, Some, codes, false, true};
 ghost use Rattle.clap.specs.Words.{App, Shape, app_of, rule_of, with_subcommand};
-ghost use Rattle.jdf_words.specs.Commands.{alone, at_rule, bare, command, file_rule, jdf};
-ghost use Rattle.jdf_words.specs.Commands.{limit_rule, listen_rule, message_rule, requests_rule};
-ghost use Rattle.jdf_words.specs.Commands.{order_rules, picture_rule, send_rule, send_rules};
-ghost use Rattle.jdf_words.specs.Commands.{serve_rules, show_rules, url_rule};
+ghost use Rattle.jdf_words.specs.Commands.{alone, at_rule, bare, body_rule, clients_rule, command};
+ghost use Rattle.jdf_words.specs.Commands.{file_rule, jdf, limit_rule, listen_rule, memory_rule};
+ghost use Rattle.jdf_words.specs.Commands.{message_rule, option_rule, order_rules, picture_rule};
+ghost use Rattle.jdf_words.specs.Commands.{requests_rule, send_rule, send_rules, serve_rules};
+ghost use Rattle.jdf_words.specs.Commands.{show_rules, url_rule};
 
 use crate::help::{self, Help};
+use clap::builder::ValueParser;
 use clap::{Arg, ArgAction, Command};
 use std::alloc::{AllocError, Global};
 
@@ -21,16 +23,31 @@ fn file_argument<'a>(alloc: Global) -> Arg<'a>
         .help("The file that the controller is kept in")
 }
 
+/// An option that takes a number, as this parser reads it.
+fn number_argument<'a>(
+    alloc: Global,
+    name: &'a str,
+    value_name: &'a str,
+    parser: ValueParser<'a>,
+) -> Arg<'a>
+    ensures rule { rule_of result
+        ≡ record (option_rule name.entry.now) { parser = Some parser.entry } }
+    ensures local { result.global ≡ false }
+{
+    Arg::new(alloc, name)
+        .long(name)
+        .value_name(value_name)
+        .value_parser(parser)
+}
+
 /// `--at N`, which has to be there.
 fn at_argument<'a>(alloc: Global) -> Arg<'a>
     ensures rule { rule_of result ≡ at_rule }
     ensures local { result.global ≡ false }
 {
-    Arg::new(alloc, "at")
-        .long("at")
+    let parser = clap::value_parser!(u64).range(0..=9_999_999_999);
+    number_argument(alloc, "at", "N", parser)
         .required(true)
-        .value_name("N")
-        .value_parser(clap::value_parser!(u64).range(0..=9_999_999_999))
         .help("The time, in whole seconds since the beginning of 1970")
 }
 
@@ -72,23 +89,55 @@ fn limit_argument<'a>(alloc: Global) -> Arg<'a>
     ensures rule { rule_of result ≡ limit_rule }
     ensures local { result.global ≡ false }
 {
-    Arg::new(alloc, "limit")
-        .long("limit")
-        .value_name("SECONDS")
-        .value_parser(clap::value_parser!(u64).range(1..=3600))
-        .help("The longest time for a connection, from 1 to 3600 seconds; 5 if none is named")
+    let parser = clap::value_parser!(u64).range(1..=3600);
+    number_argument(alloc, "limit", "SECONDS", parser).help(
+        "The longest time for a connection, from 1 to 3600 seconds; 5 if none is named",
+    )
 }
 
-/// `--requests N`.
+/// `--clients COUNT`.
+fn clients_argument<'a>(alloc: Global) -> Arg<'a>
+    ensures rule { rule_of result ≡ clients_rule }
+    ensures local { result.global ≡ false }
+{
+    let parser = clap::value_parser!(u64).range(1..=65_536);
+    number_argument(alloc, "clients", "COUNT", parser).help(
+        "How many connections are held at most, from 1 to 65536; 1024 if none is named",
+    )
+}
+
+/// `--body BYTES`.
+fn body_argument<'a>(alloc: Global) -> Arg<'a>
+    ensures rule { rule_of result ≡ body_rule }
+    ensures local { result.global ≡ false }
+{
+    let parser = clap::value_parser!(u64).range(1..=1_073_741_824);
+    number_argument(alloc, "body", "BYTES", parser).help(
+        "How large a message may be, from 1 to 1073741824 bytes; 67108864 if none is named",
+    )
+}
+
+/// `--memory BYTES`.
+fn memory_argument<'a>(alloc: Global) -> Arg<'a>
+    ensures rule { rule_of result ≡ memory_rule }
+    ensures local { result.global ≡ false }
+{
+    let parser = clap::value_parser!(u64).range(1_048_576..=1_099_511_627_776);
+    number_argument(alloc, "memory", "BYTES", parser).help(
+        "How much memory requests and kept controllers may take together, from 1048576 to\n\
+        1099511627776 bytes; 268435456 if none is named",
+    )
+}
+
+/// `--requests COUNT`.
 fn requests_argument<'a>(alloc: Global) -> Arg<'a>
     ensures rule { rule_of result ≡ requests_rule }
     ensures local { result.global ≡ false }
 {
-    Arg::new(alloc, "requests")
-        .long("requests")
-        .value_name("N")
-        .value_parser(clap::value_parser!(u64).range(1..))
-        .help("How many connections to answer; no end if none is named")
+    let parser = clap::value_parser!(u64).range(1..);
+    number_argument(alloc, "requests", "COUNT", parser).help(
+        "How many connections to answer; no end if none is named",
+    )
 }
 
 /// URL, which has to be there.
@@ -156,6 +205,9 @@ fn serve_command<'a>(alloc: Global) -> Result<Command<'a>, AllocError>
     file_command(alloc, "serve", help::SERVE)?
         .arg(listen_argument(alloc))?
         .arg(limit_argument(alloc))?
+        .arg(clients_argument(alloc))?
+        .arg(body_argument(alloc))?
+        .arg(memory_argument(alloc))?
         .arg(requests_argument(alloc))
 }
 

@@ -97,7 +97,8 @@ pub(crate) const SERVE: Help = Help {
     about: "Serves a controller: prints where it listens, and answers messages over HTTP",
     long_about: "Serves the controller that is kept in FILE: listens on ADDR, and answers each\n\
         message that comes over HTTP. Where FILE is a folder, serves each that is kept in a file\n\
-        of it: the last part of a URL's path names one.\n\n\
+        of it: the last part of a URL's path names one. Clients are served side by side: a slow\n\
+        one keeps nobody waiting.\n\n\
         Reads nothing from standard input. Prints the address that it listens on, and on\n\
         standard error a line for each request. Port 0 stands for any port that is free.\n\
         `order`, `take` and `show` may go on beside it.",

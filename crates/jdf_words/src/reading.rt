@@ -1,13 +1,12 @@
 //! The call that words stand for.
 
-ghost use Rattle.std.specs.Prelude.{◌≡◌, ◌≢◌, ◌≤◌, [], IfErr, IfOk, IfSome, IsOk, IsSomeAnd};
+ghost use Rattle.std.specs.Prelude.{◌≡◌, ◌≢◌, ◌≤◌, ℕ, [], IfErr, IfOk, IfSome, IsOk, IsSomeAnd};
 ghost use Rattle.std.specs.Prelude.{MatchResult, Some, codes, map, option_map, string_bytes, true};
-ghost use Rattle.std.specs.Prelude.{unwrap_or};
 ghost use Rattle.clap.specs.Words.{fault_of, found_of, rows_of, subcommand_of, subcommand_rows_of};
 ghost use Rattle.clap.specs.Words.{first_of, one_of, takes};
 ghost use Rattle.jdf_words.specs.Calls as calls;
-ghost use Rattle.jdf_words.specs.Calls.{HasAt, HasFile, HasServing, HasText, IsCall, Means};
-ghost use Rattle.jdf_words.specs.Calls.{IsWithin, ReadsNumber, Tells, number_of};
+ghost use Rattle.jdf_words.specs.Calls.{AreLimits, HasAt, HasFile, HasServing, HasText, IsCall};
+ghost use Rattle.jdf_words.specs.Calls.{IsNumberOr, IsWithin, Means, ReadsNumber, Tells, number_of};
 ghost use Rattle.jdf_words.specs.Commands.{jdf};
 ghost use Rattle.jdf_words.specs.declared.call.Call.TheVariants.{Edit};
 ghost use Rattle.jdf_words.specs.declared.call_fault.CallFault.TheVariants.{Memory};
@@ -15,6 +14,7 @@ ghost use Rattle.jdf_words.specs.declared.call_fault.CallFault.TheVariants.{Memo
 use crate::call::Call;
 use crate::call_fault::CallFault;
 use crate::commands;
+use crate::serve_limits::ServeLimits;
 use clap::ArgMatches;
 use std::alloc::Global;
 
@@ -61,15 +61,27 @@ fn at_in(found: &ArgMatches<'_>) -> u64
     number_in(found, "at").unwrap()
 }
 
-/// SECONDS among the arguments that were found, 5 where they aren't there.
-fn limit_in(found: &ArgMatches<'_>) -> u64
-    requires { IsWithin (codes "limit") 1 3600 (rows_of (found_of found.now)) }
-    ensures number { result ≡ unwrap_or
-        (option_map number_of (one_of (codes "limit") (rows_of (found_of found.now)))) 5 }
-    ensures least { 1 ≤ result }
-    ensures most { result ≤ 3600 }
+/// The number of a name among the arguments of `serve` that were found, another where it isn't
+/// there.
+fn number_or(found: &ArgMatches<'_>, id: &str, otherwise: u64) -> u64
+    ensures { (low high : ℕ) → IsWithin id.now low high (rows_of (found_of found.now))
+        → low ≤ otherwise → otherwise ≤ high → IsNumberOr id.now otherwise low high result
+        (Some (codes "serve", rows_of (found_of found.now))) }
 {
-    number_in(found, "limit").unwrap_or(5)
+    number_in(found, id).unwrap_or(otherwise)
+}
+
+/// The limits among the arguments of `serve` that were found.
+fn limits_in(found: &ArgMatches<'_>) -> ServeLimits
+    requires { HasServing (rows_of (found_of found.now)) }
+    ensures { AreLimits result (Some (codes "serve", rows_of (found_of found.now))) }
+{
+    ServeLimits {
+        seconds: number_or(found, "limit", 5),
+        clients: number_or(found, "clients", 1_024),
+        body: number_or(found, "body", 67_108_864),
+        memory: number_or(found, "memory", 268_435_456),
+    }
 }
 
 /// The number of requests among the arguments that were found, where it is there.
@@ -105,7 +117,7 @@ fn serve_of<'a>(found: &ArgMatches<'a>) -> Call<'a>
     Call::Serve {
         file: file_in(found),
         listen: text_in(found, "listen").unwrap(),
-        limit: limit_in(found),
+        limits: limits_in(found),
         requests: requests_in(found),
     }
 }
@@ -160,10 +172,11 @@ fn call_in<'a>(matches: &ArgMatches<'a>) -> Call<'a>
 /// The call that the words of the command line stand for, which come without the program's name.
 /// No word at all is `edit`; any others are read by `clap`, as `edit`, `world`, `loop`,
 /// `new FILE`, `order FILE --at N [--send URL]`, `take FILE --at N`, `show FILE [--picture]`,
-/// `serve FILE --listen ADDR [--limit SECONDS] [--requests COUNT]` or `send URL [FILE]`. FILE, ADDR
-/// and URL are any text, N a whole number of seconds since 1970 of at most 9,999,999,999, SECONDS
-/// one from 1 to 3,600, 5 where it isn't there, and COUNT one of at least 1. Other words, and those
-/// that ask for help, are answered with `clap`'s fault.
+/// `serve FILE --listen ADDR [--limit SECONDS] [--clients COUNT] [--body BYTES] [--memory BYTES]
+/// [--requests COUNT]` or `send URL [FILE]`. FILE, ADDR and URL are any text, N a whole number of
+/// seconds since 1970 of at most 9,999,999,999, and what `serve` takes beside ADDR are whole numbers
+/// within the bounds of `ServeLimits`, that of requests at least 1. Other words, and those that ask
+/// for help, are answered with `clap`'s fault.
 pub fn command_of<'a>(alloc: Global, words: &'a [String]) -> Result<Call<'a>, CallFault>
     ensures edit { words.entry.now ≡ [] → IsOk result }
     ensures named { IfOk result (λ call. (words.entry.now ≡ [] → call ≡ Edit)

@@ -1,3 +1,5 @@
+use jdf_words::ServeLimits;
+
 /// What `serve` serves, and how.
 #[derive(Clone, Copy)]
 pub struct Service<'a> {
@@ -5,8 +7,8 @@ pub struct Service<'a> {
     pub path: &'a str,
     /// The address to listen on, as a host and a port.
     pub listen: &'a str,
-    /// The longest time for a connection, in seconds.
-    pub limit: u64,
+    /// What it keeps to while it serves.
+    pub limits: ServeLimits,
     /// How many connections to serve. `None`: no end.
     pub requests: Option<u64>,
 }

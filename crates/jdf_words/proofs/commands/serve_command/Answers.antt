@@ -6,4 +6,7 @@ pub returns : goal.returns
 returns c =
     let listen = argued _ _ _ _ _ c.in_ok-arg.ensures c.in_ok-file_command.ensures c.listen_argument.ensures.rule c.listen_argument.ensures.local in
     let limit = argued _ _ _ _ _ c.in_ok-arg-2.ensures listen c.limit_argument.ensures.rule c.limit_argument.ensures.local in
-    IfOk-weaker c.arg-3.result _ _ (λ made last. argued _ _ _ _ _ last limit c.requests_argument.ensures.rule c.requests_argument.ensures.local) c.arg-3.ensures
+    let clients = argued _ _ _ _ _ c.in_ok-arg-3.ensures limit c.clients_argument.ensures.rule c.clients_argument.ensures.local in
+    let body = argued _ _ _ _ _ c.in_ok-arg-4.ensures clients c.body_argument.ensures.rule c.body_argument.ensures.local in
+    let memory = argued _ _ _ _ _ c.in_ok-arg-5.ensures body c.memory_argument.ensures.rule c.memory_argument.ensures.local in
+    IfOk-weaker c.arg-6.result _ _ (λ made last. argued _ _ _ _ _ last memory c.requests_argument.ensures.rule c.requests_argument.ensures.local) c.arg-6.ensures

@@ -1,0 +1,110 @@
+//! The lines of the log.
+
+use crate::serve_command::entry::Entry;
+use crate::serve_command::moments::seconds;
+use crate::serve_command::note::Note;
+use crate::serve_command::server::Server;
+use http_edge::Served;
+use rounds::TakenFrom;
+use std::alloc::{AllocError, Global};
+use std::io::Write;
+use std::mem;
+use std::time::Clock;
+use streams::Refused;
+use world_items::{Answer, Word};
+use world_script::answer_text;
+
+/// The status that is told of a request whose client went before the response (our own, as nginx
+/// tells it). No response has it.
+pub(crate) const GONE: u16 = 499;
+
+/// The name of the file of this path.
+fn name_of(path: &str) -> &str {
+    match path.rsplit_once('/') {
+        Some((_, name)) => name,
+        None => path,
+    }
+}
+
+/// What a message was taken as and from whom, or the refusal that was met, behind a space; nothing
+/// of neither.
+fn what_text(
+    alloc: Global,
+    taken: &Option<TakenFrom>,
+    refusal: Option<Refused>,
+) -> Result<String, AllocError> {
+    if let Some(refused) = &refusal {
+        let name = refused.name();
+        let number = refused.number();
+        return format!(in alloc; " {number} {name}");
+    }
+    match taken {
+        Some(taken) => {
+            let answer = Answer {
+                word: Word::of(Ok(taken.reply)),
+                number: None,
+            };
+            let text = answer_text(alloc, &answer)?;
+            let sender = taken.sender.as_str();
+            format!(in alloc; " {text} from {sender}")
+        }
+        None => Ok(String::new(alloc)),
+    }
+}
+
+/// What is told of a request: its controller, the status of its response, and what came of it.
+fn note_text(alloc: Global, note: &Note, is_written: bool) -> Result<String, AllocError> {
+    let name = match &note.path {
+        Some(path) => name_of(path.as_str()),
+        None => "-",
+    };
+    let Served { status, refusal } = note.told;
+    if !is_written && status != GONE {
+        return format!(in alloc; "{name} no response");
+    }
+    let what = what_text(alloc, &note.taken, refusal)?;
+    format!(in alloc; "{name} {status}{what}")
+}
+
+/// What is told of a client.
+fn entry_text(alloc: Global, entry: &Entry, is_written: bool) -> Result<String, AllocError> {
+    match &entry.note {
+        Some(note) => note_text(alloc, note, is_written),
+        None => format!(in alloc; "- no request"),
+    }
+}
+
+/// The line of a client: the time in seconds since 1970, its address, what is told of it, and how
+/// many milliseconds it was there.
+fn line_of(
+    alloc: Global,
+    at: Option<u64>,
+    entry: &Entry,
+    is_written: bool,
+    now: u64,
+) -> Result<String, AllocError> {
+    let text = entry_text(alloc, entry, is_written)?;
+    let address = &entry.address;
+    let time = now.saturating_sub(entry.since);
+    match at {
+        Some(seconds) => format!(in alloc; "{seconds} {address} {text} {time} ms\n"),
+        None => format!(in alloc; "- {address} {text} {time} ms\n"),
+    }
+}
+
+impl<'a, R: Clock, F: Write + Drop> Server<'a, R, F> {
+    /// Writes the line of a client, once: as its response was written whole, or as it is let go.
+    pub(crate) fn tell(&mut self, key: usize, is_written: bool) {
+        let at = seconds(self.rt);
+        let Some(entry) = self.clients.get_mut(key) else {
+            return;
+        };
+        if mem::replace(&mut entry.is_told, true) {
+            return;
+        }
+        match line_of(self.alloc, at, entry, is_written, self.now) {
+            Ok(line) => self.log.push(line.as_str()),
+            Err(_) => self.log.drop_line(),
+        }
+    }
+}
