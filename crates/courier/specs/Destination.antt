@@ -1,6 +1,7 @@
 -- What is out to one destination, and what becomes of it.
 use Rattle.std.specs.Prelude.{◌≡◌, ℕ, ◌+◌, ◌*◌, ◌≤◌, ◌<◌, ◌^◌, ◌-◌, ◌==◌, min}
 use Rattle.std.specs.Prelude.{Bool, true, false, not, ◌&&◌, List, [], ◌∷◌, ◌++◌, length, take, drop}
+use Rattle.std.specs.Prelude.{Option, None, slice_get, if◌then◌else◌}
 use Rattle.std.specs.BTreeSet.{BTreeSet}
 use Rattle.courier.specs.declared.TheConstants.{FIRST_DELAY, LAST_DELAY}
 use Rattle.courier.specs.Items.{all_differ, IsSetOf}
@@ -17,6 +18,10 @@ pub record Destination : Type 0 where
 -- something may be sent: there is some, and none is in flight
 abbrev pub waits : Destination → Bool
 waits d = not d.flying && not (length d.items == 0)
+
+-- what is in flight
+abbrev pub flight_of : Destination → Option ℕ
+flight_of d = if d.flying then slice_get d.items 0 else None
 
 -- a new one, with nothing out
 abbrev pub new_at : ℕ → Destination

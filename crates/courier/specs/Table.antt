@@ -5,7 +5,8 @@ use Rattle.std.specs.Prelude.{Option, Some, None}
 use Rattle.courier.specs.declared.TheConstants.{LAST_DELAY}
 use Rattle.courier.specs.declared.flight.Flight.{Flight}
 use Rattle.courier.specs.declared.turn.Turn.{Turn}
-use Rattle.courier.specs.Destination.{Destination, IsPaced, new_at, begun, waits, with_item}
+use Rattle.courier.specs.Destination.{Destination, IsPaced, new_at, begun, flight_of, waits}
+use Rattle.courier.specs.Destination.{with_item}
 use Rattle.courier.specs.Items.{has}
 use Rattle.courier.specs.Turns.{Turns, IsBefore, one_if, times}
 
@@ -24,6 +25,10 @@ waits_at ds line = waits (destination_at ds line)
 -- something is in flight to it
 abbrev pub flies_at : List Destination → ℕ → Bool
 flies_at ds line = (destination_at ds line).flying
+
+-- what is in flight to it
+abbrev pub flight_at : List Destination → ℕ → Option ℕ
+flight_at ds line = flight_of (destination_at ds line)
 
 -- the item is out to it
 abbrev pub is_out : List Destination → ℕ → ℕ → Bool

@@ -58,6 +58,17 @@ impl Courier {
         line < self.lines.len() && self.lines[line].flies()
     }
 
+    /// What is in flight to a destination.
+    pub fn in_flight(&self, line: usize) -> Option<u64>
+        ensures { result ≡ table.flight_at self.now line }
+    {
+        if line < self.lines.len() {
+            self.lines[line].in_flight()
+        } else {
+            None
+        }
+    }
+
     /// When the last try to send to a destination ended, or it was added.
     pub fn last_tried(&self, line: usize) -> u64
         requires { line < length self.now }

@@ -82,6 +82,18 @@ impl Line {
         self.flying
     }
 
+    /// What is in flight.
+    pub(crate) fn in_flight(&self) -> Option<u64>
+        ensures value { result ≡ words.flight_of self.now }
+        ensures paced { words.IsPaced self.now }
+    {
+        if self.flying {
+            self.queue.front().copied()
+        } else {
+            None
+        }
+    }
+
     /// Whether nothing is out.
     pub(crate) fn is_empty(&self) -> bool
         ensures value { result ≡ (length self.now.items == 0) }

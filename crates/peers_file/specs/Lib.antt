@@ -1,0 +1,4 @@
+pub mod Destination
+pub mod Pattern
+pub mod Table
+pub mod Places

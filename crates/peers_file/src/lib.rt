@@ -1,0 +1,15 @@
+//! The table of peers: to which URL the messages for a name are posted.
+#![tactic(auto)]
+
+mod compare;
+mod destination;
+mod pattern;
+mod read;
+mod rows;
+mod table;
+#[cfg(test)]
+mod tests;
+
+pub use destination::Destination;
+pub use read::peers_of;
+pub use table::PeerTable;
