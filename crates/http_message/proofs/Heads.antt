@@ -1,6 +1,6 @@
 -- Heads at the front of an input.
-use Rattle.std.proofs.Common.{◌≡◌, ℕ, ◌+◌, ◌-◌, ◌<◌, ◌≤◌, List, [], ◌++◌, length, take, map, refl, ap, ◌∙◌, sym, subst, arith, ⊎_elim, length-take, drop, Bool, false, Result, Ok}
-use Rattle.std.specs.Prelude.{◌==◌, bytes_eq, codes}
+use Rattle.std.proofs.Common.{◌≡◌, ℕ, ◌+◌, ◌-◌, ◌<◌, ◌≤◌, List, [], ◌++◌, length, take, map, refl, ap, ◌∙◌, sym, subst, arith, ⊎_elim, length-append, length-take, drop, Bool, false, Result, Ok}
+use Rattle.std.specs.Prelude.{◌==◌, bytes_eq, codes, Option}
 use Rattle.streams.specs.declared.refused.Refused.{Refused}
 use Rattle.httparse.specs.Outcome.{IfComplete}
 use Rattle.httparse.specs.declared.Error.{Error}
@@ -8,15 +8,17 @@ use Rattle.httparse.specs.declared.Status.{Status}
 use Rattle.httparse.specs.declared.Status.TheVariants.{Complete}
 use Rattle.std.proofs.lemmas.List.{take_all, take-append-le, take-append-drop, drop-append-le, length-drop, append-nil, length-map}
 use Rattle.std.proofs.lemmas.Bool.{cases_lt}
-use Rattle.std.proofs.Math.Seq.{take-append-add}
+use Rattle.std.proofs.Math.Seq.{take-append-add, take-append_seam}
 use Rattle.httparse.specs.declared.spans.HeaderSpan.{HeaderSpan}
 use Rattle.httparse.specs.declared.spans.Span.{Span}
 use Rattle.httparse.specs.declared.spans.RequestSpans.{RequestSpans}
 use Rattle.httparse.specs.declared.spans.ResponseSpans.{ResponseSpans}
-use Rattle.httparse.specs.Grammar.{Field}
+use Rattle.httparse.specs.Grammar.{Field, print_request, print_response}
 use Rattle.httparse.proofs.GrammarLemmas.{ReadsRequest-append, ReadsResponse-append, request_unique, response_unique}
 use Rattle.httparse.specs.Spans.{IsWithin, IsSectionWithin, IsRequestWithin, IsResponseWithin, IsRequestOf, IsResponseOf, AreFieldsAt, span_bytes, header_bytes, name_and_value}
 use Rattle.http_message.specs.Head.{Head, StartsWith, BeginsWith, HasNoStart, HasNoHead, IsToldOf, request_seen, response_seen}
+use Rattle.http_message.specs.Fields.{Summary, lone, summary, values_of}
+use Rattle.http_message.specs.Message.{HasLone}
 use Rattle.http_message.specs.Says.{said}
 use Rattle.http_message.specs.Expect.{expects_continue}
 use Rattle.http_message.specs.declared.told.Told.{Told}
@@ -166,3 +168,48 @@ begins_more kind bytes more head begins =
 -- an input begins with one head at most
 pub begins_once : (kind : Kind) (input : List ℕ) (a b : Head) → BeginsWith kind input a → BeginsWith kind input b → a ≡ b
 begins_once kind input a b = starts_once kind (take 8192 input) a b
+
+-- ---- the bytes of a head
+
+front_of : (bytes text rest : List ℕ) → take 8192 bytes ≡ text ++ rest → take (length text) bytes ≡ text ++ []
+front_of bytes text rest is =
+    ap (λ b. take (length text) b) (sym (take-append-drop 8192 bytes))
+    ∙ take-append-le (length text) (take 8192 bytes) (drop 8192 bytes) (omega (arith, ap length is, length-append text rest))
+    ∙ ap (λ b. take (length text) b) is ∙ take-append_seam text rest ∙ sym (append-nil text)
+
+-- they begin with it by themselves
+pub head_alone : (kind : Kind) (bytes : List ℕ) (head : Head) → BeginsWith kind bytes head → StartsWith kind (take head.size bytes) head
+head_alone kinds.Request bytes head s = (
+  s.0,
+  [],
+  (s.2.0, ap (λ h. take h.size bytes) s.4 ∙ front_of bytes (print_request s.0) s.1 s.2.1),
+  s.3,
+  s.4,
+)
+head_alone kinds.Response bytes head s = (
+  s.0,
+  [],
+  (s.2.0, ap (λ h. take h.size bytes) s.4 ∙ front_of bytes (print_response s.0) s.1 s.2.1),
+  s.3,
+  s.4,
+)
+
+-- ---- a field that stands alone
+
+pub lone_there : (bytes name : List ℕ) (spans : List HeaderSpan) (s : Status RequestSpans) (r : RequestSpans) (named : Summary)
+    (value : Option (List ℕ)) → s ≡ Complete r → length spans ≡ 64
+    → IfComplete {E = Error} (Ok s) (IsRequestWithin bytes spans)
+    → IfComplete {E = Error} (Ok s) (IsRequestOf bytes spans)
+    → named ≡ summary (values_of name (map (header_bytes bytes) (take r.headers spans)))
+    → value ≡ lone named → HasLone bytes name value
+lone_there bytes name spans s r named value is room within complete of_named of_value =
+    let in_bytes = complete_at s r (IsRequestWithin bytes spans) is within in
+    let of = complete_at s r (IsRequestOf bytes spans) is complete in
+    record {
+      alone = λ head starts. of_value ∙ ap lone of_named
+          ∙ ap (λ fs. lone (summary (values_of name fs)))
+          (of.1.fields ∙ ap (λ h. map name_and_value h.fields) (request_unique bytes of.0 starts.0 (drop r.len bytes) starts.1 of.1.reads starts.2).0
+          ∙ ap (λ h. h.fields) (sym starts.4));
+      none = λ none. absurd (none (request_seen of.0)
+          (of.0, drop r.len bytes, of.1.reads, few_fields bytes spans r.len r.headers of.0.fields room in_bytes.section of.1.fields, refl));
+    }

@@ -1,18 +1,18 @@
 -- What was found of a head, and how far a message is.
-use Rattle.std.proofs.Common.{◌≡◌, ◌∙◌, ℕ, ◌≤◌, ◌+◌, ◌-◌, true, List, ◌++◌, length, drop, append_assoc, slice_range, Ok, Err, arith, sym, ap, refl, inl, inr, ⊎_elim}
+use Rattle.std.proofs.Common.{◌≡◌, ◌∙◌, ℕ, ◌≤◌, ◌+◌, ◌-◌, true, List, ◌++◌, length, take, drop, append_assoc, slice_range, Ok, Err, arith, sym, subst, ap, refl, inl, inr, ⊎_elim}
 use Rattle.std.proofs.lemmas.Bool.{cases_lt}
-use Rattle.std.proofs.lemmas.List.{take-append-drop, drop-append-le}
+use Rattle.std.proofs.lemmas.List.{take-append-drop, take-append-le, drop-append-le}
 use Rattle.httparse.proofs.RunLemmas.{length-slice_range}
 use Rattle.streams.specs.declared.refused.Refused.{Refused}
 use Rattle.streams.specs.declared.refused.Refused.TheVariants.{BadHead}
-use Rattle.http_message.specs.Head.{Head, BeginsWith, HasNoHead, IfHead, IsToldOf, IsBounded, head_says}
+use Rattle.http_message.specs.Head.{Head, BeginsWith, HasNoHead, IfHead, IsToldOf, IsBounded, StartsWith, head_says}
 use Rattle.http_message.specs.Incoming.{Always, IsFound, IsHeadOf, IsLost, IsWhole}
 use Rattle.http_message.specs.Message.{is_refusal}
 use Rattle.http_message.specs.declared.kind.Kind.{Kind}
 use Rattle.http_message.specs.declared.look.Look.{Look}
 use Rattle.http_message.specs.declared.look.Look.TheVariants as looks
 use Rattle.http_message.specs.declared.told.Told.{Told}
-use Rattle.http_message.proofs.Heads.{begins_more}
+use Rattle.http_message.proofs.Heads.{begins_more, head_alone}
 use Rattle.http_message.proofs.Said.{is_of_http, said_of_http}
 
 -- ---- what was found
@@ -74,6 +74,13 @@ whole_there most kind bytes told n has says within =
           code = has.told_of.code;
           rest = drop ((told.size + n) - told.size) (drop told.size bytes) ++ more;
           behind = ap (λ s. drop s (bytes ++ more)) (sym has.told_of.size) ∙ body_behind bytes more told.size n within;
+        };
+        headed = λ more. record {
+          head = has.head;
+          begins = begins_more kind bytes more has.head has.begins;
+          front = sym (take-append-le told.size bytes more has.bounded.size) ∙ ap (λ s. take s (bytes ++ more)) has.told_of.size;
+          itself = subst (λ (s : ℕ). StartsWith kind (take s bytes) has.head) (sym has.told_of.size)
+              (head_alone kind bytes has.head has.begins);
         };
         targeted = λ more. record {
           head = has.head;

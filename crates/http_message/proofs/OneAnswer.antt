@@ -4,7 +4,7 @@ use Rattle.std.proofs.Math.Seq.{take-append_seam}
 use Rattle.streams.specs.declared.refused.Refused.{Refused}
 use Rattle.http_message.specs.Head.{Head, BeginsWith, head_says}
 use Rattle.http_message.specs.Laws.{InputsHaveOneAnswer}
-use Rattle.http_message.specs.Message.{CarriesWithin, HasTarget, IsCut, IsRefusedWithin}
+use Rattle.http_message.specs.Message.{CarriesWithin, HasHead, HasTarget, IsCut, IsRefusedWithin}
 use Rattle.http_message.specs.declared.kind.Kind.{Kind}
 use Rattle.http_message.proofs.Heads.{begins_once}
 
@@ -34,6 +34,10 @@ same_body most kind input s t a b x y =
     let same = begins_once kind input x.head y.head x.begins y.begins in
     same_front a b x.rest y.rest (ok_is (length a) (length b) (head_says most x.head) x.says (ap (head_says most) same ∙ y.says))
     (sym x.behind ∙ ap (λ h. drop h.size input) same ∙ y.behind)
+
+same_bytes : (kind : Kind) (input : List ℕ) (a b : List ℕ) → HasHead kind input a → HasHead kind input b → a ≡ b
+same_bytes kind input a b x y =
+    x.front ∙ ap (λ h. take h.size input) (begins_once kind input x.head y.head x.begins y.begins) ∙ sym y.front
 
 same_target : (kind : Kind) (input : List ℕ) (a b : List ℕ) → HasTarget kind input a → HasTarget kind input b → a ≡ b
 same_target kind input a b x y =
@@ -84,5 +88,6 @@ one_answer most kind input =
       body = same_body most kind input;
       refusal = same_refusal most kind input;
       either = λ s a e x refused. carried_or_refused most kind input s a e x refused;
+      head = same_bytes kind input;
       target = same_target kind input;
     }

@@ -1,5 +1,6 @@
 -- The fields of a head by their names.
 use Rattle.std.specs.Prelude.{ℕ, Bool, true, false, List, [], ◌∷◌, map, if◌then◌else◌, bytes_eq}
+use Rattle.std.specs.Prelude.{Option, Some, None}
 use Rattle.std.specs.Char.{to_ascii_lowercase}
 
 -- a name and its value
@@ -38,6 +39,12 @@ abbrev pub is_absent : Summary → Bool
 is_absent absent = true
 is_absent (once v) = false
 is_absent often = false
+
+-- the value that stands alone, if one does
+abbrev pub lone : Summary → Option (List ℕ)
+lone absent = None
+lone (once v) = Some v
+lone often = None
 
 -- the values and one more
 abbrev pub more : Summary → List ℕ → Summary

@@ -1,6 +1,6 @@
 -- A message in the making: what is known of an input of which a front has come.
 use Rattle.std.specs.Prelude.{◌≡◌, ◌⊎◌, ℕ, ◌<◌, ◌≤◌, ◌+◌, ◌==◌, nat_le, Bool, true, false, not}
-use Rattle.std.specs.Prelude.{◌&&◌, ◌||◌, List, [], ◌++◌, length, slice_range, Option, Result}
+use Rattle.std.specs.Prelude.{◌&&◌, ◌||◌, List, [], ◌++◌, length, slice_range, take, Option, Result}
 use Rattle.std.specs.Prelude.{Ok, Err, if◌then◌else◌}
 use Rattle.std.specs.Io.KnownBytes.{Consumes, IsAtEnd}
 use Rattle.std.specs.IoError.{error_kind}
@@ -13,7 +13,8 @@ use Rattle.streams.specs.Counts.{Counts, CountsRead}
 use Rattle.streams.specs.declared.refused.Refused.{Refused}
 use Rattle.http_message.specs.Head.{Head, BeginsWith, HasNoHead, IsToldOf, IsBounded}
 use Rattle.http_message.specs.Head.{head_expects, head_says}
-use Rattle.http_message.specs.Message.{CarriesWithin, HasTarget, IsRefusedWithin, is_refusal}
+use Rattle.http_message.specs.Message.{CarriesWithin, HasHead, HasTarget, IsRefusedWithin}
+use Rattle.http_message.specs.Message.{is_refusal}
 use Rattle.http_message.specs.declared.arrival.Arrival.{Arrival}
 use Rattle.http_message.specs.declared.arrival.Arrival.TheVariants as arrivals
 use Rattle.http_message.specs.declared.kind.Kind.{Kind}
@@ -76,9 +77,11 @@ pub record IsLost (most : ℕ) (kind : Kind) (bytes : List ℕ) (e : Refused) : 
   pub always : Always bytes (λ all. IsRefusedWithin most kind all e)
 
 -- the input carries this message, whatever follows
-pub record Says (most : ℕ) (kind : Kind) (bytes : List ℕ) (status : ℕ) (target body : List ℕ)
+pub record Says
+    (most : ℕ) (kind : Kind) (bytes : List ℕ) (status : ℕ) (head target body : List ℕ)
     : Type 0 where
   pub carries : Always bytes (λ all. CarriesWithin most kind all status body)
+  pub headed : Always bytes (λ all. HasHead kind all head)
   pub targeted : Always bytes (λ all. HasTarget kind all target)
 
 -- the input carries the message whose parts stand there
@@ -86,7 +89,7 @@ pub record IsWhole (most : ℕ) (kind : Kind) (bytes : List ℕ) (w : Whole) : T
   pub target : IsWithin (length bytes) w.target
   pub ordered : w.start ≤ w.end
   pub within : w.end ≤ length bytes
-  pub says : Says most kind bytes w.status (span_bytes bytes w.target)
+  pub says : Says most kind bytes w.status (take w.start bytes) (span_bytes bytes w.target)
       (slice_range bytes w.start w.end)
 
 abbrev pub Stands : ℕ → Kind → List ℕ → Standing → Type 0

@@ -1,11 +1,15 @@
 -- What an input is: a message whose head and body stand at its front, or refused.
 use Rattle.std.specs.Prelude.{◌≡◌, ◌⊎◌, ℕ, ◌<◌, Bool, true, false, List, ◌++◌, length, drop}
-use Rattle.std.specs.Prelude.{Ok, Err}
+use Rattle.std.specs.Prelude.{Ok, Err, Option, None, take}
 use Rattle.streams.specs.declared.refused.Refused.{Refused}
 use Rattle.streams.specs.declared.refused.Refused.TheVariants.{BadHead, NotPost, NoLength}
 use Rattle.streams.specs.declared.refused.Refused.TheVariants.{TooLarge, CutShort, Coding}
-use Rattle.http_message.specs.Head.{Head, BeginsWith, HasNoHead, head_says}
+use Rattle.http_message.specs.Fields.{lone}
+use Rattle.http_message.specs.Head.{Head, BeginsWith, HasNoHead, HasNoStart, StartsWith}
+use Rattle.http_message.specs.Head.{head_says}
+use Rattle.http_message.specs.Says.{under}
 use Rattle.http_message.specs.declared.kind.Kind.{Kind}
+use Rattle.http_message.specs.declared.kind.Kind.TheVariants as kinds
 use Rattle.http_message.specs.declared.length.TheConstants.{MAX_BODY_BYTES}
 
 -- the input begins with a head of this status, and this body stands behind it, of so many bytes at
@@ -28,6 +32,20 @@ pub record HasTarget (kind : Kind) (input target : List ℕ) : Type 0 where
   pub head : Head
   pub begins : BeginsWith kind input head
   pub is : target ≡ head.target
+
+-- the input begins with a head, and these are its bytes: they begin with it by themselves
+pub record HasHead (kind : Kind) (input bytes : List ℕ) : Type 0 where
+  pub head : Head
+  pub begins : BeginsWith kind input head
+  pub front : bytes ≡ take head.size input
+  pub itself : StartsWith kind bytes head
+
+-- the value of the one field of a name, in the head of a request that the bytes begin with; none
+-- where there is no such field or more than one, or no such head
+pub record HasLone (bytes name : List ℕ) (value : Option (List ℕ)) : Type 0 where
+  pub alone : (head : Head) → StartsWith kinds.Request bytes head
+      → value ≡ lone (under name head.fields)
+  pub none : HasNoStart kinds.Request bytes → value ≡ None
 
 -- the input ends before its body does
 pub record IsCut (most : ℕ) (kind : Kind) (input : List ℕ) : Type 0 where

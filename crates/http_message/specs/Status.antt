@@ -38,6 +38,8 @@ status_of refusals.Stale = 503
 status_of refusals.LoadFailed = 503
 status_of refusals.Coding = 501
 status_of refusals.NoConnection = 503
+status_of refusals.OtherName = 503
+status_of refusals.Forbidden = 403
 
 -- the phrase that stands behind a status
 abbrev pub phrase_of : ℕ → List ℕ

@@ -216,11 +216,14 @@ impl Incoming {
     pub fn into_received(self, alloc: Global, whole: Whole) -> Result<Received, AllocError>
         requires { IsWhole self.most self.kind self.bytes whole }
         ensures { IfOk result (λ message. Says self.most self.kind self.bytes message.status
-            message.target.items message.body) }
+            message.head.items message.target.items message.body) }
     {
-        let target = Vec::from_slice(alloc, whole.target.of(self.bytes.as_slice()))?;
+        let bytes = self.bytes.as_slice();
+        let head = Vec::from_slice(alloc, &bytes[..whole.start])?;
+        let target = Vec::from_slice(alloc, whole.target.of(bytes))?;
         Ok(Received {
             status: whole.status,
+            head,
             target,
             body: Body::new(self.bytes, whole.start, whole.end),
         })

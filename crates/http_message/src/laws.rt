@@ -4,7 +4,7 @@
 ghost use Rattle.http_message.specs.Laws as law;
 
 /// However it comes, an input carries at most one message, or is refused as one thing, and never
-/// both; and it has at most one target.
+/// both; and it has at most one head and one target.
 pub fn an_input_has_one_answer()
     ensures { law.InputsHaveOneAnswer }
 {}

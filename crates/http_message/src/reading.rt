@@ -5,7 +5,7 @@ ghost use Rattle.std.specs.Prelude.{[], IfErr, IfOk, IfSome, OnOk, vec_len};
 ghost use Rattle.std.specs.Io.KnownBytes.{IsAtEnd};
 ghost use Rattle.streams.specs.Streams.{used};
 ghost use Rattle.streams.specs.declared.refused.Refused.TheVariants.{ReadFailed};
-ghost use Rattle.http_message.specs.Message.{Carries, HasTarget};
+ghost use Rattle.http_message.specs.Message.{Carries, HasHead, HasTarget};
 ghost use Rattle.http_message.specs.Reading.{Grows, HasFailedIn, HasRead, HasWhole};
 ghost use Rattle.http_message.specs.Reading.{IsMoreFault, IsUnfailed, IsUnread, IsUnreadWithin};
 
@@ -132,6 +132,8 @@ fn read_message<R: Read>(
 ) -> Result<Received, Refused>
     ensures ok { IfOk result (λ message. IfSome (R.remaining reader.old.inner)
         (λ all. Carries kind all message.status message.body)) }
+    ensures head { IfOk result (λ message. IfSome (R.remaining reader.old.inner)
+        (λ all. HasHead kind all message.head.items)) }
     ensures target { IfOk result (λ message. IfSome (R.remaining reader.old.inner)
         (λ all. HasTarget kind all message.target.items)) }
     ensures unfailed { OnOk result (IsUnfailed (used R.remaining reader.old reader.new)) }
@@ -146,16 +148,18 @@ fn read_message<R: Read>(
     Ok(incoming.into_received(alloc, whole)?)
 }
 
-/// Reads a request (RFC 9112) and gives its target and its body. Fields have any case; what isn't
-/// named here is ignored. Refuses in this order: `BadHead` where no whole head comes within 8,192
-/// bytes and 64 fields, where HTTP/1.1 hasn't one Host, and where Content-Length isn't one field of
-/// digits alone; `NotPost`; `Coding` for any Transfer-Encoding or Content-Encoding; `NoLength`;
-/// `TooLarge` more than 1,048,576 bytes of body; `CutShort`. A read that was interrupted or would
-/// have blocked is made again; where one failed, or 2,000,000 were made, it refuses `ReadFailed`,
-/// and `Memory` where that runs out. Limits and refusals are our own.
+/// Reads a request (RFC 9112) and gives its head, its target and its body. Fields have any case;
+/// what isn't named here is ignored. Refuses in this order: `BadHead` where no whole head comes
+/// within 8,192 bytes and 64 fields, where HTTP/1.1 hasn't one Host, and where Content-Length isn't
+/// one field of digits alone; `NotPost`; `Coding` for any Transfer-Encoding or Content-Encoding;
+/// `NoLength`; `TooLarge` more than 1,048,576 bytes of body; `CutShort`. A read that was
+/// interrupted or would have blocked is made again; where one failed, or 2,000,000 were made, it
+/// refuses `ReadFailed`, and `Memory` where that runs out. Limits and refusals are our own.
 pub fn read_request<R: Read>(alloc: Global, reader: &mut Counted<R>) -> Result<Received, Refused>
     ensures ok { IfOk result (λ request. IfSome (R.remaining reader.old.inner)
         (λ all. Carries Kind.Request all 0 request.body)) }
+    ensures head { IfOk result (λ request. IfSome (R.remaining reader.old.inner)
+        (λ all. HasHead Kind.Request all request.head.items)) }
     ensures target { IfOk result (λ request. IfSome (R.remaining reader.old.inner)
         (λ all. HasTarget Kind.Request all request.target.items)) }
     ensures unfailed { OnOk result (IsUnfailed (used R.remaining reader.old reader.new)) }

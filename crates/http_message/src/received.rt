@@ -5,6 +5,8 @@ use crate::body::Body;
 pub struct Received {
     /// The status of a response, and 0 of a request.
     pub status: u16,
+    /// The bytes of its head, as they came: `lone_field` finds a field in those of a request.
+    pub head: Vec<u8>,
     /// The target of a request as it stands in its first line, and nothing of a response.
     pub target: Vec<u8>,
     pub body: Body,

@@ -16,6 +16,7 @@ pub fn status_of(refused: Refused) -> StatusCode
     match refused {
         Refused::Core(Refusal::Memory) => StatusCode::SERVICE_UNAVAILABLE,
         Refused::Core(_) | Refused::BadHead | Refused::CutShort => StatusCode::BAD_REQUEST,
+        Refused::Forbidden => StatusCode::FORBIDDEN,
         Refused::NotPost => StatusCode::METHOD_NOT_ALLOWED,
         Refused::NoLength => StatusCode::LENGTH_REQUIRED,
         Refused::TooLarge => StatusCode::PAYLOAD_TOO_LARGE,
@@ -25,7 +26,8 @@ pub fn status_of(refused: Refused) -> StatusCode
         | Refused::ReadFailed
         | Refused::WriteFailed
         | Refused::LoadFailed
-        | Refused::NoConnection => StatusCode::SERVICE_UNAVAILABLE,
+        | Refused::NoConnection
+        | Refused::OtherName => StatusCode::SERVICE_UNAVAILABLE,
     }
 }
 

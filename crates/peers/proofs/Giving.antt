@@ -15,16 +15,16 @@ use Rattle.peers.specs.declared.phase.Phase.TheVariants as phases
 
 -- ---- bytes that are appended
 
-appends_nothing : (before after : Option (List ℕ)) → Keeps before after → Appends before after []
+pub appends_nothing : (before after : Option (List ℕ)) → Keeps before after → Appends before after []
 appends_nothing None after keeps = tt
 appends_nothing (Some x) None keeps = absurd keeps
 appends_nothing (Some x) (Some y) keeps = keeps ∙ sym (append-nil x)
 
-keeps_same : (known : Option (List ℕ)) → Keeps known known
+pub keeps_same : (known : Option (List ℕ)) → Keeps known known
 keeps_same None = tt
 keeps_same (Some x) = refl
 
-appends_more : (a b c : Option (List ℕ)) (p q : List ℕ) → Appends a b p → Appends b c q → Appends a c (p ++ q)
+pub appends_more : (a b c : Option (List ℕ)) (p q : List ℕ) → Appends a b p → Appends b c q → Appends a c (p ++ q)
 appends_more None b c p q first second = tt
 appends_more (Some x) None c p q first second = absurd first
 appends_more (Some x) (Some y) None p q first second = absurd second
@@ -42,7 +42,7 @@ sameness : (a b : ℕ) → b ≤ a → a ≤ b → a ≡ b
 sameness a b more less = omega arith
 
 -- what was written is a front that grew by the piece
-front_grown : (done : ℕ) (out piece : List ℕ) → drop done out ≡ piece ++ drop (done + length piece) out
+pub front_grown : (done : ℕ) (out piece : List ℕ) → drop done out ≡ piece ++ drop (done + length piece) out
     → take (done + length piece) out ≡ take done out ++ piece
 front_grown done out piece front =
     let rest : List ℕ = drop (done + length piece) out in

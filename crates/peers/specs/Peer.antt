@@ -199,7 +199,7 @@ Idles before after = Consumes before after []
 -- refused, unless memory runs out
 abbrev pub Decides : ℕ → Seen → Seen → Event → Type 0
 Decides now old new (events.Request r) =
-    Says old.came.most old.came.kind old.came.bytes r.status r.target.items r.body
+    Says old.came.most old.came.kind old.came.bytes r.status r.head.items r.target.items r.body
     × (new ≡ handed now old)
 Decides now old new (events.Refused e) =
     (IsLost old.came.most old.came.kind old.came.bytes e × (new ≡ waiting now old))

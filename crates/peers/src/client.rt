@@ -18,9 +18,9 @@ use std::io::{Read, Write};
 use std::marker::Model;
 use streams::Counted;
 
-/// How many calls of its stream a client has in one turn at most, so that each other has its turn
-/// too.
-const MAX_CALLS: u32 = 64;
+/// How many calls of its stream a client or a call has at a stretch at most, so that each other has
+/// its turn too.
+pub(crate) const MAX_CALLS: u32 = 64;
 
 /// One client, whose stream never waits.
 #[derive(Drop)]

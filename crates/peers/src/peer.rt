@@ -1,9 +1,7 @@
 //! One connection.
 
 ghost use Rattle.std.specs.Prelude.{◌≡◌, ◌≤◌, ◌<◌, ◌+◌, ◌++◌, length, IfOk, OnOk, OnErr};
-ghost use Rattle.std.specs.Prelude.{◌⊎◌, true, IfErr};
-ghost use Rattle.std.specs.Io.{WritesAtMost};
-ghost use Rattle.std.specs.Io.KnownBytes.{WriteAppends};
+ghost use Rattle.std.specs.Prelude.{true};
 ghost use Rattle.http_message.specs.Incoming.{IsWanted, IsWhole};
 ghost use Rattle.peers.specs.Peer as peers;
 ghost use Rattle.peers.specs.declared.event.Event.TheVariants as events;
@@ -12,6 +10,7 @@ ghost use Rattle.peers.specs.declared.phase.Phase.TheVariants as phases;
 use crate::event::Event;
 use crate::limits::Limits;
 use crate::phase::Phase;
+use crate::writing::write_some;
 use http_message::{Arrival, Incoming, Kind, Standing, Wanted, Whole};
 use std::alloc::{AllocError, Global};
 use std::io::{ErrorKind, Read, Write};
@@ -22,23 +21,6 @@ use ticket_items::Refusal;
 
 /// The interim response (RFC 9110, 15.2.1).
 const CONTINUE: &[u8] = b"HTTP/1.1 100 Continue\r\n\r\n";
-
-/// Makes one write, and answers how many bytes were taken, one or more.
-fn write_some<T: Write>(stream: &mut Counted<T>, bytes: &[u8]) -> Result<usize, ErrorKind>
-    requires { 0 < length bytes.now }
-    ensures some { IfOk result (λ n. 0 < n) }
-    ensures bound { WritesAtMost result bytes.now }
-    ensures bytes { WriteAppends (T.contents stream.old.inner) (T.contents stream.new.inner) result
-        bytes.now }
-    ensures blocked { IfErr result (λ kind. (kind ≡ ErrorKind.WriteZero)
-        ⊎ peers.HasNotWritten stream.old stream.new kind) }
-{
-    match stream.write(bytes) {
-        Ok(0) => Err(ErrorKind::WriteZero),
-        Ok(count) => Ok(count),
-        Err(error) => Err(error.kind()),
-    }
-}
 
 /// One connection to a client, beside its stream.
 #[derive(Drop)]

@@ -18,6 +18,8 @@ number_of refusals.Stale = 58
 number_of refusals.LoadFailed = 59
 number_of refusals.Coding = 60
 number_of refusals.NoConnection = 61
+number_of refusals.OtherName = 62
+number_of refusals.Forbidden = 63
 
 abbrev pub name_of : Refused → List ℕ
 name_of (refusals.Core e) = core.name_of e
@@ -33,3 +35,5 @@ name_of refusals.Stale = codes "Stale"
 name_of refusals.LoadFailed = codes "LoadFailed"
 name_of refusals.Coding = codes "Coding"
 name_of refusals.NoConnection = codes "NoConnection"
+name_of refusals.OtherName = codes "OtherName"
+name_of refusals.Forbidden = codes "Forbidden"

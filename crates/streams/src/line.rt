@@ -66,5 +66,7 @@ pub fn refused_line(refused: Refused) -> &'static str
         Refused::LoadFailed => "Refused 59 LoadFailed\n",
         Refused::Coding => "Refused 60 Coding\n",
         Refused::NoConnection => "Refused 61 NoConnection\n",
+        Refused::OtherName => "Refused 62 OtherName\n",
+        Refused::Forbidden => "Refused 63 Forbidden\n",
     }
 }

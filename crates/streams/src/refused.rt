@@ -33,6 +33,10 @@ pub enum Refused {
     Coding,
     /// No connection was made.
     NoConnection,
+    /// The state that is held is of a controller of another name.
+    OtherName,
+    /// A sender may not send here.
+    Forbidden,
 }
 
 impl Refused {
@@ -57,6 +61,8 @@ impl Refused {
             Refused::LoadFailed => 59,
             Refused::Coding => 60,
             Refused::NoConnection => 61,
+            Refused::OtherName => 62,
+            Refused::Forbidden => 63,
         }
     }
 
@@ -78,6 +84,8 @@ impl Refused {
             Refused::LoadFailed => "LoadFailed",
             Refused::Coding => "Coding",
             Refused::NoConnection => "NoConnection",
+            Refused::OtherName => "OtherName",
+            Refused::Forbidden => "Forbidden",
         }
     }
 }

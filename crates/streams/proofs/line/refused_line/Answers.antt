@@ -49,3 +49,11 @@ returns-in-Coding c = rw c.in-Coding.is refl
 pub returns-in-NoConnection : goal.returns-in-NoConnection
 unfolding digits
 returns-in-NoConnection c = rw c.in-NoConnection.is refl
+
+pub returns-in-OtherName : goal.returns-in-OtherName
+unfolding digits
+returns-in-OtherName c = rw c.in-OtherName.is refl
+
+pub returns-in-Forbidden : goal.returns-in-Forbidden
+unfolding digits
+returns-in-Forbidden c = rw c.in-Forbidden.is refl

@@ -1,0 +1,15 @@
+use http_message::Whole;
+use streams::Refused;
+
+/// How far the reads of a response came.
+#[derive(Clone, Copy)]
+pub(crate) enum Progress {
+    /// More is wanted, and nothing is there yet.
+    Wait,
+    /// More may be there.
+    Again,
+    /// It is whole.
+    Whole(Whole),
+    /// It won't come, for this reason.
+    Failed(Refused),
+}
