@@ -1,6 +1,6 @@
 -- Clients who wait for one controller, and their responses.
-use Rattle.std.specs.Prelude.{◌≡◌, ◌⊎◌, ⊤, ℕ, List, [], ◌∷◌, map, Option, Some, None, IfSome}
-use Rattle.std.specs.Prelude.{Bool, Result, Ok, Err}
+use Rattle.std.specs.Prelude.{◌≡◌, ◌⊎◌, ⊤, ℕ, ◌≤◌, List, [], ◌∷◌, map, Option, Some}
+use Rattle.std.specs.Prelude.{None, IfSome, Bool, Result, Ok, Err, vec_capacity}
 use Rattle.ticket_items.specs.declared.refusal.Refusal.{Refusal}
 use Rattle.controller.specs.declared.reply.Reply.{Reply}
 use Rattle.streams.specs.declared.refused.Refused.{Refused}
@@ -12,8 +12,12 @@ use Rattle.peers.specs.Client.{Connection}
 use Rattle.peers.specs.Peer.{responded}
 use Rattle.stored_state.specs.TakingAll.{TakesAll, TakesNone}
 use Rattle.stored_state.specs.declared.any_controller.AnyController.{AnyController}
+use Rattle.stored_state.specs.declared.addressee.Addressee.{Addressee}
+use Rattle.stored_state.specs.declared.coming.Coming.{Coming}
 use Rattle.stored_state.specs.declared.taken_bytes.TakenBytes.{TakenBytes}
 use Rattle.rounds.specs.declared.answered.Answered.{Answered}
+use Rattle.rounds.specs.declared.errand.Errand.{Errand}
+use Rattle.rounds.specs.declared.room.Room.{Room}
 use Rattle.rounds.specs.declared.taken_from.TakenFrom.{TakenFrom}
 use Rattle.rounds.specs.declared.waiting.Waiting.{Waiting}
 
@@ -23,18 +27,37 @@ came_of (Ok taken) = Ok taken
 came_of (Err e) = Err (Core e)
 
 -- what a message from this sender was taken as, if it was
-abbrev pub reply_from : List ℕ → Result Reply Refusal → Option TakenFrom
-reply_from sender (Ok reply) = Some (record { reply = reply; sender = sender })
-reply_from sender (Err e) = None
+abbrev pub reply_from : Option (List ℕ) → Result Reply Refusal → Option TakenFrom
+reply_from (Some sender) (Ok reply) = Some (record { reply = reply; sender = sender })
+reply_from _ _ = None
 
 -- what a message was taken as and from whom, if it was
 abbrev pub taken_of : Result TakenBytes Refused → Option TakenFrom
 taken_of (Ok taken) = reply_from taken.sender taken.reply
 taken_of (Err e) = None
 
--- the bodies of those who wait
-abbrev pub bodies_of : {S : Type 0} → List (Waiting S) → List (List ℕ)
-bodies_of waiting = map (λ w. w.request.body) waiting
+-- who waits for what comes of an errand, and what it is
+abbrev pub waiting_in : {S : Type 0} → Errand S → Waiting S
+waiting_in e = e.waiting
+
+abbrev pub coming_in : {S : Type 0} → Errand S → Coming
+coming_in e = e.coming
+
+-- those who wait, and what they have come for
+abbrev pub waiting_of : {S : Type 0} → List (Errand S) → List (Waiting S)
+waiting_of errands = map waiting_in errands
+
+abbrev pub comings_of : {S : Type 0} → List (Errand S) → List Coming
+comings_of errands = map coming_in errands
+
+-- there is room for what comes of so many clients
+pub record HasRoom {S : Type 0} (clients : ℕ) (room : Room S) : Type 0 where
+  pub no_answered : room.answered.items ≡ []
+  pub no_waiting : room.waiting.items ≡ []
+  pub no_comings : room.comings.items ≡ []
+  pub answered_room : clients ≤ vec_capacity room.answered
+  pub waiting_room : clients ≤ vec_capacity room.waiting
+  pub comings_room : clients ≤ vec_capacity room.comings
 
 -- a client with this response, behind what was to be written
 abbrev pub with_response : {S : Type 0} → List ℕ → ℕ → Connection S → Connection S
@@ -67,32 +90,33 @@ abbrev pub AreUnavailable : {S : Type 0} → ℕ → List (Waiting S) → List (
 AreUnavailable now waiting answered =
     (e : Refused) × (status_of e ≡ 503) × AreRefused now e waiting answered
 
--- each of them is answered by what the message was taken as at the controller that a keeper held,
--- one after the other, and the state behind the last is held
-pub record StepsAll {S K : Type 0} (is_honest : K → Bool) (held : K → List ℕ) (at now : ℕ)
-    (old new : K) (waiting : List (Waiting S)) (answered : List (Answered S))
+-- the controller that a keeper held takes what clients have come for, one after the other; each of
+-- them is answered by what came of it, and the state behind the last is held
+pub record StepsAll {S K : Type 0} (is_honest : K → Bool) (held : K → List ℕ) (to : Addressee)
+    (at now : ℕ) (old new : K) (errands : List (Errand S)) (answered : List (Answered S))
     (saved : Option AnyController) : Type 0 where
   pub given : List (Result TakenBytes Refusal)
-  pub taken : TakesAll is_honest held at (bodies_of waiting) given saved old new
-  pub answers : AreAnswered now (map came_of given) waiting answered
+  pub taken : TakesAll is_honest held to at (comings_of errands) given saved old new
+  pub answers : AreAnswered now (map came_of given) (waiting_of errands) answered
 
 -- each of them is refused, with a status of 503, since this kept the controller from its steps, or
 -- these from being saved
 pub record StepsNone {S K : Type 0} (is_honest : K → Bool) (held place : K → List ℕ)
     (count : K → ℕ) (load_fails : K → K → Type 0) (save_fails : K → List ℕ → K → Type 0)
-    (at now : ℕ) (old new : K) (waiting : List (Waiting S)) (answered : List (Answered S))
-    (saved : Option AnyController) : Type 0 where
+    (to : Addressee) (at now : ℕ) (old new : K) (errands : List (Errand S))
+    (answered : List (Answered S)) (saved : Option AnyController) : Type 0 where
   pub why : Refused
   pub none :
-      TakesNone is_honest held place count load_fails save_fails at (bodies_of waiting) old new why
-  pub answers : AreUnavailable now waiting answered
+      TakesNone is_honest held place count load_fails save_fails to at (comings_of errands) old new
+      why
+  pub answers : AreUnavailable now (waiting_of errands) answered
   pub unsaved : saved ≡ None
 
 -- what comes of those who wait for the controller that a keeper holds
 abbrev pub StepsLine : {S K : Type 0} → (K → Bool) → (held place : K → List ℕ) → (K → ℕ)
-    → (K → K → Type 0) → (K → List ℕ → K → Type 0) → (at now : ℕ) → (old new : K)
-    → List (Waiting S) → List (Answered S) → Option AnyController → Type 0
-StepsLine is_honest held place count load_fails save_fails at now old new waiting answered saved =
-    StepsAll is_honest held at now old new waiting answered saved
-    ⊎ StepsNone is_honest held place count load_fails save_fails at now old new waiting answered
+    → (K → K → Type 0) → (K → List ℕ → K → Type 0) → Addressee → (at now : ℕ) → (old new : K)
+    → List (Errand S) → List (Answered S) → Option AnyController → Type 0
+StepsLine is_honest held place count load_fails save_fails to at now old new errands answered saved =
+    StepsAll is_honest held to at now old new errands answered saved
+    ⊎ StepsNone is_honest held place count load_fails save_fails to at now old new errands answered
     saved

@@ -3,13 +3,17 @@
 #![tactic(auto)]
 
 mod answered;
+mod errand;
 mod line;
+mod room;
 mod saved_states;
 mod taken_from;
 mod waiting;
 
 pub use answered::Answered;
-pub use line::{answer_all, refuse, refuse_all};
+pub use errand::Errand;
+pub use line::{answer_all, refuse, refuse_errands};
+pub use room::Room;
 pub use saved_states::SavedStates;
 pub use taken_from::TakenFrom;
 pub use waiting::Waiting;

@@ -1,15 +1,15 @@
-//! The requests that wait for one controller, and their responses.
+//! What waits for one controller: the errands of clients, and their responses.
 
-ghost use Rattle.std.specs.Prelude.{◌≡◌, ◌≤◌, [], map, length, IfErr, IfOk, vec_capacity};
-ghost use Rattle.ticket_items.specs.declared.refusal.Refusal.TheVariants.{Memory};
+ghost use Rattle.std.specs.Prelude.{◌≡◌, ◌≤◌, [], map, length, vec_capacity};
 ghost use Rattle.http_edge.specs.Exchange as exchanges;
 ghost use Rattle.http_message.specs.Status.{status_of as status_for};
 ghost use Rattle.http_message.specs.Texts.{answer_of};
 ghost use Rattle.rounds.specs.Line as line;
 ghost use Rattle.rounds.specs.Line.{AreAnswered, AreRefused, IsAnswered, StepsLine};
-ghost use Rattle.stored_state.specs.TakingAll.{TakesAll, TakesNone};
 
 use crate::answered::Answered;
+use crate::errand::Errand;
+use crate::room::Room;
 use crate::taken_from::TakenFrom;
 use crate::waiting::Waiting;
 use controller::Reply;
@@ -17,33 +17,38 @@ use http_edge::Served;
 use http_message::{served_bytes, status_of};
 use keepers::Keep;
 use peers::Asked;
-use std::alloc::{AllocError, Global};
-use stored_state::{Saved, TakenBytes, take_all};
+use std::alloc::Global;
+use stored_state::{Addressee, Coming, Saved, TakenBytes, take_all};
 use streams::Refused;
 use ticket_items::{Id, Refusal};
 
-/// The bodies of those who wait.
-fn bodies_of<S>(alloc: Global, waiting: &[Waiting<S>]) -> Result<Vec<&[u8]>, AllocError>
-    ensures { IfOk result (λ bodies. map (λ b. b.now) bodies.items
-        ≡ line.bodies_of waiting.now) }
+/// Parts errands into those who wait and what has come.
+fn parted<S: Drop>(
+    errands: Vec<Errand<S>>,
+    mut waiting: Vec<Waiting<S>>,
+    mut comings: Vec<Coming>,
+) -> (Vec<Waiting<S>>, Vec<Coming>)
+    requires no_waiting { waiting.items ≡ [] }
+    requires no_comings { comings.items ≡ [] }
+    requires waiting { length errands.items ≤ vec_capacity waiting }
+    requires comings { length errands.items ≤ vec_capacity comings }
+    ensures waiting { result.0.items ≡ line.waiting_of errands.items }
+    ensures comings { result.1.items ≡ line.comings_of errands.items }
 {
-    let mut bodies = Vec::with_capacity(alloc, waiting.len())?;
-    for one in waiting {
-        bodies.push(one.request.body.as_slice())?;
+    for errand in errands {
+        waiting.push_reserved(errand.waiting);
+        comings.push_reserved(errand.coming);
     }
-    Ok(bodies)
+    (waiting, comings)
 }
 
 /// What a message from this sender was taken as, if it was.
-fn reply_from(sender: Id, reply: Result<Reply, Refusal>) -> Option<TakenFrom>
+fn reply_from(sender: Option<Id>, reply: Result<Reply, Refusal>) -> Option<TakenFrom>
     ensures { result ≡ line.reply_from sender reply }
 {
-    match reply {
-        Ok(reply) => Some(TakenFrom { reply, sender }),
-        Err(_) => {
-            drop(sender);
-            None
-        }
+    match (sender, reply) {
+        (Some(sender), Ok(reply)) => Some(TakenFrom { reply, sender }),
+        _ => None,
     }
 }
 
@@ -143,7 +148,7 @@ pub fn refuse<S: Drop>(
 }
 
 /// Refuses each of these clients.
-pub fn refuse_all<S: Drop>(
+fn refuse_all<S: Drop>(
     alloc: Global,
     waiting: Vec<Waiting<S>>,
     mut answered: Vec<Answered<S>>,
@@ -156,15 +161,31 @@ pub fn refuse_all<S: Drop>(
 {
     let why = &refused;
     for one in waiting {
-        let Waiting {
-            key,
-            asked,
-            request,
-        } = one;
-        drop(request);
+        let Waiting { key, asked } = one;
         answered.push_reserved(refuse(alloc, key, asked, *why, now));
     }
     answered
+}
+
+/// Refuses each client with an errand.
+pub fn refuse_errands<S: Drop>(
+    alloc: Global,
+    errands: Vec<Errand<S>>,
+    room: Room<S>,
+    refused: Refused,
+    now: u64,
+) -> Vec<Answered<S>>
+    requires { line.HasRoom (length errands.items) room }
+    ensures { AreRefused now refused (line.waiting_of errands.items) result.items }
+{
+    let Room {
+        answered,
+        waiting,
+        comings,
+    } = room;
+    let (waiting, comings) = parted(errands, waiting, comings);
+    drop(comings);
+    refuse_all(alloc, waiting, answered, refused, now)
 }
 
 /// What came of a message that was handed on.
@@ -204,12 +225,7 @@ fn give_all<S: Drop>(
     ensures { AreAnswered now (map line.came_of given.items) waiting.items result.items }
 {
     for (one, taken) in waiting.into_iter().zip(given) {
-        let Waiting {
-            key,
-            asked,
-            request,
-        } = one;
-        drop(request);
+        let Waiting { key, asked } = one;
         answered.push_reserved(give(alloc, key, asked, taken, now));
     }
     answered
@@ -221,57 +237,38 @@ fn refused_to_clients(refused: Refused) -> Refused
     ensures { status_for result ≡ 503 }
 {
     match refused {
-        Refused::Core(Refusal::Memory) | Refused::SaveFailed => refused,
+        Refused::Core(Refusal::Memory) | Refused::OtherName | Refused::SaveFailed => refused,
         _ => Refused::LoadFailed,
     }
 }
 
-/// Hands the messages of these clients, one after the other, to the controller that a keeper holds.
-fn taken<K: Keep, S>(
-    alloc: Global,
-    keep: &mut K,
-    last: Option<Saved>,
-    waiting: &[Waiting<S>],
-    at: u64,
-) -> Result<(Vec<Result<TakenBytes, Refusal>>, Option<Saved>), Refused>
-    ensures ok { IfOk result (λ taken. TakesAll K.is_honest K.held at
-        (line.bodies_of waiting.now) taken.0.items taken.1 keep.old keep.new) }
-    ensures each { IfOk result (λ taken. length taken.0.items ≡ length waiting.now) }
-    ensures none { IfErr result (TakesNone K.is_honest K.held K.place K.count K.load_fails
-        K.save_fails at (line.bodies_of waiting.now) keep.old keep.new) }
-    ensures place { K.place keep.new ≡ K.place keep.old }
-{
-    let bodies = match bodies_of(alloc, waiting) {
-        Ok(bodies) => bodies,
-        Err(_) => {
-            drop(last);
-            return Err(Refused::Core(Refusal::Memory));
-        }
-    };
-    take_all(alloc, keep, last, bodies.as_slice(), at)
-}
-
-/// Hands the messages of the clients who wait for the controller that a keeper holds to it, one
-/// after the other, at a time in seconds since 1970, saves its state once behind the last, and
-/// gives each client the response at this moment, in milliseconds. Gives the controller with the
-/// text that was saved. Where it can't be loaded or saved, each client is refused with a status of
-/// 503.
+/// Hands the controller that a keeper holds what clients have come for, one after the other, at a
+/// time in seconds since 1970, saves its state once behind the last, and gives each client the
+/// response at this moment, in milliseconds. Gives the controller with the text that was saved.
+/// Where it can't be loaded or saved, or isn't one that is addressed, each client is refused with a
+/// status of 503.
 pub fn answer_all<K: Keep, S: Drop>(
     alloc: Global,
     keep: &mut K,
     last: Option<Saved>,
-    waiting: Vec<Waiting<S>>,
-    answered: Vec<Answered<S>>,
+    to: Addressee<'_>,
+    errands: Vec<Errand<S>>,
+    room: Room<S>,
     at: u64,
     now: u64,
 ) -> (Vec<Answered<S>>, Option<Saved>)
-    requires empty { answered.items ≡ [] }
-    requires room { length waiting.items ≤ vec_capacity answered }
-    ensures steps { StepsLine K.is_honest K.held K.place K.count K.load_fails K.save_fails at now
-        keep.old keep.new waiting.items result.0.items result.1 }
+    requires { line.HasRoom (length errands.items) room }
+    ensures steps { StepsLine K.is_honest K.held K.place K.count K.load_fails K.save_fails to.entry
+        at now keep.old keep.new errands.items result.0.items result.1 }
     ensures place { K.place keep.new ≡ K.place keep.old }
 {
-    match taken(alloc, keep, last, waiting.as_slice(), at) {
+    let Room {
+        answered,
+        waiting,
+        comings,
+    } = room;
+    let (waiting, comings) = parted(errands, waiting, comings);
+    match take_all(alloc, keep, last, to, comings, at) {
         Ok((given, saved)) => (give_all(alloc, waiting, answered, given, now), saved),
         Err(refused) => {
             let refused = refused_to_clients(refused);

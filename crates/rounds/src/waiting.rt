@@ -1,11 +1,9 @@
-use http_message::Received;
 use peers::Asked;
 
-/// A client whose request came, and who waits for the response.
+/// A client who waits for the response to a request.
 #[derive(Drop)]
 pub struct Waiting<S> {
     /// Under which number the client is kept.
     pub key: usize,
     pub asked: Asked<S>,
-    pub request: Received,
 }

@@ -1,7 +1,9 @@
 mod AnySteps
+mod Apart
 mod KindTold
 pub mod Loading
 pub mod MessageTexts
+mod OutSoFar
 mod SavedOnce
 mod TakingEach
 mod Unsaved

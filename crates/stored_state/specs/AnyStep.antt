@@ -8,6 +8,7 @@ use Rattle.master_core.specs.Orders as master_orders
 use Rattle.worker_core.specs.Messages as worker_messages
 use Rattle.worker_core.specs.Orders as worker_orders
 use Rattle.controller.specs.Step.{leading}
+use Rattle.controller.specs.declared.message.Message.{Message}
 use Rattle.controller_form.specs.Orders.MasterForm.{master_order_read}
 use Rattle.controller_form.specs.Orders.WorkerForm.{worker_order_read}
 use Rattle.controller_form.specs.States.MasterForm.{master_state_data}
@@ -36,9 +37,11 @@ abbrev pub IsNoOrder : List ℕ → AnyController → Refusal → Type 0
 IsNoOrder bytes (of_master m) e = IsRefusalOf master_order_read bytes e
 IsNoOrder bytes (of_worker w) e = IsRefusalOf worker_order_read bytes e
 
+-- the step of a controller by a message, at a time
+abbrev pub handed : ℕ → Message → AnyController → TextStep AnyController
+handed at x (of_master m) = leading of_master (in_text (master_messages.take_step x at m))
+handed at x (of_worker w) = leading of_worker (in_text (worker_messages.take_step x at w))
+
 -- the step of a controller by the message that the bytes are, at a time
 abbrev pub IsHanded : ℕ → List ℕ → AnyController → TextStep AnyController → Type 0
-IsHanded at bytes (of_master m) step =
-    IsTaken bytes (λ x. leading of_master (in_text (master_messages.take_step x at m))) step
-IsHanded at bytes (of_worker w) step =
-    IsTaken bytes (λ x. leading of_worker (in_text (worker_messages.take_step x at w))) step
+IsHanded at bytes c step = IsTaken bytes (λ x. handed at x c) step

@@ -1,3 +1,4 @@
+pub mod Addressee
 pub mod Held
 pub mod Kind
 pub mod Opened
@@ -13,3 +14,5 @@ pub mod Told
 pub mod Snapshot
 pub mod Saved
 pub mod TakingAll
+pub mod Outgoing
+pub mod Laws

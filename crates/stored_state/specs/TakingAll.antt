@@ -1,79 +1,124 @@
--- Messages that a controller takes one after the other, with one save behind the last.
-use Rattle.std.specs.Prelude.{◌≡◌, ⊤, ℕ, Bool, true, List, [], ◌∷◌, map, Option, Some, None}
-use Rattle.std.specs.Prelude.{IfNone, IfSome, Result, Ok, Err, is_err}
+-- What comes to a controller, one thing after the other, with one save behind the last.
+use Rattle.std.specs.Prelude.{◌≡◌, ℕ, Bool, true, false, List, [], ◌∷◌, map, Option, Some, None}
+use Rattle.std.specs.Prelude.{◌⊎◌, ⊤, IfNone, IfOk, IfSome, Result, Ok, Err, is_err}
 use Rattle.std.specs.List.{list_all}
 use Rattle.std.specs.Option.{option_map}
 use Rattle.std.specs.Result.{result_map_both}
+use Rattle.serde_json.specs.Data.{Data}
 use Rattle.keepers.specs.Keeper.{CountRose}
 use Rattle.ticket_items.specs.declared.refusal.Refusal.{Refusal}
-use Rattle.controller.specs.declared.message.Message.{Message}
+use Rattle.ticket_items.specs.declared.refusal.Refusal.TheVariants.{Memory}
+use Rattle.controller.specs.Step.{Step}
+use Rattle.controller.specs.declared.message.Message as messages
 use Rattle.controller.specs.declared.reply.Reply.{Reply}
-use Rattle.jmf_message.specs.Decoded.{IsRefusalOf as IsUndecoded}
-use Rattle.stored_state.specs.AnyStep.{IsHanded, text_of}
-use Rattle.stored_state.specs.Held.{FailsToSave, HoldsSame, IsNotLoaded, IsReadAs}
+use Rattle.stored_state.specs.Addressee.{is_addressed}
+use Rattle.stored_state.specs.AnyStep.{IsNoOrder, IsOrdered, handed, text_of}
+use Rattle.stored_state.specs.Held.{FailsToSave, HoldsSame, IsNotLoaded, IsReadAs, IsRefusalOf}
 use Rattle.stored_state.specs.Opened.{AnyController, any_state_read}
-use Rattle.stored_state.specs.Sender.{IsSentBy}
-use Rattle.stored_state.specs.Step.{IsTaken, Step, TextStep, in_text}
+use Rattle.stored_state.specs.Step.{TextStep, in_text}
+use Rattle.stored_state.specs.declared.addressee.Addressee.{Addressee}
+use Rattle.stored_state.specs.declared.coming.Coming.{Coming}
+use Rattle.stored_state.specs.declared.coming.Coming.TheVariants as comings
 use Rattle.stored_state.specs.declared.taken_bytes.TakenBytes.{TakenBytes}
 use Rattle.streams.specs.declared.refused.Refused.{Refused}
-use Rattle.streams.specs.declared.refused.Refused.TheVariants.{Core, LoadFailed, SaveFailed}
+use Rattle.streams.specs.declared.refused.Refused.TheVariants.{Core, LoadFailed, OtherName}
+use Rattle.streams.specs.declared.refused.Refused.TheVariants.{SaveFailed}
 
 -- ---- one after the other
 
--- the step of a controller, which takes messages so, by the message that the bytes are
-abbrev pub IsTakenBy : {C : Type 0} → (Message → C → Step C Message) → List ℕ → C → TextStep C
-    → Type 0
-IsTakenBy take bytes c step = IsTaken bytes (λ m. in_text (take m c)) step
+-- what comes to a controller at a time causes this step of it
+abbrev pub IsCausedBy : ℕ → Coming → AnyController → TextStep AnyController → Type 0
+IsCausedBy at (comings.Message m) c step = step ≡ handed at m c
+IsCausedBy at (comings.Order text) c step = IsOrdered at text.items c step
+IsCausedBy at (comings.Neither why) c step = ⊥
 
--- bytes come to a controller: they are a message, by which it makes the step; or no step is made,
--- for this refusal of the bytes or for want of memory, and it stays as it was
-abbrev pub TakesOne : {C : Type 0} → (List ℕ → C → TextStep C → Type 0) → List ℕ → C
-    → Result (TextStep C) Refusal → C → Type 0
-TakesOne IsStep bytes c (Ok step) next = IsStep bytes c step × (next ≡ step.next)
-TakesOne IsStep bytes c (Err e) next = IsUndecoded bytes e × (next ≡ c)
+-- why it causes none: memory ran out, or what it is refused for
+abbrev pub CausesNone : Coming → AnyController → Refusal → Type 0
+CausesNone (comings.Message m) c e = e ≡ Memory
+CausesNone (comings.Order text) c e = IsNoOrder text.items c e
+CausesNone (comings.Neither why) c e = e ≡ why
 
--- bodies come to a controller one after the other, each to the controller that the one before left
-abbrev pub TakesEach : {C : Type 0} → (List ℕ → C → TextStep C → Type 0) → List (List ℕ) → C
-    → List (Result (TextStep C) Refusal) → C → Type 0
-TakesEach IsStep [] c [] last = last ≡ c
-TakesEach {C = C} IsStep (bytes ∷ bodies) c (step ∷ steps) last =
-    (next : C) × TakesOne IsStep bytes c step next × TakesEach IsStep bodies next steps last
-TakesEach IsStep bodies c steps last = ⊥
+-- something comes to a controller: it makes the step; or it makes none and stays as it was
+abbrev pub TakesOne : ℕ → Coming → AnyController → Result (TextStep AnyController) Refusal
+    → AnyController → Type 0
+TakesOne at x c (Ok step) next = IsCausedBy at x c step × (next ≡ step.next)
+TakesOne at x c (Err e) next = CausesNone x c e × (next ≡ c)
+
+-- this comes to a controller, one after the other, each to the controller that the one before left
+abbrev pub TakesEach : ℕ → List Coming → AnyController
+    → List (Result (TextStep AnyController) Refusal) → AnyController → Type 0
+TakesEach at [] c [] last = last ≡ c
+TakesEach at (x ∷ more) c (step ∷ steps) last =
+    (next : AnyController) × TakesOne at x c step next × TakesEach at more next steps last
+TakesEach at more c steps last = ⊥
 
 -- ---- what is given out
 
--- what is replied to a message, and the text that goes out
+-- what is replied, and the text that goes out
 pub record Given : Type 0 where
   pub reply : Result Reply Refusal
   pub sent : Option (List ℕ)
 
--- that of a step, or why there is none
+-- that of a step
+abbrev pub step_given : {C : Type 0} → TextStep C → Given
+step_given s = record { reply = s.reply; sent = s.sent }
+
+-- or why there is none
 abbrev pub given_of : {C : Type 0} → Result (TextStep C) Refusal → Result Given Refusal
-given_of step =
-    result_map_both (λ s. record { reply = s.reply; sent = s.sent }) (λ e. e) step
+given_of step = result_map_both step_given (λ e. e) step
 
 -- the same as it is told
+abbrev pub taken_given : TakenBytes → Given
+taken_given t = record { reply = t.reply; sent = option_map (λ b. b.items) t.answer }
+
 abbrev pub given_as : Result TakenBytes Refusal → Result Given Refusal
-given_as taken =
-    result_map_both (λ t. record { reply = t.reply; sent = option_map (λ b. b.items) t.answer })
-    (λ e. e) taken
+given_as taken = result_map_both taken_given (λ e. e) taken
 
--- each message that was taken stands beside who sent it
-abbrev pub AreSentBy : List (List ℕ) → List (Result TakenBytes Refusal) → Type 0
-AreSentBy [] [] = ⊤
-AreSentBy (bytes ∷ bodies) (Ok taken ∷ given) =
-    IsSentBy bytes taken.sender × AreSentBy bodies given
-AreSentBy (bytes ∷ bodies) (Err e ∷ given) = AreSentBy bodies given
-AreSentBy bodies given = ⊥
+-- a step was made and this is given out of it; or memory ran out, and nothing was changed
+abbrev pub Makes : {C : Type 0} → Step C messages.Message → Option (List ℕ) → C
+    → Result TakenBytes Refusal → C → Type 0
+Makes step sender c (Ok taken) next =
+    (taken_given taken ≡ step_given (in_text step)) × (next ≡ step.next) × (taken.sender ≡ sender)
+Makes step sender c (Err e) next = (e ≡ Memory) × (next ≡ c)
 
--- such bodies came to a controller, and this was given out of them in turn
-pub record Gives {C : Type 0} (IsStep : List ℕ → C → TextStep C → Type 0)
-    (bodies : List (List ℕ)) (c : C) (given : List (Result TakenBytes Refusal)) (last : C)
-    : Type 0 where
-  pub steps : List (Result (TextStep C) Refusal)
-  pub each : TakesEach IsStep bodies c steps last
+-- the step of a controller by the order that the bytes are was made, or why there is none
+abbrev pub OrdersOne : {C O : Type 0} → (Data → Result O Refusal)
+    → (O → ℕ → C → Step C messages.Message) → List ℕ → ℕ → C → Result TakenBytes Refusal → C
+    → Type 0
+OrdersOne {O = O} reads does bytes at c taken next =
+    ((o : O) × IsReadAs reads bytes (Ok o) × Makes (does o at c) None c taken next)
+    ⊎ ((e : Refusal) × IsRefusalOf reads bytes e × (taken ≡ Err e) × (next ≡ c))
+
+-- who sent what comes; an order has no sender
+abbrev pub sender_in : Coming → Option (List ℕ)
+sender_in (comings.Message m) = Some m.sender
+sender_in (comings.Order text) = None
+sender_in (comings.Neither why) = None
+
+-- what was given out stands beside who sent what it was given for
+abbrev pub IsFrom : Coming → Result TakenBytes Refusal → Type 0
+IsFrom x taken = IfOk taken (λ t. t.sender ≡ sender_in x)
+
+abbrev pub AreFrom : List Coming → List (Result TakenBytes Refusal) → Type 0
+AreFrom [] [] = ⊤
+AreFrom (x ∷ all) (taken ∷ given) = IsFrom x taken × AreFrom all given
+AreFrom all given = ⊥
+
+-- something came to a controller, and this was given out of it
+pub record GivesOne (at : ℕ) (x : Coming) (c : AnyController) (taken : Result TakenBytes Refusal)
+    (next : AnyController) : Type 0 where
+  pub step : Result (TextStep AnyController) Refusal
+  pub takes : TakesOne at x c step next
+  pub gives : given_as taken ≡ given_of step
+  pub sender : IsFrom x taken
+
+-- all this came to a controller, and this was given out of it in turn
+pub record Gives (at : ℕ) (all : List Coming) (c : AnyController)
+    (given : List (Result TakenBytes Refusal)) (last : AnyController) : Type 0 where
+  pub steps : List (Result (TextStep AnyController) Refusal)
+  pub each : TakesEach at all c steps last
   pub gives : map given_as given ≡ map given_of steps
-  pub senders : AreSentBy bodies given
+  pub senders : AreFrom all given
 
 -- ---- saved behind the last
 
@@ -81,8 +126,8 @@ pub record Gives {C : Type 0} (IsStep : List ℕ → C → TextStep C → Type 0
 abbrev pub WasHeld : Bool → List ℕ → AnyController → Type 0
 WasHeld honest held c = honest ≡ true → IsReadAs any_state_read held (Ok c)
 
--- what is held behind the last: the text of the state, as this was saved; or, where no message was
--- taken at all, what was held before
+-- what is held behind the last: the text of the state, as this was saved; or, where no step was
+-- made at all, what was held before
 abbrev pub IsKept : {K : Type 0} → (K → Bool) → (K → List ℕ) → List (Result TakenBytes Refusal)
     → (before last : AnyController) → K → K → Option AnyController → Type 0
 IsKept is_honest held given before last old new (Some saved) =
@@ -90,27 +135,41 @@ IsKept is_honest held given before last old new (Some saved) =
 IsKept is_honest held given before last old new None =
     (list_all is_err given ≡ true) × (last ≡ before) × HoldsSame is_honest held old new
 
--- bodies came at a time, one after the other, to the controller that a keeper held; this was given
--- out of them, and the state behind the last is held
-pub record TakesAll {K : Type 0} (is_honest : K → Bool) (held : K → List ℕ) (at : ℕ)
-    (bodies : List (List ℕ)) (given : List (Result TakenBytes Refusal))
+-- all this came at a time to the controller that a keeper held, which is one that is addressed; this
+-- was given out of it, and the state behind the last is held
+pub record TakesAll {K : Type 0} (is_honest : K → Bool) (held : K → List ℕ) (to : Addressee)
+    (at : ℕ) (all : List Coming) (given : List (Result TakenBytes Refusal))
     (saved : Option AnyController) (old new : K) : Type 0 where
   pub before : AnyController
   pub was : WasHeld (is_honest old) (held old) before
+  pub addressed : is_addressed to before ≡ true
   pub last : AnyController
-  pub taken : Gives (IsHanded at) bodies before given last
+  pub taken : Gives at all before given last
   pub kept : IsKept is_honest held given before last old new saved
 
--- bodies came at a time to the controller whose state bytes are the text of: this was given out of
--- them, and the state behind the last is to be held, unless no message was taken at all
-pub record TakesFrom (at : ℕ) (bytes : List ℕ) (bodies : List (List ℕ))
+-- all this came at a time to the controller whose state bytes are the text of, which is one that is
+-- addressed: this was given out of it, and the state behind the last is to be held, unless no step
+-- was made at all
+pub record TakesFrom (to : Addressee) (at : ℕ) (bytes : List ℕ) (all : List Coming)
     (given : List (Result TakenBytes Refusal)) (next : Option AnyController) : Type 0 where
   pub before : AnyController
   pub read : IsReadAs any_state_read bytes (Ok before)
+  pub addressed : is_addressed to before ≡ true
   pub last : AnyController
-  pub taken : Gives (IsHanded at) bodies before given last
+  pub taken : Gives at all before given last
   pub some : IfSome next (λ c. c ≡ last)
   pub none : IfNone next ((list_all is_err given ≡ true) × (last ≡ before))
+
+-- the bytes are the text of the state of a controller that isn't addressed
+abbrev pub IsOfOther : Addressee → List ℕ → Type 0
+IsOfOther to bytes =
+    (c : AnyController) × IsReadAs any_state_read bytes (Ok c) × (is_addressed to c ≡ false)
+
+-- why nothing came to the controller whose state bytes are the text of
+abbrev pub IsNotTakenFrom : Addressee → List ℕ → Refused → Type 0
+IsNotTakenFrom to bytes (Core e) = IsRefusalOf any_state_read bytes e
+IsNotTakenFrom to bytes OtherName = IsOfOther to bytes
+IsNotTakenFrom to bytes other = ⊥
 
 -- a save failed, of a keeper that a load had left
 abbrev pub FailsLoaded : {K : Type 0} → (K → Bool) → (K → List ℕ) → (K → List ℕ → K → Type 0) → K
@@ -119,28 +178,32 @@ FailsLoaded {K = K} is_honest place save_fails old text new =
     (loaded : K) × (is_honest loaded ≡ is_honest old) × (place loaded ≡ place old)
     × save_fails loaded text new
 
--- bodies came so, and the save of the state behind the last failed
+-- all this came so, and the save of the state behind the last failed
 pub record SavesNone {K : Type 0} (is_honest : K → Bool) (held place : K → List ℕ) (count : K → ℕ)
-    (save_fails : K → List ℕ → K → Type 0) (at : ℕ) (bodies : List (List ℕ)) (old new : K)
-    : Type 0 where
+    (save_fails : K → List ℕ → K → Type 0) (to : Addressee) (at : ℕ) (all : List Coming)
+    (old new : K) : Type 0 where
   pub before : AnyController
   pub was : WasHeld (is_honest old) (held old) before
+  pub addressed : is_addressed to before ≡ true
   pub steps : List (Result (TextStep AnyController) Refusal)
   pub last : AnyController
-  pub each : TakesEach (IsHanded at) bodies before steps last
+  pub each : TakesEach at all before steps last
   pub fails :
       FailsToSave is_honest held count (FailsLoaded is_honest place save_fails) (text_of last) old
       new
 
--- why nothing is given out, and what that leaves: the state isn't loaded or memory ran out, and an
--- honest keeper holds what it held; or the save failed
+-- why nothing is given out, and what that leaves: the state isn't loaded or memory ran out, or it is
+-- that of another controller, and an honest keeper holds what it held; or the save failed
 abbrev pub TakesNone : {K : Type 0} → (K → Bool) → (K → List ℕ) → (K → List ℕ) → (K → ℕ)
-    → (K → K → Type 0) → (K → List ℕ → K → Type 0) → ℕ → List (List ℕ) → K → K → Refused → Type 0
-TakesNone is_honest held place count load_fails save_fails at bodies old new (Core e) =
+    → (K → K → Type 0) → (K → List ℕ → K → Type 0) → Addressee → ℕ → List Coming → K → K → Refused
+    → Type 0
+TakesNone is_honest held place count load_fails save_fails to at all old new (Core e) =
     IsNotLoaded any_state_read (is_honest old) (held old) (Core e)
     × HoldsSame is_honest held old new
-TakesNone is_honest held place count load_fails save_fails at bodies old new LoadFailed =
+TakesNone is_honest held place count load_fails save_fails to at all old new LoadFailed =
     HoldsSame is_honest held old new × load_fails old new × CountRose (count old) (count new)
-TakesNone is_honest held place count load_fails save_fails at bodies old new SaveFailed =
-    SavesNone is_honest held place count save_fails at bodies old new
-TakesNone is_honest held place count load_fails save_fails at bodies old new other = ⊥
+TakesNone is_honest held place count load_fails save_fails to at all old new OtherName =
+    (is_honest old ≡ true → IsOfOther to (held old)) × HoldsSame is_honest held old new
+TakesNone is_honest held place count load_fails save_fails to at all old new SaveFailed =
+    SavesNone is_honest held place count save_fails to at all old new
+TakesNone is_honest held place count load_fails save_fails to at all old new other = ⊥

@@ -1,5 +1,6 @@
 ghost use Rattle.std.specs.Prelude.{◌≡◌, Ok, false, IfOk, IfErr};
 ghost use Rattle.json_profile.specs.ReadAs.{IsReadAs, IsRefusalOf};
+ghost use Rattle.stored_state.specs.Addressee.{name_of};
 ghost use Rattle.stored_state.specs.AnyStep.{text_of};
 ghost use Rattle.stored_state.specs.Opened.{any_state_read, held_in};
 
@@ -11,7 +12,7 @@ use json_source::{Scratch, tree_of};
 use keepers::Keep;
 use master_core::Master;
 use std::alloc::{AllocError, Global};
-use ticket_tree::Refusal;
+use ticket_tree::{Id, Refusal};
 use worker_core::Worker;
 
 /// A controller, whichever it is.
@@ -24,6 +25,16 @@ pub enum AnyController {
 }
 
 impl AnyController {
+    /// Its name.
+    pub fn name(&self) -> &Id
+        ensures { result.now ≡ name_of self.now }
+    {
+        match self {
+            AnyController::Master(master) => master.name(),
+            AnyController::Worker(worker) => worker.name(),
+        }
+    }
+
     /// It beside a keeper that holds its state.
     pub(crate) fn beside<K: Keep>(self, keep: K) -> Opened<K>
         ensures { held_in result ≡ record { controller = self; keep = keep; stale = false } }

@@ -236,7 +236,7 @@ impl<C: Stored, K: Keep> Kept<C, K> {
         let sender = message.sender.copy(alloc)?;
         let given = self.step(alloc, Cause::Message(message), at)?;
         Ok(TakenBytes {
-            sender,
+            sender: Some(sender),
             reply: given.reply,
             answer: given.message,
         })

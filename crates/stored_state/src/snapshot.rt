@@ -63,6 +63,13 @@ impl Snapshot {
         }
     }
 
+    /// The controller.
+    pub fn controller(&self) -> &AnyController
+        ensures { result.now ≡ self.now.controller }
+    {
+        &self.controller
+    }
+
     /// The controller that bytes are the state of: its own where they are its text, and then they
     /// aren't read.
     fn controller_in(self, alloc: Global, bytes: &[u8]) -> Result<AnyController, Refusal>
