@@ -5,12 +5,12 @@ use crate::exchanges::exchange_answer;
 use crate::other::other_answer;
 use crate::program::program_answer;
 use keepers::Locks;
-use std::alloc::{AllocError, Global};
+use std::alloc::{Alloc, AllocError, Global};
 use std::net::Net;
 use std::time::Clock;
 
 /// What comes of a case.
-pub fn answer<R: Locks + Net + Clock>(
+pub fn answer<R: Locks + Net + Clock + Alloc + Clone + Drop>(
     rt: &R,
     alloc: Global,
     case: &Case,

@@ -3,14 +3,14 @@
 use crate::answers::answer;
 use crate::case::Case;
 use keepers::Locks;
-use std::alloc::{AllocError, Global};
+use std::alloc::{Alloc, AllocError, Global};
 use std::net::Net;
 use std::time::Clock;
 
 /// What comes of a case, cut to no byte of its input, to one, and so on to all but one. Cuts one
 /// after another of which the same comes are told together, behind a line with the first and the
 /// last of them.
-pub fn cut_answers<R: Locks + Net + Clock>(
+pub fn cut_answers<R: Locks + Net + Clock + Alloc + Clone + Drop>(
     rt: &R,
     alloc: Global,
     line: &[u8],

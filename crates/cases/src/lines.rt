@@ -4,13 +4,13 @@ use crate::answers::answer;
 use crate::case::Case;
 use crate::cuts::cut_answers;
 use keepers::Locks;
-use std::alloc::{AllocError, Global};
+use std::alloc::{Alloc, AllocError, Global};
 use std::io::{self, Read, Write};
 use std::net::Net;
 use std::time::Clock;
 
 /// Writes what comes of each line of the input, after the whole input was read.
-pub fn write_answers<R: Locks + Net + Clock, I: Read, W: Write>(
+pub fn write_answers<R: Locks + Net + Clock + Alloc + Clone + Drop, I: Read, W: Write>(
     rt: &R,
     alloc: Global,
     reader: &mut I,
@@ -31,7 +31,7 @@ fn without_end(lines: &[u8]) -> &[u8] {
 }
 
 /// Appends what comes of a line.
-fn push_answer<R: Locks + Net + Clock>(
+fn push_answer<R: Locks + Net + Clock + Alloc + Clone + Drop>(
     rt: &R,
     alloc: Global,
     output: &mut Vec<u8>,

@@ -3,13 +3,13 @@
 use crate::case::Case;
 use jdf_net::run_words;
 use keepers::Locks;
-use std::alloc::{AllocError, Global};
+use std::alloc::{Alloc, AllocError, Global};
 use std::net::Net;
 use std::time::Clock;
 use streams::Counted;
 
 /// What the program writes for a case, what it tells, and its exit status.
-pub fn program_answer<R: Locks + Net + Clock>(
+pub fn program_answer<R: Locks + Net + Clock + Alloc + Clone + Drop>(
     rt: &R,
     alloc: Global,
     case: &Case,

@@ -8,6 +8,7 @@ use Rattle.jdf_words.specs.declared.call.Call.TheVariants.{Loop, SendOrder, Serv
 use Rattle.keepers.specs.InFile.{Fails, InFile}
 use Rattle.keepers.specs.OnDisk.{OnDisk, kept_at}
 use Rattle.stored_state.specs.Held.{Held}
+use Rattle.stored_state.specs.declared.addressee.Addressee.{Addressee}
 use Rattle.stored_state.specs.declared.any_controller.AnyController.{AnyController}
 use Rattle.streams.specs.Ends.{GivesUp, IsFaultOf, IsOutputOf, IsUnread}
 use Rattle.streams.specs.Streams.{IsInput, IsUntouched, Use}
@@ -83,8 +84,9 @@ IsOutputOfCall Edit input text refused notes =
 IsOutputOfCall World input text refused notes =
     IsOutputOf world_run.IsOutput input text refused × (notes ≡ [])
 IsOutputOfCall (New file) input text refused notes =
-    ((after : Held AnyController (InFile OnDisk))
-    × Begins is_honest held place false (made_in file.now) input after text refused) × (notes ≡ [])
+    ((to : Addressee) × (after : Held AnyController (InFile OnDisk))
+    × Begins is_honest held place false (made_in file.now) to input after text refused)
+    × (notes ≡ [])
 IsOutputOfCall (Order file at) input text refused notes =
     DoesStep is_honest held place (IsOrdered at) notes_of_order (kept_in file.now) input
     text refused notes
@@ -94,7 +96,7 @@ IsOutputOfCall (Show file picture) input text refused notes =
     IsUntouched input × Shows picture is_honest held place (kept_in file.now) text refused notes
 IsOutputOfCall Loop input text refused notes = ⊥
 IsOutputOfCall (SendOrder file at url) input text refused notes = ⊥
-IsOutputOfCall (Serve file listen limits requests) input text refused notes = ⊥
+IsOutputOfCall (Serve file listen limits requests peers field) input text refused notes = ⊥
 IsOutputOfCall (Send url file) input text refused notes = ⊥
 
 -- a call over the network isn't run over files alone, and nothing is read
@@ -106,7 +108,8 @@ abbrev pub IsFaultOfCall : Call → Use → Fault → Type 0
 IsFaultOfCall Edit input fault = IsFaultOf edit_document.IsRefusalOf input fault
 IsFaultOfCall World input fault = IsFaultOf world_script.IsRefusalOf input fault
 IsFaultOfCall (New file) input fault =
-    (is_there : Bool) × BeginsNone save_fails is_there (made_in file.now) input fault
+    (is_there : Bool) × (to : Addressee)
+    × BeginsNone save_fails is_there (made_in file.now) to input fault
 IsFaultOfCall (Order file at) input fault =
     DoesNone IsNoOrder (IsOrdered at) file.now input fault
 IsFaultOfCall (Take file at) input fault =
@@ -115,7 +118,7 @@ IsFaultOfCall (Show file picture) input fault =
     IsUntouched input × (IsNotOpened file.now fault ⊎ (fault ≡ Input (Core Memory)))
 IsFaultOfCall Loop input fault = IsOfNetwork input fault
 IsFaultOfCall (SendOrder file at url) input fault = IsOfNetwork input fault
-IsFaultOfCall (Serve file listen limits requests) input fault = IsOfNetwork input fault
+IsFaultOfCall (Serve file listen limits requests peers field) input fault = IsOfNetwork input fault
 IsFaultOfCall (Send url file) input fault = IsOfNetwork input fault
 
 -- how a call ends: with what it writes and notes, or with why it gives up

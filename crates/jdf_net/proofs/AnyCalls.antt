@@ -9,7 +9,7 @@ use Rattle.jdf_net.specs.Words.{EndsAnyCall}
 -- a call that is none over the network ends as it does over files
 pub over_files : (call : Call) (input output told : Use) (status : ℕ) → (call ≡ Loop → ⊥)
     → ((file : _) (at : _) (url : _) → call ≡ SendOrder file at url → ⊥)
-    → ((file : _) (listen : _) (limits : _) (requests : _) → call ≡ Serve file listen limits requests → ⊥)
+    → ((file : _) (listen : _) (limits : _) (requests : _) (peers : _) (field : _) → call ≡ Serve file listen limits requests peers field → ⊥)
     → ((url : _) (file : _) → call ≡ Send url file → ⊥) → EndsCall call input output told status → EndsAnyCall call input output told status
 over_files Edit i o t s loops orders serves sends ends = ends
 over_files World i o t s loops orders serves sends ends = ends
@@ -19,5 +19,5 @@ over_files (Order file at) i o t s loops orders serves sends ends = ends
 over_files (SendOrder file at url) i o t s loops orders serves sends ends = absurd (orders file at url refl)
 over_files (Take file at) i o t s loops orders serves sends ends = ends
 over_files (Show file picture) i o t s loops orders serves sends ends = ends
-over_files (Serve file listen limits requests) i o t s loops orders serves sends ends = absurd (serves file listen limits requests refl)
+over_files (Serve file listen limits requests peers field) i o t s loops orders serves sends ends = absurd (serves file listen limits requests peers field refl)
 over_files (Send url file) i o t s loops orders serves sends ends = absurd (sends url file refl)

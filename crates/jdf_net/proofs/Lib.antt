@@ -2,7 +2,6 @@ mod AllEvents
 mod Answered
 mod AnyCalls
 mod EventLines
-mod FileNames
 mod ShopKept
 mod ShopOpened
 mod ShopWorkers

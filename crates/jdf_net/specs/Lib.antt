@@ -2,5 +2,4 @@ pub mod LoopCommand
 pub mod OrderCommand
 pub mod SendCommand
 pub mod ServeCommand
-pub mod Targets
 pub mod Words

@@ -15,10 +15,10 @@ use Rattle.stored_state.specs.declared.any_controller.AnyController.{AnyControll
 use Rattle.streams.specs.Ends.{EndsWith, GivesOut, GivesUp}
 use Rattle.streams.specs.Streams.{IsUntouched, Stream, Use}
 use Rattle.streams.specs.declared.fault.Fault.{Fault}
-use Rattle.streams.specs.declared.fault.Fault.TheVariants.{Input}
-use Rattle.streams.specs.declared.refused.Refused.TheVariants.{Core}
+use Rattle.streams.specs.declared.fault.Fault.TheVariants.{Device, Input}
+use Rattle.streams.specs.declared.refused.Refused.TheVariants.{Core, LoadFailed}
 use Rattle.jdf_net.specs.declared.order_command.run.Came.{Came}
-use Rattle.jdf_net.specs.declared.order_command.run.Came.TheVariants.{Answered, Refused}
+use Rattle.jdf_net.specs.declared.order_command.run.Came.TheVariants.{Answered, NoPeer, Refused}
 use Rattle.jdf_commands.specs.Calls.{DoesNone, held, is_honest, kept_in, place}
 use Rattle.jdf_commands.specs.FileCommands.Answers.{IsOfAnswer}
 use Rattle.jdf_commands.specs.FileCommands.Commands.{GivesHeld, GivesNoting, GivesStepOf}
@@ -68,10 +68,11 @@ IsOfSome file at text refused = (answer : List ℕ) × IsWrittenOf file at answe
 -- the same of what came of a message
 abbrev pub IsCome : Bor (List ℕ) → ℕ → Came → Type 0
 IsCome file at (Refused status) = Unit {0}
+IsCome file at NoPeer = Unit {0}
 IsCome file at (Answered output) = IsOfSome file at output.text.items output.refused
 
--- a message is sent on, and that is given out, or nothing where it gave up or another status came,
--- which is told
+-- a message is sent on, and that is given out, or nothing where it gave up, another status came or
+-- its receiver has no URL, which is told
 abbrev pub SendsOn : Bor (List ℕ) → ℕ → Ending
 SendsOn file at output told status =
     EndsWith (IsOfSome file at) (λ _. Unit {0}) output told status
@@ -106,11 +107,16 @@ OrdersAndSends file at input output told status =
     (notes_of_order reply) notes
     × GivesOrder file at reply sent notes output told status
 
--- there is no URL to send to, or no memory for it, and nothing is read or written
+-- why it isn't known where to send to: memory ran out, or the peers' file can't be loaded
+abbrev pub IsNoPlace : Fault → Type 0
+IsNoPlace fault = (fault ≡ Input (Core Memory)) ⊎ (fault ≡ Device LoadFailed)
+
+-- there is no URL to send to, or it isn't known, and nothing is read or written
 abbrev pub IsNowhere : Use → Ending
 IsNowhere input output told status =
     IsUntouched input
-    × ((IsUntouched output × (status ≡ 2)) ⊎ GivesUp (Input (Core Memory)) output told status)
+    × ((IsUntouched output × (status ≡ 2))
+    ⊎ ((fault : Fault) × IsNoPlace fault × GivesUp fault output told status))
 
 -- the order is given, or it isn't, for this
 abbrev pub Orders : Bor (List ℕ) → ℕ → Use → Ending

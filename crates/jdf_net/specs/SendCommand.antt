@@ -2,13 +2,10 @@
 use Rattle.std.specs.Prelude.{◌≡◌, ◌≢◌, ◌⊎◌, ◌++◌, ◌∷◌, ℕ, List, [], false, true, Option, Some, None}
 use Rattle.std.specs.Prelude.{MatchResult, Result, Ok, Err, String, string_bytes}
 use Rattle.std.specs.declared.alloc.Global.{Global}
-use Rattle.url.specs.Parts.{Parts, text_between}
-use Rattle.url.specs.declared.slicing.Position.TheVariants.{AfterPort, BeforeUsername}
 use Rattle.ticket_items.specs.declared.refusal.Refusal.{Refusal}
 use Rattle.ticket_items.specs.declared.refusal.Refusal.TheVariants.{Memory}
 use Rattle.controller.specs.declared.message.Message.{Message}
 use Rattle.jmf_message.specs.Decoded.{IsDecodedAs, IsRefusalOf}
-use Rattle.http_message.specs.Texts.{is_word}
 use Rattle.streams.specs.Ends.{GivesOut, GivesUp, Tells}
 use Rattle.streams.specs.Fault.{fault_status}
 use Rattle.streams.specs.Streams.{IsUntouched, Stream, Use}
@@ -17,14 +14,6 @@ use Rattle.streams.specs.declared.fault.Fault.{Fault}
 use Rattle.streams.specs.declared.fault.Fault.TheVariants.{Input}
 use Rattle.jdf_commands.specs.FileCommands.Answers.{IsRefusedBy, refusal_told}
 use Rattle.jdf_commands.specs.FileCommands.Notes.{TellsNotes}
-
--- what stands between `//` and the path of a URL
-abbrev pub authority_of : Parts → List ℕ
-authority_of url = text_between url BeforeUsername AfterPort
-
--- the host and the target of a URL can stand in a head
-abbrev pub FitsHead : Parts → Type 0
-FitsHead url = (is_word (authority_of url) ≡ true) × (is_word url.path ≡ true)
 
 -- what is written of an answer: its text on a line, and nothing where it has none
 abbrev pub answer_line : List ℕ → List ℕ
@@ -88,8 +77,8 @@ EndsAnswer answer output told status =
     × GivesAnswer answer output (record { before = told.before; after = tells }) 0
     × TellsOfAnswer answer (record { before = tells; after = told.after }) status)
 
--- an answer came, and that is given out; or another status was told, and nothing was written; or
--- the URL is none, and nothing was read or written; or it gave up
+-- an answer came, and that is given out; or another status was told, or that the receiver has no
+-- URL, and nothing was written; or the URL is none, and nothing was read or written; or it gave up
 abbrev pub EndsSend : Use → Use → Use → ℕ → Type 0
 EndsSend input output told status =
     ((answer : List ℕ) × EndsAnswer answer output told status)

@@ -3,6 +3,7 @@
 
 mod loop_command;
 mod order_command;
+mod peers_in_file;
 mod send_command;
 mod serve_command;
 mod until;

@@ -1,10 +1,11 @@
 //! The command `send`: one message to a controller that serves over HTTP, and its answer.
 
-mod destination;
+mod connecting;
 mod exchanging;
 mod run;
+mod send_to;
 
-pub(crate) use destination::destination_of;
 pub(crate) use exchanging::post;
 pub use run::run_send;
-pub(crate) use run::{DONE, tell_no_url, tell_status};
+pub(crate) use run::{DONE, tell_no_peer, tell_no_url, tell_status};
+pub(crate) use send_to::SendTo;

@@ -11,7 +11,7 @@ use crate::serve_command::{Service, run_serve};
 use jdf_commands::run_file;
 use jdf_words::{Call, CallFault, command_of};
 use keepers::Locks;
-use std::alloc::{AllocError, Global};
+use std::alloc::{Alloc, AllocError, Global};
 use std::io::{Read, Write};
 use std::net::Net;
 use std::time::Clock;
@@ -29,7 +29,7 @@ fn tell_help<F: Write>(fault: &clap::Error, faults: &mut Counted<F>) -> u8
 }
 
 /// Runs a call, over the network or over files.
-fn run_call<R: Locks + Net + Clock, I: Read, W: Write, F: Write>(
+fn run_call<R: Locks + Net + Clock + Alloc + Clone + Drop, I: Read, W: Write, F: Write>(
     rt: &R,
     alloc: Global,
     call: &Call<'_>,
@@ -51,12 +51,16 @@ fn run_call<R: Locks + Net + Clock, I: Read, W: Write, F: Write>(
             listen,
             limits,
             requests,
+            peers,
+            sender_field,
         } => {
             let service = Service {
                 path: file,
                 listen,
                 limits: *limits,
                 requests: *requests,
+                peers: *peers,
+                sender_field: *sender_field,
             };
             run_serve(rt, alloc, &service, writer, faults)
         }
@@ -68,7 +72,7 @@ fn run_call<R: Locks + Net + Clock, I: Read, W: Write, F: Write>(
 /// Runs what the words of the command line stand for, which come without the program's name: `edit`
 /// where there is none. Answers its exit status. For other words, and for those that ask for help,
 /// nothing is read or written, `clap`'s text is told in `faults`, and the status is `NO_CALL`.
-pub fn run_words<R: Locks + Net + Clock, I: Read, W: Write, F: Write>(
+pub fn run_words<R: Locks + Net + Clock + Alloc + Clone + Drop, I: Read, W: Write, F: Write>(
     rt: &R,
     alloc: Global,
     words: &[String],

@@ -112,7 +112,9 @@ serving_plain a (inr (inr (inr (inl is)))) = rw is (inl (refl, refl, refl), inl 
 serving_plain a (inr (inr (inr (inr (inl is))))) = rw is (inl (refl, refl, refl), inl refl)
 serving_plain a (inr (inr (inr (inr (inr (inl is)))))) = rw is (inl (refl, refl, refl), inl refl)
 serving_plain a (inr (inr (inr (inr (inr (inr (inl is))))))) = rw is (inl (refl, refl, refl), inl refl)
-serving_plain a (inr (inr (inr (inr (inr (inr (inr is))))))) = help_plain (codes "serve") a is
+serving_plain a (inr (inr (inr (inr (inr (inr (inr (inl is)))))))) = rw is (inl (refl, refl, refl), inl refl)
+serving_plain a (inr (inr (inr (inr (inr (inr (inr (inr (inl is))))))))) = rw is (inl (refl, refl, refl), inl refl)
+serving_plain a (inr (inr (inr (inr (inr (inr (inr (inr (inr is))))))))) = help_plain (codes "serve") a is
 
 sending_plain : (a : Rule) → IsIn a sending.rules → IsPlainRule a
 sending_plain a (inl is) = rw is (inl (refl, refl, refl), inl refl)

@@ -92,6 +92,15 @@ serve_is : (takes jdf serve ≡ true) × (name_in (subcommand_of jdf serve) ≡ 
 unfolding jdf clap_on_literals
 serve_is = (refl, refl, refl, refl, refl, refl, refl, refl, refl)
 
+-- where other controllers are, and what tells who sends
+abbrev known_to : List Text
+known_to = codes "serve" ∷ codes "house" ∷ codes "--listen=h:1" ∷ codes "--peers" ∷ codes "peers.json" ∷ codes "--sender-field=X-Sender" ∷ []
+
+known_to_is : (takes jdf known_to ≡ true) × (file_in (subcommand_of jdf known_to) ≡ Some (codes "house"))
+    × (text_in (codes "peers") (subcommand_of jdf known_to) ≡ Some (codes "peers.json")) × (text_in (codes "sender-field") (subcommand_of jdf known_to) ≡ Some (codes "X-Sender"))
+unfolding jdf clap_on_literals
+known_to_is = (refl, refl, refl, refl)
+
 -- options may stand before FILE, and the longest time goes up to an hour
 abbrev bounded : List Text
 bounded = codes "serve" ∷ codes "--limit=3600" ∷ codes "--requests" ∷ codes "1" ∷ codes "--listen=h:1" ∷ codes "job.json" ∷ []

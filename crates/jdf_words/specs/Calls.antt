@@ -69,13 +69,15 @@ pub record AreLimits (limits : ServeLimits) (found : Option (Text × List Row)) 
   pub body : IsNumberOr (codes "body") 67108864 1 1073741824 limits.body found
   pub memory : IsNumberOr (codes "memory") 268435456 1048576 1099511627776 limits.memory found
 
--- what was found is `serve`, on this FILE at this ADDR, with these limits and this number of
--- requests
-abbrev pub IsServe : Text → Text → ServeLimits → Option ℕ → Option (Text × List Row) → Type 0
-IsServe file listen limits requests found = (name_in found ≡ Some (codes "serve"))
+-- what was found is `serve`, on this FILE at this ADDR, with these limits, this number of requests,
+-- this peers' file and this field
+abbrev pub IsServe : Text → Text → ServeLimits → Option ℕ → (peers field : Option Text)
+    → Option (Text × List Row) → Type 0
+IsServe file listen limits requests peers field found = (name_in found ≡ Some (codes "serve"))
     × (file_in found ≡ Some file) × (text_in (codes "listen") found ≡ Some listen)
     × AreLimits limits found
     × (requests ≡ number_in (codes "requests") found) × IfSome requests (λ n. 1 ≤ n)
+    × (text_in (codes "peers") found ≡ peers) × (text_in (codes "sender-field") found ≡ field)
 
 -- what was found is `send`, to this URL, of the message in this FILE where one is named
 abbrev pub IsSend : Text → Option Text → Option (Text × List Row) → Type 0
@@ -142,8 +144,9 @@ Means (Take file at) found = IsTimed (codes "take") file.now at found
 Means (Show file picture) found =
     (name_in found ≡ Some (codes "show")) × (file_in found ≡ Some file.now)
     × (picture ≡ is_set_in (codes "picture") found)
-Means (Serve file listen limits requests) found =
-    IsServe file.now listen.now limits requests found
+Means (Serve file listen limits requests peers field) found =
+    IsServe file.now listen.now limits requests (option_map (λ path. path.now) peers)
+    (option_map (λ name. name.now) field) found
 Means (Send url file) found = IsSend url.now (option_map (λ path. path.now) file) found
 
 -- the fault says what clap's error says: that memory ran out, or else that error itself

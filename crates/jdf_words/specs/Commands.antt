@@ -63,10 +63,18 @@ memory_rule = number_rule (codes "memory") 1048576 1099511627776
 abbrev pub requests_rule : Rule
 requests_rule = number_rule (codes "requests") 1 18446744073709551615
 
+-- `--peers PEERS`, any text
+abbrev pub peers_rule : Rule
+peers_rule = option_rule (codes "peers")
+
+-- `--sender-field NAME`, any text
+abbrev pub sender_field_rule : Rule
+sender_field_rule = option_rule (codes "sender-field")
+
 -- what `serve` takes
 abbrev pub serve_rules : List Rule
 serve_rules = file_rule ∷ listen_rule ∷ limit_rule ∷ clients_rule ∷ body_rule ∷ memory_rule
-    ∷ requests_rule ∷ []
+    ∷ requests_rule ∷ peers_rule ∷ sender_field_rule ∷ []
 
 -- URL, any text, which has to be there
 abbrev pub url_rule : Rule

@@ -56,6 +56,10 @@ pub enum Call<'a> {
         limits: ServeLimits,
         /// How many connections to answer, at least 1. `None`: no end.
         requests: Option<u64>,
+        /// The path of the peers' file.
+        peers: Option<&'a str>,
+        /// The name of the header field that tells who sends.
+        sender_field: Option<&'a str>,
     },
     /// A message for a controller that answers over the network.
     Send {

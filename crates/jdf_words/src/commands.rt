@@ -4,7 +4,8 @@ ghost use Rattle.std.specs.Prelude.{◌≡◌, [], ◌∷◌, IfOk, Some, codes,
 ghost use Rattle.clap.specs.Words.{App, Shape, app_of, rule_of, with_subcommand};
 ghost use Rattle.jdf_words.specs.Commands.{alone, at_rule, bare, body_rule, clients_rule, command};
 ghost use Rattle.jdf_words.specs.Commands.{file_rule, jdf, limit_rule, listen_rule, memory_rule};
-ghost use Rattle.jdf_words.specs.Commands.{message_rule, option_rule, order_rules, picture_rule};
+ghost use Rattle.jdf_words.specs.Commands.{message_rule, option_rule, order_rules, peers_rule};
+ghost use Rattle.jdf_words.specs.Commands.{picture_rule, sender_field_rule};
 ghost use Rattle.jdf_words.specs.Commands.{requests_rule, send_rule, send_rules, serve_rules};
 ghost use Rattle.jdf_words.specs.Commands.{show_rules, url_rule};
 
@@ -57,7 +58,7 @@ fn send_argument<'a>(alloc: Global) -> Arg<'a>
     ensures local { result.global ≡ false }
 {
     Arg::new(alloc, "send").long("send").value_name("URL").help(
-        "The address of the controller that the message is sent to, which answers it",
+        "The address of the controller that the message is sent to, which answers it, or @PEERS",
     )
 }
 
@@ -140,13 +141,35 @@ fn requests_argument<'a>(alloc: Global) -> Arg<'a>
     )
 }
 
+/// `--peers PEERS`.
+fn peers_argument<'a>(alloc: Global) -> Arg<'a>
+    ensures rule { rule_of result ≡ peers_rule }
+    ensures local { result.global ≡ false }
+{
+    Arg::new(alloc, "peers")
+        .long("peers")
+        .value_name("PEERS")
+        .help("The file that tells where other controllers are: messages go there by themselves")
+}
+
+/// `--sender-field NAME`.
+fn sender_field_argument<'a>(alloc: Global) -> Arg<'a>
+    ensures rule { rule_of result ≡ sender_field_rule }
+    ensures local { result.global ≡ false }
+{
+    Arg::new(alloc, "sender-field")
+        .long("sender-field")
+        .value_name("NAME")
+        .help("The header field in which a proxy tells who sends; another's messages are refused")
+}
+
 /// URL, which has to be there.
 fn url_argument<'a>(alloc: Global) -> Arg<'a>
     ensures rule { rule_of result ≡ url_rule }
     ensures local { result.global ≡ false }
 {
     Arg::new(alloc, "URL").required(true).help(
-        "The address of the controller, as http://127.0.0.1:8010/jmf",
+        "The address of the controller, as http://127.0.0.1:8010/jmf, or @PEERS",
     )
 }
 
@@ -208,7 +231,9 @@ fn serve_command<'a>(alloc: Global) -> Result<Command<'a>, AllocError>
         .arg(clients_argument(alloc))?
         .arg(body_argument(alloc))?
         .arg(memory_argument(alloc))?
-        .arg(requests_argument(alloc))
+        .arg(requests_argument(alloc))?
+        .arg(peers_argument(alloc))?
+        .arg(sender_field_argument(alloc))
 }
 
 /// The command that sends to a URL.

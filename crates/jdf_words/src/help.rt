@@ -69,8 +69,9 @@ pub(crate) const ORDER: Help = Help {
     long_about: "Gives the controller that is kept in FILE an order, at the time N.\n\n\
         Reads from standard input the order. Prints the reply and the message that goes out.\n\n\
         With --send, the message isn't printed, but sent over HTTP to the controller that listens\n\
-        at URL, and its answer is taken, at the time N as well. Prints the reply to each, and\n\
-        what the answer says.",
+        at URL, and its answer is taken, at the time N as well. In place of URL, @PEERS is a\n\
+        peers' file, which has that of the receiver. Prints the reply to each, and what the\n\
+        answer says.",
     example: "Examples:\n  jdf_cli order mis --at 1767225600 < examples/shop/spawn.json\n  \
         jdf_cli order mis --at 1767225600 --send http://127.0.0.1:8010/jmf \
         < examples/shop/spawn.json",
@@ -97,8 +98,9 @@ pub(crate) const SERVE: Help = Help {
     about: "Serves a controller: prints where it listens, and answers messages over HTTP",
     long_about: "Serves the controller that is kept in FILE: listens on ADDR, and answers each\n\
         message that comes over HTTP. Where FILE is a folder, serves each that is kept in a file\n\
-        of it: the last part of a URL's path names one. Clients are served side by side: a slow\n\
-        one keeps nobody waiting.\n\n\
+        of its name there: a message leads to its receiver. Clients are served side by side: a\n\
+        slow one keeps nobody waiting. With PEERS, or peers.json in the folder, what is out goes\n\
+        to the other controllers by itself.\n\n\
         Reads nothing from standard input. Prints the address that it listens on, and on\n\
         standard error a line for each request. Port 0 stands for any port that is free.\n\
         `order`, `take` and `show` may go on beside it.",
@@ -107,7 +109,8 @@ pub(crate) const SERVE: Help = Help {
 
 pub(crate) const SEND: Help = Help {
     about: "Sends a message: reads it, sends it to a controller over HTTP, prints the answer",
-    long_about: "Sends a message over HTTP to the controller that listens at URL.\n\n\
+    long_about: "Sends a message over HTTP to the controller that listens at URL. In place of URL,\n\
+        @PEERS is a peers' file, which has that of the receiver.\n\n\
         Reads the message from FILE, or from standard input where no FILE is named. Prints the\n\
         answer.",
     example: "Example:\n  sed 1d sent | jdf_cli send http://127.0.0.1:8010/jmf",

@@ -119,6 +119,8 @@ fn serve_of<'a>(found: &ArgMatches<'a>) -> Call<'a>
         listen: text_in(found, "listen").unwrap(),
         limits: limits_in(found),
         requests: requests_in(found),
+        peers: text_in(found, "peers"),
+        sender_field: text_in(found, "sender-field"),
     }
 }
 
@@ -173,9 +175,10 @@ fn call_in<'a>(matches: &ArgMatches<'a>) -> Call<'a>
 /// No word at all is `edit`; any others are read by `clap`, as `edit`, `world`, `loop`,
 /// `new FILE`, `order FILE --at N [--send URL]`, `take FILE --at N`, `show FILE [--picture]`,
 /// `serve FILE --listen ADDR [--limit SECONDS] [--clients COUNT] [--body BYTES] [--memory BYTES]
-/// [--requests COUNT]` or `send URL [FILE]`. FILE, ADDR and URL are any text, N a whole number of
-/// seconds since 1970 of at most 9,999,999,999, and what `serve` takes beside ADDR are whole numbers
-/// within the bounds of `ServeLimits`, that of requests at least 1. Other words, and those that ask
+/// [--requests COUNT] [--peers PEERS] [--sender-field NAME]` or `send URL [FILE]`. FILE, ADDR,
+/// PEERS, NAME and URL are any text, N a whole number of seconds since 1970 of at most
+/// 9,999,999,999, and what else `serve` takes are whole numbers within the bounds of `ServeLimits`,
+/// that of requests at least 1. Other words, and those that ask
 /// for help, are answered with `clap`'s fault.
 pub fn command_of<'a>(alloc: Global, words: &'a [String]) -> Result<Call<'a>, CallFault>
     ensures edit { words.entry.now ≡ [] → IsOk result }

@@ -1,14 +1,16 @@
 -- A controller in its beginning, beside the keeper that holds its state.
-use Rattle.std.specs.Prelude.{◌≡◌, ℕ, Bool, false, true, List, Ok}
+use Rattle.std.specs.Prelude.{◌≡◌, ◌⊎◌, ℕ, Bool, false, true, List, Ok}
 use Rattle.json_profile.specs.ReadAs.{IsReadAs, IsRefusalOf}
-use Rattle.streams.specs.declared.refused.Refused.TheVariants.{Core, SaveFailed}
+use Rattle.streams.specs.declared.refused.Refused.TheVariants.{Core, OtherName, SaveFailed}
 use Rattle.ticket_items.specs.declared.refusal.Refusal.TheVariants.{Memory}
 use Rattle.streams.specs.declared.fault.Fault.{Fault}
 use Rattle.streams.specs.declared.fault.Fault.TheVariants.{Input, Device}
 use Rattle.controller_form.specs.Openings.OpeningForm.{opening_read}
 use Rattle.controller_form.specs.declared.openings.opening.Opening.{Opening}
 use Rattle.controller_form.specs.declared.openings.opening.Opening.TheVariants as opening
+use Rattle.stored_state.specs.Addressee.{is_addressed}
 use Rattle.stored_state.specs.Held.{Held}
+use Rattle.stored_state.specs.declared.addressee.Addressee.{Addressee}
 use Rattle.stored_state.specs.declared.any_controller.AnyController.{AnyController}
 use Rattle.stored_state.specs.declared.any_controller.AnyController.TheVariants.{Master as of_master}
 use Rattle.stored_state.specs.declared.any_controller.AnyController.TheVariants.{Worker as of_worker}
@@ -29,12 +31,27 @@ pub record IsBegun {C K : Type 0} (is_honest : K → Bool) (held place : K → L
   pub placed : place kept.keep ≡ place keep
   pub fresh : kept.stale ≡ false
 
--- the controller that the bytes begin, so
-pub record IsBegunAs {K : Type 0} (is_honest : K → Bool) (held place : K → List ℕ) (keep : K)
-    (bytes : List ℕ) (kept : Held AnyController K) : Type 0 where
+-- the controller that the bytes begin is this, and is one that is addressed
+pub record IsBeginning (to : Addressee) (bytes : List ℕ) (controller : AnyController) : Type 0 where
   pub opening : Opening
   pub read : IsReadAs opening_read bytes (Ok opening)
-  pub begun : IsBegun is_honest held place text_of keep (controller_of opening) kept
+  pub is : controller ≡ controller_of opening
+  pub addressed : is_addressed to controller ≡ true
+
+-- why they begin none: what they are refused for, or that another is addressed
+abbrev pub IsNoBeginning : Addressee → List ℕ → Fault → Type 0
+IsNoBeginning to bytes (Input (Core e)) = IsRefusalOf opening_read bytes e
+IsNoBeginning to bytes (Input OtherName) =
+    (opening : Opening) × IsReadAs opening_read bytes (Ok opening)
+    × (is_addressed to (controller_of opening) ≡ false)
+IsNoBeginning to bytes fault = ⊥
+
+-- the controller that the bytes begin stands so beside its keeper
+pub record IsBegunAs {K : Type 0} (is_honest : K → Bool) (held place : K → List ℕ) (keep : K)
+    (to : Addressee) (bytes : List ℕ) (kept : Held AnyController K) : Type 0 where
+  pub controller : AnyController
+  pub beginning : IsBeginning to bytes controller
+  pub begun : IsBegun is_honest held place text_of keep controller kept
 
 -- why a new controller isn't kept, by the text of its state: memory ran out, or the save failed
 abbrev pub IsNotKept : {K : Type 0} → (K → List ℕ → K → Type 0) → K → List ℕ → Fault → Type 0
@@ -42,9 +59,10 @@ IsNotKept {K = K} save_fails keep text (Device SaveFailed) =
     (after : K) × save_fails keep text after
 IsNotKept save_fails keep text fault = fault ≡ Input (Core Memory)
 
--- why no controller is begun: what the bytes are refused for, or it isn't kept
-abbrev pub IsNotBegun : {K : Type 0} → (K → List ℕ → K → Type 0) → K → List ℕ → Fault → Type 0
-IsNotBegun save_fails keep bytes (Input (Core e)) = IsRefusalOf opening_read bytes e
-IsNotBegun save_fails keep bytes fault =
-    (opening : Opening) × IsReadAs opening_read bytes (Ok opening)
-    × IsNotKept save_fails keep (text_of (controller_of opening)) fault
+-- why no controller is begun: the bytes begin none, or it isn't kept
+abbrev pub IsNotBegun : {K : Type 0} → (K → List ℕ → K → Type 0) → K → Addressee → List ℕ → Fault
+    → Type 0
+IsNotBegun save_fails keep to bytes fault =
+    IsNoBeginning to bytes fault
+    ⊎ ((controller : AnyController) × IsBeginning to bytes controller
+    × IsNotKept save_fails keep (text_of controller) fault)

@@ -9,6 +9,7 @@ use Rattle.streams.specs.declared.fault.Fault.TheVariants.{Input, Device}
 use Rattle.streams.specs.Ends.{IsUnread}
 use Rattle.streams.specs.Streams.{IsInput, IsUntouched, Use}
 use Rattle.stored_state.specs.Held.{Held}
+use Rattle.stored_state.specs.declared.addressee.Addressee.{Addressee}
 use Rattle.stored_state.specs.declared.any_controller.AnyController.{AnyController}
 use Rattle.stored_state.specs.declared.any_controller.AnyController.TheVariants.{Master as of_master}
 use Rattle.stored_state.specs.declared.any_controller.AnyController.TheVariants.{Worker as of_worker}
@@ -30,22 +31,23 @@ Steps = List ℕ → AnyController → TextStep AnyController → Type 0
 
 -- `new` where there is no controller yet: what the input begins is held, and nothing is written
 pub record Begins {K : Type 0} (is_honest : K → Bool) (held place : K → List ℕ) (is_there : Bool)
-    (keep : K) (input : Use) (after : Held AnyController K) (text : List ℕ) (refused : Bool)
-    : Type 0 where
+    (keep : K) (to : Addressee) (input : Use) (after : Held AnyController K) (text : List ℕ)
+    (refused : Bool) : Type 0 where
   pub absent : is_there ≡ false
   pub bytes : List ℕ
   pub is_input : IsInput input bytes
-  pub begun : IsBegunAs is_honest held place keep bytes after
+  pub begun : IsBegunAs is_honest held place keep to bytes after
   pub written : text ≡ []
   pub accepted : refused ≡ false
 
 -- why `new` gives up: there is a controller already, and the input isn't read; or the input isn't,
 -- or it begins none
-abbrev pub BeginsNone : {K : Type 0} → (K → List ℕ → K → Type 0) → Bool → K → Use → Fault → Type 0
-BeginsNone save_fails true keep input fault = IsUntouched input × (fault ≡ Device SaveFailed)
-BeginsNone save_fails false keep input fault =
+abbrev pub BeginsNone : {K : Type 0} → (K → List ℕ → K → Type 0) → Bool → K → Addressee → Use
+    → Fault → Type 0
+BeginsNone save_fails true keep to input fault = IsUntouched input × (fault ≡ Device SaveFailed)
+BeginsNone save_fails false keep to input fault =
     IsUnread input fault
-    ⊎ ((bytes : List ℕ) × IsInput input bytes × IsNotBegun save_fails keep bytes fault)
+    ⊎ ((bytes : List ℕ) × IsInput input bytes × IsNotBegun save_fails keep to bytes fault)
 
 -- ---- a step of the controller that is held
 

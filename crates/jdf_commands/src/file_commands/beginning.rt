@@ -2,9 +2,10 @@
 
 ghost use Rattle.std.specs.Prelude.{◌≡◌, [], IfOk, IfErr};
 ghost use Rattle.serde_json.specs.Written.{compact_text};
+ghost use Rattle.stored_state.specs.AnyStep.{text_of};
 ghost use Rattle.stored_state.specs.Held.{Held};
 ghost use Rattle.stored_state.specs.Opened.{held_in};
-ghost use Rattle.stored_state.specs.declared.any_controller.AnyController.{AnyController};
+ghost use Rattle.stored_state.specs.declared.any_controller.AnyController.{AnyController as AnyControllerSeen};
 ghost use Rattle.jdf_commands.specs.FileCommands.Beginning as begins;
 ghost use Rattle.jdf_commands.specs.FileCommands.Commands.{Begins, BeginsNone};
 ghost use Rattle.streams.specs.Streams.{used};
@@ -15,7 +16,7 @@ use controller_form::{Opening, opening_of};
 use keepers::Keep;
 use std::alloc::Global;
 use std::io::Read;
-use stored_state::{Kept, Opened, Stored};
+use stored_state::{Addressee, AnyController, Kept, Opened, Stored};
 use streams::{Counted, Fault, Output, Refused, read_input};
 
 /// A controller beside its keeper, which holds its state from then on. Refuses as `Device`
@@ -32,16 +33,61 @@ fn kept_of<C: Stored, K: Keep>(alloc: Global, controller: C, keep: K) -> Result<
     }
 }
 
-/// The controller that the input begins, beside its keeper, which holds its state from then on.
-/// Refuses as `Input` what the input is refused for, and `Memory`; and as `Device` `SaveFailed`.
-pub fn begin<K: Keep>(alloc: Global, keep: K, input: &[u8]) -> Result<Opened<K>, Fault>
-    ensures ok { IfOk result (λ opened. begins.IsBegunAs K.is_honest K.held K.place keep input.now
-        (held_in opened)) }
-    ensures refused { IfErr result (begins.IsNotBegun K.save_fails keep input.now) }
+/// The controller of an opening.
+fn controller_of(opening: Opening) -> AnyController
+    ensures { result ≡ begins.controller_of opening }
 {
-    match opening_of(alloc, input)? {
-        Opening::Master(master) => Ok(Opened::Master(kept_of(alloc, master, keep)?)),
-        Opening::Worker(worker) => Ok(Opened::Worker(kept_of(alloc, worker, keep)?)),
+    match opening {
+        Opening::Master(master) => AnyController::Master(master),
+        Opening::Worker(worker) => AnyController::Worker(worker),
+    }
+}
+
+/// The controller that the input begins, which is one that is addressed. Refuses as `Input` what the
+/// input is refused for, `OtherName`, and `Memory`.
+fn beginning_of(alloc: Global, input: &[u8], to: Addressee<'_>) -> Result<AnyController, Fault>
+    ensures ok { IfOk result (begins.IsBeginning to.entry input.now) }
+    ensures refused { IfErr result (begins.IsNoBeginning to.entry input.now) }
+{
+    let controller = controller_of(opening_of(alloc, input)?);
+    if to.is(&controller) {
+        return Ok(controller);
+    }
+    drop(controller);
+    Err(Fault::Input(Refused::OtherName))
+}
+
+/// A controller beside its keeper, which holds its state from then on. Refuses as `kept_of`.
+fn opened_of<K: Keep>(alloc: Global, controller: AnyController, keep: K) -> Result<Opened<K>, Fault>
+    ensures ok { IfOk result (λ opened. begins.IsBegun K.is_honest K.held K.place text_of keep
+        controller (held_in opened)) }
+    ensures refused { IfErr result (begins.IsNotKept K.save_fails keep (text_of controller)) }
+{
+    match controller {
+        AnyController::Master(master) => Ok(Opened::Master(kept_of(alloc, master, keep)?)),
+        AnyController::Worker(worker) => Ok(Opened::Worker(kept_of(alloc, worker, keep)?)),
+    }
+}
+
+/// The controller that the input begins, which is one that is addressed, beside its keeper, which
+/// holds its state from then on. Refuses as `Input` what the input is refused for, `OtherName`, and
+/// `Memory`; and as `Device` `SaveFailed`.
+pub fn begin<K: Keep>(
+    alloc: Global,
+    keep: K,
+    input: &[u8],
+    to: Addressee<'_>,
+) -> Result<Opened<K>, Fault>
+    ensures ok { IfOk result (λ opened. begins.IsBegunAs K.is_honest K.held K.place keep to.entry
+        input.now (held_in opened)) }
+    ensures refused { IfErr result (begins.IsNotBegun K.save_fails keep to.entry input.now) }
+{
+    match beginning_of(alloc, input, to) {
+        Ok(controller) => opened_of(alloc, controller, keep),
+        Err(fault) => {
+            drop(keep);
+            Err(fault)
+        }
     }
 }
 
@@ -52,19 +98,20 @@ fn new_output<K: Keep, I: Read>(
     alloc: Global,
     keep: K,
     is_there: bool,
+    to: Addressee<'_>,
     reader: &mut Counted<I>,
 ) -> Result<(Output, Opened<K>), Fault>
-    ensures ok { IfOk result (λ begun. Begins K.is_honest K.held K.place is_there keep
+    ensures ok { IfOk result (λ begun. Begins K.is_honest K.held K.place is_there keep to.entry
         (used I.remaining reader.old reader.new) (held_in begun.1)
         begun.0.text.items begun.0.refused) }
-    ensures refused { IfErr result (BeginsNone K.save_fails is_there keep
+    ensures refused { IfErr result (BeginsNone K.save_fails is_there keep to.entry
         (used I.remaining reader.old reader.new)) }
 {
     if is_there {
         return Err(Fault::Device(Refused::SaveFailed));
     }
     let input = read_input(alloc, reader)?;
-    let opened = begin(alloc, keep, input.as_slice())?;
+    let opened = begin(alloc, keep, input.as_slice(), to)?;
     Ok((unrefused(Vec::new(alloc)), opened))
 }
 
@@ -73,16 +120,17 @@ pub(crate) fn new_noted<K: Keep, I: Read>(
     alloc: Global,
     keep: K,
     is_there: bool,
+    to: Addressee<'_>,
     reader: &mut Counted<I>,
 ) -> Result<Noted, Fault>
-    ensures ok { IfOk result (λ noted. ((after : Held AnyController K)
-        × Begins K.is_honest K.held K.place is_there keep
+    ensures ok { IfOk result (λ noted. ((after : Held AnyControllerSeen K)
+        × Begins K.is_honest K.held K.place is_there keep to.entry
         (used I.remaining reader.old reader.new) after
         noted.output.text.items noted.output.refused) × (noted.notes.items ≡ [])) }
-    ensures refused { IfErr result (BeginsNone K.save_fails is_there keep
+    ensures refused { IfErr result (BeginsNone K.save_fails is_there keep to.entry
         (used I.remaining reader.old reader.new)) }
 {
-    let (output, opened) = new_output(alloc, keep, is_there, reader)?;
+    let (output, opened) = new_output(alloc, keep, is_there, to, reader)?;
     drop(opened);
     Ok(Noted::bare(alloc, output))
 }

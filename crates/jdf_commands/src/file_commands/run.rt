@@ -4,6 +4,7 @@ ghost use Rattle.std.specs.Prelude.{◌≡◌, Bool, [], false, IfErr, IfOk};
 ghost use Rattle.keepers.specs.InFile.{InFile};
 ghost use Rattle.keepers.specs.OnDisk.{OnDisk};
 ghost use Rattle.stored_state.specs.Held.{Held};
+ghost use Rattle.stored_state.specs.declared.addressee.Addressee.{Addressee};
 ghost use Rattle.stored_state.specs.declared.any_controller.AnyController.{AnyController};
 ghost use Rattle.jdf_commands.specs.Calls as calls;
 ghost use Rattle.jdf_commands.specs.Calls.{EndsCall, IsFaultOfCall, IsOutputOfCall};
@@ -19,6 +20,7 @@ use crate::file_commands::taking::take_output;
 use crate::world_command::WorldCommand;
 use jdf_words::Call;
 use keepers::{FileKeep, Locks};
+use shop_folder::owner_of;
 use std::alloc::Global;
 use std::io::{Read, Write};
 use streams::{Counted, Fault, Refused, output_of};
@@ -30,17 +32,18 @@ fn new_in_file<R: Locks, I: Read>(
     file: &str,
     reader: &mut Counted<I>,
 ) -> Result<Noted, Fault>
-    ensures ok { IfOk result (λ noted. ((after : Held AnyController (InFile OnDisk))
-        × Begins calls.is_honest calls.held calls.place false (calls.made_in file.now)
+    ensures ok { IfOk result (λ noted. ((to : Addressee) × (after : Held AnyController (InFile OnDisk))
+        × Begins calls.is_honest calls.held calls.place false (calls.made_in file.now) to
         (used I.remaining reader.old reader.new) after
         noted.output.text.items noted.output.refused) × (noted.notes.items ≡ [])) }
-    ensures refused { IfErr result (λ fault. (is_there : Bool)
-        × BeginsNone calls.save_fails is_there (calls.made_in file.now)
+    ensures refused { IfErr result (λ fault. (is_there : Bool) × (to : Addressee)
+        × BeginsNone calls.save_fails is_there (calls.made_in file.now) to
         (used I.remaining reader.old reader.new) fault) }
 {
+    let to = owner_of(rt, alloc, file)?;
     let keep = FileKeep::create_new(rt, alloc, file);
     let is_there = keep.exists();
-    new_noted(alloc, keep, is_there, reader)
+    new_noted(alloc, keep, is_there, to, reader)
 }
 
 /// What a call writes and notes. It refuses, and holds the file's lock, as `run_file` says.

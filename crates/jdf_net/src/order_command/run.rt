@@ -4,11 +4,10 @@ ghost use Rattle.std.specs.Prelude.{◌≤◌, IfOk};
 ghost use Rattle.std.specs.Option.{option_map};
 ghost use Rattle.jdf_net.specs.OrderCommand.{EndsSendOrder, GivesOn, GivesOrder, IsCome};
 ghost use Rattle.jdf_net.specs.OrderCommand.{IsWrittenOf, SendsOn};
-ghost use Rattle.jdf_net.specs.SendCommand.{FitsHead};
 ghost use Rattle.streams.specs.Streams.{used};
 
 use crate::order_command::send_order::SendOrder;
-use crate::send_command::{DONE, destination_of, post, tell_no_url, tell_status};
+use crate::send_command::{DONE, SendTo, post, tell_no_peer, tell_no_url, tell_status};
 use http_message::MAX_BODY_BYTES;
 use jdf_commands::{
     Ordered, answer_output, finish_noting, order_in_file, order_noted, step_output, take_in_file,
@@ -21,13 +20,14 @@ use std::net::Net;
 use std::time::Clock;
 use streams::{Counted, Fault, Output, Refused, finish};
 use ticket_tree::Refusal;
-use url::Url;
 
 /// What came of a message that was sent on.
 #[derive(Drop)]
 enum Came {
     /// The other controller refused it with this status.
     Refused(u16),
+    /// The table of peers has no URL for its receiver.
+    NoPeer,
     /// It answered, and this is what is written of the answer.
     Answered(Output),
 }
@@ -53,22 +53,25 @@ fn taken<R: Locks>(
     answer_output(alloc, &given, &message)
 }
 
-/// Posts a message to a URL, and has the controller in the file take the answer, if there is one.
-/// Gives up as `send` and `take` do.
+/// Posts a message to where it is sent, and has the controller in the file take the answer, if there
+/// is one. Gives up as `send` and `take` do.
 fn answered<R: Locks + Net + Clock>(
     rt: &R,
     alloc: Global,
     order: &SendOrder<'_>,
-    url: &Url,
+    to: &SendTo,
     message: &[u8],
 ) -> Result<Came, Fault>
-    requires { FitsHead url.now }
     ensures { IfOk result (IsCome order.now.file order.now.at) }
 {
     if message.len() > MAX_BODY_BYTES {
         return Err(Fault::Input(Refused::TooLarge));
     }
-    let received = match post(rt, alloc, url, message) {
+    let destination = match to.destination(alloc, message)? {
+        Some(destination) => destination,
+        None => return Ok(Came::NoPeer),
+    };
+    let received = match post(rt, alloc, destination, message) {
         Ok(received) => received,
         Err(refused) => return Err(Fault::Device(refused)),
     };
@@ -83,19 +86,19 @@ fn send_on<R: Locks + Net + Clock, W: Write, F: Write>(
     rt: &R,
     alloc: Global,
     order: &SendOrder<'_>,
-    url: &Url,
+    to: &SendTo,
     message: &[u8],
     writer: &mut Counted<W>,
     faults: &mut Counted<F>,
 ) -> u8
-    requires { FitsHead url.now }
     ensures sent { SendsOn order.now.file order.now.at (used W.contents writer.old writer.new)
         (used F.contents faults.old faults.new) result }
     ensures known { result ≤ 4 }
 {
-    match answered(rt, alloc, order, url, message) {
+    match answered(rt, alloc, order, to, message) {
         Ok(Came::Answered(output)) => finish(Ok(output), writer, faults),
         Ok(Came::Refused(status)) => tell_status(status, faults),
+        Ok(Came::NoPeer) => tell_no_peer(faults),
         Err(fault) => finish(Err(fault), writer, faults),
     }
 }
@@ -106,13 +109,12 @@ fn give_on<R: Locks + Net + Clock, W: Write, F: Write>(
     rt: &R,
     alloc: Global,
     order: &SendOrder<'_>,
-    url: &Url,
+    to: &SendTo,
     reply: Result<Reply, Refusal>,
     message: &[u8],
     writer: &mut Counted<W>,
     faults: &mut Counted<F>,
 ) -> u8
-    requires { FitsHead url.now }
     ensures given { GivesOn order.now.file order.now.at reply
         (used W.contents writer.old writer.new) (used F.contents faults.old faults.new) result }
     ensures known { result ≤ 4 }
@@ -121,7 +123,7 @@ fn give_on<R: Locks + Net + Clock, W: Write, F: Write>(
     if status != 0 {
         return status;
     }
-    send_on(rt, alloc, order, url, message, writer, faults)
+    send_on(rt, alloc, order, to, message, writer, faults)
 }
 
 /// Gives out what an order gives out. Answers the exit status.
@@ -129,12 +131,11 @@ fn give_out<R: Locks + Net + Clock, W: Write, F: Write>(
     rt: &R,
     alloc: Global,
     order: &SendOrder<'_>,
-    url: &Url,
+    to: &SendTo,
     given: Ordered,
     writer: &mut Counted<W>,
     faults: &mut Counted<F>,
 ) -> u8
-    requires { FitsHead url.now }
     ensures given { GivesOrder order.now.file order.now.at given.reply
         (option_map (λ b. b.items) given.message) given.notes.items
         (used W.contents writer.old writer.new) (used F.contents faults.old faults.new) result }
@@ -152,7 +153,7 @@ fn give_out<R: Locks + Net + Clock, W: Write, F: Write>(
                 rt,
                 alloc,
                 order,
-                url,
+                to,
                 reply,
                 message.as_slice(),
                 writer,
@@ -164,13 +165,14 @@ fn give_out<R: Locks + Net + Clock, W: Write, F: Write>(
 }
 
 /// Gives the controller in a file the order that the input is, as `order` does, and writes the line
-/// of its reply. A message that goes out is posted to the controller that serves at a URL, as
-/// `send` does, in place of being written; the answer is handed to the controller in the file, as
+/// of its reply. A message that goes out is posted to where `send` would send it, in place of being
+/// written; the answer is handed to the controller in the file, as
 /// `take` does at the same time, and what came of it is written: the reply, with the Status of the
 /// queue entry behind it where the message was taken, and where it was refused a line more that
 /// tells who refused. Each step is saved before its line is written; the file is locked for each
 /// step alone. Answers the exit status: 0; 1 where the order, the message or the answer was
-/// refused; for a text that is no such URL 2, and then nothing is read; else that of the fault,
+/// refused, or no URL is known for its receiver; for a text that is no such URL 2, and then nothing
+/// is read; else that of the fault,
 /// which is told, as of `order`, `send` or `take`. The message may have been taken then; it can be
 /// sent once more by `Resend`.
 pub fn run_send_order<R: Locks + Net + Clock, I: Read, W: Write, F: Write>(
@@ -185,13 +187,13 @@ pub fn run_send_order<R: Locks + Net + Clock, I: Read, W: Write, F: Write>(
         (used I.remaining reader.old reader.new) (used W.contents writer.old writer.new)
         (used F.contents faults.old faults.new) result }
 {
-    let url = match destination_of(alloc, order.url) {
-        Ok(Some(url)) => url,
+    let to = match SendTo::of(rt, alloc, order.url) {
+        Ok(Some(to)) => to,
         Ok(None) => return tell_no_url(order.url, faults),
         Err(fault) => return finish(Err(fault), writer, faults),
     };
     match order_in_file(rt, alloc, order.file, order.at, reader) {
-        Ok(given) => give_out(rt, alloc, order, &url, given, writer, faults),
+        Ok(given) => give_out(rt, alloc, order, &to, given, writer, faults),
         Err(fault) => finish(Err(fault), writer, faults),
     }
 }

@@ -5,6 +5,6 @@ pub struct SendOrder<'a> {
     pub file: &'a str,
     /// The time of the order and of the answer, in seconds since 1970.
     pub at: u64,
-    /// The address of the other controller, as a URL.
+    /// Where the message is sent: a URL, or behind a `@` the path of a peers' file.
     pub url: &'a str,
 }

@@ -1,10 +1,9 @@
 //! A message over one connection, and what comes back.
 
-ghost use Rattle.jdf_net.specs.SendCommand.{FitsHead};
-
-use crate::send_command::destination::connect;
+use crate::send_command::connecting::connect;
 use crate::until::{Until, time_left};
 use http_message::{MAX_BODY_BYTES, Received, receive, send_to};
+use peers_file::Destination;
 use std::alloc::Global;
 use std::fs;
 use std::io::{self, Read};
@@ -12,7 +11,6 @@ use std::net::Net;
 use std::rt::Files;
 use std::time::{Clock, Duration, Instant};
 use streams::{Counted, Fault, Refused, read_input};
-use url::Url;
 
 /// How many seconds an exchange may take: as long as a response to the longest body may need, and
 /// no longer than an operator waits.
@@ -40,31 +38,33 @@ pub(crate) fn read_message<R: Files, I: Read>(
     Ok(message)
 }
 
-/// A connection to the host that a URL names, for `EXCHANGE_SECONDS` at most from now on, of which
+/// A connection to the host of a destination, for `EXCHANGE_SECONDS` at most from now on, of which
 /// it may take some until there is one.
-fn connection<'a, R: Net + Clock>(rt: &'a R, url: &Url) -> io::Result<Until<'a, R, R::Stream>> {
+fn connection<'a, R: Net + Clock>(
+    rt: &'a R,
+    destination: &Destination,
+) -> io::Result<Until<'a, R, R::Stream>> {
     let start = Instant::now(rt)?;
     let limit = Duration::from_secs(EXCHANGE_SECONDS);
-    let stream = connect(rt, url, start, limit)?;
+    let stream = connect(rt, destination, start, limit)?;
     let left = time_left(rt, start, limit)?;
     Until::new(rt, stream, left)
 }
 
-/// Posts a message to a URL, and reads the response, for `EXCHANGE_SECONDS` at most. Refuses
+/// Posts a message to a destination, and reads the response, for `EXCHANGE_SECONDS` at most. Refuses
 /// `NoConnection`, also where none is there within that time and where the clock can't be read;
 /// `WriteFailed`; and what `receive` refuses the response for.
 pub(crate) fn post<R: Net + Clock>(
     rt: &R,
     alloc: Global,
-    url: &Url,
+    destination: &Destination,
     message: &[u8],
-) -> Result<Received, Refused>
-    requires { FitsHead url.now }
-{
-    let Ok(stream) = connection(rt, url) else {
+) -> Result<Received, Refused> {
+    let Ok(stream) = connection(rt, destination) else {
         return Err(Refused::NoConnection);
     };
     let mut stream = Counted::new(stream);
-    send_to(&mut stream, url.authority(), url.path(), message)?;
+    let (host, target) = (destination.authority(), destination.path());
+    send_to(&mut stream, host, target, message)?;
     receive(alloc, &mut stream)
 }

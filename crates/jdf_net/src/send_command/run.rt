@@ -9,8 +9,8 @@ ghost use Rattle.jdf_net.specs.SendCommand.{TellsRefusal, answer_line};
 ghost use Rattle.jdf_net.specs.declared.send_command.run.Came.TheVariants.{NoUrl};
 ghost use Rattle.streams.specs.Streams.{IsUntouched, used};
 
-use crate::send_command::destination::destination_of;
 use crate::send_command::exchanging::{post, read_message};
+use crate::send_command::send_to::SendTo;
 use controller::answering::spawn_in;
 use jdf_commands::{refusal_told, refused_by};
 use jmf_message::decode;
@@ -29,6 +29,8 @@ pub(crate) const DONE: u16 = 200;
 enum Came {
     /// The text is no URL that a message can be sent to.
     NoUrl,
+    /// The table of peers has no URL for the receiver of the message.
+    NoPeer,
     /// The controller answered with this status, and with no message.
     Refused(u16),
     /// The controller took the message, and this is its answer.
@@ -46,12 +48,16 @@ fn sent<R: Files + Net + Clock, I: Read>(
     ensures { IfOk result (λ came. came ≡ NoUrl
         → IsUntouched (used I.remaining reader.old reader.new)) }
 {
-    let url = match destination_of(alloc, url)? {
-        Some(url) => url,
+    let to = match SendTo::of(rt, alloc, url)? {
+        Some(to) => to,
         None => return Ok(Came::NoUrl),
     };
     let message = read_message(rt, alloc, file, reader)?;
-    match post(rt, alloc, &url, message.as_slice()) {
+    let destination = match to.destination(alloc, message.as_slice())? {
+        Some(destination) => destination,
+        None => return Ok(Came::NoPeer),
+    };
+    match post(rt, alloc, destination, message.as_slice()) {
         Ok(received) if received.status == DONE => {
             Ok(Came::Answered(Vec::from_slice(alloc, received.body.as_slice())?))
         }
@@ -153,6 +159,14 @@ pub(crate) fn tell_no_url<F: Write>(url: &str, faults: &mut Counted<F>) -> u8
     2
 }
 
+/// Tells that the table of peers has no URL for the receiver of a message. Answers the exit status.
+pub(crate) fn tell_no_peer<F: Write>(faults: &mut Counted<F>) -> u8
+    ensures { result ≡ 1 }
+{
+    let _ = writeln!(faults, "No URL is known for the receiver");
+    1
+}
+
 /// Tells the status that a message was refused with. Answers the exit status.
 pub(crate) fn tell_status<F: Write>(status: u16, faults: &mut Counted<F>) -> u8
     ensures { result ≡ 1 }
@@ -162,12 +176,13 @@ pub(crate) fn tell_status<F: Write>(status: u16, faults: &mut Counted<F>) -> u8
 }
 
 /// Sends the message that a file holds, or that comes on standard input where no file is named, to
-/// the controller that serves at a URL, `http://host[:port]/path`, and writes the text of its
-/// answer on a line, if it has one. Answers the exit status: 0 where the message was taken; 1 where
-/// the answer refuses it, which is told with who refused, but for a spawn that is declined as it
-/// was asked to be given up; 1 too where the status of the response isn't 200, which is told, and
-/// then nothing is written; 3 where what was answered is no message. For a text that is no such URL
-/// it reads and sends nothing, tells that, and answers 2. Where it gives up, it tells why and
+/// the controller that serves at a URL, `http://host[:port]/path`, or that a peers' file has for its
+/// receiver, whose path stands behind a `@`, and writes the text of its answer on a line, if it has
+/// one. Answers the exit status: 0 where the message was taken; 1 where the answer refuses it, which
+/// is told with who refused, but for a spawn that is declined as it was asked to be given up; 1 too
+/// where the status of the response isn't 200 or no URL is known for the receiver, which is told,
+/// and then nothing is written; 3 where what was answered is no message. For a text that is no such
+/// URL it reads and sends nothing, tells that, and answers 2. Where it gives up, it tells why and
 /// answers the status of the fault: 1 where memory ran out, 3 where the message has more bytes than
 /// `MAX_BODY_BYTES`, and it isn't sent; 4 where a file, a stream or the connection failed or the
 /// response isn't one, and then the message may have been taken.
@@ -187,6 +202,7 @@ pub fn run_send<R: Files + Net + Clock, I: Read, W: Write, F: Write>(
         Ok(Came::Answered(answer)) => give_answer(alloc, answer, writer, faults),
         Ok(Came::Refused(status)) => tell_status(status, faults),
         Ok(Came::NoUrl) => tell_no_url(url, faults),
+        Ok(Came::NoPeer) => tell_no_peer(faults),
         Err(fault) => finish(Err(fault), writer, faults),
     }
 }

@@ -3,6 +3,7 @@
 ghost use Rattle.std.specs.Prelude.{◌<◌, length};
 
 use crate::serve_command::accepting::LISTENER;
+use crate::serve_command::calling::CALLS;
 use crate::serve_command::note::Note;
 use crate::serve_command::server::{MAX_EVENTS, Server};
 use keepers::Locks;
@@ -28,6 +29,9 @@ impl<'a, R: Locks + Net + Clock, F: Write + Drop> Server<'a, R, F> {
         if token == LISTENER {
             self.has_waiting = true;
             return Ok(());
+        }
+        if token >= CALLS {
+            return self.note_call(token - CALLS);
         }
         let key = token - (LISTENER + 1);
         if let Some(entry) = self.clients.get_mut(key) {
@@ -240,6 +244,9 @@ impl<'a, R: Locks + Net + Clock, F: Write + Drop> Server<'a, R, F> {
             if is_lost {
                 self.let_go(key);
             }
+        }
+        if let Some(post) = &mut self.post {
+            post.recover(self.now);
         }
     }
 

@@ -5,7 +5,7 @@ ghost use Rattle.std.specs.Prelude.{◌<◌, length};
 use crate::serve_command::clients::BUFFER_SIZE;
 use crate::serve_command::server::Server;
 use keepers::Locks;
-use std::alloc::AllocError;
+use std::alloc::{Alloc, AllocError};
 use std::io::Write;
 use std::net::Net;
 use std::time::{Clock, Duration};
@@ -13,7 +13,7 @@ use std::time::{Clock, Duration};
 /// After how many milliseconds a file is looked at again that somebody else has locked.
 const LOCK_TIME: u64 = 10;
 
-impl<'a, R: Locks + Net + Clock, F: Write + Drop> Server<'a, R, F> {
+impl<'a, R: Locks + Net + Clock + Alloc + Clone + Drop, F: Write + Drop> Server<'a, R, F> {
     /// The next moment at which something is to be done, if nothing comes before.
     fn next_moment(&self) -> u64 {
         let has_steps = !self.lines.is_empty() && !self.is_locked_out;
@@ -27,6 +27,9 @@ impl<'a, R: Locks + Net + Clock, F: Write + Drop> Server<'a, R, F> {
         }
         if self.has_waiting && self.paused_until > self.now {
             next = u64::min(next, self.paused_until);
+        }
+        if let Some(post) = &self.post {
+            next = u64::min(next, post.next_moment());
         }
         for (_, entry) in self.clients.iter() {
             if let Some(client) = &entry.client {
@@ -54,9 +57,14 @@ impl<'a, R: Locks + Net + Clock, F: Write + Drop> Server<'a, R, F> {
         self.feed()?;
         self.accept_all();
         self.advance_all(buffer)?;
+        self.watch()?;
+        self.read_files()?;
+        self.advance_calls(buffer)?;
+        self.dispatch()?;
         self.step_all()?;
         self.now = self.moments.now(self.rt, self.now);
         self.advance_all(buffer)?;
+        self.close_late_calls()?;
         self.close_late()
     }
 

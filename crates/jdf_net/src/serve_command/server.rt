@@ -1,12 +1,14 @@
 use crate::serve_command::entry::Entry;
+use crate::serve_command::line::Line;
 use crate::serve_command::log::Log;
 use crate::serve_command::moments::Moments;
 use crate::serve_command::place::Place;
+use crate::serve_command::post::Post;
 use indexmap::IndexMap;
 use mio::net::{TcpListener, TcpStream};
 use mio::{Events, Poll};
 use peers::Limits;
-use rounds::{SavedStates, Waiting};
+use rounds::SavedStates;
 use slab::Slab;
 use std::alloc::Global;
 
@@ -19,6 +21,8 @@ pub(crate) struct Server<'a, R, F> {
     pub rt: &'a R,
     pub alloc: Global,
     pub place: Place<'a>,
+    /// The name of the header field that tells who sends, where there is one.
+    pub sender_field: Option<&'a str>,
     pub limits: Limits,
     /// How many clients are held at most.
     pub most_clients: usize,
@@ -48,9 +52,11 @@ pub(crate) struct Server<'a, R, F> {
     /// How many bytes are kept of all clients at most, but for small requests and one large one.
     pub most_held: usize,
     /// Those whose requests wait, by the paths of their controllers, in the order of their turns.
-    pub lines: IndexMap<String, Vec<Waiting<TcpStream>>>,
+    pub lines: IndexMap<String, Line>,
     /// Whether a line waits for a file that somebody else has locked.
     pub is_locked_out: bool,
     pub saved: SavedStates,
+    /// What goes out by itself, where other controllers are known.
+    pub post: Option<Post>,
     pub log: Log<F>,
 }

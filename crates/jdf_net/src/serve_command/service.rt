@@ -11,4 +11,8 @@ pub struct Service<'a> {
     pub limits: ServeLimits,
     /// How many connections to serve. `None`: no end.
     pub requests: Option<u64>,
+    /// The path of the peers' file, where one is named.
+    pub peers: Option<&'a str>,
+    /// The name of the header field that tells who sends, where one is named.
+    pub sender_field: Option<&'a str>,
 }

@@ -3,6 +3,7 @@
 use crate::serve_command::entry::Entry;
 use crate::serve_command::moments::seconds;
 use crate::serve_command::note::Note;
+use crate::serve_command::own::Parcel;
 use crate::serve_command::server::Server;
 use http_edge::Served;
 use rounds::TakenFrom;
@@ -103,6 +104,24 @@ impl<'a, R: Clock, F: Write + Drop> Server<'a, R, F> {
             return;
         }
         match line_of(self.alloc, at, entry, is_written, self.now) {
+            Ok(line) => self.log.push(line.as_str()),
+            Err(_) => self.log.drop_line(),
+        }
+    }
+
+    /// Writes the line of something that went out by itself: the time, its controller, its spawn,
+    /// its destination, and what came of it.
+    pub(crate) fn tell_parcel(&mut self, path: &str, parcel: &Parcel, what: &str) {
+        let Some(post) = &self.post else {
+            return;
+        };
+        let Some((url, _)) = post.targets.get_index(parcel.line) else {
+            return;
+        };
+        let at = seconds(self.rt).unwrap_or(0);
+        let name = name_of(path);
+        let number = parcel.spawn.number();
+        match format!(in self.alloc; "{at} {name} S{number} to http://{url} {what}\n") {
             Ok(line) => self.log.push(line.as_str()),
             Err(_) => self.log.drop_line(),
         }

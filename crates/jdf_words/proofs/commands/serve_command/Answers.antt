@@ -9,4 +9,6 @@ returns c =
     let clients = argued _ _ _ _ _ c.in_ok-arg-3.ensures limit c.clients_argument.ensures.rule c.clients_argument.ensures.local in
     let body = argued _ _ _ _ _ c.in_ok-arg-4.ensures clients c.body_argument.ensures.rule c.body_argument.ensures.local in
     let memory = argued _ _ _ _ _ c.in_ok-arg-5.ensures body c.memory_argument.ensures.rule c.memory_argument.ensures.local in
-    IfOk-weaker c.arg-6.result _ _ (λ made last. argued _ _ _ _ _ last memory c.requests_argument.ensures.rule c.requests_argument.ensures.local) c.arg-6.ensures
+    let requests = argued _ _ _ _ _ c.in_ok-arg-6.ensures memory c.requests_argument.ensures.rule c.requests_argument.ensures.local in
+    let peers = argued _ _ _ _ _ c.in_ok-arg-7.ensures requests c.peers_argument.ensures.rule c.peers_argument.ensures.local in
+    IfOk-weaker c.arg-8.result _ _ (λ made last. argued _ _ _ _ _ last peers c.sender_field_argument.ensures.rule c.sender_field_argument.ensures.local) c.arg-8.ensures

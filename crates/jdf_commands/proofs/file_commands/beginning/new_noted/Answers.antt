@@ -8,4 +8,4 @@ pub returns-clause-ok : goal.returns-clause-ok
 returns-clause-ok g c =
     let input = used g.I.Read.remaining c.args.reader.now c.new_output.new.reader in
     let after = held_in c.in_ok-output.opened in
-    ((after, subst (λ output. Begins g.K.Keep.is_honest g.K.Keep.held g.K.Keep.place c.args.is_there c.args.keep input after output.text.items output.refused) (sym c.bare.ensures.output) c.in_ok-output.ensures.ok), c.bare.ensures.notes)
+    ((after, subst (λ output. Begins g.K.Keep.is_honest g.K.Keep.held g.K.Keep.place c.args.is_there c.args.keep c.args.to input after output.text.items output.refused) (sym c.bare.ensures.output) c.in_ok-output.ensures.ok), c.bare.ensures.notes)

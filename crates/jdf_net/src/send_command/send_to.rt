@@ -1,0 +1,54 @@
+//! Where messages are sent.
+
+ghost use Rattle.std.specs.Prelude.{IfErr};
+ghost use Rattle.jdf_net.specs.OrderCommand.{IsNoPlace};
+
+use crate::peers_in_file::peers_in_file;
+use jmf_message::decode;
+use peers_file::{Destination, PeerTable};
+use std::alloc::Global;
+use std::rt::Files;
+use streams::{Fault, Refused};
+
+/// Where messages are sent: to a URL, or each to the one that a table has for its receiver.
+#[derive(Drop)]
+pub(crate) enum SendTo {
+    Url(Destination),
+    Peers(PeerTable),
+}
+
+impl SendTo {
+    /// What a text tells: a URL that a message can be sent to, or behind a `@` the path of a peers'
+    /// file. Nothing where it is neither. Refuses `LoadFailed` where that file can't be read or has
+    /// no such table, and `Memory`.
+    pub(crate) fn of<R: Files>(rt: &R, alloc: Global, text: &str) -> Result<Option<SendTo>, Fault>
+        ensures { IfErr result IsNoPlace }
+    {
+        if let Some(path) = text.strip_prefix("@") {
+            return match peers_in_file(rt, alloc, path) {
+                Some(peers) => Ok(Some(SendTo::Peers(peers))),
+                None => Err(Fault::Device(Refused::LoadFailed)),
+            };
+        }
+        match Destination::of(alloc, text)? {
+            Some(destination) => Ok(Some(SendTo::Url(destination))),
+            None => Ok(None),
+        }
+    }
+
+    /// Where a message is sent. Nothing where the table has no URL for its receiver. Refuses what
+    /// `decode` refuses it for, where its receiver is asked for.
+    pub(crate) fn destination(
+        &self,
+        alloc: Global,
+        message: &[u8],
+    ) -> Result<Option<&Destination>, Fault> {
+        match self {
+            SendTo::Url(destination) => Ok(Some(destination)),
+            SendTo::Peers(peers) => {
+                let message = decode(alloc, message)?;
+                Ok(peers.url_of(message.receiver.as_str()))
+            }
+        }
+    }
+}

@@ -1,0 +1,387 @@
+//! What goes out by itself: which parts are out, and whose turn it is.
+
+ghost use Rattle.std.specs.Prelude.{◌<◌, ◌≤◌, length, IfOk, IfSome};
+
+use crate::serve_command::line::Line;
+use crate::serve_command::own::{Own, Parcel, Task};
+use crate::serve_command::owner::Owner;
+use crate::serve_command::post::{Post, Seat};
+use crate::serve_command::server::Server;
+use crate::serve_command::stepping::{OwnStepped, step_own_in_file};
+use deliveries::Flight;
+use keepers::Locks;
+use peers_file::Destination;
+use std::alloc::{AllocError, Global};
+use std::io::Write;
+use std::net::Net;
+use std::time::Clock;
+use stored_state::{AnyController, Coming, Saved, TakenBytes};
+use ticket_tree::{Id, Refusal, SpawnId};
+
+/// How much goes out in one round at most.
+const MAX_FLIGHTS: usize = 64;
+
+/// The order to send the part of a spawn once more.
+fn resend_text(alloc: Global, spawn: SpawnId) -> Result<Vec<u8>, AllocError> {
+    let number = spawn.number();
+    let text = format!(in alloc; "{{\"Order\":\"Resend\",\"SpawnID\":\"S{number}\"}}")?;
+    Ok(text.into_bytes())
+}
+
+impl Post {
+    /// The number of the destination of a name, if it has one.
+    fn line_of(&mut self, alloc: Global, name: &Id, now: u64) -> Result<Option<usize>, AllocError>
+        ensures there { IfOk result (λ found. IfSome found (λ line.
+            line < length self.new.deliveries.destinations)) }
+        ensures stay { length self.old.deliveries.destinations
+            ≤ length self.new.deliveries.destinations }
+    {
+        let Some(found) = self.peers.url_of(name.as_str()) else {
+            return Ok(None);
+        };
+        let url = format!(in alloc; "{}{}", found.authority(), found.path())?;
+        match self.targets.get_index_of(url.as_str()) {
+            Some(line) if line < self.deliveries.destinations() => Ok(Some(line)),
+            Some(_) => Ok(None),
+            None => self.add_target(alloc, url, now),
+        }
+    }
+
+    /// The number of one destination more.
+    fn add_target(
+        &mut self,
+        alloc: Global,
+        url: String,
+        now: u64,
+    ) -> Result<Option<usize>, AllocError>
+        ensures there { IfOk result (λ found. IfSome found (λ line.
+            line < length self.new.deliveries.destinations)) }
+        ensures stay { length self.old.deliveries.destinations
+            ≤ length self.new.deliveries.destinations }
+    {
+        let text = format!(in alloc; "http://{url}")?;
+        let Some(destination) = Destination::of(alloc, text.as_str())? else {
+            return Ok(None);
+        };
+        self.targets.reserve(1)?;
+        let line = self.deliveries.add_destination(alloc, now)?;
+        self.targets.insert(url, destination)?;
+        Ok(Some(line))
+    }
+
+    /// The number of the controller in the file of this path.
+    fn seat_of(&mut self, alloc: Global, path: &str, to: &Owner) -> Result<usize, AllocError> {
+        if let Some(number) = self.controllers.get_index_of(path) {
+            return Ok(number);
+        }
+        let number = self.controllers.len();
+        let seat = Seat {
+            owner: to.copy(alloc)?,
+            seen_at: None,
+        };
+        self.controllers
+            .insert(String::from_str(alloc, path)?, seat)?;
+        Ok(number)
+    }
+
+    /// The next moment at which something is to be done for what goes out.
+    pub(crate) fn next_moment(&self) -> u64 {
+        if !self.unread.is_empty() || !self.ready.is_empty() {
+            return 0;
+        }
+        let mut next = self.look_at;
+        if let Some(wake) = self.deliveries.wake() {
+            next = u64::min(next, wake);
+        }
+        for (_, flying) in self.calls.iter() {
+            if let Some(call) = &flying.call {
+                next = u64::min(next, call.deadline());
+            }
+        }
+        next
+    }
+
+    /// The file of a controller is read again at the next look, changed or not.
+    pub(crate) fn read_again(&mut self, path: &str) {
+        if let Some(seat) = self.controllers.get_mut(path) {
+            seat.seen_at = None;
+        }
+    }
+
+    /// Each file is read again at the next look, changed or not.
+    pub(crate) fn read_all_again(&mut self) {
+        for (_, seat) in self.controllers.iter_mut() {
+            seat.seen_at = None;
+        }
+    }
+
+    /// What is in flight failed.
+    fn fail_all(&mut self, now: u64) {
+        for line in 0..self.deliveries.destinations() {
+            if self.deliveries.flies(line) {
+                self.deliveries.failed(line, now);
+            }
+        }
+    }
+
+    /// Goes on behind a round in which memory ran out: no call goes on, and each file is read again.
+    pub(crate) fn recover(&mut self, now: u64) {
+        self.calls.clear();
+        self.ready.clear();
+        self.fail_all(now);
+        self.read_all_again();
+    }
+
+    /// Sees what a controller has out now.
+    pub(crate) fn see(
+        &mut self,
+        alloc: Global,
+        number: usize,
+        controller: &AnyController,
+        now: u64,
+    ) -> Result<(), AllocError> {
+        let all = controller.out(alloc)?;
+        let mut out = Vec::with_capacity(alloc, all.len())?;
+        for (spawn, name) in all {
+            if let Some(line) = self.line_of(alloc, name, now)? {
+                out.push((spawn, line))?;
+            }
+        }
+        self.deliveries.look(alloc, number, out.as_slice())
+    }
+}
+
+impl<'a, R: Locks + Net + Clock, F: Write + Drop> Server<'a, R, F> {
+    /// Puts something to be done in the line of a controller.
+    pub(crate) fn join_own(&mut self, path: String, own: Own) -> Result<(), AllocError> {
+        if let Some(line) = self.lines.get_mut(path.as_str()) {
+            line.own.push(own)?;
+            return Ok(());
+        }
+        let to = match &self.post {
+            Some(post) => match post.controllers.get(path.as_str()) {
+                Some(seat) => seat.owner.copy(self.alloc)?,
+                None => Owner::Any,
+            },
+            None => Owner::Any,
+        };
+        let mut line = Line::new(self.alloc, to);
+        line.own.push(own)?;
+        self.lines.insert(path, line)?;
+        Ok(())
+    }
+
+    /// What is to be sent now, if anything is.
+    fn next_flight(&mut self) -> Option<Flight> {
+        match &mut self.post {
+            Some(post) => post.deliveries.next(self.now),
+            None => None,
+        }
+    }
+
+    /// The path of the file of a controller.
+    fn path_of(&self, number: usize) -> Result<Option<String>, AllocError> {
+        match &self.post {
+            Some(post) => match post.controllers.get_index(number) {
+                Some((path, _)) => Ok(Some(path.clone()?)),
+                None => Ok(None),
+            },
+            None => Ok(None),
+        }
+    }
+
+    /// Has each controller send what is to be sent from it now.
+    pub(crate) fn dispatch(&mut self) -> Result<(), AllocError> {
+        for _ in 0..MAX_FLIGHTS {
+            let Some(flight) = self.next_flight() else {
+                return Ok(());
+            };
+            let task = Task::Send(resend_text(self.alloc, flight.spawn)?);
+            match self.path_of(flight.controller)? {
+                Some(path) => self.join_own(
+                    path,
+                    Own {
+                        parcel: Parcel {
+                            spawn: flight.spawn,
+                            line: flight.line,
+                        },
+                        task,
+                    },
+                )?,
+                None => self.withdraw(flight.line),
+            }
+        }
+        Ok(())
+    }
+
+    /// Does behind a step for something that goes out what is to be done. An answer that its
+    /// controller refuses tells nothing.
+    fn follow_own(
+        &mut self,
+        path: &str,
+        mark: &Mark,
+        came: Result<TakenBytes, Refusal>,
+    ) -> Result<(), AllocError> {
+        let Some((is_taken, sent)) = given_by(came) else {
+            self.fail(path, &mark.parcel);
+            return Ok(());
+        };
+        if mark.is_answer {
+            drop(sent);
+            if is_taken {
+                self.settle(path, &mark.parcel, mark.refusal);
+            } else {
+                self.fail(path, &mark.parcel);
+            }
+            return Ok(());
+        }
+        match sent {
+            Some(text) => self.call(path, &mark.parcel, text.as_slice()),
+            None => {
+                self.withdraw(mark.parcel.line);
+                Ok(())
+            }
+        }
+    }
+
+    /// Does behind these steps what is to be done.
+    fn follow_all(
+        &mut self,
+        path: &str,
+        marks: &[Mark],
+        given: Vec<Result<TakenBytes, Refusal>>,
+    ) -> Result<(), AllocError> {
+        for (mark, came) in marks.iter().zip(given) {
+            self.follow_own(path, mark, came)?;
+        }
+        Ok(())
+    }
+
+    /// Nothing of this can be done now, since the file can't be had: it is seen again later, and
+    /// holds up nothing else meanwhile.
+    fn put_off(&mut self, path: &str, marks: &[Mark]) {
+        for mark in marks {
+            self.withdraw(mark.parcel.line);
+        }
+        if let Some(post) = &mut self.post {
+            post.read_again(path);
+        }
+    }
+
+    /// Has a controller do what is to be done for what goes out from it.
+    pub(crate) fn step_own(
+        &mut self,
+        path: &str,
+        to: &Owner,
+        own: Vec<Own>,
+    ) -> Result<(), AllocError> {
+        if own.is_empty() {
+            return Ok(());
+        }
+        let (marks, comings) = all_parted(self.alloc, own)?;
+        self.step_marked(path, to, marks.as_slice(), comings)
+    }
+
+    fn step_marked(
+        &mut self,
+        path: &str,
+        to: &Owner,
+        marks: &[Mark],
+        comings: Vec<Coming>,
+    ) -> Result<(), AllocError> {
+        let last = self.saved.take(path);
+        match step_own_in_file(self.rt, self.alloc, path, last, to.as_addressee(), comings) {
+            OwnStepped::Stepped(given, saved) => {
+                let kept = self.keep_saved(path, to, saved);
+                self.follow_all(path, marks, given)?;
+                kept
+            }
+            OwnStepped::Failed => {
+                self.put_off(path, marks);
+                Ok(())
+            }
+        }
+    }
+
+    /// Sees what a controller has out now, as it was saved.
+    fn see_saved(&mut self, path: &str, to: &Owner, saved: &Saved) -> Result<(), AllocError> {
+        let Some(post) = &mut self.post else {
+            return Ok(());
+        };
+        let number = post.seat_of(self.alloc, path, to)?;
+        post.see(self.alloc, number, saved.controller(), self.now)
+    }
+
+    /// Keeps a controller as it was saved, and sees what it has out now.
+    pub(crate) fn keep_saved(
+        &mut self,
+        path: &str,
+        to: &Owner,
+        saved: Option<Saved>,
+    ) -> Result<(), AllocError> {
+        let Some(saved) = saved else {
+            return Ok(());
+        };
+        let seen = self.see_saved(path, to, &saved);
+        let path = String::from_str(self.alloc, path)?;
+        self.saved.keep(path, saved)?;
+        seen
+    }
+}
+
+/// What is kept of something to be done while its step is made.
+#[derive(Clone, Copy)]
+struct Mark {
+    parcel: Parcel,
+    is_answer: bool,
+    refusal: Option<u16>,
+}
+
+/// Whether a step was accepted, and the text that goes out; none where no step was made.
+fn given_by(came: Result<TakenBytes, Refusal>) -> Option<(bool, Option<Vec<u8>>)> {
+    match came {
+        Ok(taken) => {
+            let TakenBytes {
+                sender,
+                reply,
+                answer,
+            } = taken;
+            drop(sender);
+            Some((reply.is_ok(), answer))
+        }
+        Err(_) => None,
+    }
+}
+
+fn parted(own: Own) -> (Mark, Coming) {
+    let Own { parcel, task } = own;
+    match task {
+        Task::Send(text) => (
+            Mark {
+                parcel,
+                is_answer: false,
+                refusal: None,
+            },
+            Coming::Order(text),
+        ),
+        Task::Take(message, refusal) => (
+            Mark {
+                parcel,
+                is_answer: true,
+                refusal,
+            },
+            Coming::Message(message),
+        ),
+    }
+}
+
+fn all_parted(alloc: Global, own: Vec<Own>) -> Result<(Vec<Mark>, Vec<Coming>), AllocError> {
+    let mut marks = Vec::with_capacity(alloc, own.len())?;
+    let mut comings = Vec::with_capacity(alloc, own.len())?;
+    for one in own {
+        let (mark, coming) = parted(one);
+        marks.push(mark)?;
+        comings.push(coming)?;
+    }
+    Ok((marks, comings))
+}
