@@ -89,11 +89,15 @@ def quiet_day():
 
 
 def without_times(ticket):
-    """A ticket without the times of its audits, and these in an order of their own: parts that come
-    back at once are merged in any order."""
-    shown = json.loads(re.sub(r'"TimeStamp":\d+', '"TimeStamp":0', ticket))
-    shown["AuditPool"].sort(key=json.dumps)
-    return shown
+    """A ticket without the times of its audits, and those of each node in an order of their own:
+    parts that come back at once are merged in any order."""
+    def put_in_order(node):
+        node["AuditPool"].sort(key=json.dumps)
+        for child in node["JDF"]:
+            put_in_order(child)
+    ticket = json.loads(re.sub(r'"TimeStamp":\d+', '"TimeStamp":0', ticket))
+    put_in_order(ticket)
+    return ticket
 
 
 # ---- the network

@@ -52,25 +52,20 @@ def nodes_at(file):
 def each_job_has_a_master_and_a_file_at_the_press():
     jobs = ("job-17", "job-18")
     opening = json.loads(content(os.path.join(EXAMPLES, "shop", "mis.json")))
-    for folder in ("office", "press"):
-        os.mkdir(folder)
+    for folder in ("office", "printers/press"):
+        os.makedirs(folder)
     for job in jobs:
         opening["Master"] = opening["Ticket"]["JobID"] = job
         wants(run("new", "office/" + job, given=json.dumps(opening)), (0, "", ""))
-        begins_worker("press/" + job, job)
-    with Served("office") as office, Served("press") as press:
+        begins_worker("printers/press/" + job, job)
+    with Served("office") as office, Served("printers") as printers:
         for job in jobs:
-            wants(sends("office/" + job, COVER, press.url("/jmf/" + job)),
+            wants(sends("office/" + job, COVER, printers.url()),
                   (0, "Spawned S1\nNoted S1 Running\n", ""))
-            wants(nodes_at("press/" + job), [("S1", "cover")])
-            assert f'"JobID":"{job}"' in run("show", "press/" + job)[1]
-        before = content("press/job-17"), content("press/job-18")
-        for job, other in (jobs, jobs[::-1]):
-            wants(sends("office/" + job, RESEND, press.url("/jmf/" + other)),
-                  (1, "Sent S1\nNoted S1\nRefused 21 WrongSender by press\n", ""))
-        wants((content("press/job-17"), content("press/job-18")), before)
+            wants(nodes_at("printers/press/" + job), [("S1", "cover")])
+            assert f'"JobID":"{job}"' in run("show", "printers/press/" + job)[1]
         for job in jobs:
-            wants(sends("press/" + job, FINISH, office.url("/jmf/" + job)),
+            wants(sends("printers/press/" + job, FINISH, office.url()),
                   (0, "Finished S1\nAcked S1 Completed\n", ""))
             wants(run("show", "office/" + job)[1].count('"Name":"Merged"'), 1)
 
@@ -202,18 +197,22 @@ def given_now(command, given):
 
 
 def a_command_that_waits_for_its_input_holds_nothing():
+    open_shop()
+    message = order("mis", COVER)[1]
     os.mkdir("office")
     for job in ("job-17", "job-18"):
-        begin("office/" + job)
+        opening = processes.OPENING.replace('"mis"', json.dumps(job))
+        wants(run("new", "office/" + job, given=opening), (0, "", ""))
     with Served("office") as office:
         waits = waiting("order", "office/job-17", "--at", AT)
         takes = waiting("take", "office/job-18", "--at", AT)
         time.sleep(0.5)
         assert waits.poll() is None and takes.poll() is None
         start = time.monotonic()
-        for target in ("/jmf/job-17", "/jmf/job-18"):
-            wants(asked(office, request("{}", target=target)), 400)
-        for job in ("job-17", "job-18"):
+        for number, job in enumerate(("job-17", "job-18"), 1):
+            to_job = message.replace('"ReceiverID":"press"', f'"ReceiverID":"{job}"')
+            wants(asked(office, request(to_job)), 200)
+            wants(office.told(number)[-1], job + " 200 45 WrongMessage")
             wants(order("office/" + job, attribute("A"))[0], "Edited")
             assert '"A":"x"' in run("show", "office/" + job)[1]
         took = time.monotonic() - start

@@ -514,60 +514,22 @@ def a_folder_is_served():
     cover = order("shop/mis", spawn("cover", "press", ["cover.sheets"]))[1]
     finish = order("shop/mis", spawn("finish", "bindery", ["brochures"]))[1]
     with Served("shop") as shop:
-        answers = [send(shop, cover, "/jmf/press"), send(shop, finish, "/bindery")]
+        # The message tells for whom it is, and the target isn't looked at.
+        answers = [send(shop, cover), send(shop, finish, "/jmf/press")]
         for answer, given in zip(answers, (cover, finish)):
             wants(json.loads(answer)["JMF"]["Response"]["refID"], json.loads(given)["JMF"]["Command"]["ID"])
-            send(shop, answer, "/jmf/mis")
-        # A message for one is refused by the other, and what stands behind a `?` isn't looked at.
-        wants(asked(shop, request(cover, target="/jmf/mis")), 200)
-        wants(asked(shop, request(cover, target="/press?mis/bindery")), 200)
+            send(shop, answer, "/bindery")
+        wants(asked(shop, request(cover, target="/mis?bindery#none")), 200)
         wants(asked(shop, request("{}", target="/jmf/press")), 400)
-        wants(asked(shop, request("{}", target="/jmf/none")), 404)
+        missing = cover.replace('"ReceiverID":"press"', '"ReceiverID":"none"')
+        wants(asked(shop, request(missing, target="/press")), 404)
         told = {"press 200 Taken S1 from mis", "bindery 200 Taken S2 from mis",
                 "mis 200 Noted S1 from press", "mis 200 Noted S2 from bindery",
-                "mis 200 45 WrongMessage", "press 200 Again S1 from mis",
-                "press 400 41 NotProfile", "- 404"}
+                "press 200 Again S1 from mis", "- 400 41 NotProfile", "- 404"}
         # Of clients at one moment the lines may come in any order.
-        wants(set(shop.told(8)), told)
+        wants(set(shop.told(7)), told)
     for name in ("press", "bindery"):
         wants(len(run("show", "shop/" + name)[1].splitlines()), 1)
-
-
-MISSING = ("HTTP/1.1 404 Not Found\r\nContent-Type: text/plain\r\nContent-Length: 27\r\n"
-           "Connection: close\r\n\r\nno controller of this name\n")
-
-
-def a_target_that_names_no_controller_is_answered_so():
-    open_shop()
-    message = order("mis", spawn("cover", "press", ["cover.sheets"]))[1]
-    os.mkdir("shop")
-    os.mkdir("shop/folder")
-    os.rename("press", "shop/press")
-    os.rename("mis", "mis.new")
-    os.rename("bindery", "shop/press.old")
-    os.symlink("press", "shop/link")
-    before = content("shop/press"), content("mis.new"), content("shop/press.old")
-    targets = ("/", "/jmf/", "/press/", "/..", "/../mis.new", "/press/..", "/.", "/press.old", "/press.new",
-               "/mis.new", "/mis", "/jmf/none", "/%70ress", "/press%2e", "/?press", "?/press", "*",
-               "/1press", "/" + 65 * "a", "/press:80", "/Press", "/press#", "/jmf/none#/press",
-               "/press#/press", "#/press", "/press?#", "http://h/none#/press")
-    with Served("shop") as shop:
-        for target in targets:
-            with shop.connect() as connection:
-                connection.sendall(request(message, target=target))
-                wants((target, response(connection)), (target, MISSING))
-        wants(shop.told(1)[0], "- 404")
-        wants(run("send", shop.url("/jmf/none"), given=message), (1, "", "Refused by the controller: 404\n"))
-        # What is there and is no file of a controller is told as it is for one file.
-        for target in ("/folder", "/link"):
-            wants(asked(shop, request(message, target=target)), 503)
-        wants(sorted(os.listdir("shop")), ["folder", "link", "press", "press.old"])
-        wants((content("shop/press"), content("mis.new"), content("shop/press.old")), before)
-        # A file that comes is there from then on.
-        os.rename("shop/press", "shop/none")
-        wants(asked(shop, request(message, target="/press")), 404)
-        os.rename("shop/none", "shop/press")
-        wants(asked(shop, request(message, target="/press")), 200)
 
 
 def one_file_is_served_whatever_the_target():
@@ -724,7 +686,6 @@ TESTS = [
     an_early_answer_comes_to_the_client,
     what_cannot_be_served_is_told,
     a_folder_is_served,
-    a_target_that_names_no_controller_is_answered_so,
     one_file_is_served_whatever_the_target,
     what_cannot_be_sent_is_told,
     a_silent_server_is_given_up,

@@ -146,13 +146,19 @@ def more_clients_than_it_holds():
 
 
 def open_folder(count):
-    """A folder of workers, and a message for each."""
+    """A folder of workers, and a message for the press."""
     open_shop()
     message = cover()
     os.mkdir("shop")
     for number in range(count):
-        shutil.copy("press", f"shop/press{number}")
+        opening = json.dumps({"Master": "mis", "Worker": f"press{number}"})
+        wants(run("new", f"shop/press{number}", given=opening), (0, "", ""))
     return message
+
+
+def asks_for(message, number):
+    """A request that hands a message to one of a folder."""
+    return request(message.replace('"ReceiverID":"press"', f'"ReceiverID":"press{number}"'))
 
 
 def one_file_is_locked():
@@ -181,8 +187,7 @@ def one_file_is_locked():
 def asked_of(shop, number, message):
     """The status of the response of one of a folder, and how long it took."""
     start = time.monotonic()
-    given = request(message, target=f"/jmf/press{number}")
-    return status_in(answer_to(shop.port, given)), time.monotonic() - start
+    return status_in(answer_to(shop.port, asks_for(message, number))), time.monotonic() - start
 
 
 def a_lock_that_is_given_back_in_time():
@@ -190,7 +195,7 @@ def a_lock_that_is_given_back_in_time():
     message = open_folder(1)
     with Served("shop", "--limit", "10") as shop, connected(shop.port) as client:
         with locked("shop/press0"):
-            client.sendall(request(message, target="/press0"))
+            client.sendall(asks_for(message, 0))
             time.sleep(0.5)
             wants(shop.log(), "")
         start = time.monotonic()
@@ -205,10 +210,10 @@ def who_has_gone_is_passed_over():
     with Served("shop", "--limit", "10") as shop, connected(shop.port) as other:
         with locked("shop/press0"):
             with connected(shop.port) as gone:
-                gone.sendall(request(numbered(message, 7), target="/press0"))
+                gone.sendall(asks_for(numbered(message, 7), 0))
                 time.sleep(0.2)
                 gone.setsockopt(socket.SOL_SOCKET, socket.SO_LINGER, struct.pack("ii", 1, 0))
-            other.sendall(request(numbered(message, 8), target="/press0"))
+            other.sendall(asks_for(numbered(message, 8), 0))
             other.shutdown(socket.SHUT_WR)
             time.sleep(0.2)
         assert is_answer(processes.response(other), 8)
@@ -513,12 +518,13 @@ HIDDEN = shapes.HIDDEN.encode()
 
 
 def open_hidden():
-    """A folder with a controller that anybody may ask, and one that the proxies hide."""
+    """A folder with a controller that all are for, and one for which nothing goes to its end."""
     open_shop()
     message = cover()
     os.mkdir("shop")
-    os.rename("press", "shop/mis")
-    os.rename("bindery", "shop/hidden")
+    os.rename("press", "shop/press")
+    opening = json.dumps({"Master": "mis", "Worker": "hidden"})
+    wants(run("new", "shop/hidden", given=opening), (0, "", ""))
     return shapes.shapes(message)
 
 

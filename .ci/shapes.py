@@ -1,10 +1,15 @@
 """Requests as no honest client writes them, and some that only look so: a table of their bytes, and
 of the status that answers each where it comes to `serve` as it is, for served.py.
 
-They are for the controller `mis` of a folder, beside which there is one called `hidden` that the
-proxies let nobody ask. None stands for a connection that is closed with no response.
+They carry a message for one controller of a folder, beside which there is one called `hidden`. In
+what some carry behind that stands a request with a message for `hidden`, whose target the proxies
+let nobody ask. None stands for a connection that is closed with no response.
 """
-HIDDEN = "POST /hidden HTTP/1.1\r\nHost: h\r\nContent-Length: 2\r\n\r\n{}"
+HIDDEN_MESSAGE = ('{"JMF":{"Command":{"AbortQueueEntryParams":{"QueueEntryID":"S1"},"ID":"A.S1",'
+                  '"Type":"AbortQueueEntry"},"ReceiverID":"hidden","SenderID":"mis",'
+                  '"TimeStamp":100,"Version":"1.5"}}')
+HIDDEN = (f"POST /hidden HTTP/1.1\r\nHost: h\r\nContent-Length: {len(HIDDEN_MESSAGE)}\r\n\r\n"
+          + HIDDEN_MESSAGE)
 
 
 def shapes(message):
@@ -119,12 +124,12 @@ def shapes(message):
         ("half a head", "POST /mis HTTP/1.1\r\nHost: h\r\nConte", 400),
         ("half a start", "POS", 400),
         ("nothing", "", None),
-        ("a target with a #", start("POST /mis#/hidden HTTP/1.1"), 404),
-        ("a # behind another path", start("POST /none#/mis HTTP/1.1"), 404),
+        ("a target with a #", start("POST /mis#/hidden HTTP/1.1"), 200),
+        ("a # behind another path", start("POST /none#/mis HTTP/1.1"), 200),
         ("a whole URL", start("POST http://h/mis HTTP/1.1"), 200),
         ("a long target", start(f"POST /{6000 * 'a'}/mis HTTP/1.1"), 200),
         ("a way up", start("POST /hidden/../mis HTTP/1.1"), 200),
-        ("a letter by its number", start("POST /%6dis HTTP/1.1"), 404),
+        ("a letter by its number", start("POST /%6dis HTTP/1.1"), 200),
         ("a query", start("POST /mis?a=/hidden HTTP/1.1"), 200),
         ("a value of other letters", post(host, length, "A: \u00e9\u20ac"), 200),
         ("a body of no UTF-8", post(host, "Content-Length: 4", body="").encode() + b'{"\xff}', 400),

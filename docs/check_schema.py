@@ -41,6 +41,20 @@ ONE_LINE = {"text", "holders", "marked", "value", "ticket", "change", "part", "m
 # Those whose answer is two lines, or a refusal.
 TWO_LINES = {"edited_copy", "spawned"}
 
+# What is a table of peers, and what is none. A member of one may be absent, and may be called much.
+PEERS = {
+    True: [{}, {"*": "http://a"}, {"a": "http://a/"}, {"a*": "http://a:1/b/c"},
+           {64 * "a" + "*": "http://a/b"}, {"a": "http://[::1]:8010/jmf", "a*": "http://b/"},
+           {"a": "http://127.0.0.1:8010/jmf", "a-*": "http://b/%20"}],
+    False: [[], "http://a/b", {"a": 1}, {"a": None}, {"a": ["http://a/b"]}, {"": "http://a/b"},
+            {"-*": "http://a/b"}, {"a**": "http://a/b"}, {"*a": "http://a/b"},
+            {"a*b": "http://a/b"}, {"1": "http://a/b"}, {65 * "a": "http://a/b"},
+            {65 * "a" + "*": "http://a/b"}, {"a b": "http://a/b"}, {"a\n": "http://a/b"},
+            {"a": ""}, {"a": "a"}, {"a": "/b"}, {"a": "http:///b"}, {"a": "https://a/b"},
+            {"a": "http://u@a/b"}, {"a": "http://u:p@a/b"}, {"a": "http://a/b?c"},
+            {"a": "http://a/b#c"}, {"a": "http://a/b\n"}],
+}
+
 # How many lines the answer to `send` has behind its first: a head, and a body of one line.
 SENT_LINES = 6
 
@@ -275,7 +289,7 @@ def fault_of_example(kind, text):
     value = parsed(text)
     if not is_valid(value, kind):
         return "not valid"
-    for bad in spoiled(value):
+    for bad in spoiled(value) if kind != "peers" else ():
         if is_valid(bad, kind):
             return f"valid, and spoiled: {json.dumps(bad)[:200]}"
     return None
@@ -300,6 +314,10 @@ def main():
         faults.append((where, fault_of(kind, text, answer)))
     for where, kind, text in examples():
         faults.append((where, fault_of_example(kind, text)))
+    for valid, tables in PEERS.items():
+        for table in tables:
+            fault = None if is_valid(table, "peers") == valid else f"valid is not {valid}"
+            faults.append((f"peers {json.dumps(table)}", fault))
     told = [f"{where}: {fault}" for where, fault in faults if fault]
     print("\n".join(told + [f"schema: {counts[True]} cases accepted, {counts[False]} refused, "
                             f"{len(told)} faults"]))
