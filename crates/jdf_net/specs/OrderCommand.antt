@@ -1,6 +1,6 @@
 -- How `order` with `--send` ends.
 use Rattle.std.specs.Prelude.{◌≡◌, ◌≢◌, ◌⊎◌, ◌≤◌, ℕ, Bool, false, List, [], Option, Some, None}
-use Rattle.std.specs.Prelude.{Result, Ok}
+use Rattle.std.specs.Prelude.{Result, Ok, slice_get}
 use Rattle.std.specs.Borrow.{Bor}
 use Rattle.ticket_items.specs.declared.refusal.Refusal.{Refusal}
 use Rattle.ticket_items.specs.declared.refusal.Refusal.TheVariants.{Memory}
@@ -107,27 +107,30 @@ OrdersAndSends file at input output told status =
     (notes_of_order reply) notes
     × GivesOrder file at reply sent notes output told status
 
--- why it isn't known where to send to: memory ran out, or the peers' file can't be loaded
-abbrev pub IsNoPlace : Fault → Type 0
-IsNoPlace fault = (fault ≡ Input (Core Memory)) ⊎ (fault ≡ Device LoadFailed)
+-- why it isn't known where a text says to send to: memory ran out; or it begins with `@`, and the
+-- peers' file that it names can't be loaded
+abbrev pub IsNoPlace : List ℕ → Fault → Type 0
+IsNoPlace url fault =
+    (fault ≡ Input (Core Memory))
+    ⊎ ((fault ≡ Device LoadFailed) × (slice_get url 0 ≡ Some 64))
 
--- there is no URL to send to, or it isn't known, and nothing is read or written
-abbrev pub IsNowhere : Use → Ending
-IsNowhere input output told status =
+-- the text is no URL to send to, or that isn't known, and nothing is read or written
+abbrev pub IsNowhere : List ℕ → Use → Ending
+IsNowhere url input output told status =
     IsUntouched input
     × ((IsUntouched output × (status ≡ 2))
-    ⊎ ((fault : Fault) × IsNoPlace fault × GivesUp fault output told status))
+    ⊎ ((fault : Fault) × IsNoPlace url fault × GivesUp fault output told status))
 
 -- the order is given, or it isn't, for this
-abbrev pub Orders : Bor (List ℕ) → ℕ → Use → Ending
-Orders file at input output told status =
+abbrev pub Orders : Bor (List ℕ) → ℕ → List ℕ → Use → Ending
+Orders file at url input output told status =
     OrdersAndSends file at input output told status
     ⊎ (((fault : Fault) × DoesNone IsNoOrder (IsOrdered at) file.now input fault
     × GivesUp fault output told status)
-    ⊎ IsNowhere input output told status)
+    ⊎ IsNowhere url input output told status)
 
 -- the same, and the status is that of `order`, `send` or `take`
-pub record EndsSendOrder (file : Bor (List ℕ)) (at : ℕ) (input output told : Use) (status : ℕ)
-    : Type 0 where
-  pub given : Orders file at input output told status
+pub record EndsSendOrder (file : Bor (List ℕ)) (at : ℕ) (url : List ℕ) (input output told : Use)
+    (status : ℕ) : Type 0 where
+  pub given : Orders file at url input output told status
   pub known : status ≤ 4

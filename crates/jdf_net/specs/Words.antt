@@ -23,7 +23,7 @@ use Rattle.jdf_net.specs.declared.words.TheConstants.{NO_CALL}
 abbrev pub EndsAnyCall : Call → Use → Use → Use → ℕ → Type 0
 EndsAnyCall Loop input output told status = EndsLoop input output told status
 EndsAnyCall (SendOrder file at url) input output told status =
-    EndsSendOrder file at input output told status
+    EndsSendOrder file at url.now input output told status
 EndsAnyCall (Serve file listen limits requests peers field) input output told status = EndsServe status
 EndsAnyCall (Send url file) input output told status = EndsSend input output told status
 EndsAnyCall call input output told status = EndsCall call input output told status

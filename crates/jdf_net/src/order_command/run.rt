@@ -183,7 +183,7 @@ pub fn run_send_order<R: Locks + Net + Clock, I: Read, W: Write, F: Write>(
     writer: &mut Counted<W>,
     faults: &mut Counted<F>,
 ) -> u8
-    ensures { EndsSendOrder order.now.file order.now.at
+    ensures { EndsSendOrder order.now.file order.now.at order.now.url.now
         (used I.remaining reader.old reader.new) (used W.contents writer.old writer.new)
         (used F.contents faults.old faults.new) result }
 {

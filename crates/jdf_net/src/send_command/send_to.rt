@@ -22,9 +22,12 @@ impl SendTo {
     /// file. Nothing where it is neither. Refuses `LoadFailed` where that file can't be read or has
     /// no such table, and `Memory`.
     pub(crate) fn of<R: Files>(rt: &R, alloc: Global, text: &str) -> Result<Option<SendTo>, Fault>
-        ensures { IfErr result IsNoPlace }
+        ensures { IfErr result (IsNoPlace text.now) }
     {
-        if let Some(path) = text.strip_prefix("@") {
+        if !text.is_empty()
+            && text.as_bytes()[0] == b'@'
+            && let Some(path) = text.strip_prefix("@")
+        {
             return match peers_in_file(rt, alloc, path) {
                 Some(peers) => Ok(Some(SendTo::Peers(peers))),
                 None => Err(Fault::Device(Refused::LoadFailed)),
