@@ -1,6 +1,6 @@
 //! Calls of other servers.
 
-ghost use Rattle.std.specs.Prelude.{◌<◌, length};
+ghost use Rattle.std.specs.Prelude.{◌≡◌, ◌<◌, length};
 
 use crate::serve_command::own::{Own, Parcel, Task};
 use crate::serve_command::post::Flying;
@@ -85,7 +85,9 @@ fn came_of(alloc: Global, response: &Received) -> Came {
 
 impl<'a, R: Locks + Net + Clock, F: Write + Drop> Server<'a, R, F> {
     /// Something in flight to a destination failed, and is tried again later.
-    pub(crate) fn fail(&mut self, path: &str, parcel: &Parcel) {
+    pub(crate) fn fail(&mut self, path: &str, parcel: &Parcel)
+        ensures { self.new.clients ≡ self.old.clients }
+    {
         let line = parcel.line;
         self.tell_parcel(path, parcel, "not taken");
         if let Some(post) = &mut self.post
@@ -100,7 +102,9 @@ impl<'a, R: Locks + Net + Clock, F: Write + Drop> Server<'a, R, F> {
     }
 
     /// Something in flight to a destination was accepted, or refused for the refusal of this number.
-    pub(crate) fn settle(&mut self, path: &str, parcel: &Parcel, refusal: Option<u16>) {
+    pub(crate) fn settle(&mut self, path: &str, parcel: &Parcel, refusal: Option<u16>)
+        ensures { self.new.clients ≡ self.old.clients }
+    {
         let line = parcel.line;
         self.tell_parcel(
             path,
@@ -122,7 +126,9 @@ impl<'a, R: Locks + Net + Clock, F: Write + Drop> Server<'a, R, F> {
     }
 
     /// Something in flight to a destination turned out to be out no longer.
-    pub(crate) fn withdraw(&mut self, line: usize) {
+    pub(crate) fn withdraw(&mut self, line: usize)
+        ensures { self.new.clients ≡ self.old.clients }
+    {
         if let Some(post) = &mut self.post
             && post.deliveries.flies(line)
         {
@@ -136,7 +142,9 @@ impl<'a, R: Locks + Net + Clock, F: Write + Drop> Server<'a, R, F> {
         path: &str,
         parcel: &Parcel,
         text: &[u8],
-    ) -> Result<(), AllocError> {
+    ) -> Result<(), AllocError>
+        ensures { self.new.clients ≡ self.old.clients }
+    {
         match self.begin_call(path, parcel, text) {
             Ok(()) => Ok(()),
             Err(error) => {
@@ -167,7 +175,9 @@ impl<'a, R: Locks + Net + Clock, F: Write + Drop> Server<'a, R, F> {
         Err(io::ErrorKind::NotFound.into())
     }
 
-    fn begin_call(&mut self, path: &str, parcel: &Parcel, text: &[u8]) -> io::Result<()> {
+    fn begin_call(&mut self, path: &str, parcel: &Parcel, text: &[u8]) -> io::Result<()>
+        ensures { self.new.clients ≡ self.old.clients }
+    {
         let Some(address) = self.address(parcel.line) else {
             return Err(io::ErrorKind::NotFound.into());
         };
@@ -183,7 +193,9 @@ impl<'a, R: Locks + Net + Clock, F: Write + Drop> Server<'a, R, F> {
         parcel: &Parcel,
         request: Vec<u8>,
         mut stream: TcpStream,
-    ) -> io::Result<()> {
+    ) -> io::Result<()>
+        ensures { self.new.clients ≡ self.old.clients }
+    {
         let Some(post) = &mut self.post else {
             return Ok(());
         };

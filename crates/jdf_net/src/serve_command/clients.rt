@@ -1,6 +1,10 @@
 //! The clients of a round.
 
-ghost use Rattle.std.specs.Prelude.{◌<◌, length};
+ghost use Rattle.std.specs.Prelude.{◌≡◌, ◌<◌, None, Some, length, string_bytes, true, OnOk};
+ghost use Rattle.std.specs.Option.{option_map};
+ghost use Rattle.slab.specs.Slab.{Updates};
+ghost use Rattle.jdf_net.specs.Clients.{Changes, IsGivenBack, IsRefused, with_client};
+ghost use Rattle.jdf_net.specs.Requests.{Follows};
 
 use crate::serve_command::accepting::LISTENER;
 use crate::serve_command::calling::CALLS;
@@ -9,7 +13,7 @@ use crate::serve_command::server::{MAX_EVENTS, Server};
 use keepers::Locks;
 use mio::net::TcpStream;
 use peers::{Asked, Client, Turn};
-use rounds::{Answered, refuse};
+use rounds::{Answered, Waiting, refuse};
 use std::alloc::AllocError;
 use std::io::Write;
 use std::mem;
@@ -124,7 +128,11 @@ impl<'a, R: Locks + Net + Clock, F: Write + Drop> Server<'a, R, F> {
     }
 
     /// Counts how many bytes are kept of a client now.
-    fn count_held(&mut self, key: usize, held: usize) {
+    fn count_held(&mut self, key: usize, held: usize)
+        ensures clients { Changes (λ e. record e { held = held }) key self.old.clients
+            self.new.clients }
+        ensures rest { (self.new.now ≡ self.old.now) × (self.new.lines ≡ self.old.lines) }
+    {
         if let Some(entry) = self.clients.get_mut(key) {
             self.held = self.held.saturating_sub(entry.held).saturating_add(held);
             entry.held = held;
@@ -140,7 +148,10 @@ impl<'a, R: Locks + Net + Clock, F: Write + Drop> Server<'a, R, F> {
     }
 
     /// Puts a client back in its place.
-    fn put_back(&mut self, key: usize, client: Client<TcpStream>) {
+    fn put_back(&mut self, key: usize, client: Client<TcpStream>)
+        ensures clients { Changes (with_client client) key self.old.clients self.new.clients }
+        ensures rest { (self.new.now ≡ self.old.now) × (self.new.lines ≡ self.old.lines) }
+    {
         let held = client.held();
         if let Some(entry) = self.clients.get_mut(key) {
             self.held = self.held.saturating_sub(entry.held).saturating_add(held);
@@ -150,7 +161,9 @@ impl<'a, R: Locks + Net + Clock, F: Write + Drop> Server<'a, R, F> {
     }
 
     /// Does what is to be done behind a client's turn.
-    fn follow(&mut self, key: usize, turn: Turn<TcpStream>) -> Result<(), AllocError> {
+    fn follow(&mut self, key: usize, turn: Turn<TcpStream>) -> Result<(), AllocError>
+        ensures { OnOk result (Follows key turn self.old self.new) }
+    {
         match turn {
             Turn::Wait(client) => {
                 self.put_back(key, client);
@@ -160,8 +173,8 @@ impl<'a, R: Locks + Net + Clock, F: Write + Drop> Server<'a, R, F> {
                 self.put_back(key, client);
                 Ok(self.ready.push(key)?)
             }
-            Turn::Request(asked, request) => self.stand_in_line(key, asked, request),
-            Turn::Refused(asked, refused) => self.refuse(key, asked, refused),
+            Turn::Request(asked, request) => self.stand_in_line(Waiting { key, asked }, request),
+            Turn::Refused(asked, refused) => self.refuse(Waiting { key, asked }, refused),
             Turn::Written(client) => self.linger(key, client),
             Turn::Closed => {
                 self.let_go(key);
@@ -171,14 +184,29 @@ impl<'a, R: Locks + Net + Clock, F: Write + Drop> Server<'a, R, F> {
     }
 
     /// Gives a client the response to a request that is refused.
-    fn refuse(
+    pub(crate) fn refuse(
         &mut self,
-        key: usize,
-        asked: Asked<TcpStream>,
+        waiting: Waiting<TcpStream>,
         refused: Refused,
-    ) -> Result<(), AllocError> {
+    ) -> Result<(), AllocError>
+        ensures clients { OnOk result (IsRefused self.old.now refused waiting self.old.clients
+            self.new.clients) }
+        ensures rest { (self.new.now ≡ self.old.now) × (self.new.lines ≡ self.old.lines) }
+    {
+        let Waiting { key, asked } = waiting;
         let answered = refuse(self.alloc, key, asked, refused, self.now);
         self.give_back(answered, None)
+    }
+
+    /// Notes what is told of a client's request.
+    pub(crate) fn note_down(&mut self, key: usize, note: Note)
+        ensures clients { Changes (λ e. record e { note = Some note }) key self.old.clients
+            self.new.clients }
+        ensures rest { (self.new.now ≡ self.old.now) × (self.new.lines ≡ self.old.lines) }
+    {
+        if let Some(entry) = self.clients.get_mut(key) {
+            entry.note = Some(note);
+        }
     }
 
     /// Puts a client back that has its response, and notes what is told of its request.
@@ -186,7 +214,11 @@ impl<'a, R: Locks + Net + Clock, F: Write + Drop> Server<'a, R, F> {
         &mut self,
         answered: Answered<TcpStream>,
         path: Option<String>,
-    ) -> Result<(), AllocError> {
+    ) -> Result<(), AllocError>
+        ensures clients { OnOk result (IsGivenBack (option_map (λ p. string_bytes p) path) answered
+            self.old.clients self.new.clients) }
+        ensures rest { (self.new.now ≡ self.old.now) × (self.new.lines ≡ self.old.lines) }
+    {
         let Answered {
             key,
             client,
@@ -194,12 +226,8 @@ impl<'a, R: Locks + Net + Clock, F: Write + Drop> Server<'a, R, F> {
             taken,
         } = answered;
         let note = Note { path, told, taken };
-        if self.preferred == Some(key) {
-            self.preferred = None;
-        }
-        if let Some(entry) = self.clients.get_mut(key) {
-            entry.note = Some(note);
-        }
+        self.forget_preferred(key);
+        self.note_down(key, note);
         match client {
             Some(client) => {
                 self.put_back(key, client);
@@ -213,20 +241,35 @@ impl<'a, R: Locks + Net + Clock, F: Write + Drop> Server<'a, R, F> {
     }
 
     /// Closes the writing half of a client's stream, whose response was written.
-    fn linger(&mut self, key: usize, client: Client<TcpStream>) -> Result<(), AllocError> {
+    fn linger(&mut self, key: usize, client: Client<TcpStream>) -> Result<(), AllocError>
+        ensures clients { Changes (λ e. with_client client (record e { is_told = true })) key
+            self.old.clients self.new.clients }
+        ensures rest { (self.new.now ≡ self.old.now) × (self.new.lines ≡ self.old.lines) }
+    {
         let _ = client.stream().shutdown(Shutdown::Write);
         self.put_back(key, client);
         self.tell(key, true);
         Ok(self.ready.push(key)?)
     }
 
-    /// Lets go of a client that is at its end.
-    pub(crate) fn let_go(&mut self, key: usize) {
-        self.tell(key, false);
-        self.count_held(key, 0);
+    /// Another client's large request may be read first.
+    fn forget_preferred(&mut self, key: usize)
+        ensures clients { self.new.clients ≡ self.old.clients }
+        ensures rest { (self.new.now ≡ self.old.now) × (self.new.lines ≡ self.old.lines) }
+    {
         if self.preferred == Some(key) {
             self.preferred = None;
         }
+    }
+
+    /// Lets go of a client that is at its end.
+    pub(crate) fn let_go(&mut self, key: usize)
+        ensures clients { Updates self.old.clients self.new.clients key None }
+        ensures rest { (self.new.now ≡ self.old.now) × (self.new.lines ≡ self.old.lines) }
+    {
+        self.tell(key, false);
+        self.count_held(key, 0);
+        self.forget_preferred(key);
         let _ = self.clients.try_remove(key);
     }
 

@@ -20,7 +20,9 @@ pub(crate) struct Line {
 impl Line {
     /// An empty line.
     pub(crate) fn new(alloc: Global, to: Owner) -> Line
-        ensures { result.errands.items ≡ [] }
+        ensures items { result.errands.items ≡ [] }
+        ensures owner { result.to ≡ to }
+        ensures own { result.own.items ≡ [] }
     {
         Line {
             to,

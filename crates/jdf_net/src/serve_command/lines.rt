@@ -1,10 +1,20 @@
 //! The lines of the clients whose requests wait: whose turn it is, and what comes of them.
 
+ghost use Rattle.std.specs.Prelude.{◌≡◌, None, Some, IfOk, OnOk, string_bytes};
+ghost use Rattle.slab.specs.Slab.{Updates, get};
+ghost use Rattle.jdf_net.specs.Clients.{AreGivenBack, AreLetGo, AreMissed, IsMissed, TellsMissing};
+ghost use Rattle.jdf_net.specs.Lines.{IsParted, Joins, is_broken, is_gone as is_gone_in, is_late};
+ghost use Rattle.jdf_net.specs.Requests.{MaySend, Stands, StandsInLine, StandsOrMisses, StandsWith};
+ghost use Rattle.jdf_net.specs.Requests.{IsKnown, IsTold, StandsWithout};
+ghost use Rattle.jdf_net.specs.ServeCommand.{RefusesLate, StepsLineTo, StepsThere, WaitsOn};
+ghost use Rattle.std.specs.Option.{option_map};
+
 use crate::serve_command::entry::Entry;
 use crate::serve_command::line::Line;
 use crate::serve_command::note::Note;
 use crate::serve_command::owner::Owner;
 use crate::serve_command::place::Place;
+use crate::serve_command::post::Post;
 use crate::serve_command::route::{Route, route_of};
 use crate::serve_command::server::Server;
 use crate::serve_command::stepping::{Stepped, begin_in_file, is_missing, step_in_file};
@@ -17,7 +27,7 @@ use jmf_message::decode;
 use keepers::Locks;
 use mio::net::TcpStream;
 use peers::Asked;
-use rounds::{Answered, Errand, Room, Waiting, refuse, refuse_errands};
+use rounds::{Answered, Errand, Room, Waiting, refuse_errands};
 use slab::Slab;
 use std::alloc::{AllocError, Global};
 use std::io::Write;
@@ -26,7 +36,7 @@ use std::net::Net;
 use std::time::Clock;
 use stored_state::{Coming, Saved};
 use streams::Refused;
-use ticket_tree::{Id, Refusal};
+use ticket_tree::Refusal;
 
 /// For how many milliseconds steps are made in one round, so that clients who send and read are
 /// served between them.
@@ -49,12 +59,15 @@ fn is_begun_by(coming: &Coming) -> bool {
 /// Those of a line who may wait on, and those who waited as long as they may.
 fn parted_late(
     alloc: Global,
-    waiting: Vec<Errand<TcpStream>>,
+    errands: Vec<Errand<TcpStream>>,
     now: u64,
-) -> Result<Parted, AllocError> {
-    let mut left = Vec::with_capacity(alloc, waiting.len())?;
-    let mut late = Vec::with_capacity(alloc, waiting.len())?;
-    for one in waiting {
+) -> Result<Parted, AllocError>
+    ensures { IfOk result (λ parted. IsParted (is_late now) errands.items parted.0.items
+        parted.1.items) }
+{
+    let mut left = Vec::with_capacity(alloc, errands.len())?;
+    let mut late = Vec::with_capacity(alloc, errands.len())?;
+    for one in errands {
         if one.waiting.asked.deadline() <= now {
             late.push(one)?;
         } else {
@@ -65,7 +78,9 @@ fn parted_late(
 }
 
 /// Whether a client's connection is broken.
-fn is_gone(clients: &Slab<Entry>, key: usize) -> bool {
+fn is_gone(clients: &Slab<Entry>, key: usize) -> bool
+    ensures { result ≡ is_broken (get clients.now key) }
+{
     match clients.get(key) {
         Some(entry) => entry.is_gone,
         None => true,
@@ -77,7 +92,10 @@ fn parted_gone(
     alloc: Global,
     errands: Vec<Errand<TcpStream>>,
     clients: &Slab<Entry>,
-) -> Result<Parted, AllocError> {
+) -> Result<Parted, AllocError>
+    ensures { IfOk result (λ parted. IsParted (is_gone_in clients.now) errands.items parted.0.items
+        parted.1.items) }
+{
     let mut there = Vec::with_capacity(alloc, errands.len())?;
     let mut gone = Vec::new(alloc);
     for one in errands {
@@ -90,16 +108,80 @@ fn parted_gone(
     Ok((there, gone))
 }
 
+/// Whether the field of this name in a head tells the sender, where one is to.
+fn tells(field: Option<&str>, head: &[u8], sender: &str) -> bool
+    ensures { IsTold (option_map (λ name. name.now) field.entry) head.now sender.now result }
+{
+    let Some(name) = field else {
+        return true;
+    };
+    match lone_field(head, name.as_bytes()) {
+        Some(told) => told == sender.as_bytes(),
+        None => false,
+    }
+}
+
+/// Whether a sender is among the other controllers, where they are known.
+fn knows(post: &Option<Post>, sender: &str) -> bool
+    ensures { IsKnown (option_map (λ one. one.peers) post.now) sender.now result }
+{
+    match post {
+        Some(post) => post.peers.knows(sender),
+        None => true,
+    }
+}
+
+/// A client with the response that no such controller is there.
+fn missing(
+    alloc: Global,
+    waiting: Waiting<TcpStream>,
+    now: u64,
+) -> Result<Answered<TcpStream>, AllocError>
+    ensures { IfOk result (TellsMissing now waiting) }
+{
+    let Waiting { key, asked } = waiting;
+    let response = missing_bytes(alloc)?;
+    Ok(Answered {
+        key,
+        client: asked.answer(response.as_slice(), now).ok(),
+        told: Served {
+            status: 404,
+            refusal: None,
+        },
+        taken: None,
+    })
+}
+
+/// Puts an errand behind those that wait for the controller of this route.
+fn join(
+    alloc: Global,
+    lines: &mut IndexMap<String, Line>,
+    route: Route,
+    errand: Errand<TcpStream>,
+) -> Result<(), AllocError>
+    ensures { OnOk result (Joins route errand lines.old lines.new) }
+{
+    let Route { path, to } = route;
+    if let Some(line) = lines.get_mut(path.as_str()) {
+        line.errands.push(errand)?;
+        return Ok(());
+    }
+    let mut line = Line::new(alloc, to);
+    line.errands.push(errand)?;
+    lines.insert(path, line)?;
+    Ok(())
+}
+
 impl<'a, R: Locks + Net + Clock, F: Write + Drop> Server<'a, R, F> {
     /// Puts a client in the line of the controller to which its request leads.
     pub(crate) fn stand_in_line(
         &mut self,
-        key: usize,
-        asked: Asked<TcpStream>,
+        waiting: Waiting<TcpStream>,
         request: Received,
-    ) -> Result<(), AllocError> {
+    ) -> Result<(), AllocError>
+        ensures { OnOk result (StandsInLine waiting request self.old self.new) }
+    {
         let Received { head, body, .. } = request;
-        let waiting = Waiting { key, asked };
         match decode(self.alloc, body.as_slice()) {
             Ok(message) => self.stand_with(waiting, message, head.as_slice()),
             Err(refusal) => self.stand_without(waiting, refusal),
@@ -112,18 +194,26 @@ impl<'a, R: Locks + Net + Clock, F: Write + Drop> Server<'a, R, F> {
         waiting: Waiting<TcpStream>,
         message: Message,
         head: &[u8],
-    ) -> Result<(), AllocError> {
-        if !self.may_send(&message.sender, head) {
-            return self.turn_away(waiting, Refused::Forbidden);
+    ) -> Result<(), AllocError>
+        ensures { OnOk result (StandsWith waiting message head.now self.old self.new) }
+    {
+        if self.may_send(message.sender.as_str(), head) {
+            self.stand_or_miss(waiting, message)
+        } else {
+            self.refuse(waiting, Refused::Forbidden)
         }
+    }
+
+    /// The same of one whose sender may.
+    fn stand_or_miss(
+        &mut self,
+        waiting: Waiting<TcpStream>,
+        message: Message,
+    ) -> Result<(), AllocError>
+        ensures { OnOk result (StandsOrMisses waiting message self.old self.new) }
+    {
         match route_of(self.rt, self.alloc, &self.place, &message)? {
-            Some(route) => self.join(
-                route,
-                Errand {
-                    waiting,
-                    coming: Coming::Message(message),
-                },
-            ),
+            Some(route) => self.stand(route, waiting, Coming::Message(message)),
             None => self.miss(waiting),
         }
     }
@@ -134,77 +224,64 @@ impl<'a, R: Locks + Net + Clock, F: Write + Drop> Server<'a, R, F> {
         &mut self,
         waiting: Waiting<TcpStream>,
         refusal: Refusal,
-    ) -> Result<(), AllocError> {
+    ) -> Result<(), AllocError>
+        ensures { OnOk result (StandsWithout self.old.place waiting refusal self.old self.new) }
+    {
         match self.place {
             Place::File(file) => {
                 let route = Route {
                     path: String::from_str(self.alloc, file)?,
                     to: Owner::Any,
                 };
-                let coming = Coming::Neither(refusal);
-                self.join(route, Errand { waiting, coming })
+                self.stand(route, waiting, Coming::Neither(refusal))
             }
-            Place::Folder(_) => self.turn_away(waiting, Refused::Core(refusal)),
+            Place::Folder(_) => self.refuse(waiting, Refused::Core(refusal)),
         }
+    }
+
+    /// Puts a client in a line, for what has come.
+    fn stand(
+        &mut self,
+        route: Route,
+        waiting: Waiting<TcpStream>,
+        coming: Coming,
+    ) -> Result<(), AllocError>
+        ensures { OnOk result (Stands route waiting coming self.old self.new) }
+    {
+        join(
+            self.alloc,
+            &mut self.lines,
+            route,
+            Errand { waiting, coming },
+        )
     }
 
     /// Whether a sender may send here: where a field of the head tells who sends, it tells this one,
     /// and where the other controllers are known it is one of them.
-    fn may_send(&self, sender: &Id, head: &[u8]) -> bool {
-        let sender = sender.as_str();
-        let is_told = match self.sender_field {
-            Some(name) => lone_field(head, name.as_bytes()) == Some(sender.as_bytes()),
-            None => true,
-        };
-        let is_known = match &self.post {
-            Some(post) => post.peers.knows(sender),
-            None => true,
-        };
+    fn may_send(&self, sender: &str, head: &[u8]) -> bool
+        ensures { MaySend self.entry.now head.now sender.now result }
+    {
+        let is_told = tells(self.sender_field, head, sender);
+        let is_known = knows(&self.post, sender);
         is_told && is_known
     }
 
-    /// Gives a client whose request stands in no line the response to that.
-    fn turn_away(
-        &mut self,
-        waiting: Waiting<TcpStream>,
-        refused: Refused,
-    ) -> Result<(), AllocError> {
-        let Waiting { key, asked } = waiting;
-        let answered = refuse(self.alloc, key, asked, refused, self.now);
-        self.give_back(answered, None)
-    }
-
-    /// Puts an errand behind those that wait for the controller of this route.
-    fn join(&mut self, route: Route, errand: Errand<TcpStream>) -> Result<(), AllocError> {
-        let Route { path, to } = route;
-        if let Some(line) = self.lines.get_mut(path.as_str()) {
-            line.errands.push(errand)?;
-            return Ok(());
-        }
-        let mut line = Line::new(self.alloc, to);
-        line.errands.push(errand)?;
-        self.lines.insert(path, line)?;
-        Ok(())
-    }
-
     /// Answers a client whose request is for no controller that is there.
-    fn miss(&mut self, waiting: Waiting<TcpStream>) -> Result<(), AllocError> {
-        let Waiting { key, asked } = waiting;
-        let response = missing_bytes(self.alloc)?;
-        let answered = Answered {
-            key,
-            client: asked.answer(response.as_slice(), self.now).ok(),
-            told: Served {
-                status: 404,
-                refusal: None,
-            },
-            taken: None,
-        };
+    fn miss(&mut self, waiting: Waiting<TcpStream>) -> Result<(), AllocError>
+        ensures clients { OnOk result (IsMissed self.old.now waiting self.old.clients
+            self.new.clients) }
+        ensures rest { (self.new.now ≡ self.old.now) × (self.new.lines ≡ self.old.lines) }
+    {
+        let answered = missing(self.alloc, waiting, self.now)?;
         self.give_back(answered, None)
     }
 
     /// Answers each of these so.
-    fn miss_all(&mut self, errands: Vec<Errand<TcpStream>>) -> Result<(), AllocError> {
+    fn miss_all(&mut self, errands: Vec<Errand<TcpStream>>) -> Result<(), AllocError>
+        ensures clients { OnOk result (AreMissed self.old.now errands.items self.old.clients
+            self.new.clients) }
+        ensures rest { (self.new.now ≡ self.old.now) × (self.new.lines ≡ self.old.lines) }
+    {
         for one in errands {
             self.miss(one.waiting)?;
         }
@@ -235,26 +312,27 @@ impl<'a, R: Locks + Net + Clock, F: Write + Drop> Server<'a, R, F> {
     }
 
     /// Lets go of a client that went before its response.
-    fn pass_over(&mut self, key: usize, path: String) {
-        if let Some(entry) = self.clients.get_mut(key) {
-            entry.note = Some(Note {
-                path: Some(path),
-                told: Served {
-                    status: GONE,
-                    refusal: None,
-                },
-                taken: None,
-            });
-        }
+    fn pass_over(&mut self, key: usize, path: String)
+        ensures clients { Updates self.old.clients self.new.clients key None }
+        ensures rest { (self.new.now ≡ self.old.now) × (self.new.lines ≡ self.old.lines) }
+    {
+        let note = Note {
+            path: Some(path),
+            told: Served {
+                status: GONE,
+                refusal: None,
+            },
+            taken: None,
+        };
+        self.note_down(key, note);
         self.let_go(key);
     }
 
     /// Lets go of each of these clients.
-    fn pass_over_all(
-        &mut self,
-        gone: Vec<Errand<TcpStream>>,
-        path: &str,
-    ) -> Result<(), AllocError> {
+    fn pass_over_all(&mut self, gone: Vec<Errand<TcpStream>>, path: &str) -> Result<(), AllocError>
+        ensures clients { OnOk result (AreLetGo gone.items self.old.clients self.new.clients) }
+        ensures rest { (self.new.now ≡ self.old.now) × (self.new.lines ≡ self.old.lines) }
+    {
         for one in gone {
             self.pass_over(one.waiting.key, String::from_str(self.alloc, path)?);
         }
@@ -264,10 +342,14 @@ impl<'a, R: Locks + Net + Clock, F: Write + Drop> Server<'a, R, F> {
     /// Refuses those of a line who waited as long as they may, and gives the rest.
     fn refuse_late(
         &mut self,
-        waiting: Vec<Errand<TcpStream>>,
+        errands: Vec<Errand<TcpStream>>,
         path: &str,
-    ) -> Result<Vec<Errand<TcpStream>>, AllocError> {
-        let (left, late) = parted_late(self.alloc, waiting, self.now)?;
+    ) -> Result<Vec<Errand<TcpStream>>, AllocError>
+        ensures clients { IfOk result (λ left. RefusesLate path.now self.old.now errands.items
+            left.items self.old.clients self.new.clients) }
+        ensures rest { (self.new.now ≡ self.old.now) × (self.new.lines ≡ self.old.lines) }
+    {
+        let (left, late) = parted_late(self.alloc, errands, self.now)?;
         let room = Room::new(self.alloc, late.len())?;
         let answered = refuse_errands(self.alloc, late, room, Refused::LoadFailed, self.now);
         self.give_back_all(answered, path)?;
@@ -279,7 +361,11 @@ impl<'a, R: Locks + Net + Clock, F: Write + Drop> Server<'a, R, F> {
         &mut self,
         answered: Vec<Answered<TcpStream>>,
         path: &str,
-    ) -> Result<(), AllocError> {
+    ) -> Result<(), AllocError>
+        ensures clients { OnOk result (AreGivenBack (Some path.now) answered.items self.old.clients
+            self.new.clients) }
+        ensures rest { (self.new.now ≡ self.old.now) × (self.new.lines ≡ self.old.lines) }
+    {
         for one in answered {
             self.give_back(one, Some(String::from_str(self.alloc, path)?))?;
         }
@@ -288,7 +374,10 @@ impl<'a, R: Locks + Net + Clock, F: Write + Drop> Server<'a, R, F> {
 
     /// Has those of a line wait on, whose file somebody else has locked, but for those who waited as
     /// long as they may.
-    fn wait_on(&mut self, path: String, line: Line, last: Option<Saved>) -> Result<(), AllocError> {
+    fn wait_on(&mut self, path: String, line: Line, last: Option<Saved>) -> Result<(), AllocError>
+        ensures { OnOk result (WaitsOn (string_bytes path) line.to line.errands.items self.old
+            self.new) }
+    {
         if let Some(last) = last {
             self.saved.keep(path.clone()?, last)?;
         }
@@ -303,7 +392,10 @@ impl<'a, R: Locks + Net + Clock, F: Write + Drop> Server<'a, R, F> {
 
     /// Has the controller of a line make the steps of those who wait. Where somebody else has its
     /// file locked, the line stays.
-    fn step_there(&mut self, path: String, line: Line) -> Result<(), AllocError> {
+    fn step_there(&mut self, path: String, line: Line) -> Result<(), AllocError>
+        ensures { OnOk result (StepsThere (string_bytes path) line.to line.errands.items self.old
+            self.new) }
+    {
         let last = self.saved.take(path.as_str());
         let Line { to, errands, own } = line;
         let addressee = to.as_addressee();
@@ -329,7 +421,10 @@ impl<'a, R: Locks + Net + Clock, F: Write + Drop> Server<'a, R, F> {
 
     /// The same of those who are there still. Where a folder has no such file any more, they are
     /// told so.
-    fn step(&mut self, path: String, line: Line) -> Result<(), AllocError> {
+    fn step(&mut self, path: String, line: Line) -> Result<(), AllocError>
+        ensures { OnOk result (StepsLineTo (string_bytes path) line.to line.errands.items self.old
+            self.new) }
+    {
         let Line { to, errands, own } = line;
         let (errands, gone) = parted_gone(self.alloc, errands, &self.clients)?;
         self.pass_over_all(gone, path.as_str())?;

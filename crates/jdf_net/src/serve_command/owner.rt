@@ -1,3 +1,6 @@
+ghost use Rattle.std.specs.Prelude.{◌≡◌, IfOk};
+ghost use Rattle.jdf_net.specs.ServeCommand.{owner_of};
+
 use std::alloc::{AllocError, Global};
 use stored_state::Addressee;
 use ticket_tree::{Duplicate, Id};
@@ -15,7 +18,9 @@ pub(crate) enum Owner {
 
 impl Owner {
     /// As one that is addressed.
-    pub(crate) fn as_addressee(&self) -> Addressee<'_> {
+    pub(crate) fn as_addressee(&self) -> Addressee<'_>
+        ensures { owner_of result ≡ self.now }
+    {
         match self {
             Owner::Any => Addressee::Any,
             Owner::Named(name) => Addressee::Named(name.as_str()),

@@ -12,7 +12,7 @@ pub enum Place<'a> {
 
 impl<'a> Place<'a> {
     ghost use Rattle.std.specs.Prelude.{◌≡◌};
-    ghost use Rattle.jdf_net.specs.ServeCommand.{path_of};
+    ghost use Rattle.jdf_net.specs.Requests.{path_of};
 
     /// What is served at a path: a folder where the system says that it leads to one, also through
     /// a link, and a file where it says another thing or nothing.

@@ -1,6 +1,6 @@
 //! What goes out by itself: which parts are out, and whose turn it is.
 
-ghost use Rattle.std.specs.Prelude.{◌<◌, ◌≤◌, length, IfOk, IfSome};
+ghost use Rattle.std.specs.Prelude.{◌≡◌, ◌<◌, ◌≤◌, length, IfOk, IfSome};
 
 use crate::serve_command::line::Line;
 use crate::serve_command::own::{Own, Parcel, Task};
@@ -221,7 +221,9 @@ impl<'a, R: Locks + Net + Clock, F: Write + Drop> Server<'a, R, F> {
         path: &str,
         mark: &Mark,
         came: Result<TakenBytes, Refusal>,
-    ) -> Result<(), AllocError> {
+    ) -> Result<(), AllocError>
+        ensures { self.new.clients ≡ self.old.clients }
+    {
         let Some((is_taken, sent)) = given_by(came) else {
             self.fail(path, &mark.parcel);
             return Ok(());
@@ -250,7 +252,9 @@ impl<'a, R: Locks + Net + Clock, F: Write + Drop> Server<'a, R, F> {
         path: &str,
         marks: &[Mark],
         given: Vec<Result<TakenBytes, Refusal>>,
-    ) -> Result<(), AllocError> {
+    ) -> Result<(), AllocError>
+        ensures { self.new.clients ≡ self.old.clients }
+    {
         for (mark, came) in marks.iter().zip(given) {
             self.follow_own(path, mark, came)?;
         }
@@ -259,7 +263,9 @@ impl<'a, R: Locks + Net + Clock, F: Write + Drop> Server<'a, R, F> {
 
     /// Nothing of this can be done now, since the file can't be had: it is seen again later, and
     /// holds up nothing else meanwhile.
-    fn put_off(&mut self, path: &str, marks: &[Mark]) {
+    fn put_off(&mut self, path: &str, marks: &[Mark])
+        ensures { self.new.clients ≡ self.old.clients }
+    {
         for mark in marks {
             self.withdraw(mark.parcel.line);
         }
@@ -274,7 +280,9 @@ impl<'a, R: Locks + Net + Clock, F: Write + Drop> Server<'a, R, F> {
         path: &str,
         to: &Owner,
         own: Vec<Own>,
-    ) -> Result<(), AllocError> {
+    ) -> Result<(), AllocError>
+        ensures { self.new.clients ≡ self.old.clients }
+    {
         if own.is_empty() {
             return Ok(());
         }
@@ -288,7 +296,9 @@ impl<'a, R: Locks + Net + Clock, F: Write + Drop> Server<'a, R, F> {
         to: &Owner,
         marks: &[Mark],
         comings: Vec<Coming>,
-    ) -> Result<(), AllocError> {
+    ) -> Result<(), AllocError>
+        ensures { self.new.clients ≡ self.old.clients }
+    {
         let last = self.saved.take(path);
         match step_own_in_file(self.rt, self.alloc, path, last, to.as_addressee(), comings) {
             OwnStepped::Stepped(given, saved) => {
@@ -304,7 +314,9 @@ impl<'a, R: Locks + Net + Clock, F: Write + Drop> Server<'a, R, F> {
     }
 
     /// Sees what a controller has out now, as it was saved.
-    fn see_saved(&mut self, path: &str, to: &Owner, saved: &Saved) -> Result<(), AllocError> {
+    fn see_saved(&mut self, path: &str, to: &Owner, saved: &Saved) -> Result<(), AllocError>
+        ensures { self.new.clients ≡ self.old.clients }
+    {
         let Some(post) = &mut self.post else {
             return Ok(());
         };
@@ -318,7 +330,9 @@ impl<'a, R: Locks + Net + Clock, F: Write + Drop> Server<'a, R, F> {
         path: &str,
         to: &Owner,
         saved: Option<Saved>,
-    ) -> Result<(), AllocError> {
+    ) -> Result<(), AllocError>
+        ensures { self.new.clients ≡ self.old.clients }
+    {
         let Some(saved) = saved else {
             return Ok(());
         };

@@ -2,7 +2,7 @@
 
 ghost use Rattle.std.specs.Prelude.{◌≡◌, None, Some, string_bytes, IfOk, IfSome, IfNone};
 ghost use Rattle.shop_folder.specs.Routes as routes;
-ghost use Rattle.jdf_net.specs.ServeCommand.{LeadsNowhere, LeadsTo};
+ghost use Rattle.jdf_net.specs.Requests.{LeadsNowhere, LeadsTo, owner_for};
 
 use crate::serve_command::owner::Owner;
 use crate::serve_command::place::Place;
@@ -29,6 +29,7 @@ fn route_by(
     ensures some { IfOk result (λ route. IfSome route (λ r.
         routes.file_for folder.now lies message.now.receiver message.now.sender
         ≡ Some (string_bytes r.path))) }
+    ensures owner { IfOk result (λ route. IfSome route (λ r. r.to ≡ owner_for lies message.now)) }
     ensures none { IfOk result (λ route. IfNone route
         (routes.file_for folder.now lies message.now.receiver message.now.sender ≡ None)) }
 {
@@ -53,8 +54,7 @@ pub(crate) fn route_of<R: Files>(
     place: &Place<'_>,
     message: &Message,
 ) -> Result<Option<Route>, AllocError>
-    ensures some { IfOk result (λ route. IfSome route
-        (λ r. LeadsTo place.now message.now (string_bytes r.path))) }
+    ensures some { IfOk result (λ route. IfSome route (LeadsTo place.now message.now)) }
     ensures none { IfOk result (λ route. IfNone route (LeadsNowhere place.now message.now)) }
 {
     match place {

@@ -1,5 +1,8 @@
 //! The lines of the log.
 
+ghost use Rattle.std.specs.Prelude.{◌≡◌, true};
+ghost use Rattle.jdf_net.specs.Clients.{Changes};
+
 use crate::serve_command::entry::Entry;
 use crate::serve_command::moments::seconds;
 use crate::serve_command::note::Note;
@@ -95,7 +98,11 @@ fn line_of(
 
 impl<'a, R: Clock, F: Write + Drop> Server<'a, R, F> {
     /// Writes the line of a client, once: as its response was written whole, or as it is let go.
-    pub(crate) fn tell(&mut self, key: usize, is_written: bool) {
+    pub(crate) fn tell(&mut self, key: usize, is_written: bool)
+        ensures clients { Changes (λ e. record e { is_told = true }) key self.old.clients
+            self.new.clients }
+        ensures rest { (self.new.now ≡ self.old.now) × (self.new.lines ≡ self.old.lines) }
+    {
         let at = seconds(self.rt);
         let Some(entry) = self.clients.get_mut(key) else {
             return;
@@ -111,7 +118,9 @@ impl<'a, R: Clock, F: Write + Drop> Server<'a, R, F> {
 
     /// Writes the line of something that went out by itself: the time, its controller, its spawn,
     /// its destination, and what came of it.
-    pub(crate) fn tell_parcel(&mut self, path: &str, parcel: &Parcel, what: &str) {
+    pub(crate) fn tell_parcel(&mut self, path: &str, parcel: &Parcel, what: &str)
+        ensures { self.new.clients ≡ self.old.clients }
+    {
         let Some(post) = &self.post else {
             return;
         };
