@@ -353,8 +353,8 @@ def orders_are_given_once_and_nothing_else():
         office.start()
         until_so(lambda: len(printers.told(3)) == 3, "it is sent once more", SOON)
         time.sleep(3)
-        wants([line.split(" ", 1)[1] for line in printers.told(3)],
-              ["200 Taken S1 from job-17", "200 Taken S2 from job-17", "200 Again S2 from job-17"])
+        wants(printers.told(3),
+              [f"press/job-17 200 {what} from job-17" for what in ("Taken S1", "Taken S2", "Again S2")])
 
 
 def a_server_that_is_started_later_has_it():
@@ -523,8 +523,8 @@ def a_peers_file_stands_in_the_place_of_a_url():
         resend = json.dumps({"Order": "Resend", "SpawnID": "S1"})
         wants(run(*given, "@office/peers.json", given=resend), (1, "Sent S1\n", unknown))
         wants(run("send", "@office/peers.json", given="{}"), (3, "", "Refused 41 NotProfile\n"))
-        wants([line.split(" ", 1)[1] for line in printers.told(2)],
-              ["200 Taken S1 from job-17", "200 Again S1 from job-17"])
+        wants(printers.told(2),
+              [f"press/job-17 200 {what} from job-17" for what in ("Taken S1", "Again S1")])
 
 
 def a_worker_is_begun_by_its_first_command():

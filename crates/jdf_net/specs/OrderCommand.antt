@@ -1,6 +1,6 @@
 -- How `order` with `--send` ends.
 use Rattle.std.specs.Prelude.{◌≡◌, ◌≢◌, ◌⊎◌, ◌≤◌, ℕ, Bool, false, List, [], Option, Some, None}
-use Rattle.std.specs.Prelude.{Result, Ok, slice_get}
+use Rattle.std.specs.Prelude.{Result, Ok}
 use Rattle.std.specs.Borrow.{Bor}
 use Rattle.ticket_items.specs.declared.refusal.Refusal.{Refusal}
 use Rattle.ticket_items.specs.declared.refusal.Refusal.TheVariants.{Memory}
@@ -15,8 +15,9 @@ use Rattle.stored_state.specs.declared.any_controller.AnyController.{AnyControll
 use Rattle.streams.specs.Ends.{EndsWith, GivesOut, GivesUp}
 use Rattle.streams.specs.Streams.{IsUntouched, Stream, Use}
 use Rattle.streams.specs.declared.fault.Fault.{Fault}
-use Rattle.streams.specs.declared.fault.Fault.TheVariants.{Device, Input}
-use Rattle.streams.specs.declared.refused.Refused.TheVariants.{Core, LoadFailed}
+use Rattle.streams.specs.declared.fault.Fault.TheVariants.{Input}
+use Rattle.streams.specs.declared.refused.Refused.TheVariants.{Core}
+use Rattle.jdf_net.specs.SendCommand.{IsNoPlace}
 use Rattle.jdf_net.specs.declared.order_command.run.Came.{Came}
 use Rattle.jdf_net.specs.declared.order_command.run.Came.TheVariants.{Answered, NoPeer, Refused}
 use Rattle.jdf_commands.specs.Calls.{DoesNone, held, is_honest, kept_in, place}
@@ -106,13 +107,6 @@ OrdersAndSends file at input output told status =
     sent)
     (notes_of_order reply) notes
     × GivesOrder file at reply sent notes output told status
-
--- why it isn't known where a text says to send to: memory ran out; or it begins with `@`, and the
--- peers' file that it names can't be loaded
-abbrev pub IsNoPlace : List ℕ → Fault → Type 0
-IsNoPlace url fault =
-    (fault ≡ Input (Core Memory))
-    ⊎ ((fault ≡ Device LoadFailed) × (slice_get url 0 ≡ Some 64))
 
 -- the text is no URL to send to, or that isn't known, and nothing is read or written
 abbrev pub IsNowhere : List ℕ → Use → Ending

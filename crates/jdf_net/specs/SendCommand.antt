@@ -1,6 +1,6 @@
 -- How `send` ends.
 use Rattle.std.specs.Prelude.{◌≡◌, ◌≢◌, ◌⊎◌, ◌++◌, ◌∷◌, ℕ, List, [], false, true, Option, Some, None}
-use Rattle.std.specs.Prelude.{MatchResult, Result, Ok, Err, String, string_bytes}
+use Rattle.std.specs.Prelude.{MatchResult, Result, Ok, Err, String, slice_get, string_bytes}
 use Rattle.std.specs.declared.alloc.Global.{Global}
 use Rattle.ticket_items.specs.declared.refusal.Refusal.{Refusal}
 use Rattle.ticket_items.specs.declared.refusal.Refusal.TheVariants.{Memory}
@@ -9,11 +9,49 @@ use Rattle.jmf_message.specs.Decoded.{IsDecodedAs, IsRefusalOf}
 use Rattle.streams.specs.Ends.{GivesOut, GivesUp, Tells}
 use Rattle.streams.specs.Fault.{fault_status}
 use Rattle.streams.specs.Streams.{IsUntouched, Stream, Use}
-use Rattle.streams.specs.declared.refused.Refused.TheVariants.{Core}
+use Rattle.streams.specs.declared.refused.Refused.{Refused}
+use Rattle.streams.specs.declared.refused.Refused.TheVariants.{Core, LoadFailed}
 use Rattle.streams.specs.declared.fault.Fault.{Fault}
-use Rattle.streams.specs.declared.fault.Fault.TheVariants.{Input}
+use Rattle.streams.specs.declared.fault.Fault.TheVariants.{Device, Input}
+use Rattle.url.specs.Parts.{Parts}
+use Rattle.peers_file.specs.Destination.{destination_in}
+use Rattle.peers_file.specs.Table.{IsUrlOf}
+use Rattle.jdf_net.specs.declared.send_command.send_to.SendTo.{SendTo}
+use Rattle.jdf_net.specs.declared.send_command.send_to.SendTo.TheVariants.{Peers, Url}
 use Rattle.jdf_commands.specs.FileCommands.Answers.{IsRefusedBy, refusal_told}
 use Rattle.jdf_commands.specs.FileCommands.Notes.{TellsNotes}
+
+-- ---- where messages go
+
+-- behind a `@` the path of a peers' file stands
+abbrev pub NamesPeers : List ℕ → Type 0
+NamesPeers text = slice_get text 0 ≡ Some 64
+
+-- a text tells to send by the table of a file that it names; or to the URL that it is; or it tells
+-- nothing
+abbrev pub IsPlaceIn : List ℕ → Option SendTo → Type 0
+IsPlaceIn text (Some (Peers rows)) = NamesPeers text
+IsPlaceIn text (Some (Url url)) = (slice_get text 0 ≢ Some 64) × (destination_in text ≡ Some url)
+IsPlaceIn text None = (slice_get text 0 ≢ Some 64) × (destination_in text ≡ None)
+
+-- why there is no table in a peers' file: memory ran out, or the file can't be loaded
+abbrev pub IsNoTable : Refused → Type 0
+IsNoTable e = (e ≡ Core Memory) ⊎ (e ≡ LoadFailed)
+
+-- why it isn't known where a text says to send to: memory ran out; or it names a peers' file, and
+-- there is no table in that
+abbrev pub IsNoPlace : List ℕ → Fault → Type 0
+IsNoPlace text fault =
+    (fault ≡ Input (Core Memory))
+    ⊎ ((e : Refused) × (fault ≡ Device e) × IsNoTable e × NamesPeers text)
+
+-- a message goes to that URL, or to the one that the table has for its receiver
+abbrev pub GoesTo : SendTo → List ℕ → Option Parts → Type 0
+GoesTo (Url url) message found = found ≡ Some url
+GoesTo (Peers rows) message found =
+    (m : Message) × IsDecodedAs message (Ok m) × IsUrlOf m.receiver rows found
+
+-- ---- what is written
 
 -- what is written of an answer: its text on a line, and nothing where it has none
 abbrev pub answer_line : List ℕ → List ℕ

@@ -1,14 +1,14 @@
 //! Where messages are sent.
 
-ghost use Rattle.std.specs.Prelude.{IfErr};
-ghost use Rattle.jdf_net.specs.OrderCommand.{IsNoPlace};
+ghost use Rattle.std.specs.Prelude.{IfErr, IfOk, option_copied};
+ghost use Rattle.jdf_net.specs.SendCommand.{GoesTo, IsNoPlace, IsPlaceIn};
 
 use crate::peers_in_file::peers_in_file;
 use jmf_message::decode;
 use peers_file::{Destination, PeerTable};
 use std::alloc::Global;
 use std::rt::Files;
-use streams::{Fault, Refused};
+use streams::Fault;
 
 /// Where messages are sent: to a URL, or each to the one that a table has for its receiver.
 #[derive(Drop)]
@@ -22,15 +22,13 @@ impl SendTo {
     /// file. Nothing where it is neither. Refuses `LoadFailed` where that file can't be read or has
     /// no such table, and `Memory`.
     pub(crate) fn of<R: Files>(rt: &R, alloc: Global, text: &str) -> Result<Option<SendTo>, Fault>
-        ensures { IfErr result (IsNoPlace text.now) }
+        ensures ok { IfOk result (IsPlaceIn text.now) }
+        ensures err { IfErr result (IsNoPlace text.now) }
     {
-        if !text.is_empty()
-            && text.as_bytes()[0] == b'@'
-            && let Some(path) = text.strip_prefix("@")
-        {
-            return match peers_in_file(rt, alloc, path) {
-                Some(peers) => Ok(Some(SendTo::Peers(peers))),
-                None => Err(Fault::Device(Refused::LoadFailed)),
+        if !text.is_empty() && text.as_bytes()[0] == b'@' {
+            return match peers_in_file(rt, alloc, &text[1..]) {
+                Ok(peers) => Ok(Some(SendTo::Peers(peers))),
+                Err(refused) => Err(Fault::Device(refused)),
             };
         }
         match Destination::of(alloc, text)? {
@@ -45,7 +43,9 @@ impl SendTo {
         &self,
         alloc: Global,
         message: &[u8],
-    ) -> Result<Option<&Destination>, Fault> {
+    ) -> Result<Option<&Destination>, Fault>
+        ensures { IfOk result (λ found. GoesTo self.now message.now (option_copied found)) }
+    {
         match self {
             SendTo::Url(destination) => Ok(Some(destination)),
             SendTo::Peers(peers) => {

@@ -132,9 +132,7 @@ fn post_of<R: Files>(
         return Ok(None);
     };
     let read_at = changed_at(rt, file.as_str());
-    let Some(peers) = peers_in_file(rt, alloc, file.as_str()) else {
-        return Err(Refused::LoadFailed);
-    };
+    let peers = peers_in_file(rt, alloc, file.as_str())?;
     Ok(Some(Post {
         file,
         peers,

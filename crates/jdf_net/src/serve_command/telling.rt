@@ -7,6 +7,7 @@ use crate::serve_command::entry::Entry;
 use crate::serve_command::moments::seconds;
 use crate::serve_command::note::Note;
 use crate::serve_command::own::Parcel;
+use crate::serve_command::place::Place;
 use crate::serve_command::server::Server;
 use http_edge::Served;
 use rounds::TakenFrom;
@@ -22,11 +23,23 @@ use world_script::answer_text;
 /// tells it). No response has it.
 pub(crate) const GONE: u16 = 499;
 
-/// The name of the file of this path.
-fn name_of(path: &str) -> &str {
+/// The last segment of a path.
+fn last_segment(path: &str) -> &str {
     match path.rsplit_once('/') {
         Some((_, name)) => name,
         None => path,
+    }
+}
+
+/// The controller in the file of this path: where a folder is served, what stands behind that, as
+/// `mis` or `press/job-17`.
+fn name_of<'t>(place: &Place<'_>, path: &'t str) -> &'t str {
+    match place {
+        Place::File(_) => last_segment(path),
+        Place::Folder(folder) => match path.strip_prefix(*folder) {
+            Some(name) => name.strip_prefix("/").unwrap_or(name),
+            None => path,
+        },
     }
 }
 
@@ -57,9 +70,14 @@ fn what_text(
 }
 
 /// What is told of a request: its controller, the status of its response, and what came of it.
-fn note_text(alloc: Global, note: &Note, is_written: bool) -> Result<String, AllocError> {
+fn note_text(
+    alloc: Global,
+    place: &Place<'_>,
+    note: &Note,
+    is_written: bool,
+) -> Result<String, AllocError> {
     let name = match &note.path {
-        Some(path) => name_of(path.as_str()),
+        Some(path) => name_of(place, path.as_str()),
         None => "-",
     };
     let Served { status, refusal } = note.told;
@@ -71,9 +89,14 @@ fn note_text(alloc: Global, note: &Note, is_written: bool) -> Result<String, All
 }
 
 /// What is told of a client.
-fn entry_text(alloc: Global, entry: &Entry, is_written: bool) -> Result<String, AllocError> {
+fn entry_text(
+    alloc: Global,
+    place: &Place<'_>,
+    entry: &Entry,
+    is_written: bool,
+) -> Result<String, AllocError> {
     match &entry.note {
-        Some(note) => note_text(alloc, note, is_written),
+        Some(note) => note_text(alloc, place, note, is_written),
         None => format!(in alloc; "- no request"),
     }
 }
@@ -83,11 +106,12 @@ fn entry_text(alloc: Global, entry: &Entry, is_written: bool) -> Result<String, 
 fn line_of(
     alloc: Global,
     at: Option<u64>,
+    place: &Place<'_>,
     entry: &Entry,
     is_written: bool,
     now: u64,
 ) -> Result<String, AllocError> {
-    let text = entry_text(alloc, entry, is_written)?;
+    let text = entry_text(alloc, place, entry, is_written)?;
     let address = &entry.address;
     let time = now.saturating_sub(entry.since);
     match at {
@@ -110,7 +134,7 @@ impl<'a, R: Clock, F: Write + Drop> Server<'a, R, F> {
         if mem::replace(&mut entry.is_told, true) {
             return;
         }
-        match line_of(self.alloc, at, entry, is_written, self.now) {
+        match line_of(self.alloc, at, &self.place, entry, is_written, self.now) {
             Ok(line) => self.log.push(line.as_str()),
             Err(_) => self.log.drop_line(),
         }
@@ -128,7 +152,7 @@ impl<'a, R: Clock, F: Write + Drop> Server<'a, R, F> {
             return;
         };
         let at = seconds(self.rt).unwrap_or(0);
-        let name = name_of(path);
+        let name = name_of(&self.place, path);
         let number = parcel.spawn.number();
         match format!(in self.alloc; "{at} {name} S{number} to http://{url} {what}\n") {
             Ok(line) => self.log.push(line.as_str()),

@@ -117,13 +117,13 @@ impl Post {
         }
         self.read_at = changed;
         match peers_in_file(rt, alloc, self.file.as_str()) {
-            Some(peers) => {
+            Ok(peers) => {
                 self.peers = peers;
                 self.houses = Houses::new(alloc);
                 self.read_all_again();
                 true
             }
-            None => false,
+            Err(_) => false,
         }
     }
 
