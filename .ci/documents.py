@@ -1,8 +1,8 @@
 #!/usr/bin/env python3
 """Types what the documents tell to type: documents.py PROGRAM
 
-The lines of README.md and of docs/FIRST_DAY.md that are fenced as `sh`, and the examples that the
-program's help gives, are run as they stand, from the first to the last, each document in one shell
+The lines of README.md, docs/FIRST_DAY.md and docs/CIP4.md that are fenced as `sh`, and the examples
+that the program's help gives, are run as they stand, from the first to the last, each document in one shell
 in a folder of its own, which has the program where `build-unproved` leaves it. Only ports differ:
 each is a free one. What isn't run here builds or proves: for `rt` stands a script that runs the
 program, and `./build-unproved` and `./check` are left out.
@@ -231,7 +231,8 @@ def passes(name, lines, program):
 
 def main():
     program = os.path.abspath(sys.argv[1])
-    documents = [(name, commands_of(name)) for name in ("README.md", "docs/FIRST_DAY.md")]
+    documents = [(name, commands_of(name))
+                 for name in ("README.md", "docs/FIRST_DAY.md", "docs/CIP4.md")]
     documents.append(("--help", commands_of_help(program)))
     passed = sum([passes(name, lines, program) for name, lines in documents])
     print(f"documents: {passed} passed, {len(documents) - passed} failed")
