@@ -345,7 +345,7 @@ def orders_are_given_once_and_nothing_else():
         # What was taken doesn't come again.
         time.sleep(3)
         wants((len(printers.told(1)), len(office.told(1))), (1, 1))
-        wants((office.sent(), printers.sent()), (["job-17 S1 taken"], ["job-17 S1 taken"]))
+        wants((office.sent(), printers.sent()), (["job-17 S1 taken"], ["press/job-17 S1 taken"]))
         # After a start what is out is sent once, since it may have been lost.
         gives("office/job-17", spawn("text", "press", ["text.sections"]), "Spawned S2")
         until_so(lambda: len(printers.told(2)) == 2, "the second goes out", SOON)
