@@ -1,16 +1,17 @@
 -- What each step leaves at a destination, and from that the laws over all steps.
 use Rattle.std.proofs.Common.{◌≡◌, ⊎_elim, ◌==◌, ◌&&◌, ◌||◌, ℕ, zero, suc, ◌+◌, ◌<◌, true, false, List, [], ◌∷◌, ◌++◌, Some, slice_get, take, drop, fold, min, ◌*◌, ◌^◌, length, count_by, refl, sym, ap, subst, ◌∙◌, arith, rules, tests}
-use Rattle.std.proofs.lemmas.Bool.{and_parts, cases_eq, cond_both, eqb-true, eq-eqb, false_from_ne_true, ne_eqb, or_from, or_parts, true≢false, both_ways}
+use Rattle.std.proofs.lemmas.Bool.{and_parts, cases_eq, cases_lt, cond_both, eqb-true, eq-eqb, false_from_ne_true, ne_eqb, or_from, or_parts, true≢false, both_ways}
+use Rattle.std.proofs.lemmas.List.{set_past}
 use Rattle.std.proofs.lemmas.List.Sums.{sum_by-cons}
 use Rattle.std.proofs.Math.Nat.{mul_assoc, mul_left_comm, pow-succ'}
 use Rattle.std.specs.List.{list_any}
 use Rattle.courier.proofs.Differing.{has-push, has-turned}
 use Rattle.courier.proofs.Keeping.{at-changed, at-other, flies-within, idle-flying}
 use Rattle.courier.specs.declared.TheConstants.{FIRST_DELAY, LAST_DELAY}
-use Rattle.courier.specs.Destination.{Destination, begun, failed, new_at, settled, withdrawn, with_item}
+use Rattle.courier.specs.Destination.{Destination, begun, failed, heard, new_at, settled, withdrawn, with_item}
 use Rattle.courier.specs.Items.{all_differ, has}
-use Rattle.courier.specs.Laws.{DelaysDouble, EachComesNearer, NoneComesBack, OneAtOnce}
-use Rattle.courier.specs.Runs.{Step, Add, Put, Give, Fail, Settle, Withdraw, Allows, IsRun, after, after_all, ends, gives, gives_item, puts_item}
+use Rattle.courier.specs.Laws.{DelaysDouble, EachComesNearer, HeardWaitsAnew, NoneComesBack, OneAtOnce}
+use Rattle.courier.specs.Runs.{Step, Add, Put, Give, Fail, Settle, Withdraw, Hear, Allows, IsRun, after, after_all, ends, gives, gives_item, puts_item}
 use Rattle.courier.specs.Table.{changed, destination_at, flies_at, is_out, put, waits_at}
 use Rattle.courier.specs.Turns.{one_if}
 
@@ -33,6 +34,14 @@ pub at-put : (P : Destination → Type 0) (item : ℕ) (ds : List Destination) (
 at-put P item ds k line within old new =
     cond_both (is_out ds k item) ds (changed (with_item item) ds k) (λ all. P (destination_at all line)) (λ _. old) (λ _. at-step P (with_item item) ds k line within old new)
 
+-- a destination is heard from, if it is there
+pub at-heard : (P : Destination → Type 0) (now : ℕ) (ds : List Destination) (k line : ℕ) → P (destination_at ds line) → (k ≡ line → P (heard now (destination_at ds line))) → P (destination_at (changed (heard now) ds k) line)
+at-heard P now ds k line old new =
+    ⊎_elim
+    (λ within. at-step P (heard now) ds k line within old new)
+    (λ past. subst (λ all. P (destination_at all line)) (sym (set_past ds k (heard now (destination_at ds k)) past)) old)
+    (cases_lt k (length ds))
+
 -- ---- one at once
 
 flies-after : (line : ℕ) (step : Step) (ds : List Destination) → flies_at ds line ≡ true → Allows ds step → ends line step ≡ false → flies_at (after ds step) line ≡ true
@@ -42,6 +51,7 @@ flies-after line (Give now flight) ds flies allowed still = at-step (λ d. d.fly
 flies-after line (Fail k now) ds flies allowed still = at-step (λ d. d.flying ≡ true) (failed now) ds k line (flies-within ds k allowed) flies (λ here. absurd (both_ways _ still (eq-eqb k line here)))
 flies-after line (Settle k now) ds flies allowed still = at-step (λ d. d.flying ≡ true) (settled now) ds k line (flies-within ds k allowed) flies (λ here. absurd (both_ways _ still (eq-eqb k line here)))
 flies-after line (Withdraw k) ds flies allowed still = at-step (λ d. d.flying ≡ true) withdrawn ds k line (flies-within ds k allowed) flies (λ here. absurd (both_ways _ still (eq-eqb k line here)))
+flies-after line (Hear k now) ds flies allowed still = at-heard (λ d. d.flying ≡ true) now ds k line flies (λ _. flies)
 
 gives-not : (line : ℕ) (step : Step) (ds : List Destination) → flies_at ds line ≡ true → Allows ds step → gives line step ≡ false
 gives-not line (Add now) ds flies allowed = refl
@@ -50,6 +60,7 @@ gives-not line (Give now flight) ds flies allowed = ne_eqb flight.line line (λ 
 gives-not line (Fail k now) ds flies allowed = refl
 gives-not line (Settle k now) ds flies allowed = refl
 gives-not line (Withdraw k) ds flies allowed = refl
+gives-not line (Hear k now) ds flies allowed = refl
 
 none-given : (line : ℕ) (steps : List Step) (ds : List Destination) → flies_at ds line ≡ true → IsRun ds steps → list_any (ends line) steps ≡ false → list_any (gives line) steps ≡ false
 none-given line [] ds flies run still = refl
@@ -88,6 +99,7 @@ out-after line item (Give now flight) ds out allowed idle = at-step (λ d. has i
 out-after line item (Fail k now) ds out allowed idle = at-step (λ d. has item d.items ≡ false) (failed now) ds k line (flies-within ds k allowed) out (λ _. has-turned item (destination_at ds line).items ∙ out)
 out-after line item (Settle k now) ds out allowed idle = at-step (λ d. has item d.items ≡ false) (settled now) ds k line (flies-within ds k allowed) out (λ _. has-dropped item (destination_at ds line).items out)
 out-after line item (Withdraw k) ds out allowed idle = at-step (λ d. has item d.items ≡ false) withdrawn ds k line (flies-within ds k allowed) out (λ _. has-dropped item (destination_at ds line).items out)
+out-after line item (Hear k now) ds out allowed idle = at-heard (λ d. has item d.items ≡ false) now ds k line out (λ _. out)
 
 gives-other : (line item : ℕ) (step : Step) (ds : List Destination) → is_out ds line item ≡ false → Allows ds step → gives_item line item step ≡ false
 gives-other line item (Add now) ds out allowed = refl
@@ -100,6 +112,7 @@ gives-other line item (Give now flight) ds out allowed =
 gives-other line item (Fail k now) ds out allowed = refl
 gives-other line item (Settle k now) ds out allowed = refl
 gives-other line item (Withdraw k) ds out allowed = refl
+gives-other line item (Hear k now) ds out allowed = refl
 
 none-back : (line item : ℕ) (steps : List Step) (ds : List Destination) → is_out ds line item ≡ false → IsRun ds steps → list_any (puts_item line item) steps ≡ false → list_any (gives_item line item) steps ≡ false
 none-back line item [] ds out run idle = refl
@@ -163,6 +176,10 @@ place-after line old new item (Give now flight) ds there allowed moved =
 place-after line old new item (Fail k now) ds there allowed moved = at-end (failed now) ds k line old new item (λ d p. get-turned d.items p item) allowed there moved
 place-after line old new item (Settle k now) ds there allowed moved = at-end (settled now) ds k line old new item (λ d p. get-dropped d.items p item) allowed there moved
 place-after line old new item (Withdraw k) ds there allowed moved = at-end withdrawn ds k line old new item (λ d p. get-dropped d.items p item) allowed there moved
+place-after line old new item (Hear k now) ds there allowed moved =
+    let same : old ≡ new = omega arith in
+    let stays = subst (λ p. Stands p item (destination_at ds line)) same there in
+    at-heard (Stands new item) now ds k line stays (λ _. stays)
 
 nearer : (line left item : ℕ) (steps : List Step) (ds : List Destination) → Stands (left + count_by (ends line) steps) item (destination_at ds line) → IsRun ds steps → Stands left item (destination_at (after_all ds steps) line)
 nearer line left item [] ds there run =
@@ -190,3 +207,6 @@ doubled (now ∷ failures) d a delay =
 
 pub delays-double : DelaysDouble
 delays-double d now failures = doubled failures (settled now d) FIRST_DELAY refl
+
+pub heard-waits-anew : HeardWaitsAnew
+heard-waits-anew d now later = refl

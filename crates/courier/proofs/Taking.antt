@@ -1,15 +1,16 @@
 -- How often a destination is given while another waits whose moment has come.
-use Rattle.std.proofs.Common.{◌≡◌, ⊎_elim, ◌==◌, ◌&&◌, ◌||◌, not, nat_lt, ℕ, zero, suc, ◌+◌, ◌^◌, ◌<◌, ◌≤◌, Bool, true, false, List, [], ◌∷◌, ◌++◌, length, length-append, length-set, count_by, refl, sym, ap, ap₂, subst, ◌∙◌, arith}
-use Rattle.std.proofs.lemmas.Bool.{and_parts, both_ways, cases_eq, cond_both, eq-eqb, le-ltb, lt-ltb, ltb-true, ne_eqb, not-true, or_parts, or_right, true≢false}
+use Rattle.std.proofs.Common.{◌≡◌, ⊎_elim, Option, Some, None, IsSome, rules, ◌==◌, ◌&&◌, ◌||◌, not, nat_lt, ℕ, zero, suc, ◌+◌, ◌^◌, ◌<◌, ◌≤◌, Bool, true, false, List, [], ◌∷◌, ◌++◌, length, length-append, length-set, count_by, refl, sym, ap, ap₂, subst, ◌∙◌, arith}
+use Rattle.std.proofs.lemmas.Bool.{and_parts, both_ways, cases_eq, cases_lt, cond_both, eq-eqb, le-ltb, lt-ltb, ltb-true, ne_eqb, not-true, or_parts, or_right, true≢false}
 use Rattle.std.proofs.lemmas.List.Sums.{sum_by-cons}
 use Rattle.std.specs.List.{list_all, list_any}
-use Rattle.courier.proofs.Keeping.{at-changed, at-other, flies-within, has-some, idle-flying}
-use Rattle.courier.proofs.Running.{at-added, at-put, at-step}
-use Rattle.courier.specs.Destination.{Destination, begun, failed, new_at, settled, waits, withdrawn, with_item}
-use Rattle.courier.specs.Laws.{EachTakesItsTurn}
-use Rattle.courier.specs.Runs.{Step, Add, Put, Give, Fail, Settle, Withdraw, Allows, IsRun, after, gives, is_later, withdraws}
-use Rattle.courier.specs.Table.{changed, destination_at, flies_at, is_out, waits_at}
+use Rattle.courier.proofs.Keeping.{at-changed, at-other, flies-within, has-some, idle-flying, waits-within}
+use Rattle.courier.proofs.Running.{at-added, at-heard, at-put, at-step}
+use Rattle.courier.specs.Destination.{Destination, begun, failed, heard, new_at, settled, waits, withdrawn, with_item}
+use Rattle.courier.specs.Laws.{EachTakesItsTurn, WhatIsHeardIsGiven}
+use Rattle.courier.specs.Runs.{Step, Add, Put, Give, Fail, Settle, Withdraw, Hear, Allows, IsRun, after, after_all, gives, is_later, withdraws}
+use Rattle.courier.specs.Table.{IsNextOrQuiet, changed, destination_at, flies_at, is_out, waits_at}
 use Rattle.courier.specs.Turns.{one_if}
+use Rattle.courier.specs.declared.flight.Flight.{Flight}
 
 -- ---- the one that waits
 
@@ -24,16 +25,26 @@ waits-more d item waiting =
     let parts = and_parts (not d.flying) (not (length d.items == 0)) waiting in
     ap₂ (λ f b. f && not b) parts.0 (has-some d.items item)
 
-not-flying : (ds : List Destination) (k line due : ℕ) → Waits due (destination_at ds line) → flies_at ds k ≡ true → k ≡ line → ⊥
-not-flying ds k line due waiting flies here = both_ways _ (subst (λ j. waits_at ds j ≡ false) here (idle-flying ds k flies)) waiting.0
+flies-waits : (ds : List Destination) (k line : ℕ) → waits_at ds line ≡ true → flies_at ds k ≡ true → k ≡ line → ⊥
+flies-waits ds k line waiting flies here = both_ways _ (subst (λ j. waits_at ds j ≡ false) here (idle-flying ds k flies)) waiting
 
-waits-after : (line due : ℕ) (step : Step) (ds : List Destination) → Waits due (destination_at ds line) → Allows ds step → gives line step ≡ false → Waits due (destination_at (after ds step) line)
-waits-after line due (Add now) ds waiting allowed other = at-added (Waits due) ds now line waiting (λ new. absurd (true≢false (sym waiting.0 ∙ ap waits new)))
-waits-after line due (Put item k) ds waiting allowed other = at-put (Waits due) item ds k line allowed waiting (λ _. (waits-more (destination_at ds line) item waiting.0, waiting.1))
-waits-after line due (Give now flight) ds waiting allowed other = at-step (Waits due) begun ds flight.line line allowed.within waiting (λ here. absurd (both_ways _ other (eq-eqb flight.line line here)))
-waits-after line due (Fail k now) ds waiting allowed other = at-step (Waits due) (failed now) ds k line (flies-within ds k allowed) waiting (λ here. absurd (not-flying ds k line due waiting allowed here))
-waits-after line due (Settle k now) ds waiting allowed other = at-step (Waits due) (settled now) ds k line (flies-within ds k allowed) waiting (λ here. absurd (not-flying ds k line due waiting allowed here))
-waits-after line due (Withdraw k) ds waiting allowed other = at-step (Waits due) withdrawn ds k line (flies-within ds k allowed) waiting (λ here. absurd (not-flying ds k line due waiting allowed here))
+not-flying : (ds : List Destination) (k line due : ℕ) → Waits due (destination_at ds line) → flies_at ds k ≡ true → k ≡ line → ⊥
+not-flying ds k line due waiting flies here = flies-waits ds k line waiting.0 flies here
+
+later-than : (due now : ℕ) → (nat_lt due now && nat_lt now (2 ^ 64)) ≡ true → due < now
+later-than due now later = ltb-true due now (and_parts (nat_lt due now) (nat_lt now (2 ^ 64)) later).0
+
+heard-same : (now due : ℕ) (d : Destination) → due < now → Waits due d → Waits due (heard now d)
+heard-same now due d later waiting = (waiting.0, omega (arith, waiting.1))
+
+waits-after : (line due : ℕ) (step : Step) (ds : List Destination) → Waits due (destination_at ds line) → Allows ds step → is_later due step ≡ true → gives line step ≡ false → Waits due (destination_at (after ds step) line)
+waits-after line due (Add now) ds waiting allowed later other = at-added (Waits due) ds now line waiting (λ new. absurd (true≢false (sym waiting.0 ∙ ap waits new)))
+waits-after line due (Put item k) ds waiting allowed later other = at-put (Waits due) item ds k line allowed waiting (λ _. (waits-more (destination_at ds line) item waiting.0, waiting.1))
+waits-after line due (Give now flight) ds waiting allowed later other = at-step (Waits due) begun ds flight.line line allowed.within waiting (λ here. absurd (both_ways _ other (eq-eqb flight.line line here)))
+waits-after line due (Fail k now) ds waiting allowed later other = at-step (Waits due) (failed now) ds k line (flies-within ds k allowed) waiting (λ here. absurd (not-flying ds k line due waiting allowed here))
+waits-after line due (Settle k now) ds waiting allowed later other = at-step (Waits due) (settled now) ds k line (flies-within ds k allowed) waiting (λ here. absurd (not-flying ds k line due waiting allowed here))
+waits-after line due (Withdraw k) ds waiting allowed later other = at-step (Waits due) withdrawn ds k line (flies-within ds k allowed) waiting (λ here. absurd (not-flying ds k line due waiting allowed here))
+waits-after line due (Hear k now) ds waiting allowed later other = at-heard (Waits due) now ds k line waiting (λ _. heard-same now due (destination_at ds line) (later-than due now later) waiting)
 
 -- ---- the other
 
@@ -77,7 +88,15 @@ failed-later now due d later =
     omega arith
 
 settled-later : (now due : ℕ) (d : Destination) → (nat_lt due now && nat_lt now (2 ^ 64)) ≡ true → due < (settled now d).due
-settled-later now due d later = ltb-true due now (and_parts (nat_lt due now) (nat_lt now (2 ^ 64)) later).0
+settled-later now due d later = later-than due now later
+
+-- what isn't due by then isn't where it is heard from after it
+heard-later : (due now : ℕ) (d : Destination) → due < now → one_if (not (has_had due (heard now d))) ≤ one_if (not (has_had due d))
+heard-later due now d later =
+    ⊎_elim
+    (λ here. omega (arith, left-later due (heard now d) (omega (arith, here))))
+    (λ low. let same : (heard now d).due ≡ d.due = omega (arith, low) in omega (arith, ap (λ n. one_if (not (d.flying || nat_lt due n))) same))
+    (cases_lt due d.due)
 
 left-after : (line other due : ℕ) (step : Step) (ds : List Destination) → Waits due (destination_at ds line) → other < length ds → Allows ds step → is_later due step ≡ true → one_if (gives other step) + left due (after ds step) other ≤ left due ds other + one_if (withdraws other step)
 left-after line other due (Add now) ds waiting within allowed later =
@@ -118,6 +137,9 @@ left-after line other due (Withdraw k) ds waiting within allowed later =
     let same = ap (λ d. one_if (not (has_had due d))) (at-other ds k other (withdrawn (destination_at ds k)) (λ e. apart (sym e))) in
     omega arith)
     (cases_eq k other)
+left-after line other due (Hear k now) ds waiting within allowed later =
+    let same = at-heard (LeftAtMost due (left due ds other)) now ds k other (omega arith) (λ _. heard-later due now (destination_at ds other) (later-than due now later)) in
+    omega arith
 
 longer : (ds : List Destination) (step : Step) (other : ℕ) → other < length ds → other < length (after ds step)
 longer ds (Add now) other within = omega (arith, length-append ds (new_at now ∷ []))
@@ -126,13 +148,14 @@ longer ds (Give now flight) other within = omega (arith, length-set ds flight.li
 longer ds (Fail k now) other within = omega (arith, length-set ds k (failed now (destination_at ds k)))
 longer ds (Settle k now) other within = omega (arith, length-set ds k (settled now (destination_at ds k)))
 longer ds (Withdraw k) other within = omega (arith, length-set ds k (withdrawn (destination_at ds k)))
+longer ds (Hear k now) other within = omega (arith, length-set ds k (heard now (destination_at ds k)))
 
 given-at-most : (line other due : ℕ) (steps : List Step) (ds : List Destination) → Waits due (destination_at ds line) → other < length ds → IsRun ds steps → list_all (is_later due) steps ≡ true → list_any (gives line) steps ≡ false → count_by (gives other) steps ≤ count_by (withdraws other) steps + left due ds other
 given-at-most line other due [] ds waiting within run later none = omega arith
 given-at-most line other due (step ∷ steps) ds waiting within run later none =
     let parts = and_parts (is_later due step) (list_all (is_later due) steps) later in
     let others = or_parts (gives line step) (list_any (gives line) steps) none in
-    let rest = given-at-most line other due steps (after ds step) (waits-after line due step ds waiting run.0 others.0) (longer ds step other within) run.1 parts.1 others.1 in
+    let rest = given-at-most line other due steps (after ds step) (waits-after line due step ds waiting run.0 parts.0 others.0) (longer ds step other within) run.1 parts.1 others.1 in
     let now = left-after line other due step ds waiting within run.0 parts.0 in
     let given = sum_by-cons (λ s. one_if (gives other s)) step steps in
     let dropped = sum_by-cons (λ s. one_if (withdraws other s)) step steps in
@@ -143,3 +166,38 @@ each-takes-its-turn ds line other steps waiting within run later none =
     let most = given-at-most line other (destination_at ds line).due steps ds (waiting, refl) within run later none in
     let one = one_if-most (not (has_had (destination_at ds line).due (destination_at ds other))) in
     omega arith
+
+-- ---- the one that is heard from
+
+abbrev DueBy : ℕ → Destination → Type 0
+DueBy now d = (waits d ≡ true) × (d.due ≤ now)
+
+due-after : (line by : ℕ) (step : Step) (ds : List Destination) → DueBy by (destination_at ds line) → Allows ds step → gives line step ≡ false → DueBy by (destination_at (after ds step) line)
+due-after line by (Add now) ds due allowed other = at-added (DueBy by) ds now line due (λ new. absurd (true≢false (sym due.0 ∙ ap waits new)))
+due-after line by (Put item k) ds due allowed other = at-put (DueBy by) item ds k line allowed due (λ _. (waits-more (destination_at ds line) item due.0, due.1))
+due-after line by (Give now flight) ds due allowed other = at-step (DueBy by) begun ds flight.line line allowed.within due (λ here. absurd (both_ways _ other (eq-eqb flight.line line here)))
+due-after line by (Fail k now) ds due allowed other = at-step (DueBy by) (failed now) ds k line (flies-within ds k allowed) due (λ here. absurd (flies-waits ds k line due.0 allowed here))
+due-after line by (Settle k now) ds due allowed other = at-step (DueBy by) (settled now) ds k line (flies-within ds k allowed) due (λ here. absurd (flies-waits ds k line due.0 allowed here))
+due-after line by (Withdraw k) ds due allowed other = at-step (DueBy by) withdrawn ds k line (flies-within ds k allowed) due (λ here. absurd (flies-waits ds k line due.0 allowed here))
+due-after line by (Hear k now) ds due allowed other = at-heard (DueBy by) now ds k line due (λ _. (due.0, omega (arith, due.1)))
+
+due-all : (line by : ℕ) (steps : List Step) (ds : List Destination) → DueBy by (destination_at ds line) → IsRun ds steps → list_any (gives line) steps ≡ false → DueBy by (destination_at (after_all ds steps) line)
+due-all line by [] ds due run none = due
+due-all line by (step ∷ steps) ds due run none =
+    let parts = or_parts (gives line step) (list_any (gives line) steps) none in
+    due-all line by steps (after ds step) (due-after line by step ds due run.0 parts.0) run.1 parts.1
+
+some-next : (now line : ℕ) (ds : List Destination) (found : Option Flight) → DueBy now (destination_at ds line) → IsNextOrQuiet now ds found → IsSome found
+some-next now line ds None due quiet = absurd (omega (arith, due.1, quiet line due.0))
+some-next now line ds (Some flight) due is = search rules
+
+heard-due : (ds : List Destination) (line now : ℕ) → waits_at ds line ≡ true → DueBy now (destination_at (changed (heard now) ds line) line)
+heard-due ds line now waiting =
+    let d = destination_at ds line in
+    subst (DueBy now) (sym (at-changed ds line (heard now d) (waits-within ds line waiting))) (waiting, omega arith)
+
+pub what-is-heard-is-given : WhatIsHeardIsGiven
+what-is-heard-is-given ds line now steps found waiting run none next =
+    some-next now line (after_all (changed (heard now) ds line) steps) found
+    (due-all line now steps (changed (heard now) ds line) (heard-due ds line now waiting) run.1 none)
+    next

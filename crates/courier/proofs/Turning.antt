@@ -1,18 +1,18 @@
 -- What a heap of turns says of the first, and of how often each is there.
-use Rattle.std.proofs.Common.{◌≡◌, ⊎_elim, Some, None, Result, Ok, Err, IsOk, OnOk, ℕ, ◌+◌, ◌<◌, ◌≤◌, true, false, List, [], ◌∷◌, map, length, get_or, refl, arith, rules, tests}
-use Rattle.std.proofs.lemmas.Bool.{cases_Bool}
+use Rattle.std.proofs.Common.{◌≡◌, ⊎_elim, ◌==◌, not, if◌then◌else◌, Bool, ap, ap₂, Some, None, Result, Ok, Err, IsOk, OnOk, ℕ, ◌+◌, ◌<◌, ◌≤◌, true, false, List, [], ◌∷◌, map, length, get_or, refl, arith, rules, tests}
+use Rattle.std.proofs.lemmas.Bool.{and_parts, cases_Bool, eqb-true}
 use Rattle.std.proofs.lemmas.Bool.Decides.{nat_tests}
 use Rattle.std.proofs.lemmas.Cmp.{ranked}
 use Rattle.std.proofs.lemmas.Grind.{common_steps}
-use Rattle.std.proofs.lemmas.List.Sorted.{length_permutation, sum_by_pushed, sum_by_popped}
+use Rattle.std.proofs.lemmas.List.Sorted.{length_permutation, sum_by-IsPermutation, sum_by_pushed, sum_by_popped}
 use Rattle.std.specs.BinaryHeap.{IsUpperBound}
-use Rattle.std.specs.List.{sum_by}
+use Rattle.std.specs.List.{filter, sum_by}
 use Rattle.std.specs.List.Sorted.{IsPermutation}
 use Rattle.std.specs.Ordering.{MatchOrdering, ordering_then, is_lt}
 use Rattle.std.specs.declared.cmp.Ordering.{Ordering}
 use Rattle.std.specs.declared.cmp.Ordering.TheVariants.{Less, Equal, Greater}
 use Rattle.std.specs.declared.cmp.Reverse.{Reverse}
-use Rattle.courier.specs.Turns.{turn_cmp, is_turn, times, one_if, Turns, IsBefore, IsFirst, IsFirstOfAll, IsTaken, Joins, Leaves, NoneIsDue}
+use Rattle.courier.specs.Turns.{turn_cmp, is_turn, times, one_if, Turns, IsBefore, IsFirst, IsFirstOfAll, IsMoved, IsTaken, Joins, Leaves, NoneIsDue}
 use Rattle.courier.specs.declared.turn.Turn.{Turn}
 
 -- ---- order
@@ -85,6 +85,56 @@ Leaves-popped top heap after room more same kept =
       less = omega (arith, length-turns_of heap, length-turns_of after, length_permutation _ _ same);
       kept = kept;
     }
+
+-- ---- a turn that moves
+
+-- a heap without a turn
+abbrev pub others_than : Turn → List (Reverse Turn) → List (Reverse Turn)
+others_than turn heap = filter (λ t. not (is_turn turn t.0)) heap
+
+same-turn : (a b : Turn) → is_turn a b ≡ true → b ≡ a
+same-turn a b same =
+    let parts = and_parts (b.line == a.line) (b.due == a.due) same in
+    ap₂ (λ due line. record { due = due; line = line }) (eqb-true _ _ parts.1) (eqb-true _ _ parts.0)
+
+-- how often a turn that was left out was there
+abbrev times_out : Turn → Turn → List (Reverse Turn) → ℕ
+times_out q turn heap = if is_turn q turn then times turn (turns_of heap) else 0
+
+times-others : (q turn : Turn) (heap : List (Reverse Turn)) → times q (turns_of (others_than turn heap)) + times_out q turn heap ≡ times q (turns_of heap)
+times-others q turn [] = by (is_turn q turn)
+  where
+    by : (b : Bool) → 0 + (if b then 0 else 0) ≡ 0
+    by true = refl
+    by false = refl
+times-others q turn (x ∷ heap) =
+    let more = times-others q turn heap in
+    ⊎_elim
+    (λ here. let is = ap (is_turn q) (same-turn turn x.0 here) in by (is_turn q turn) here is more)
+    (λ other. grind (arith, common_steps))
+    (cases_Bool (is_turn turn x.0))
+  where
+    by : (b : Bool) → is_turn turn x.0 ≡ true → is_turn q x.0 ≡ b → times q (turns_of (others_than turn heap)) + (if b then times turn (turns_of heap) else 0) ≡ times q (turns_of heap) → times q (turns_of (others_than turn (x ∷ heap))) + (if b then times turn (turns_of (x ∷ heap)) else 0) ≡ times q (turns_of (x ∷ heap))
+    by true here is more = grind (arith, common_steps)
+    by false here is more = grind (arith, common_steps)
+
+pub length-others : (turn : Turn) (heap : List (Reverse Turn)) → length (others_than turn heap) + times turn (turns_of heap) ≡ length heap
+length-others turn [] = refl
+length-others turn (x ∷ heap) = let more = length-others turn heap in grind (arith, common_steps)
+
+pub IsMoved-pushed : (turn : Turn) (due : ℕ) (heap left after : List (Reverse Turn)) (room more : ℕ) → times turn (turns_of heap) ≡ 1 → IsPermutation (others_than turn heap) left → IsPermutation (record { 0 = record { due = due; line = turn.line } } ∷ left) after → room ≤ more → IsMoved turn due (record { turns = turns_of heap; room = room }) (record { turns = turns_of after; room = more })
+IsMoved-pushed turn due heap left after room more once same pushed kept =
+    let moved : Reverse Turn = record { 0 = record { due = due; line = turn.line } } in
+    record {
+      counted = λ q.
+          let out = ap (λ n. if is_turn q turn then n else 0) once in
+          omega (arith, out, times-others q turn heap, times_left q (others_than turn heap) left same, times_pushed q moved left after pushed);
+      many = omega (arith, once, length-others turn heap, length-turns_of heap, length-turns_of after, length_permutation _ _ same, length_permutation _ _ pushed);
+      kept = kept;
+    }
+  where
+    times_left : (q : Turn) (before left : List (Reverse Turn)) → IsPermutation before left → times q (turns_of left) ≡ times q (turns_of before)
+    times_left q before left same = omega (arith, sum_by-IsPermutation (λ t. one_if (is_turn q t.0)) before left same, times-turns_of q before, times-turns_of q left)
 
 -- ---- what is taken
 

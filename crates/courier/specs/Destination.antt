@@ -57,6 +57,10 @@ settled now d =
       delay = FIRST_DELAY;
     }
 
+-- it was heard from: the next may be sent at once, and a failure waits the first delay again
+abbrev pub heard : ℕ → Destination → Destination
+heard now d = record d { due = min d.due now; delay = FIRST_DELAY }
+
 -- it wasn't sent, since it is out no longer
 abbrev pub withdrawn : Destination → Destination
 withdrawn d = record d { items = drop 1 d.items; flying = false }

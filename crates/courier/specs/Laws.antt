@@ -1,13 +1,13 @@
 -- Laws of the table, over all that a caller may do with it.
 use Rattle.std.specs.Prelude.{◌≡◌, ℕ, ◌+◌, ◌-◌, ◌*◌, ◌^◌, ◌<◌, ◌≤◌, true, false, min}
-use Rattle.std.specs.Prelude.{List, ◌∷◌, length, fold, All, count_by, Some, slice_get}
+use Rattle.std.specs.Prelude.{List, ◌∷◌, length, fold, All, count_by, Option, Some, IsSome, slice_get}
 use Rattle.std.specs.List.{list_all, list_any}
 use Rattle.courier.specs.declared.TheConstants.{FIRST_DELAY, LAST_DELAY}
 use Rattle.courier.specs.declared.flight.Flight.{Flight}
-use Rattle.courier.specs.Destination.{Destination, IsPaced, failed, settled}
-use Rattle.courier.specs.Runs.{Step, Give, Settle, IsRun, after_all}
+use Rattle.courier.specs.Destination.{Destination, IsPaced, failed, heard, settled}
+use Rattle.courier.specs.Runs.{Step, Give, Hear, Settle, IsRun, after_all}
 use Rattle.courier.specs.Runs.{ends, gives, gives_item, is_later, puts_item, withdraws}
-use Rattle.courier.specs.Table.{destination_at, waits_at}
+use Rattle.courier.specs.Table.{IsNextOrQuiet, destination_at, waits_at}
 
 -- what is given for a destination is the last that is, until it ends
 abbrev pub OneAtOnce : Type 0
@@ -63,3 +63,20 @@ EachTakesItsTurn =
     → list_all (is_later (destination_at ds line).due) steps ≡ true
     → list_any (gives line) steps ≡ false
     → count_by (gives other) steps ≤ count_by (withdraws other) steps + 1
+
+-- where a destination that waits is heard from, something can be sent at that moment until it was
+-- given, however long it would have waited
+abbrev pub WhatIsHeardIsGiven : Type 0
+WhatIsHeardIsGiven =
+    (ds : List Destination) (line now : ℕ) (steps : List Step) (found : Option Flight)
+    → waits_at ds line ≡ true
+    → IsRun ds (Hear line now ∷ steps)
+    → list_any (gives line) steps ≡ false
+    → IsNextOrQuiet now (after_all ds (Hear line now ∷ steps)) found
+    → IsSome found
+
+-- a failure behind that waits the first delay only
+abbrev pub HeardWaitsAnew : Type 0
+HeardWaitsAnew =
+    (d : Destination) (now later : ℕ)
+    → (failed later (heard now d)).due ≡ min (later + FIRST_DELAY) (2 ^ 64 - 1)

@@ -2,11 +2,12 @@
 use Rattle.std.specs.Prelude.{◌≡◌, ℕ, ◌<◌, ◌^◌, ◌==◌, Bool, true, false, ◌&&◌, nat_lt, ⊤}
 use Rattle.std.specs.Prelude.{List, [], ◌∷◌, ◌++◌, length}
 use Rattle.courier.specs.declared.flight.Flight.{Flight}
-use Rattle.courier.specs.Destination.{Destination, new_at, begun, failed, settled, withdrawn}
+use Rattle.courier.specs.Destination.{Destination, new_at, begun, failed, heard, settled, withdrawn}
 use Rattle.courier.specs.Table.{changed, flies_at, put, IsNext}
 
--- a destination is added at a moment; an item is put to one; at a moment this is given; and what is
--- in flight to a destination fails at a moment, is settled at one, or is withdrawn
+-- a destination is added at a moment; an item is put to one; at a moment this is given; what is in
+-- flight to a destination fails at a moment, is settled at one, or is withdrawn; and a destination is
+-- heard from at a moment
 pub data Step : Type 0 where
   Add : ℕ → Step
   Put : ℕ → ℕ → Step
@@ -14,6 +15,7 @@ pub data Step : Type 0 where
   Fail : ℕ → ℕ → Step
   Settle : ℕ → ℕ → Step
   Withdraw : ℕ → Step
+  Hear : ℕ → ℕ → Step
 
 -- what it leaves, as the call of its kind ensures
 abbrev pub after : List Destination → Step → List Destination
@@ -23,6 +25,7 @@ after ds (Give now flight) = changed begun ds flight.line
 after ds (Fail line now) = changed (failed now) ds line
 after ds (Settle line now) = changed (settled now) ds line
 after ds (Withdraw line) = changed withdrawn ds line
+after ds (Hear line now) = changed (heard now) ds line
 
 -- what it asks: what the call requires, or ensures of what it gives
 abbrev pub Allows : List Destination → Step → Type 0
@@ -32,6 +35,7 @@ Allows ds (Give now flight) = IsNext now ds flight
 Allows ds (Fail line now) = flies_at ds line ≡ true
 Allows ds (Settle line now) = flies_at ds line ≡ true
 Allows ds (Withdraw line) = flies_at ds line ≡ true
+Allows ds (Hear line now) = ⊤
 
 -- each step is allowed where the ones before have led
 abbrev pub IsRun : List Destination → List Step → Type 0
@@ -51,6 +55,7 @@ gives line (Put item k) = false
 gives line (Fail k now) = false
 gives line (Settle k now) = false
 gives line (Withdraw k) = false
+gives line (Hear k now) = false
 
 -- the step gives this item for this destination
 abbrev pub gives_item : ℕ → ℕ → Step → Bool
@@ -60,6 +65,7 @@ gives_item line item (Put other k) = false
 gives_item line item (Fail k now) = false
 gives_item line item (Settle k now) = false
 gives_item line item (Withdraw k) = false
+gives_item line item (Hear k now) = false
 
 -- the step puts this item to this destination
 abbrev pub puts_item : ℕ → ℕ → Step → Bool
@@ -69,6 +75,7 @@ puts_item line item (Give now flight) = false
 puts_item line item (Fail k now) = false
 puts_item line item (Settle k now) = false
 puts_item line item (Withdraw k) = false
+puts_item line item (Hear k now) = false
 
 -- the step ends what is in flight to this destination
 abbrev pub ends : ℕ → Step → Bool
@@ -78,6 +85,7 @@ ends line (Withdraw k) = k == line
 ends line (Add now) = false
 ends line (Put item k) = false
 ends line (Give now flight) = false
+ends line (Hear k now) = false
 
 -- the step withdraws what is in flight to this destination
 abbrev pub withdraws : ℕ → Step → Bool
@@ -87,8 +95,10 @@ withdraws line (Put item k) = false
 withdraws line (Give now flight) = false
 withdraws line (Fail k now) = false
 withdraws line (Settle k now) = false
+withdraws line (Hear k now) = false
 
--- a try that the step ends, if it ends one, ends after this moment
+-- a try that the step ends, if it ends one, ends after this moment, and a destination that it hears
+-- from is heard from after it
 abbrev pub is_later : ℕ → Step → Bool
 is_later due (Fail k now) = nat_lt due now && nat_lt now (2 ^ 64)
 is_later due (Settle k now) = nat_lt due now && nat_lt now (2 ^ 64)
@@ -96,3 +106,4 @@ is_later due (Add now) = true
 is_later due (Put item k) = true
 is_later due (Give now flight) = true
 is_later due (Withdraw k) = true
+is_later due (Hear k now) = nat_lt due now && nat_lt now (2 ^ 64)

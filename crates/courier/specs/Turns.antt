@@ -45,6 +45,13 @@ pub record Leaves (turn : Turn) (old new : Turns) : Type 0 where
   pub less : length old.turns ≡ length new.turns + 1
   pub kept : old.room ≤ new.room
 
+-- it goes from the others, and comes to them at this moment
+pub record IsMoved (turn : Turn) (due : ℕ) (old new : Turns) : Type 0 where
+  pub counted : (q : Turn) → times q new.turns + one_if (is_turn q turn)
+      ≡ times q old.turns + one_if (is_turn q (record { due = due; line = turn.line }))
+  pub many : length new.turns ≡ length old.turns
+  pub kept : old.room ≤ new.room
+
 -- the first of them goes, whose moment has come
 pub record IsTaken (now : ℕ) (turn : Turn) (old new : Turns) : Type 0 where
   pub come : turn.due ≤ now

@@ -12,7 +12,8 @@ use std::marker::Model;
 
 /// What is out to all destinations, by their numbers, and the turns of those that wait. One item at
 /// a time is in flight to each. A call costs the logarithm of how many destinations there are, and
-/// of how many items are out to the one that it is for. Only `add` and `put` need memory.
+/// of how many items are out to the one that it is for; `heard` costs more where it ends a waiting.
+/// Only `add` and `put` need memory.
 #[derive(Drop)]
 pub struct Courier {
     lines: Vec<Line>,
@@ -159,5 +160,19 @@ impl Courier {
         let goes_on = self.lines[line].take_first();
         let due = self.lines[line].due();
         self.schedule.add(goes_on, Turn { due, line });
+    }
+
+    /// Something came from a destination, so it is there: what waits for it may be sent at once. An
+    /// unknown number changes nothing. Where that ends a waiting it is a walk over all that wait.
+    pub fn heard(&mut self, line: usize, now: u64)
+        ensures { self.new ≡ table.changed (words.heard now) self.old line }
+    {
+        if line >= self.lines.len() {
+            return;
+        }
+        let due = self.lines[line].due();
+        if self.lines[line].hear(now) {
+            self.schedule.advance(Turn { due, line }, now);
+        }
     }
 }

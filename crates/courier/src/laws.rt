@@ -28,6 +28,16 @@ pub fn each_takes_its_turn()
     ensures { law.EachTakesItsTurn }
 {}
 
+/// A destination that waits and is heard from can be sent to at once.
+pub fn what_is_heard_is_given()
+    ensures { law.WhatIsHeardIsGiven }
+{}
+
+/// A failure behind that waits the first delay only.
+pub fn heard_waits_anew()
+    ensures { law.HeardWaitsAnew }
+{}
+
 /// Waiting doubles with each failure in a row, from the first delay to the last.
 pub fn delays_double()
     ensures { law.DelaysDouble }

@@ -13,8 +13,8 @@ mod turn;
 pub use courier::Courier;
 pub use flight::Flight;
 pub use laws::{
-    delays_double, each_comes_nearer, each_takes_its_turn, one_is_given_at_once,
-    what_fails_goes_behind, what_is_settled_never_comes_back,
+    delays_double, each_comes_nearer, each_takes_its_turn, heard_waits_anew, one_is_given_at_once,
+    what_fails_goes_behind, what_is_heard_is_given, what_is_settled_never_comes_back,
 };
 
 /// How long a destination waits behind its first failure.

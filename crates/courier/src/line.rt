@@ -1,5 +1,5 @@
 ghost use Rattle.std.specs.Prelude.{◌≡◌, ◌==◌, true, false, length};
-ghost use Rattle.std.specs.Prelude.{slice_get, OnOk, OnErr};
+ghost use Rattle.std.specs.Prelude.{◌&&◌, nat_lt, slice_get, OnOk, OnErr};
 ghost use Rattle.courier.specs.Items.{has};
 ghost use Rattle.courier.specs.Destination as words;
 
@@ -165,6 +165,18 @@ impl Line {
         self.since = now;
         self.delay = FIRST_DELAY;
         self.take_first()
+    }
+
+    /// The destination was heard from. Answers whether that ends a waiting.
+    pub(crate) fn hear(&mut self, now: u64) -> bool
+        ensures ends { result ≡ (words.waits self.old && nat_lt now self.old.due) }
+        ensures value { self.new ≡ words.heard now self.old }
+        ensures paced { words.IsPaced self.new }
+    {
+        let ends = !self.flying && !self.queue.is_empty() && now < self.due;
+        self.due = u64::min(self.due, now);
+        self.delay = FIRST_DELAY;
+        ends
     }
 
     /// The next is out no longer, and nothing is in flight. Answers whether more is out.

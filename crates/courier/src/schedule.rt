@@ -1,5 +1,5 @@
 ghost use Rattle.std.specs.Prelude.{◌≡◌, ◌<◌, ◌≤◌, true, [], length, OnOk, OnErr};
-ghost use Rattle.courier.specs.Turns.{Joins, TakesDue, IsFirstOfAll};
+ghost use Rattle.courier.specs.Turns.{IsFirstOfAll, IsMoved, Joins, TakesDue, times};
 
 use crate::turn::Turn;
 use std::alloc::{AllocError, Global};
@@ -55,6 +55,16 @@ impl Schedule {
         if on {
             let _added = self.heap.push(Reverse(turn));
         }
+    }
+
+    /// A turn that is there once comes at this moment. It is a walk over all.
+    pub(crate) fn advance(&mut self, turn: Turn, due: u64)
+        requires { times turn self.old.turns ≡ 1 }
+        ensures { IsMoved turn due self.old self.new }
+    {
+        self.heap.retain(|other| other.0 != turn);
+        let line = turn.line;
+        let _moved = self.heap.push(Reverse(Turn { due, line }));
     }
 
     /// The first.
