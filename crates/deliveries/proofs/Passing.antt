@@ -7,8 +7,8 @@ use Rattle.std.specs.List.{sum_by}
 use Rattle.std.specs.Option.{option_and_then, option_map_or}
 use Rattle.courier.proofs.Differing.{has-turned}
 use Rattle.courier.proofs.Keeping.{at-changed, at-other, flies-within}
-use Rattle.courier.proofs.Running.{at-step}
-use Rattle.courier.specs.Destination.{Destination, begun, failed, flight_of, new_at, withdrawn}
+use Rattle.courier.proofs.Running.{at-heard, at-step}
+use Rattle.courier.specs.Destination.{Destination, begun, failed, flight_of, heard, new_at, withdrawn}
 use Rattle.courier.specs.Items.{has}
 use Rattle.courier.specs.Runs.{Step, Give, Withdraw, IsRun, after_all, after}
 use Rattle.courier.specs.Table.{IsNext, changed, destination_at, flies_at, is_out}
@@ -180,6 +180,30 @@ tied-failed now ds routes boxes k flies tied =
       held = λ t. held-ended k ds (changed (failed now) ds k) routes t (progress_of boxes t) ended (tied.held t) (λ waiting item there route out.
           ap (λ d. has item d.items) (at-changed ds k (failed now (destination_at ds k)) within) ∙ has-turned item (destination_at ds k).items ∙ out);
     }
+
+-- ---- where a destination is heard from
+
+pub tied-heard : (now : ℕ) (ds : List Destination) (routes : Routes) (boxes : List Outbox) (k : ℕ) → IsTied ds routes boxes → IsTied (changed (heard now) ds k) routes boxes
+tied-heard now ds routes boxes k tied =
+    record {
+      routed = record {
+        within = λ t line there. subst (λ n. line < n) (sym (length-set ds k (heard now (destination_at ds k)))) (tied.routed.within t line there);
+        bound = λ line flies.
+            let same = at-heard (λ d. d.flying ≡ (destination_at ds line).flying) now ds k line refl (λ _. refl) in
+            let was = tied.routed.bound line (sym same ∙ flies) in
+            record { thing = was.thing; flight = at-heard (λ d. option_and_then (thing_at routes) (flight_of d) ≡ Some was.thing) now ds k line was.flight (λ _. was.flight); route = was.route };
+      };
+      held = λ t.
+          let was = tied.held t in
+          record {
+            known = was.known;
+            waits = λ waiting.
+                let line = was.waits waiting in
+                record { item = line.item; line = line.line; thing = line.thing; route = line.route; out = at-heard (λ d. has line.item d.items ≡ true) now ds k line.line line.out (λ _. line.out) };
+          };
+    }
+
+-- ---- what is settled, or sent again
 
 then-none : (o to : Option Progress) → is_waiting to ≡ false → is_waiting (option_and_then (λ _. to) o) ≡ false
 then-none None to idle = refl

@@ -22,7 +22,8 @@ use ticket_items::SpawnId;
 
 /// What the controllers of a server have out, and what of it is to be sent next. Controllers and
 /// destinations have numbers from 0. A look costs as many look-ups as spawns are out; each other
-/// call costs the logarithm of how many destinations there are, and of how much is out to one.
+/// call costs the logarithm of how many destinations there are, and of how much is out to one, but
+/// for a call of `heard` that ends a waiting, which walks over the destinations that wait.
 #[derive(Drop)]
 pub struct Deliveries {
     courier: Courier,
@@ -201,6 +202,16 @@ impl Deliveries {
     {
         mark(&self.courier, &self.routes, &mut self.boxes, line, None);
         self.courier.withdrawn(line);
+    }
+
+    /// Something came from a destination, so it is there: what waits for it may be sent at once. An
+    /// unknown number changes nothing.
+    pub fn heard(&mut self, line: usize, now: u64)
+        ensures { self.new ≡ record self.old {
+          destinations = table.changed (words.heard now) self.old.destinations line;
+        } }
+    {
+        self.courier.heard(line, now);
     }
 
     /// What a controller has out of a spawn is to be sent once more. Answers whether it has it out.

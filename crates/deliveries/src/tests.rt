@@ -108,6 +108,45 @@ fn what_failed_goes_behind_and_waits(rt: HostRuntime) -> Result<(), Fail> {
     Ok(())
 }
 
+/// What is sent to the first destination at these moments fails.
+fn all_fail(deliveries: &mut Deliveries, moments: &[u64]) {
+    for at in moments {
+        let _flight = deliveries.next(*at);
+        ends(deliveries, 0, End::Failed, *at);
+    }
+}
+
+#[test]
+fn what_waits_goes_as_its_destination_is_heard_from(rt: HostRuntime) -> Result<(), Fail> {
+    let mut all = two_destinations(rt.alloc())?;
+    look(rt.alloc(), &mut all, 0, &[(1, 0)])?;
+    all_fail(&mut all, &[0, 1_000, 3_000, 7_000, 15_000, 31_000, 63_000]);
+    assert_eq!(rt; all.wake(), Some(123_000));
+    // What comes from another, or from one that isn't there, ends no waiting.
+    all.heard(1, 70_000);
+    all.heard(2, 70_000);
+    assert_eq!(rt; given(&mut all, 70_000), None);
+    // Behind what comes from it the next goes at once, and waits a second again, and then two.
+    all.heard(0, 70_000);
+    assert_eq!(rt; all.wake(), Some(70_000));
+    assert_eq!(rt; given(&mut all, 70_000), Some((0, 0, 1)));
+    assert_eq!(rt; given(&mut all, 70_000), None);
+    ends(&mut all, 0, End::Failed, 70_100);
+    assert_eq!(rt; given(&mut all, 71_099), None);
+    all_fail(&mut all, &[71_100]);
+    assert_eq!(rt; all.wake(), Some(73_100));
+    // It comes while something is in flight: if that fails, a second is waited, and not four.
+    assert_eq!(rt; given(&mut all, 73_100), Some((0, 0, 1)));
+    all.heard(0, 73_200);
+    assert_eq!(rt; given(&mut all, 73_200), None);
+    ends(&mut all, 0, End::Failed, 73_300);
+    assert_eq!(rt; all.wake(), Some(74_300));
+    // Where the moment has come already, it stays what it was.
+    all.heard(0, 80_000);
+    assert_eq!(rt; all.wake(), Some(74_300));
+    Ok(())
+}
+
 #[test]
 fn what_was_answered_comes_no_more(rt: HostRuntime) -> Result<(), Fail> {
     let mut all = two_destinations(rt.alloc())?;
