@@ -108,6 +108,13 @@ fn parted_gone(
     Ok((there, gone))
 }
 
+/// The number of the client with an errand.
+fn key_of(errand: Errand<TcpStream>) -> usize
+    ensures { result ≡ errand.waiting.key }
+{
+    errand.waiting.key
+}
+
 /// Whether the field of this name in a head tells the sender, where one is to.
 fn tells(field: Option<&str>, head: &[u8], sender: &str) -> bool
     ensures { IsTold (option_map (λ name. name.now) field.entry) head.now sender.now result }
@@ -334,7 +341,7 @@ impl<'a, R: Locks + Net + Clock, F: Write + Drop> Server<'a, R, F> {
         ensures rest { (self.new.now ≡ self.old.now) × (self.new.lines ≡ self.old.lines) }
     {
         for one in gone {
-            self.pass_over(one.waiting.key, String::from_str(self.alloc, path)?);
+            self.pass_over(key_of(one), String::from_str(self.alloc, path)?);
         }
         Ok(())
     }

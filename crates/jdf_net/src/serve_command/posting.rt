@@ -269,6 +269,13 @@ impl<'a, R: Locks + Net + Clock, F: Write + Drop> Server<'a, R, F> {
         for mark in marks {
             self.withdraw(mark.parcel.line);
         }
+        self.read_again(path);
+    }
+
+    /// Has the controller in the file of this path read once more, where messages go by themselves.
+    fn read_again(&mut self, path: &str)
+        ensures { self.new.clients ≡ self.old.clients }
+    {
         if let Some(post) = &mut self.post {
             post.read_again(path);
         }
