@@ -372,6 +372,19 @@ def a_server_that_is_started_later_has_it():
         wants((set(before), last), ({"job-17 S1 not taken"}, "job-17 S1 taken"))
 
 
+def a_house_that_speaks_is_back():
+    """What waits for a house goes as a message comes from there, however long it would wait."""
+    with three_houses(("job-17",)) as ((office, printers, _), _):
+        gives("office/job-17", COVER, "Spawned S1")
+        until_so(lambda: lines_of("printers/press/job-17") == [["S1", "Open"]], "it goes out", SOON)
+        printers.kill()
+        gives("office/job-17", spawn("text", "press", ["text.sections"]), "Spawned S2")
+        until_so(lambda: office.ends().count("not taken") == 4, "8 seconds are waited", 20)
+        gives("printers/press/job-17", FINISH, "Finished S1")
+        printers.start()
+        until_so(lambda: "job-17 S2 taken" in office.sent(), "it goes", 6)
+
+
 def one_file_sends_what_is_out():
     """A master and a worker that are served by themselves, from files of any names."""
     begins_master("office", "mis")
@@ -714,6 +727,7 @@ TESTS = [
     a_peers_file_is_read_again,
     orders_are_given_once_and_nothing_else,
     a_server_that_is_started_later_has_it,
+    a_house_that_speaks_is_back,
     one_file_sends_what_is_out,
     one_house_sends_to_itself,
     a_job_that_is_away_holds_up_no_other,

@@ -1,6 +1,7 @@
 -- How `send` ends.
-use Rattle.std.specs.Prelude.{◌≡◌, ◌≢◌, ◌⊎◌, ◌++◌, ◌∷◌, ℕ, List, [], false, true, Option, Some, None}
-use Rattle.std.specs.Prelude.{MatchResult, Result, Ok, Err, String, slice_get, string_bytes}
+use Rattle.std.specs.Prelude.{◌≡◌, ◌≢◌, ◌⊎◌, ◌++◌, ◌∷◌, ◌==◌, ℕ, Bool, List, [], false, true}
+use Rattle.std.specs.Prelude.{Option, Some, None, MatchResult, Result, Ok, Err, String, slice_index}
+use Rattle.std.specs.Prelude.{string_bytes}
 use Rattle.std.specs.declared.alloc.Global.{Global}
 use Rattle.ticket_items.specs.declared.refusal.Refusal.{Refusal}
 use Rattle.ticket_items.specs.declared.refusal.Refusal.TheVariants.{Memory}
@@ -23,16 +24,16 @@ use Rattle.jdf_commands.specs.FileCommands.Notes.{TellsNotes}
 
 -- ---- where messages go
 
--- behind a `@` the path of a peers' file stands
-abbrev pub NamesPeers : List ℕ → Type 0
-NamesPeers text = slice_get text 0 ≡ Some 64
+-- whether a text names a peers' file, whose path stands behind a `@`
+abbrev pub names_peers : List ℕ → Bool
+names_peers text = slice_index text 0 == 64
 
 -- a text tells to send by the table of a file that it names; or to the URL that it is; or it tells
 -- nothing
 abbrev pub IsPlaceIn : List ℕ → Option SendTo → Type 0
-IsPlaceIn text (Some (Peers rows)) = NamesPeers text
-IsPlaceIn text (Some (Url url)) = (slice_get text 0 ≢ Some 64) × (destination_in text ≡ Some url)
-IsPlaceIn text None = (slice_get text 0 ≢ Some 64) × (destination_in text ≡ None)
+IsPlaceIn text (Some (Peers rows)) = names_peers text ≡ true
+IsPlaceIn text (Some (Url url)) = (names_peers text ≡ false) × (destination_in text ≡ Some url)
+IsPlaceIn text None = (names_peers text ≡ false) × (destination_in text ≡ None)
 
 -- why there is no table in a peers' file: memory ran out, or the file can't be loaded
 abbrev pub IsNoTable : Refused → Type 0
@@ -43,7 +44,7 @@ IsNoTable e = (e ≡ Core Memory) ⊎ (e ≡ LoadFailed)
 abbrev pub IsNoPlace : List ℕ → Fault → Type 0
 IsNoPlace text fault =
     (fault ≡ Input (Core Memory))
-    ⊎ ((e : Refused) × (fault ≡ Device e) × IsNoTable e × NamesPeers text)
+    ⊎ ((e : Refused) × (fault ≡ Device e) × IsNoTable e × (names_peers text ≡ true))
 
 -- a message goes to that URL, or to the one that the table has for its receiver
 abbrev pub GoesTo : SendTo → List ℕ → Option Parts → Type 0

@@ -4,6 +4,7 @@ mod accepting;
 mod calling;
 mod clients;
 mod entry;
+mod hearing;
 mod houses;
 mod line;
 mod lines;

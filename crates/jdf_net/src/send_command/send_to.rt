@@ -1,7 +1,7 @@
 //! Where messages are sent.
 
-ghost use Rattle.std.specs.Prelude.{IfErr, IfOk, option_copied};
-ghost use Rattle.jdf_net.specs.SendCommand.{GoesTo, IsNoPlace, IsPlaceIn};
+ghost use Rattle.std.specs.Prelude.{◌≡◌, IfErr, IfOk, option_copied};
+ghost use Rattle.jdf_net.specs.SendCommand.{GoesTo, IsNoPlace, IsPlaceIn, names_peers};
 
 use crate::peers_in_file::peers_in_file;
 use jmf_message::decode;
@@ -17,6 +17,13 @@ pub(crate) enum SendTo {
     Peers(PeerTable),
 }
 
+/// Whether a text names a peers' file: whether it begins with `@`.
+fn names_peers(text: &str) -> bool
+    ensures { result ≡ names_peers text.now }
+{
+    text.starts_with('@')
+}
+
 impl SendTo {
     /// What a text tells: a URL that a message can be sent to, or behind a `@` the path of a peers'
     /// file. Nothing where it is neither. Refuses `LoadFailed` where that file can't be read or has
@@ -25,8 +32,9 @@ impl SendTo {
         ensures ok { IfOk result (IsPlaceIn text.now) }
         ensures err { IfErr result (IsNoPlace text.now) }
     {
-        if !text.is_empty() && text.as_bytes()[0] == b'@' {
-            return match peers_in_file(rt, alloc, &text[1..]) {
+        if names_peers(text) {
+            let path = text.strip_prefix('@').unwrap_or("");
+            return match peers_in_file(rt, alloc, path) {
                 Ok(peers) => Ok(Some(SendTo::Peers(peers))),
                 Err(refused) => Err(Fault::Device(refused)),
             };

@@ -10,6 +10,7 @@ ghost use Rattle.jdf_net.specs.ServeCommand.{RefusesLate, StepsLineTo, StepsTher
 ghost use Rattle.std.specs.Option.{option_map};
 
 use crate::serve_command::entry::Entry;
+use crate::serve_command::hearing::hear_all;
 use crate::serve_command::line::Line;
 use crate::serve_command::note::Note;
 use crate::serve_command::owner::Owner;
@@ -416,6 +417,7 @@ impl<'a, R: Locks + Net + Clock, F: Write + Drop> Server<'a, R, F> {
             self.now,
         )? {
             Stepped::Answered(answered, saved) => {
+                hear_all(&mut self.post, self.alloc, answered.as_slice(), self.now);
                 self.give_back_all(answered, path.as_str())?;
                 self.keep_saved(path.as_str(), &to, saved)?;
                 self.step_own(path.as_str(), &to, own)
