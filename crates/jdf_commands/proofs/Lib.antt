@@ -3,3 +3,6 @@ pub mod Runs
 mod Worked
 pub mod Names
 pub mod Commands
+pub mod Readers
+mod NotedCalls
+pub mod Verdicts

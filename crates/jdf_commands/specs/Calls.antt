@@ -1,10 +1,10 @@
 -- How a call ends. Nothing is known of what stands in files, so that of a file no keeper is honest.
-use Rattle.std.specs.Prelude.{◌≡◌, ◌⊎◌, ℕ, Bool, true, false, List, []}
+use Rattle.std.specs.Prelude.{◌≡◌, ◌⊎◌, ℕ, Bool, true, false, List, [], option_map}
 use Rattle.ticket_items.specs.declared.refusal.Refusal.{Refusal}
 use Rattle.jmf_message.specs.Decoded.{IsRefusalOf}
 use Rattle.jdf_words.specs.declared.call.Call.{Call}
 use Rattle.jdf_words.specs.declared.call.Call.TheVariants.{Edit, World, New, Order, Take, Show}
-use Rattle.jdf_words.specs.declared.call.Call.TheVariants.{Loop, SendOrder, Serve, Send}
+use Rattle.jdf_words.specs.declared.call.Call.TheVariants.{Check, Loop, SendOrder, Serve, Send}
 use Rattle.keepers.specs.InFile.{Fails, InFile}
 use Rattle.keepers.specs.OnDisk.{OnDisk, kept_at}
 use Rattle.stored_state.specs.Held.{Held}
@@ -16,6 +16,7 @@ use Rattle.streams.specs.declared.refused.Refused.TheVariants.{Core, LoadFailed,
 use Rattle.streams.specs.declared.fault.Fault.{Fault}
 use Rattle.streams.specs.declared.fault.Fault.TheVariants.{Device, Input}
 use Rattle.ticket_items.specs.declared.refusal.Refusal.TheVariants.{Memory}
+use Rattle.jdf_commands.specs.CheckCommand.Run.{EndsCheck}
 use Rattle.jdf_commands.specs.EditCommand.Document as edit_document
 use Rattle.jdf_commands.specs.EditCommand.Run as edit_run
 use Rattle.jdf_commands.specs.WorldCommand.Run as world_run
@@ -94,12 +95,14 @@ IsOutputOfCall (Take file at) input text refused notes =
     DoesStep is_honest held place (IsHanded at) no_notes (kept_in file.now) input text refused notes
 IsOutputOfCall (Show file picture) input text refused notes =
     IsUntouched input × Shows picture is_honest held place (kept_in file.now) text refused notes
+IsOutputOfCall (Check kind all) input text refused notes = ⊥
 IsOutputOfCall Loop input text refused notes = ⊥
 IsOutputOfCall (SendOrder file at url) input text refused notes = ⊥
 IsOutputOfCall (Serve file listen limits requests peers field) input text refused notes = ⊥
 IsOutputOfCall (Send url file) input text refused notes = ⊥
 
--- a call over the network isn't run over files alone, and nothing is read
+-- a call over the network isn't run over files alone, and nothing is read; nor is `check`, which
+-- ends in its own way
 abbrev pub IsOfNetwork : Use → Fault → Type 0
 IsOfNetwork input fault = IsUntouched input × (fault ≡ Device NoConnection)
 
@@ -116,15 +119,22 @@ IsFaultOfCall (Take file at) input fault =
     DoesNone (λ bytes _. IsRefusalOf bytes) (IsHanded at) file.now input fault
 IsFaultOfCall (Show file picture) input fault =
     IsUntouched input × (IsNotOpened file.now fault ⊎ (fault ≡ Input (Core Memory)))
+IsFaultOfCall (Check kind all) input fault = IsOfNetwork input fault
 IsFaultOfCall Loop input fault = IsOfNetwork input fault
 IsFaultOfCall (SendOrder file at url) input fault = IsOfNetwork input fault
 IsFaultOfCall (Serve file listen limits requests peers field) input fault = IsOfNetwork input fault
 IsFaultOfCall (Send url file) input fault = IsOfNetwork input fault
 
--- how a call ends: with what it writes and notes, or with why it gives up
-abbrev pub EndsCall : Call → Use → Use → Use → ℕ → Type 0
-EndsCall call input output told status =
+-- how another call than `check` ends: with what it writes and notes, or with why it gives up
+abbrev pub EndsNoted : Call → Use → Use → Use → ℕ → Type 0
+EndsNoted call input output told status =
     ((text : List ℕ) × (refused : Bool) × (notes : List ℕ)
     × IsOutputOfCall call input text refused notes
     × GivesOutNoting text refused notes output told status)
     ⊎ ((fault : Fault) × IsFaultOfCall call input fault × GivesUp fault output told status)
+
+-- how a call ends
+abbrev pub EndsCall : Call → Use → Use → Use → ℕ → Type 0
+EndsCall (Check kind all) input output told status =
+    EndsCheck (option_map (λ word. word.now) kind) all input output told status
+EndsCall call input output told status = EndsNoted call input output told status

@@ -9,3 +9,4 @@ mod raw_document;
 mod run;
 
 pub use command::{Edit, run_edit};
+pub(crate) use edit_output::check_document;

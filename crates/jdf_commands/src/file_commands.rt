@@ -13,6 +13,7 @@ mod shown;
 mod step;
 mod taking;
 
+pub(crate) use answers::named_number;
 pub use answers::{answer_output, refusal_told, refused_by};
 pub use beginning::begin;
 pub use noted::{Noted, finish_noting};

@@ -278,16 +278,17 @@ command_has s name words (inr (inr (inr (inr (inr (inl is)))))) answers no_help 
 command_has s name words (inr (inr (inr (inr (inr (inr (inl is))))))) answers no_help e =
     let has = showing_has words (rw is at e) in
     rw is (record { command = refl; file = λ _. has; at = λ bad. cc; serving = λ bad. cc; url = λ bad. cc })
-command_has s name words (inr (inr (inr (inr (inr (inr (inr (inl is)))))))) answers no_help e =
+command_has s name words (inr (inr (inr (inr (inr (inr (inr (inl is)))))))) answers no_help e = rw is (record { command = refl; file = λ bad. cc; at = λ bad. cc; serving = λ bad. cc; url = λ bad. cc })
+command_has s name words (inr (inr (inr (inr (inr (inr (inr (inr (inl is))))))))) answers no_help e =
     let has = serving_has words (rw is at e) in
     rw is (record { command = refl; file = λ _. has.0; at = λ bad. cc; serving = λ _. has.1; url = λ bad. cc })
-command_has s name words (inr (inr (inr (inr (inr (inr (inr (inr (inl is))))))))) answers no_help e =
+command_has s name words (inr (inr (inr (inr (inr (inr (inr (inr (inr (inl is)))))))))) answers no_help e =
     let has = sending_has words (rw is at e) in
     rw is (record { command = refl; file = λ bad. cc; at = λ bad. cc; serving = λ bad. cc; url = λ _. has })
-command_has s name words (inr (inr (inr (inr (inr (inr (inr (inr (inr (inl is)))))))))) answers no_help e =
+command_has s name words (inr (inr (inr (inr (inr (inr (inr (inr (inr (inr (inl is))))))))))) answers no_help e =
     let same : (bytes_eq (codes "help") name || false) ≡ true = rw is at answers in
     absurd (not_help name same no_help)
-command_has s name words (inr (inr (inr (inr (inr (inr (inr (inr (inr (inr none)))))))))) answers no_help e = absurd none
+command_has s name words (inr (inr (inr (inr (inr (inr (inr (inr (inr (inr (inr none))))))))))) answers no_help e = absurd none
 
 has_command : (has : Bool) → check_kinds (not has && false) (not has && true) false ≡ [] → has ≡ true
 has_command true e = refl

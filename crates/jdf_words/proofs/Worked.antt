@@ -82,6 +82,22 @@ drawn_is : (takes jdf drawn ≡ true) × (file_in (subcommand_of jdf drawn) ≡ 
 unfolding jdf clap_on_literals
 drawn_is = (refl, refl, refl)
 
+abbrev check : List Text
+check = codes "check" ∷ []
+
+check_is : (takes jdf check ≡ true) × (name_in (subcommand_of jdf check) ≡ Some (codes "check")) × (text_in (codes "KIND") (subcommand_of jdf check) ≡ None)
+    × (is_set_in (codes "all") (subcommand_of jdf check) ≡ false)
+unfolding jdf clap_on_literals
+check_is = (refl, refl, refl, refl)
+
+abbrev checked : List Text
+checked = codes "check" ∷ codes "--all" ∷ codes "ticket" ∷ []
+
+checked_is : (takes jdf checked ≡ true) × (text_in (codes "KIND") (subcommand_of jdf checked) ≡ Some (codes "ticket"))
+    × (is_set_in (codes "all") (subcommand_of jdf checked) ≡ true)
+unfolding jdf clap_on_literals
+checked_is = (refl, refl, refl)
+
 abbrev serve : List Text
 serve = codes "serve" ∷ codes "job.json" ∷ codes "--listen" ∷ codes "h:1" ∷ []
 

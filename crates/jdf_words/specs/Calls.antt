@@ -13,7 +13,7 @@ use Rattle.clap.specs.declared.error.kind.ErrorKind.TheVariants.{OutOfMemory}
 use Rattle.jdf_words.specs.declared.call.Call.{Call}
 use Rattle.jdf_words.specs.declared.call.Call.TheVariants.{Edit, World, Loop}
 use Rattle.jdf_words.specs.declared.call.Call.TheVariants.{New, Order, Take, Show, Serve, Send}
-use Rattle.jdf_words.specs.declared.call.Call.TheVariants.{SendOrder}
+use Rattle.jdf_words.specs.declared.call.Call.TheVariants.{Check, SendOrder}
 use Rattle.jdf_words.specs.declared.call_fault.CallFault.{CallFault}
 use Rattle.jdf_words.specs.declared.call_fault.CallFault.TheVariants.{Clap, Memory}
 use Rattle.jdf_words.specs.declared.serve_limits.ServeLimits.{ServeLimits}
@@ -95,7 +95,8 @@ wants_at name = list_any (bytes_eq name) (codes "order" ∷ codes "take" ∷ [])
 -- one of the commands
 abbrev pub is_command : Text → Bool
 is_command name = list_any (bytes_eq name)
-    (codes "edit" ∷ codes "world" ∷ codes "loop" ∷ codes "send" ∷ []) || wants_file name
+    (codes "edit" ∷ codes "world" ∷ codes "loop" ∷ codes "check" ∷ codes "send" ∷ [])
+    || wants_file name
 
 -- an argument of this name is among those that were found; FILE is
 abbrev pub HasText : Text → List Row → Type 0
@@ -144,6 +145,9 @@ Means (Take file at) found = IsTimed (codes "take") file.now at found
 Means (Show file picture) found =
     (name_in found ≡ Some (codes "show")) × (file_in found ≡ Some file.now)
     × (picture ≡ is_set_in (codes "picture") found)
+Means (Check kind all) found = (name_in found ≡ Some (codes "check"))
+    × (text_in (codes "KIND") found ≡ option_map (λ word. word.now) kind)
+    × (all ≡ is_set_in (codes "all") found)
 Means (Serve file listen limits requests peers field) found =
     IsServe file.now listen.now limits requests (option_map (λ path. path.now) peers)
     (option_map (λ name. name.now) field) found

@@ -39,6 +39,18 @@ picture_rule =
 abbrev pub show_rules : List Rule
 show_rules = file_rule ∷ picture_rule ∷ []
 
+-- KIND, any text
+abbrev pub kind_rule : Rule
+kind_rule = new_rule (codes "KIND")
+
+-- `--all`
+abbrev pub all_rule : Rule
+all_rule = record (new_rule (codes "all")) { long = Some (codes "all"); action = Some SetTrue }
+
+-- what `check` takes
+abbrev pub check_rules : List Rule
+check_rules = kind_rule ∷ all_rule ∷ []
+
 -- `--listen ADDR`, any text, which has to be there
 abbrev pub listen_rule : Rule
 listen_rule = record (option_rule (codes "listen")) { required = true }
@@ -114,6 +126,7 @@ jdf = record {
       ∷ command (codes "order") order_rules
       ∷ command (codes "take") (file_rule ∷ at_rule ∷ [])
       ∷ command (codes "show") show_rules
+      ∷ command (codes "check") check_rules
       ∷ command (codes "serve") serve_rules
       ∷ command (codes "send") send_rules
       ∷ [];

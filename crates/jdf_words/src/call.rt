@@ -46,6 +46,13 @@ pub enum Call<'a> {
         /// Whether a picture is wanted.
         picture: bool,
     },
+    /// A look for what is wrong with a document, which comes on standard input.
+    Check {
+        /// What the document is, in a word. `None`: its members tell.
+        kind: Option<&'a str>,
+        /// Whether all that is wrong is to be told.
+        all: bool,
+    },
     /// The controller that is kept in a file, which answers over the network.
     Serve {
         /// The path of the file.

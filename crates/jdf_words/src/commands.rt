@@ -2,7 +2,8 @@
 
 ghost use Rattle.std.specs.Prelude.{◌≡◌, [], ◌∷◌, IfOk, Some, codes, false, true};
 ghost use Rattle.clap.specs.Words.{App, Shape, app_of, rule_of, with_subcommand};
-ghost use Rattle.jdf_words.specs.Commands.{alone, at_rule, bare, body_rule, clients_rule, command};
+ghost use Rattle.jdf_words.specs.Commands.{all_rule, alone, at_rule, bare, body_rule, check_rules};
+ghost use Rattle.jdf_words.specs.Commands.{clients_rule, command, kind_rule};
 ghost use Rattle.jdf_words.specs.Commands.{file_rule, jdf, limit_rule, listen_rule, memory_rule};
 ghost use Rattle.jdf_words.specs.Commands.{message_rule, option_rule, order_rules, peers_rule};
 ghost use Rattle.jdf_words.specs.Commands.{picture_rule, sender_field_rule};
@@ -71,6 +72,28 @@ fn picture_argument<'a>(alloc: Global) -> Arg<'a>
         .long("picture")
         .action(ArgAction::SetTrue)
         .help("Prints a picture, as SVG")
+}
+
+/// KIND, which may be there.
+fn kind_argument<'a>(alloc: Global) -> Arg<'a>
+    ensures rule { rule_of result ≡ kind_rule }
+    ensures local { result.global ≡ false }
+{
+    Arg::new(alloc, "KIND").help(
+        "What it is: ticket, edits, order, message, script, opening or state; by its members if\n\
+        none is named",
+    )
+}
+
+/// `--all`.
+fn all_argument<'a>(alloc: Global) -> Arg<'a>
+    ensures rule { rule_of result ≡ all_rule }
+    ensures local { result.global ≡ false }
+{
+    Arg::new(alloc, "all")
+        .long("all")
+        .action(ArgAction::SetTrue)
+        .help("Prints each place that is wrong, and not the first alone")
 }
 
 /// `--listen ADDR`, which has to be there.
@@ -221,6 +244,15 @@ fn show_command<'a>(alloc: Global) -> Result<Command<'a>, AllocError>
     file_command(alloc, "show", help::SHOW)?.arg(picture_argument(alloc))
 }
 
+/// The command that checks a document.
+fn check_command<'a>(alloc: Global) -> Result<Command<'a>, AllocError>
+    ensures { IfOk result (λ made. app_of made ≡ alone (command (codes "check") check_rules)) }
+{
+    plain_command(alloc, "check", help::CHECK)
+        .arg(kind_argument(alloc))?
+        .arg(all_argument(alloc))
+}
+
 /// The command that serves a FILE.
 fn serve_command<'a>(alloc: Global) -> Result<Command<'a>, AllocError>
     ensures { IfOk result (λ made. app_of made ≡ alone (command (codes "serve") serve_rules)) }
@@ -281,6 +313,7 @@ pub(crate) fn jdf<'a>(alloc: Global) -> Result<Command<'a>, AllocError>
     let program = with_command(program, order_command(alloc));
     let program = with_command(program, timed_command(alloc, "take", help::TAKE));
     let program = with_command(program, show_command(alloc));
+    let program = with_command(program, check_command(alloc));
     let program = with_command(program, serve_command(alloc));
     with_command(program, send_command(alloc))
 }

@@ -26,6 +26,7 @@ pub(crate) const EXAMPLES: &str = "Examples, at the top of the repository:\n  \
     jdf_cli order mis --at 1767225600 < examples/shop/spawn.json > sent\n  \
     sed 1d sent | jdf_cli take press --at 1767225605\n  \
     jdf_cli show mis\n  \
+    jdf_cli check < examples/brochure.json\n  \
     jdf_cli serve press --listen 127.0.0.1:8010 &\n  \
     sed 1d sent | jdf_cli send http://127.0.0.1:8010/jmf";
 
@@ -94,6 +95,17 @@ pub(crate) const SHOW: Help = Help {
     example: "Examples:\n  jdf_cli show mis\n  jdf_cli show mis --picture > mis.svg",
 };
 
+pub(crate) const CHECK: Help = Help {
+    about: "Checks a document: reads it, prints `ok`, or where it is wrong and what is",
+    long_about: "Checks a document that a command reads: `ok` where it would be read.\n\n\
+        Reads from standard input a document of a KIND. Prints `ok`, or the line and the column,\n\
+        in bytes, of the first place that is wrong, the members that lead there, what is wrong,\n\
+        and the refusal. Where no place is found, prints the refusal alone.\n\n\
+        With --all, prints each place, at most 1000 of a refusal.",
+    example: "Examples:\n  jdf_cli check < examples/brochure.json\n  \
+        jdf_cli check opening --all < examples/shop/mis.json\n  jdf_cli check state < mis",
+};
+
 pub(crate) const SERVE: Help = Help {
     about: "Serves a controller: prints where it listens, and answers messages over HTTP",
     long_about: "Serves the controller that is kept in FILE: listens on ADDR, and answers each\n\
@@ -109,7 +121,8 @@ pub(crate) const SERVE: Help = Help {
 
 pub(crate) const SEND: Help = Help {
     about: "Sends a message: reads it, sends it to a controller over HTTP, prints the answer",
-    long_about: "Sends a message over HTTP to the controller that listens at URL. In place of URL,\n\
+    long_about: "Sends a message over HTTP to the controller that listens at URL. In place of \
+        URL,\n\
         @PEERS is a peers' file, which has that of the receiver.\n\n\
         Reads the message from FILE, or from standard input where no FILE is named. Prints the\n\
         answer.",

@@ -108,6 +108,16 @@ fn order_of<'a>(found: &ArgMatches<'a>) -> Call<'a>
     }
 }
 
+/// The call of `check` with these arguments.
+fn check_of<'a>(found: &ArgMatches<'a>) -> Call<'a>
+    ensures { Means result (Some (codes "check", rows_of (found_of found.now))) }
+{
+    Call::Check {
+        kind: text_in(found, "KIND"),
+        all: is_set(found, "all"),
+    }
+}
+
 /// The call of `serve` with these arguments.
 fn serve_of<'a>(found: &ArgMatches<'a>) -> Call<'a>
     requires file { HasFile (rows_of (found_of found.now)) }
@@ -156,6 +166,7 @@ fn call_of<'a>(name: &str, found: &ArgMatches<'a>) -> Call<'a>
             file: file_in(found),
             picture: is_set(found, "picture"),
         },
+        "check" => check_of(found),
         "serve" => serve_of(found),
         "send" => send_of(found),
         _ => unreachable!(),
@@ -174,12 +185,12 @@ fn call_in<'a>(matches: &ArgMatches<'a>) -> Call<'a>
 /// The call that the words of the command line stand for, which come without the program's name.
 /// No word at all is `edit`; any others are read by `clap`, as `edit`, `world`, `loop`,
 /// `new FILE`, `order FILE --at N [--send URL]`, `take FILE --at N`, `show FILE [--picture]`,
-/// `serve FILE --listen ADDR [--limit SECONDS] [--clients COUNT] [--body BYTES] [--memory BYTES]
-/// [--requests COUNT] [--peers PEERS] [--sender-field NAME]` or `send URL [FILE]`. FILE, ADDR,
-/// PEERS, NAME and URL are any text, N a whole number of seconds since 1970 of at most
-/// 9,999,999,999, and what else `serve` takes are whole numbers within the bounds of `ServeLimits`,
-/// that of requests at least 1. Other words, and those that ask
-/// for help, are answered with `clap`'s fault.
+/// `check [KIND] [--all]`, `serve FILE --listen ADDR [--limit SECONDS] [--clients COUNT]
+/// [--body BYTES] [--memory BYTES] [--requests COUNT] [--peers PEERS] [--sender-field NAME]` or
+/// `send URL [FILE]`. FILE, KIND, ADDR, PEERS, NAME and URL are any text, N a whole number of
+/// seconds since 1970 of at most 9,999,999,999, and what else `serve` takes are whole numbers
+/// within the bounds of `ServeLimits`, that of requests at least 1. Other words, and those that
+/// ask for help, are answered with `clap`'s fault.
 pub fn command_of<'a>(alloc: Global, words: &'a [String]) -> Result<Call<'a>, CallFault>
     ensures edit { words.entry.now ≡ [] → IsOk result }
     ensures named { IfOk result (λ call. (words.entry.now ≡ [] → call ≡ Edit)

@@ -1,7 +1,9 @@
 //! From the bytes of the input to the bytes of the output.
 
 ghost use Rattle.std.specs.Prelude.{◌≡◌, ◌++◌, IfErr, IfOk, OnOk, Ok};
+ghost use Rattle.jdf_commands.specs.CheckCommand.Readers.{IsAnswer, bare};
 ghost use Rattle.jdf_commands.specs.EditCommand.Document.{IsReadAs, IsReadRaw, IsRefusalOf};
+ghost use Rattle.jdf_commands.specs.EditCommand.Document.{document_read};
 ghost use Rattle.jdf_commands.specs.declared.edit_command.document.Document.{Document};
 ghost use Rattle.jdf_commands.specs.EditCommand.Run.{IsEdited, IsOutput, ticket_text};
 
@@ -71,6 +73,16 @@ fn read_document(alloc: Global, input: Vec<u8>) -> Result<Document, Refusal>
     drop(input);
     let ticket = ticket.build(alloc)?;
     Ok(Document { at, edits, ticket })
+}
+
+/// What the reader of documents answers: nothing where it takes the input, or else the first
+/// refusal of it.
+#[tactic(auto, using(crate::proofs::Readers::bared))]
+pub(crate) fn check_document(alloc: Global, input: &[u8]) -> Result<(), Refusal>
+    ensures { IsAnswer (λ d. bare (document_read d)) input.now result }
+{
+    read_document(alloc, Vec::from_slice(alloc, input)?)?;
+    Ok(())
 }
 
 /// The edited ticket of an input, or the first refusal of it. The output has room for twice the

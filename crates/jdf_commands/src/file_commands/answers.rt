@@ -59,7 +59,7 @@ fn refusal_numbered(number: u16, spawn: SpawnId) -> Option<Refusal>
 }
 
 /// A number and a name, with a space between.
-fn named_number(alloc: Global, number: u16, name: &str) -> Result<String, AllocError>
+pub(crate) fn named_number(alloc: Global, number: u16, name: &str) -> Result<String, AllocError>
     ensures { IfOk result (λ text. string_bytes text ≡ answers.named_number number name.now) }
 {
     format!(in alloc; "{number} {name}")

@@ -7,10 +7,11 @@ ghost use Rattle.stored_state.specs.Held.{Held};
 ghost use Rattle.stored_state.specs.declared.addressee.Addressee.{Addressee};
 ghost use Rattle.stored_state.specs.declared.any_controller.AnyController.{AnyController};
 ghost use Rattle.jdf_commands.specs.Calls as calls;
-ghost use Rattle.jdf_commands.specs.Calls.{EndsCall, IsFaultOfCall, IsOutputOfCall};
+ghost use Rattle.jdf_commands.specs.Calls.{EndsCall, EndsNoted, IsFaultOfCall, IsOutputOfCall};
 ghost use Rattle.jdf_commands.specs.FileCommands.Commands.{Begins, BeginsNone};
 ghost use Rattle.streams.specs.Streams.{used};
 
+use crate::check_command::run_check;
 use crate::edit_command::Edit;
 use crate::file_commands::beginning::new_noted;
 use crate::file_commands::noted::{Noted, finish_noting};
@@ -46,7 +47,8 @@ fn new_in_file<R: Locks, I: Read>(
     new_noted(alloc, keep, is_there, to, reader)
 }
 
-/// What a call writes and notes. It refuses, and holds the file's lock, as `run_file` says.
+/// What a call writes and notes, of all but `check`, whose status isn't told by that. It refuses,
+/// and holds the file's lock, as `run_file` says.
 pub fn call_output<R: Locks, I: Read>(
     rt: &R,
     alloc: Global,
@@ -66,10 +68,27 @@ pub fn call_output<R: Locks, I: Read>(
         Call::Order { file, at } => order_output(rt, alloc, file, at, reader),
         Call::Take { file, at } => take_output(rt, alloc, file, at, reader),
         Call::Show { file, picture } => show_output(rt, alloc, file, picture),
-        Call::Loop | Call::SendOrder { .. } | Call::Serve { .. } | Call::Send { .. } => {
-            Err(Fault::Device(Refused::NoConnection))
-        }
+        Call::Check { .. }
+        | Call::Loop
+        | Call::SendOrder { .. }
+        | Call::Serve { .. }
+        | Call::Send { .. } => Err(Fault::Device(Refused::NoConnection)),
     }
+}
+
+/// Runs another call than `check`.
+fn run_noted<R: Locks, I: Read, W: Write, F: Write>(
+    rt: &R,
+    alloc: Global,
+    call: Call<'_>,
+    reader: &mut Counted<I>,
+    writer: &mut Counted<W>,
+    faults: &mut Counted<F>,
+) -> u8
+    ensures { EndsNoted call.entry (used I.remaining reader.old reader.new)
+        (used W.contents writer.old writer.new) (used F.contents faults.old faults.new) result }
+{
+    finish_noting(call_output(rt, alloc, call, reader), writer, faults)
 }
 
 /// Runs a call, and writes what comes of it. Answers the exit status: 0, or 1 where an edit, an
@@ -79,7 +98,7 @@ pub fn call_output<R: Locks, I: Read>(
 /// than `MAX_INPUT_BYTES`, 4 where a read or a write failed, where the controller could not be
 /// loaded or saved or what its file holds is refused, and where something is there already that a
 /// new controller is to be kept in. A call over the network is none of files alone: nothing is
-/// read, and it gives up as `NoConnection`, with status 4.
+/// read, and it gives up as `NoConnection`, with status 4. `check` ends as `run_check` says.
 ///
 /// While it works on the controller in a file it holds the file's lock, and waits for that: of two
 /// calls on one file, one comes after the other. While `order` and `take` wait for their input they
@@ -99,5 +118,8 @@ pub fn run_file<R: Locks, I: Read, W: Write, F: Write>(
     ensures { EndsCall call.now (used I.remaining reader.old reader.new)
         (used W.contents writer.old writer.new) (used F.contents faults.old faults.new) result }
 {
-    finish_noting(call_output(rt, alloc, *call, reader), writer, faults)
+    match call {
+        Call::Check { kind, all } => run_check(alloc, *kind, *all, reader, writer, faults),
+        _ => run_noted(rt, alloc, *call, reader, writer, faults),
+    }
 }

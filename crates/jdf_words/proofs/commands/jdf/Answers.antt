@@ -1,5 +1,5 @@
 use Rattle.std.proofs.Common.{[], ◌∷◌, codes, refl}
-use Rattle.jdf_words.specs.Commands.{at_rule, bare, command, file_rule, jdf, order_rules, send_rules, serve_rules, show_rules}
+use Rattle.jdf_words.specs.Commands.{at_rule, bare, check_rules, command, file_rule, jdf, order_rules, send_rules, serve_rules, show_rules}
 use Rattle.jdf_words.proofs.commands.jdf.Goals as goal
 
 pub returns : goal.returns
@@ -12,5 +12,6 @@ returns c =
     let order = c.with_command-program-5.ensures _ (command (codes "order") order_rules) refl new c.order_command.ensures in
     let take = c.with_command-program-6.ensures _ (command (codes "take") (file_rule ∷ at_rule ∷ [])) refl order c.timed_command.ensures in
     let show = c.with_command-program-7.ensures _ (command (codes "show") show_rules) refl take c.show_command.ensures in
-    let serve = c.with_command-program-8.ensures _ (command (codes "serve") serve_rules) refl show c.serve_command.ensures in
+    let check = c.with_command-program-8.ensures _ (command (codes "check") check_rules) refl show c.check_command.ensures in
+    let serve = c.with_command-program-9.ensures _ (command (codes "serve") serve_rules) refl check c.serve_command.ensures in
     c.with_command.ensures _ (command (codes "send") send_rules) refl serve c.send_command.ensures

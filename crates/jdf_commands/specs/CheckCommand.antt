@@ -1,0 +1,4 @@
+pub mod Kinds
+pub mod Readers
+pub mod Verdict
+pub mod Run
