@@ -185,12 +185,15 @@ http {{
     fastcgi_temp_path {folder}/fastcgi;
     uwsgi_temp_path {folder}/uwsgi;
     scgi_temp_path {folder}/scgi;
+    {servers}
+}}
+"""
+NGINX_SERVER = """
     server {{
         listen 127.0.0.1:{port};
         location / {{ proxy_pass http://127.0.0.1:{behind}; }}
         location = /hidden {{ return 403; }}
     }}
-}}
 """
 HAPROXY = """
 defaults
@@ -216,19 +219,28 @@ def free_port():
 def proxy(name, behind):
     """The port of a proxy that stands before another, with what Debian gives it where nothing has
     to be told."""
-    folder, port = tempfile.mkdtemp(), free_port()
+    port, text = free_port(), {"nginx": NGINX_SERVER, "haproxy": HAPROXY}[name]
+    with proxy_of(name, text.format(port=port, behind=behind), [port]):
+        yield port
+
+
+@contextlib.contextmanager
+def proxy_of(name, text, ports):
+    """A proxy with this configuration, of nginx its servers, that listens on these ports."""
+    folder = tempfile.mkdtemp()
     path = os.path.join(folder, "config")
     with open(path, "w", encoding="utf-8") as file:
-        text = {"nginx": NGINX, "haproxy": HAPROXY}[name]
-        file.write(text.format(folder=folder, port=port, behind=behind))
+        file.write(NGINX.format(folder=folder, servers=text) if name == "nginx" else text)
     os.chmod(folder, 0o777)
     words = {"nginx": ["nginx", "-p", folder, "-c", path],
              "haproxy": ["haproxy", "-db", "-f", path]}
     with open(os.path.join(folder, "told"), "wb") as told:
         process = subprocess.Popen(words[name], stdout=told, stderr=told)
     try:
-        until_so(lambda: is_listening(port), f"{name} listens: {content(folder + '/told')[-300:]}")
-        yield port
+        until_so(lambda: process.poll() is not None or all(map(is_listening, ports)),
+                 f"{name} listens")
+        assert process.poll() is None, content(folder + "/told")[-300:]
+        yield
     finally:
         process.terminate()
         process.wait()

@@ -307,10 +307,12 @@ class Served:
         self.port = 0
         self.start()
 
+    def command(self):
+        return [PROGRAM, "serve", self.file, "--listen", f"127.0.0.1:{self.port}", *self.options]
+
     def start(self):
-        command = [PROGRAM, "serve", self.file, "--listen", f"127.0.0.1:{self.port}", *self.options]
         with open(self.file + ".log", "ab") as log:
-            self.process = subprocess.Popen(command, stdout=subprocess.PIPE, stderr=log)
+            self.process = subprocess.Popen(self.command(), stdout=subprocess.PIPE, stderr=log)
         line = self.process.stdout.readline().decode()
         assert line.startswith("Listening on 127.0.0.1:"), line
         self.port = int(line.rsplit(":", 1)[1])
