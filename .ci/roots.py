@@ -92,7 +92,7 @@ class Root:
         copy_status(chosen, self.folder)
         for name in ("passwd", "group"):
             shutil.copy(self.path(f"/usr/share/base-passwd/{name}.master"), self.path("/etc/" + name))
-        for name, mode in (("tmp", 0o1777), ("dev", 0o755), ("home", 0o755)):
+        for name, mode in (("tmp", 0o1777), ("dev", 0o755), ("usr/local/bin", 0o755)):
             os.makedirs(self.path("/" + name), exist_ok=True)
             os.chmod(self.path("/" + name), mode)
         os.mknod(self.path("/dev/null"), 0o20666, os.makedev(1, 3))
