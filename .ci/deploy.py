@@ -760,11 +760,14 @@ def the_document_is_typed():
                       root.path("/etc/hosts"))
         documents.put('#!/bin/sh\necho "$*" >> /tmp/systemctl\n',
                       root.path("/usr/local/bin/systemctl"), 0o755)
-        # As its package does where it is installed.
+        # As its package does where it is installed, and whoever sets up the network.
         asks(root, "useradd --system haproxy; mkdir -p /var/lib/haproxy")
+        documents.put("nameserver 127.0.0.1\n", root.path("/etc/resolv.conf"))
         types_in(root, "house", sections()["A house"], "/root/house")
         wants(content(root.path("/tmp/systemctl")).decode().splitlines(),
               ["enable --now toarnbif", "reload nginx", "reload haproxy"])
+        asks(root, "haproxy -c -q -dW -f /etc/haproxy/haproxy.cfg")
+        asks(root, "nginx -t 2>&1 | grep -e warn -e emerg", status=1)
         wants(is_like(root, FOLDER + "/peers.json"), "toarnbif toarnbif 660")
         asks(root, "useradd -m anna")
         documents.put(json.dumps(opening("job-17")), root.path("/home/anna/job-17.json"))
