@@ -1,5 +1,5 @@
-"""Clean roots: folders with the files of some of this machine's own Debian packages and nothing else
-of it, in which programs are run by chroot. For deploy.py.
+"""Clean roots: folders with the files of some of this machine's own Debian packages and nothing
+else of it, in which programs are run by chroot. For installs.py.
 """
 import contextlib
 import os
@@ -9,7 +9,7 @@ import subprocess
 import tempfile
 
 DPKG = "/var/lib/dpkg"
-# What each Debian has beside what is essential, and here /etc/hosts alone.
+# What each Debian has beside what is essential.
 FIRST = ("libc6", "passwd")
 FIELDS = "${Package}\t${binary:Package}\t${Essential}\t${Pre-Depends}, ${Depends}\t${Provides}\n"
 
@@ -30,7 +30,8 @@ def installed():
 
 
 def names_in(text, between):
-    return re.findall(r"[a-z0-9][a-z0-9+.-]+", re.sub(r"\(.*?\)|:\w+", "", text.replace(between, " ")))
+    plain = re.sub(r"\(.*?\)|:\w+", "", text.replace(between, " "))
+    return re.findall(r"[a-z0-9][a-z0-9+.-]+", plain)
 
 
 def closure(names):
@@ -91,7 +92,8 @@ class Root:
         copy_files(chosen, self.folder)
         copy_status(chosen, self.folder)
         for name in ("passwd", "group"):
-            shutil.copy(self.path(f"/usr/share/base-passwd/{name}.master"), self.path("/etc/" + name))
+            shutil.copy(self.path(f"/usr/share/base-passwd/{name}.master"),
+                        self.path("/etc/" + name))
         for name, mode in (("tmp", 0o1777), ("dev", 0o755), ("usr/local/bin", 0o755)):
             os.makedirs(self.path("/" + name), exist_ok=True)
             os.chmod(self.path("/" + name), mode)
