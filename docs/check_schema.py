@@ -297,12 +297,15 @@ def fault_of_example(kind, text):
 
 def examples():
     """Each example: where it stands, what it is, and its text. In FORMATS.md the kind stands behind
-    the fence; the examples of commands tell it by a member."""
+    the fence; the examples of commands tell it by a member, and peers' files by their name."""
     fence = re.compile(r"^```json (\w+)\n(.*?)^```", re.M | re.S)
     for kind, text in fence.findall(read(ROOT / "docs/FORMATS.md")):
         yield "docs/FORMATS.md", kind, text
     for path in sorted((ROOT / "examples").rglob("*.json")):
         text = read(path)
+        if path.name == "peers.json":
+            yield path.relative_to(ROOT), "peers", text
+            continue
         kind = "script" if '"Events"' in text else "editInput" if '"Edits"' in text else None
         yield path.relative_to(ROOT), kind, text
 
