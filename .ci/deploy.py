@@ -21,9 +21,9 @@ import fronts
 import installs
 import processes
 from crowd import connected, free_port, one_response, until_so
-from deployed import (COVER, DEPLOY, SOON, certify, example, is_closed, made, opening, option_words,
+from deployed import (COVER, DEPLOY, certify, example, is_closed, made, opening, option_words,
                       unit_values)
-from houses import begins, gives, lines_of, put_peers
+from houses import House, begins, gives, lines_of, put_peers
 from processes import FINISH, PROGRAM, content, request, status_in, wants
 
 TOOLS = ("nginx", "haproxy", "strace", "systemd-analyze", "dpkg-deb", "groff", "man", "openssl",
@@ -53,6 +53,20 @@ def calls_in(*names):
     return calls
 
 
+class Traced(House):
+    """A house of which `trace` has what it asks the system for."""
+
+    def command(self):
+        return ["strace", "-f", "-o", "trace", *super().command()]
+
+    def kill(self):
+        strace = self.process.pid
+        for child in content(f"/proc/{strace}/task/{strace}/children").split():
+            os.kill(int(child), signal.SIGKILL)
+        self.process.wait()
+        self.process.stdout.close()
+
+
 def traced_lines():
     """What the program asks the system for while it serves as the unit tells it: a job that goes to
     its own other controller, orders beside it, a name of a host, and a request that is refused."""
@@ -63,19 +77,14 @@ def traced_lines():
     here = f"http://127.0.0.1:{port}/jmf"
     put_peers("house", {"job-*": here, "press": here, "bindery": f"http://localhost:{port}/jmf"})
     words = [word for word in option_words() if word not in ("--sender-field", "X-Sender")]
-    traced = subprocess.Popen(["strace", "-f", "-o", "trace", PROGRAM, "serve", "house", "--listen",
-                               f"127.0.0.1:{port}", *words, "--requests", "3"],
-                              stdout=subprocess.PIPE, stderr=subprocess.DEVNULL)
-    wants(traced.stdout.readline(), f"Listening on 127.0.0.1:{port}\n".encode())
-    gives("house/job-1", COVER, "Spawned S1")
-    until_so(lambda: lines_of("house/press/job-1") == [["S1", "Open"]], "the part comes")
-    gives("house/press/job-1", FINISH, "Finished S1")
-    until_so(lambda: is_closed("house/press/job-1"), "the part is back")
-    with connected(port) as client:
-        client.sendall(request("{}"))
-        wants(status_in(one_response(client)), 400)
-    wants(traced.wait(SOON), 0)
-    traced.stdout.close()
+    with Traced("house", port, *words):
+        gives("house/job-1", COVER, "Spawned S1")
+        until_so(lambda: lines_of("house/press/job-1") == [["S1", "Open"]], "the part comes")
+        gives("house/press/job-1", FINISH, "Finished S1")
+        until_so(lambda: is_closed("house/press/job-1"), "the part is back")
+        with connected(port) as client:
+            client.sendall(request("{}"))
+            wants(status_in(one_response(client)), 400)
     return content("trace").decode().splitlines()
 
 
@@ -127,7 +136,7 @@ def the_man_page_tells_what_the_help_does():
 COMMANDS = ("edit", "world", "loop", "new", "order", "take", "show", "serve", "send")
 SERVE = ("--listen", "--limit", "--clients", "--body", "--memory", "--requests", "--peers",
          "--sender-field", "--help")
-# What is typed, with the word that is completed last, and what it may be; bash takes `=` for a word.
+# What is typed, with the word that is completed last, and what it may be: `=` is a word.
 COMPLETED = (
     ((""), (*COMMANDS, "help")),
     (("s"), ("show", "serve", "send")),

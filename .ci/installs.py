@@ -147,7 +147,7 @@ def an_operator_works_beside_the_service():
 def a_stranger_does_not():
     """Who isn't of the group sees and changes nothing."""
     with staffed() as (root, _):
-        at = f"cd /tmp; jdf_cli"
+        at = "cd /tmp; jdf_cli"
         asks(root, f"umask 0007; jdf_cli new {FOLDER}/job-1", "anna", json.dumps(opening("job-1")))
         held = content(root.path(FOLDER + "/job-1"))
         for command in ("show", f"order --at {AT}", f"take --at {AT}"):
@@ -291,10 +291,10 @@ def types(lines, folder, words):
 
 
 def types_in(root, name, lines, folder, user="root"):
-    """The same in a root."""
+    """The same in a root, where ports are nobody else's: a proxy that is tried opens its own."""
     own = f"/tmp/{name}"
     command = f"cd {folder}; HOME=/home/{user} TOLD={own}/told exec bash --norc {own}/script"
-    types(lines, root.path(own), root.words(command, user))
+    types(lines, root.path(own), ["unshare", "--net", *root.words(command, user)])
 
 
 def carried(root):
@@ -329,7 +329,7 @@ def the_document_is_typed():
         wants(content(root.path("/tmp/systemctl")).decode().splitlines(),
               ["enable --now toarnbif", "reload nginx", "reload haproxy"])
         asks(root, "haproxy -c -q -dW -f /etc/haproxy/haproxy.cfg")
-        asks(root, "nginx -t 2>&1 | grep -e warn -e emerg", status=1)
+        asks(root, "unshare --net nginx -t 2>&1 | grep -e warn -e emerg", status=1)
         wants(is_like(root, FOLDER + "/peers.json"), "toarnbif toarnbif 660")
         asks(root, "useradd -m anna")
         documents.put(json.dumps(opening("job-17")), root.path("/home/anna/job-17.json"))
