@@ -305,7 +305,7 @@ def carried(root):
     types(sections()["The package and the certificates"], os.path.abspath("typed"),
           ["env", f"TOLD={os.path.abspath('typed')}/told", "bash", "-c",
            f"cd top; exec bash --norc {os.path.abspath('typed')}/script"])
-    house = root.path("/root/house")
+    house = root.path("/srv/house")
     shutil.copytree("top/out/houses/office", house + "/office")
     for name in ("peers.json", "nginx.conf", "haproxy.cfg"):
         shutil.copy(os.path.join(DEPLOY, name), house)
@@ -325,7 +325,7 @@ def the_document_is_typed():
         # As its package does where it is installed, and whoever sets up the network.
         asks(root, "useradd --system haproxy; mkdir -p /var/lib/haproxy")
         documents.put("nameserver 127.0.0.1\n", root.path("/etc/resolv.conf"))
-        types_in(root, "house", sections()["A house"], "/root/house")
+        types_in(root, "house", sections()["A house"], "/srv/house")
         wants(content(root.path("/tmp/systemctl")).decode().splitlines(),
               ["enable --now toarnbif", "reload nginx", "reload haproxy"])
         asks(root, "haproxy -c -q -dW -f /etc/haproxy/haproxy.cfg")
