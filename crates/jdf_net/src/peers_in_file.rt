@@ -34,8 +34,9 @@ pub(crate) fn peers_in_file<R: Files>(
         return Err(no_table(false));
     };
     match read_input(alloc, &mut Counted::new(file)) {
-        Ok(bytes) => peers_of(alloc, bytes.as_slice())
-            .map_err(|refusal| no_table(refusal == Refusal::Memory)),
+        Ok(bytes) => peers_of(alloc, bytes.as_slice()).map_err(|refusal| no_table(
+            refusal == Refusal::Memory,
+        )),
         Err(fault) => Err(no_table(fault == Fault::Input(Refused::Core(Refusal::Memory)))),
     }
 }

@@ -1,12 +1,12 @@
 //! The lines of the clients whose requests wait: whose turn it is, and what comes of them.
 
-ghost use Rattle.std.specs.Prelude.{◌≡◌, None, Some, IfOk, OnOk, string_bytes};
+ghost use Rattle.std.specs.Prelude.{◌≡◌, None, Some, IfOk, OnOk};
 ghost use Rattle.slab.specs.Slab.{Updates, get};
-ghost use Rattle.jdf_net.specs.Clients.{AreGivenBack, AreLetGo, AreMissed, IsMissed, TellsMissing};
+ghost use Rattle.jdf_net.specs.Clients.{AreGivenBack, AreLetGo, IsMissed, TellsMissing};
 ghost use Rattle.jdf_net.specs.Lines.{IsParted, Joins, is_broken, is_gone as is_gone_in, is_late};
 ghost use Rattle.jdf_net.specs.Requests.{MaySend, Stands, StandsInLine, StandsOrMisses, StandsWith};
 ghost use Rattle.jdf_net.specs.Requests.{IsKnown, IsTold, StandsWithout};
-ghost use Rattle.jdf_net.specs.ServeCommand.{RefusesLate, StepsLineTo, StepsThere, WaitsOn};
+ghost use Rattle.jdf_net.specs.ServeCommand.{RefusesLate};
 ghost use Rattle.std.specs.Option.{option_map};
 
 use crate::serve_command::entry::Entry;
@@ -285,11 +285,7 @@ impl<'a, R: Locks + Net + Clock, F: Write + Drop> Server<'a, R, F> {
     }
 
     /// Answers each of these so.
-    fn miss_all(&mut self, errands: Vec<Errand<TcpStream>>) -> Result<(), AllocError>
-        ensures clients { OnOk result (AreMissed self.old.now errands.items self.old.clients
-            self.new.clients) }
-        ensures rest { (self.new.now ≡ self.old.now) × (self.new.lines ≡ self.old.lines) }
-    {
+    fn miss_all(&mut self, errands: Vec<Errand<TcpStream>>) -> Result<(), AllocError> {
         for one in errands {
             self.miss(one.waiting)?;
         }
@@ -382,10 +378,7 @@ impl<'a, R: Locks + Net + Clock, F: Write + Drop> Server<'a, R, F> {
 
     /// Has those of a line wait on, whose file somebody else has locked, but for those who waited as
     /// long as they may.
-    fn wait_on(&mut self, path: String, line: Line, last: Option<Saved>) -> Result<(), AllocError>
-        ensures { OnOk result (WaitsOn (string_bytes path) line.to line.errands.items self.old
-            self.new) }
-    {
+    fn wait_on(&mut self, path: String, line: Line, last: Option<Saved>) -> Result<(), AllocError> {
         if let Some(last) = last {
             self.saved.keep(path.clone()?, last)?;
         }
@@ -400,10 +393,7 @@ impl<'a, R: Locks + Net + Clock, F: Write + Drop> Server<'a, R, F> {
 
     /// Has the controller of a line make the steps of those who wait. Where somebody else has its
     /// file locked, the line stays.
-    fn step_there(&mut self, path: String, line: Line) -> Result<(), AllocError>
-        ensures { OnOk result (StepsThere (string_bytes path) line.to line.errands.items self.old
-            self.new) }
-    {
+    fn step_there(&mut self, path: String, line: Line) -> Result<(), AllocError> {
         let last = self.saved.take(path.as_str());
         let Line { to, errands, own } = line;
         let addressee = to.as_addressee();
@@ -430,10 +420,7 @@ impl<'a, R: Locks + Net + Clock, F: Write + Drop> Server<'a, R, F> {
 
     /// The same of those who are there still. Where a folder has no such file any more, they are
     /// told so.
-    fn step(&mut self, path: String, line: Line) -> Result<(), AllocError>
-        ensures { OnOk result (StepsLineTo (string_bytes path) line.to line.errands.items self.old
-            self.new) }
-    {
+    fn step(&mut self, path: String, line: Line) -> Result<(), AllocError> {
         let Line { to, errands, own } = line;
         let (errands, gone) = parted_gone(self.alloc, errands, &self.clients)?;
         self.pass_over_all(gone, path.as_str())?;
