@@ -133,7 +133,7 @@ def the_man_page_tells_what_the_help_does():
                 assert line in plain or line.split(" -")[0] in plain, (name, line)
 
 
-COMMANDS = ("edit", "world", "loop", "new", "order", "take", "show", "serve", "send")
+COMMANDS = ("edit", "world", "loop", "new", "order", "take", "show", "check", "serve", "send")
 SERVE = ("--listen", "--limit", "--clients", "--body", "--memory", "--requests", "--peers",
          "--sender-field", "--help")
 # What is typed, with the word that is completed last, and what it may be: `=` is a word.
