@@ -1,12 +1,12 @@
 //! The lines of the clients whose requests wait: whose turn it is, and what comes of them.
 
-ghost use Rattle.std.specs.Prelude.{◌≡◌, None, Some, IfOk, OnOk};
+ghost use Rattle.std.specs.Prelude.{◌≡◌, None, Some, IfOk, OnOk, string_bytes};
 ghost use Rattle.slab.specs.Slab.{Updates, get};
-ghost use Rattle.jdf_net.specs.Clients.{AreGivenBack, AreLetGo, IsMissed, TellsMissing};
+ghost use Rattle.jdf_net.specs.Clients.{AreGivenBack, AreLetGo, AreMissed, IsMissed, TellsMissing};
 ghost use Rattle.jdf_net.specs.Lines.{IsParted, Joins, is_broken, is_gone as is_gone_in, is_late};
 ghost use Rattle.jdf_net.specs.Requests.{MaySend, Stands, StandsInLine, StandsOrMisses, StandsWith};
 ghost use Rattle.jdf_net.specs.Requests.{IsKnown, IsTold, StandsWithout};
-ghost use Rattle.jdf_net.specs.ServeCommand.{RefusesLate};
+ghost use Rattle.jdf_net.specs.ServeCommand.{RefusesLate, StepsLineTo, StepsThere, WaitsOn};
 ghost use Rattle.std.specs.Option.{option_map};
 
 use crate::serve_command::entry::Entry;
@@ -114,6 +114,13 @@ fn key_of(errand: Errand<TcpStream>) -> usize
     ensures { result ≡ errand.waiting.key }
 {
     errand.waiting.key
+}
+
+/// Who waits with an errand.
+fn waiting_of(errand: Errand<TcpStream>) -> Waiting<TcpStream>
+    ensures { result ≡ errand.waiting }
+{
+    errand.waiting
 }
 
 /// Whether the field of this name in a head tells the sender, where one is to.
@@ -285,9 +292,13 @@ impl<'a, R: Locks + Net + Clock, F: Write + Drop> Server<'a, R, F> {
     }
 
     /// Answers each of these so.
-    fn miss_all(&mut self, errands: Vec<Errand<TcpStream>>) -> Result<(), AllocError> {
+    fn miss_all(&mut self, errands: Vec<Errand<TcpStream>>) -> Result<(), AllocError>
+        ensures clients { OnOk result (AreMissed self.old.now errands.items self.old.clients
+            self.new.clients) }
+        ensures rest { (self.new.now ≡ self.old.now) × (self.new.lines ≡ self.old.lines) }
+    {
         for one in errands {
-            self.miss(one.waiting)?;
+            self.miss(waiting_of(one))?;
         }
         Ok(())
     }
@@ -376,12 +387,24 @@ impl<'a, R: Locks + Net + Clock, F: Write + Drop> Server<'a, R, F> {
         Ok(())
     }
 
+    /// Keeps what a file held last, where that is known.
+    fn keep_last(&mut self, path: &str, last: Option<Saved>) -> Result<(), AllocError>
+        ensures clients { self.new.clients ≡ self.old.clients }
+        ensures rest { (self.new.now ≡ self.old.now) × (self.new.lines ≡ self.old.lines) }
+    {
+        if let Some(last) = last {
+            self.saved.keep(String::from_str(self.alloc, path)?, last)?;
+        }
+        Ok(())
+    }
+
     /// Has those of a line wait on, whose file somebody else has locked, but for those who waited as
     /// long as they may.
-    fn wait_on(&mut self, path: String, line: Line, last: Option<Saved>) -> Result<(), AllocError> {
-        if let Some(last) = last {
-            self.saved.keep(path.clone()?, last)?;
-        }
+    fn wait_on(&mut self, path: String, line: Line, last: Option<Saved>) -> Result<(), AllocError>
+        ensures { OnOk result (WaitsOn (string_bytes path) line.to line.errands.items self.old
+            self.new) }
+    {
+        self.keep_last(path.as_str(), last)?;
         self.is_locked_out = true;
         let Line { to, errands, own } = line;
         let errands = self.refuse_late(errands, path.as_str())?;
@@ -393,7 +416,10 @@ impl<'a, R: Locks + Net + Clock, F: Write + Drop> Server<'a, R, F> {
 
     /// Has the controller of a line make the steps of those who wait. Where somebody else has its
     /// file locked, the line stays.
-    fn step_there(&mut self, path: String, line: Line) -> Result<(), AllocError> {
+    fn step_there(&mut self, path: String, line: Line) -> Result<(), AllocError>
+        ensures { OnOk result (StepsThere (string_bytes path) line.to line.errands.items self.old
+            self.new) }
+    {
         let last = self.saved.take(path.as_str());
         let Line { to, errands, own } = line;
         let addressee = to.as_addressee();
@@ -420,14 +446,19 @@ impl<'a, R: Locks + Net + Clock, F: Write + Drop> Server<'a, R, F> {
 
     /// The same of those who are there still. Where a folder has no such file any more, they are
     /// told so.
-    fn step(&mut self, path: String, line: Line) -> Result<(), AllocError> {
+    fn step(&mut self, path: String, line: Line) -> Result<(), AllocError>
+        ensures { OnOk result (StepsLineTo (string_bytes path) line.to line.errands.items self.old
+            self.new) }
+    {
         let Line { to, errands, own } = line;
         let (errands, gone) = parted_gone(self.alloc, errands, &self.clients)?;
         self.pass_over_all(gone, path.as_str())?;
         if errands.is_empty() {
             return self.step_own(path.as_str(), &to, own);
         }
-        if self.is_missing(path.as_str()) && !self.begins(path.as_str(), &to, errands.as_slice()) {
+        let missing = self.is_missing(path.as_str())
+            && !self.begins(path.as_str(), &to, errands.as_slice());
+        if missing {
             return self.miss_all(errands);
         }
         self.step_there(path, Line { to, errands, own })
