@@ -2,10 +2,10 @@
 """Types what the documents tell to type: documents.py PROGRAM
 
 The lines of README.md, docs/FIRST_DAY.md and docs/CIP4.md that are fenced as `sh`, and the examples
-that the program's help gives, are run as they stand, from the first to the last, each document in one shell
-in a folder of its own, which has the program where `build-unproved` leaves it. Only ports differ:
-each is a free one. What isn't run here builds or proves: for `rt` stands a script that runs the
-program, and `./build-unproved` and `./check` are left out.
+that the program's help gives, are run as they stand, from the first to the last, each document in
+one shell in a folder of its own, which has the program where `build-unproved` leaves it. Only ports
+differ: each is a free one. What isn't run here builds or proves: for `rt` stands a script that runs
+the program, and `./build-unproved` and `./check` are left out.
 
 A comment behind a line tells what comes of it. Between its commas, colons and semicolons, what
 begins with a capital letter or a brace is a line that is printed, or the front of one where ` ..`
