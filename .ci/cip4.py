@@ -16,8 +16,8 @@ import subprocess
 import sys
 
 import processes
-from processes import AT, EXAMPLES, FINISH, PROGRAM, Served, order, request, response, run, status_in
-from processes import begin, content, spawn, wants
+from processes import (AT, EXAMPLES, FINISH, PROGRAM, Served, content, order, request, response,
+                       run, spawn, status_in, wants)
 
 sys.path.insert(0, os.path.join(EXAMPLES, "cip4"))
 import names  # noqa: E402
@@ -97,44 +97,51 @@ def jmf(message, **said):
 def what_no_press_is_asked():
     message = begin_press()
     with Served("press") as press:
-        for query in ("KnownMessages", "KnownDevices", "SubmissionMethods", "QueueStatus", "Status"):
+        for query in ("KnownMessages", "KnownDevices", "SubmissionMethods", "QueueStatus",
+                      "Status"):
             asks = jmf(message, Query={"ID": "M1", "Type": query})
             wants((query, answered(press, asks)), (query, (400, 41)))
         signals = jmf(message, Signal={"ID": "M1", "Type": "Status"})
         wants(answered(press, signals), (400, 41))
         for command in ("HoldQueueEntry", "ResumeQueueEntry", "RemoveQueueEntry",
                         "SetQueueEntryPriority"):
-            said = jmf(message, Command={"ID": "M1", "Type": command,
-                                         "AbortQueueEntryParams": {"QueueEntryID": "S1"}})
-            wants((command, answered(press, said)), (command, (400, 45)))
+            said = {"ID": "M1", "Type": command, command + "Params": {"QueueEntryID": "S1"}}
+            wants((command, answered(press, jmf(message, Command=said))), (command, (400, 41)))
         xml = '<?xml version="1.0"?><JMF xmlns="http://www.CIP4.org/JDFSchema_1_1"/>'
         kind = "Content-Type: application/vnd.cip4-jmf+xml\r\n"
         wants(answered(press, xml, kind), (400, 40))
         package = "--b\r\nContent-Type: application/vnd.cip4-jmf+xml\r\n\r\n<JMF/>\r\n--b--\r\n"
-        wants(answered(press, package, "Content-Type: multipart/related; boundary=b\r\n"), (400, 40))
-        iso = json.dumps({**message, "JMF": {**message["JMF"], "TimeStamp": "2026-06-30T10:00:00Z"}})
-        wants(answered(press, iso), (400, 41))
+        mime = "Content-Type: multipart/related; boundary=b\r\n"
+        wants(answered(press, package, mime), (400, 40))
+        iso = {**message["JMF"], "TimeStamp": "2026-06-30T10:00:00Z"}
+        wants(answered(press, json.dumps({**message, "JMF": iso})), (400, 41))
         # The type isn't looked at.
         wants(answered(press, json.dumps(message), kind), (200, None))
         wants(run("show", "press")[1].split(" ", 2)[:2], ["S1", "Open"])
 
 
 def what_does_not_fit():
-    """A part that comes back with a node or a resource more."""
+    """A node that is out already; and a part that comes back with a node or a resource more, or
+    with what a press really did."""
     message = begin_press()
+    wants(order("mis", spawn("cover", "press", ["cover.sheets"])), ["Refused 12 NotHeld S1", ""])
     wants(run("take", "press", "--at", AT, given=json.dumps(message))[0], 0)
     _, back = order("press", FINISH)
-    more = {"Attr": {}, "AuditPool": [], "ID": "n99", "JDF": [], "JobPartID": "p", "Type": "Folding",
-            "ResourceLinkPool": [], "ResourcePool": [], "Status": "Waiting"}
+    more = processes.node("n99")
     node = json.loads(back)
     node["JDF"]["JDF"].append(more)
     pool = json.loads(back)
     pool["JDF"]["ResourcePool"].insert(0, {"Attr": {}, "Class": "Consumable", "ID": "r99",
                                            "Locked": False, "Name": "Ink", "SpawnIDs": [],
                                            "SpawnStatus": "NotSpawned", "Status": "Available"})
-    for changed_part in (node, pool):
-        status, lines, _ = run("take", "mis", "--at", AT, given=json.dumps(changed_part))
+    for part in (node, pool):
+        status, lines, _ = run("take", "mis", "--at", AT, given=json.dumps(part))
         wants((status, lines.splitlines()[0]), (1, "Refused 22 WrongShape"))
+    for audit in ("PhaseTime", "ProcessRun", "ResourceAudit"):
+        done = json.loads(back)
+        done["JDF"]["AuditPool"].append({"Name": audit, "TimeStamp": 1})
+        wants(run("take", "mis", "--at", AT, given=json.dumps(done)),
+              (3, "", "Refused 41 NotProfile\n"))
 
 
 # ---- names
