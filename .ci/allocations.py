@@ -45,7 +45,7 @@ ORDERS = os.path.join(os.path.dirname(processes.HERE), "crates/refused_orders")
 # each word are tried.
 CASES = os.path.join(os.path.dirname(processes.HERE), "crates/cases")
 WORDS = ("value ticket change part state state_value message id new_text edited_copy shop spawned"
-         " part_rows new_id tree part_tree below subtree home").split()
+         " part_rows held tree part_tree below subtree home").split()
 FEW = 4
 # What refuses allocations: those from REFUSED_FROM to REFUSED_TO, the first being 1; and from a
 # write of the bytes REFUSED_BEHIND to the end of the next write all, or the one of the number

@@ -133,9 +133,10 @@ def the_man_page_tells_what_the_help_does():
                 assert line in plain or line.split(" -")[0] in plain, (name, line)
 
 
-COMMANDS = ("edit", "world", "loop", "new", "order", "take", "show", "check", "serve", "send")
-SERVE = ("--listen", "--limit", "--clients", "--body", "--memory", "--requests", "--peers",
-         "--sender-field", "--help")
+COMMANDS = ("edit", "world", "loop", "new", "order", "take", "show", "list", "check", "explain",
+            "serve", "send")
+SERVE = ("--listen", "--limit", "--clients", "--body", "--memory", "--requests", "--peers", "--page",
+         "--orders", "--sender-field", "--journal", "--help")
 # What is typed, with the word that is completed last, and what it may be: `=` is a word.
 COMPLETED = (
     ((""), (*COMMANDS, "help")),
@@ -143,9 +144,10 @@ COMPLETED = (
     (("help", "t"), ("take",)),
     (("serve", "-"), SERVE),
     (("serve", "house", "--l"), ("--listen", "--limit")),
-    (("order", "--"), ("--at", "--send", "--help")),
+    (("order", "--"), ("--at", "--send", "--from", "--journal", "--help")),
     (("show", "house", "--p"), ("--picture",)),
-    (("edit", "--"), ("--help",)),
+    (("edit", "--"), ("--from", "--help")),
+    (("list", "--"), ("--open", "--json", "--at", "--help")),
     (("show", "jo"), ("job-1", "job-2")),
     (("order", "job-1", "--at", "jo"), ()),
     (("order", "--at", "5", "jo"), ("job-1", "job-2")),

@@ -12,7 +12,8 @@ begins with a capital letter or a brace is a line that is printed, or the front 
 stands behind it, and `status N` is the status, else 0, with no refusal printed. Where the text
 says `prints` between the lines and a fenced block, the block is what is printed.
 
-The last line says how many documents passed. The lines of one end within two minutes, or fail.
+The toolchain that `--version` names has to be one that README trusts. The lines of one document end
+within two minutes, or fail.
 """
 import contextlib
 import os
@@ -229,6 +230,17 @@ def passes(name, lines, program):
     return True
 
 
+def tells_its_version(program):
+    """Whether the toolchain that the program says it was proved with is one that README trusts."""
+    told = subprocess.run([program, "--version"], capture_output=True, text=True).stdout
+    kit, _, logic = told.rstrip("\n").rpartition("Proved with: ")[2].partition(" ")
+    with open(os.path.join(TOP, "README.md"), encoding="utf-8") as file:
+        (trusted,) = re.findall(r"^\*\*Trusted\*\*: the toolchain \((.*?)\)", file.read(), re.M)
+    is_trusted = kit != "" and {f"`{kit}`", f"`{logic}`"} <= set(re.findall("`.*?`", trusted))
+    print(f"--version ... {'ok' if is_trusted else 'FAILED: README trusts no such toolchain'}")
+    return is_trusted
+
+
 def main():
     program = os.path.abspath(sys.argv[1])
     documents = [(name, commands_of(name))
@@ -236,7 +248,7 @@ def main():
     documents.append(("--help", commands_of_help(program)))
     passed = sum([passes(name, lines, program) for name, lines in documents])
     print(f"documents: {passed} passed, {len(documents) - passed} failed")
-    sys.exit(passed != len(documents))
+    sys.exit(not tells_its_version(program) or passed != len(documents))
 
 
 if __name__ == "__main__":

@@ -4,7 +4,7 @@
 Each case has a number, and is the same in each run. It is a text that fits, as a rule damaged:
 cut, doubled, swapped. The program must end by itself, with a status that is documented, and tell
 what is documented; leave a file as it was where it refuses the form of what it reads; and need at
-most as many times the memory of its input as --times says (0: any); lists of two shapes may need
+most as many times the memory of its input as --times says (0: any); a list of one shape may need
 more. The last lines say how often each reply came, and how many cases passed. --first and --cases
 run one again by its number.
 """
@@ -29,7 +29,8 @@ from texts import (FILES, answered, damaged, edit_input, large_inputs, message, 
 
 REFUSALS = Path(__file__).resolve().parent.parent / "docs/REFUSALS.md"
 NAMES = dict(re.findall(r"^\| (\d+) `(\w+)`", REFUSALS.read_text(encoding="utf-8"), re.M))
-TOLD = re.compile(r"Refused (\d+) (\w+)\n")
+# A refusal, and of what is sent to where it was to go.
+TOLD = re.compile(r"Refused (?P<number>\d+) (?P<name>\w+)(?:: (?P<address>127\.0\.0\.1:\d+))?\n")
 NOT_JSON = "Refused 40 NotJson\n"
 NOT_TAKEN = re.compile(r"Refused by the controller: [1-9]\d\d\n")
 # The lines of an event, an edit, an order and a message: a refusal, or a reply with what was sent.
@@ -44,9 +45,8 @@ REFUSED_BY = re.compile(r"Refused ([1-9]\d*)(?: (\w+))? by [A-Za-z_][A-Za-z0-9_.
 STATUS = re.compile(r" (?:Running|Completed|Aborted)$")
 # The most that a run needs beside its input.
 ROOM = 4 << 20
-# Large inputs that need more than they should, lists of `{"a":1}` and of `[1,1]`, and how many
-# times their size.
-NEED_MORE = {"members": 35, "pairs": 35}
+# What large input needs more than it should, a list of many `[1,1]`, and how many times its size.
+NEED_MORE = {"pairs": 35}
 SECONDS = 120
 # How often each reply came.
 CAME = collections.Counter()
@@ -147,9 +147,10 @@ def depth_of(text):
     return most
 
 
-def ends_well(ran, times=None, is_begun=False):
+def ends_well(ran, times=None, is_begun=False, address=None):
     """A status that is documented, what it goes with, and memory by the size of the input. Where a
-    step was told before something was refused, that stays printed."""
+    step was told before something was refused, that stays printed. Behind a refusal stands at most
+    the address to which was sent."""
     wants(ran.status in (0, 1, 2, 3, 4), "status", ran.status, ran.told)
     if ran.status == 0:
         wants(ran.told == "", "status 0 told", ran.told)
@@ -157,7 +158,8 @@ def ends_well(ran, times=None, is_begun=False):
         wants(ran.told in ("", "Refused 90 Memory\n"), "status 1 told", ran.told)
     elif ran.status in (3, 4):
         told = TOLD.fullmatch(ran.told)
-        wants(told and NAMES.get(told[1]) == told[2], "told", ran.told)
+        wants(told and NAMES.get(told["number"]) == told["name"], "told", ran.told)
+        wants(told["address"] in (None, address), "told", ran.told)
         is_told = ran.status == 4 or is_begun
         wants(is_told or ran.out == "", "printed beside status 3:", ran.out[:200])
     needs_little(ran.memory, len(ran.given), times)
@@ -361,7 +363,7 @@ def run_sent(chance, folder):
         wants(is_of(ran, response), "printed", ran.out[:300])
         return
     # What is printed of a response may be no message, which is told behind it.
-    ends_well(ran, is_begun=ran.out != "")
+    ends_well(ran, is_begun=ran.out != "", address=authority(url))
     wants(ran.status in (0, 3, 4), "status", ran.status)
     wants(ran.status != 3 or ran.out != "", "nothing printed beside status 3")
     if ran.status in (0, 3):
@@ -377,13 +379,17 @@ def run_order_sent(chance, folder):
     with answering(damaged(chance, answered(chance, kind))) as url:
         ran = Ran(["order", "state.json", "--at", "200", "--send", url], order(chance, kind))
     if not NOT_TAKEN.fullmatch(ran.told):
-        ends_well(ran, is_begun=ran.out != "")
+        ends_well(ran, is_begun=ran.out != "", address=authority(url))
     # A command that comes as the response is answered, as `take` does.
     lines = [line for line in ran.out.split("\n")[:-1] if not line.startswith("{")]
     are_lines(lines[:1])
     are_answers(lines[1:])
     wants(ran.status != 3 or ran.out or content("state.json") == held, "the file has changed")
     wants(Ran(["show", "state.json"], b"").status == 0, "what was saved isn't read")
+
+
+def authority(url):
+    return url.split("/")[2]
 
 
 @contextlib.contextmanager

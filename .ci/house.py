@@ -522,7 +522,8 @@ def a_peers_file_stands_in_the_place_of_a_url():
     with three_houses(("job-17",)) as ((office, printers, _), table):
         office.kill()
         given = ("order", "office/job-17", "--at", AT, "--send")
-        wants(run(*given, "@none", given=COVER), (4, "", "Refused 59 LoadFailed\n"))
+        missing = "Refused 59 LoadFailed: none: No such file or directory\n"
+        wants(run(*given, "@none", given=COVER), (4, "", missing))
         wants(run(*given, "@office/job-17", given=COVER)[:2], (4, ""))
         lines = "Spawned S1\nNoted S1 Running\n"
         wants(run(*given, "@office/peers.json", given=COVER), (0, lines, ""))

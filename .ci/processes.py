@@ -490,13 +490,15 @@ def an_early_answer_comes_to_the_client():
 
 
 def what_cannot_be_served_is_told():
-    wants(run("serve", "mis", "--listen", "127.0.0.1:0"), (4, "", "Refused 59 LoadFailed\n"))
+    missing = "Refused 59 LoadFailed: mis: No such file or directory\n"
+    wants(run("serve", "mis", "--listen", "127.0.0.1:0"), (4, "", missing))
     with open("mis", "w", encoding="utf-8") as file:
         file.write("{}")
     wants(run("serve", "mis", "--listen", "127.0.0.1:0")[0], 4)
     os.remove("mis")
     begin()
-    wants(run("serve", "mis", "--listen", "nowhere")[::2], (4, "Refused 61 NoConnection\n"))
+    wants(run("serve", "mis", "--listen", "nowhere")[::2],
+          (4, "Refused 61 NoConnection: nowhere: invalid socket address\n"))
     for option, number in (("--clients", "0"), ("--clients", "65537"), ("--body", "0"),
                            ("--body", "1073741825"), ("--memory", "1048575"), ("--limit", "3601")):
         wants(run("serve", "mis", "--listen", "127.0.0.1:0", option, number)[:2], (2, ""))
@@ -551,8 +553,10 @@ def what_cannot_be_sent_is_told():
     with socket.socket() as free:
         free.bind(("127.0.0.1", 0))
         closed = f"http://127.0.0.1:{free.getsockname()[1]}/jmf"
-        wants(run("send", closed, given="{}"), (4, "", "Refused 61 NoConnection\n"))
-    wants(run("send", "http://127.0.0.1:1/jmf", "nofile"), (4, "", "Refused 55 ReadFailed\n"))
+        refused = f"Refused 61 NoConnection: {closed[7:-4]}: Connection refused\n"
+        wants(run("send", closed, given="{}"), (4, "", refused))
+    wants(run("send", "http://127.0.0.1:1/jmf", "nofile"),
+          (4, "", "Refused 55 ReadFailed: nofile: No such file or directory\n"))
     wants(run("send", "http://127.0.0.1:1/jmf", given=1048577 * " "), (3, "", "Refused 53 TooLarge\n"))
     begin()
     with Served("mis") as mis:
@@ -575,9 +579,10 @@ def a_silent_server_is_given_up():
             with contextlib.suppress(OSError):
                 drips.sendall(b"s")
             time.sleep(0.5)
-        for sender in senders:
-            ended = (sender.wait(60), sender.stdout.read(), sender.stderr.read())
-            wants(ended, (4, b"", b"Refused 55 ReadFailed\n"))
+        for sender, server in zip(senders, (silent, slow)):
+            ended = (sender.wait(60), sender.stdout.read(), sender.stderr.read().decode())
+            address = f"127.0.0.1:{server.getsockname()[1]}"
+            wants(ended, (4, b"", f"Refused 55 ReadFailed: {address}\n"))
         assert 29 < time.monotonic() - start < 40
 
 
@@ -625,7 +630,8 @@ def an_order_goes_out_and_its_answer_is_taken():
         wants(run(*given, given=cover), (0, "Spawned S1\nNoted S1 Running\n", ""))
         wants(run("show", "press")[1].split(" ")[:2], ["S1", "Open"])
     given = ("order", "press", "--at", AT, "--send", mis.url())
-    wants(run(*given, given=finish), (4, "Finished S1\n", "Refused 61 NoConnection\n"))
+    refused = f"Refused 61 NoConnection: 127.0.0.1:{mis.port}: Connection refused\n"
+    wants(run(*given, given=finish), (4, "Finished S1\n", refused))
     resend = json.dumps({"Order": "Resend", "SpawnID": "S1"})
     with Served("bindery") as other:
         given = ("order", "press", "--at", AT, "--send", other.url())

@@ -36,7 +36,10 @@ INPUTS = {"": "editInput", "edit": "editInput", "world": "script", "new": "openi
 # program prints and tells, and its status on a line.
 ONE_LINE = {"text", "holders", "marked", "value", "ticket", "change", "part", "message", "id",
             "state", "kept", "tree", "part_tree", "below", "home", "subtree", "changers",
-            "state_value", "new_text", "new_id", "shop", "part_rows"}
+            "state_value", "new_text", "held", "shop", "part_rows"}
+
+# Those that have none.
+NO_LINE = {"file", "folder"}
 
 # Those whose answer is two lines, or a refusal.
 TWO_LINES = {"edited_copy", "spawned"}
@@ -86,7 +89,7 @@ def cases():
 
 def answer_to(word, held, answers):
     """The lines of the answer to a case of this first word, on a file that was given this text."""
-    answer = [] if word == "file" else [next(answers)]
+    answer = [] if word in NO_LINE else [next(answers)]
     if word == "text" and answer[0] == held.split("\n")[0]:
         answer += [next(answers) for _ in range(held.count("\n"))]
     if word == "send":
@@ -95,7 +98,7 @@ def answer_to(word, held, answers):
         return answer + [next(answers)]
     if word in ("receive", *TWO_LINES) and answer[0].startswith("Refused "):
         return answer
-    while word != "file" and word not in ONE_LINE and not answer[-1].startswith("status "):
+    while word not in NO_LINE and word not in ONE_LINE and not answer[-1].startswith("status "):
         answer.append(next(answers))
     return answer
 

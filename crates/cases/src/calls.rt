@@ -26,7 +26,7 @@ pub fn called(
             Some(spawned(alloc, number.as_str(), node.as_str(), rw, input))
         }
         ("part_rows", [depth]) => Some(part_rows(alloc, depth.as_str(), input)),
-        ("new_id", [id]) => Some(new_id(alloc, id.as_str(), input)),
+        ("held", [node, id]) => Some(held(alloc, node.as_str(), id.as_str(), input)),
         _ => None,
     }
 }
@@ -217,39 +217,39 @@ fn rows_with(alloc: Global, rows: &[NodeRow], depth: u32) -> Result<Vec<NodeRow>
     Ok(copies)
 }
 
-/// The holders of the ids of the ticket that is read, of which nothing is out.
-fn holders_in(alloc: Global, text: &[u8]) -> Result<Holders, Refusal> {
-    let ticket = ticket_in(alloc, text)?;
-    Holders::of(alloc, &ticket, &[])
-}
-
-/// `new_id ID`: who holds an id of the ticket that is read, of which nothing is out: before it is
-/// added to the holders where it is new; then; once the last id is taken out; and by a copy of
-/// them that was made before that.
-fn new_id(alloc: Global, id: &str, text: &[u8]) -> Result<Vec<u8>, Refused> {
-    let mut holders = holders_in(alloc, text)?;
+/// `held NODE ID`: who holds an id of the ticket that is read, once a node of it is spawned to press;
+/// once the spawn gives back what it claims; and by a copy of the holders that was made before.
+fn held(alloc: Global, node: &str, id: &str, text: &[u8]) -> Result<Vec<u8>, Refused> {
+    let mut ticket = ticket_in(alloc, text)?;
+    let mut records = Vec::new(alloc);
+    drop(spawn_to_press(alloc, &mut ticket, &mut records, "1", node, &[])?);
     let id = Id::new(alloc, id)?;
-    let before = holder_word(&holders, &id);
-    add_new(alloc, &mut holders, &id)?;
-    let added = holder_word(&holders, &id);
-    let copy = holders.copy(alloc)?;
-    holders.unadd();
-    let after = holder_word(&holders, &id);
-    let copied = holder_word(&copy, &id);
-    Ok(format!(in alloc; "{before} {added} {after} {copied}\n")?.into_bytes())
+    Ok(holder_words(alloc, &ticket, records.as_slice(), &id)?)
 }
 
-/// Adds an id to the holders, where it is new.
-fn add_new(alloc: Global, holders: &mut Holders, id: &Id) -> Result<(), Refusal> {
-    if holders.get(id).is_some() {
-        return Ok(());
+/// The words of `held`, of a ticket and these records.
+fn holder_words(
+    alloc: Global,
+    ticket: &Ticket,
+    records: &[SpawnRec],
+    id: &Id,
+) -> Result<Vec<u8>, Refusal> {
+    let Some(mut holders) = Holders::of(alloc, ticket, records)? else {
+        return Err(Refusal::BadState);
+    };
+    let copy = holders.copy(alloc)?;
+    let spawned = holder_word(&holders, ticket, id);
+    for record in records {
+        holders.free(ticket, record);
     }
-    holders.add(id.copy(alloc)?)
+    let freed = holder_word(&holders, ticket, id);
+    let copied = holder_word(&copy, ticket, id);
+    Ok(format!(in alloc; "{spawned} {freed} {copied}\n")?.into_bytes())
 }
 
 /// The word for who holds an id.
-fn holder_word(holders: &Holders, id: &Id) -> &'static str {
-    match holders.get(id) {
+fn holder_word(holders: &Holders, ticket: &Ticket, id: &Id) -> &'static str {
+    match holders.holder_of(ticket, id) {
         None => "None",
         Some(Holder::Master) => "Master",
         Some(Holder::Spawn(_)) => "Spawn",

@@ -27,6 +27,14 @@ pub fn put<R: Files>(rt: &R, alloc: Global, file: &str, bytes: &[u8]) -> Result<
     }
 }
 
+/// `folder PATH`: makes a folder.
+pub fn folder<R: Files>(rt: &R, alloc: Global, path: &str) -> Result<Vec<u8>, Refused> {
+    match fs::create_dir(rt, path) {
+        Ok(()) => Ok(Vec::new(alloc)),
+        Err(_) => Err(Refused::SaveFailed),
+    }
+}
+
 /// `text FILE`: what a file has, on a line.
 pub fn text<R: Files>(rt: &R, alloc: Global, file: &str) -> Result<Vec<u8>, Refused> {
     let mut bytes = Vec::new(alloc);

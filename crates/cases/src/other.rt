@@ -34,6 +34,7 @@ fn called<R: Locks>(
     input: &[u8],
 ) -> Option<Result<Vec<u8>, Refused>> {
     match (word, words) {
+        ("folder", [path]) => Some(files::folder(rt, alloc, path.as_str())),
         ("file", [file]) => Some(files::put(rt, alloc, file.as_str(), input)),
         ("text", [file]) => Some(files::text(rt, alloc, file.as_str())),
         ("holders", [file, ids @ ..]) => {

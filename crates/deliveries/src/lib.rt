@@ -11,8 +11,6 @@ mod outbox;
 mod outboxes;
 mod progress;
 mod routes;
-#[cfg(test)]
-mod tests;
 mod thing;
 
 pub use deliveries::Deliveries;

@@ -16,6 +16,7 @@ use Rattle.http_message.specs.Reading.{HasFailedIn, IsUnfailed}
 use Rattle.http_message.specs.Status.{done_status, status_of}
 use Rattle.http_message.specs.Texts.{response_text}
 use Rattle.http_message.specs.declared.kind.Kind.TheVariants as kinds
+use Rattle.http_message.specs.declared.methods.Methods.TheVariants.{Post}
 use Rattle.stored_state.specs.Held.{GivesNothing, Held, IsReadAs}
 use Rattle.stored_state.specs.Message.{IsOfMessage}
 use Rattle.stored_state.specs.Step.{IsSaved, IsTaken, TextStep}
@@ -26,7 +27,7 @@ use Rattle.http_edge.specs.declared.served.Served.{Served}
 
 -- the input, if it is known, is a request that carries this body
 abbrev pub HasBody : Option (List ℕ) → List ℕ → Type 0
-HasBody known body = IfSome known (λ input. Carries kinds.Request input 0 body)
+HasBody known body = IfSome known (λ input. Carries (kinds.Request Post) input 0 body)
 
 -- the message that the request carries is one step, which is saved, and is read again as it was
 pub record Steps {C K : Type 0} (is_honest : K → Bool) (held : K → List ℕ)
@@ -45,7 +46,7 @@ pub record Steps {C K : Type 0} (is_honest : K → Bool) (held : K → List ℕ)
 -- why there is no request: what came is refused by HTTP, or memory ran out
 abbrev pub IsNoRequest : Option (List ℕ) → Refused → Type 0
 IsNoRequest known e =
-    ((is_refusal e ≡ true) × IfSome known (λ input. IsRefusedAs kinds.Request input e))
+    ((is_refusal e ≡ true) × IfSome known (λ input. IsRefusedAs (kinds.Request Post) input e))
     ⊎ (e ≡ Core Memory)
 
 -- why there is no step: the request isn't read, which changes nothing; or of the message that it

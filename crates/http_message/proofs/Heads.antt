@@ -1,6 +1,6 @@
 -- Heads at the front of an input.
 use Rattle.std.proofs.Common.{◌≡◌, ℕ, ◌+◌, ◌-◌, ◌<◌, ◌≤◌, List, [], ◌++◌, length, take, map, refl, ap, ◌∙◌, sym, subst, arith, ⊎_elim, length-append, length-take, drop, Bool, false, Result, Ok}
-use Rattle.std.specs.Prelude.{◌==◌, bytes_eq, codes, Option}
+use Rattle.std.specs.Prelude.{◌==◌, Option, None}
 use Rattle.streams.specs.declared.refused.Refused.{Refused}
 use Rattle.httparse.specs.Outcome.{IfComplete}
 use Rattle.httparse.specs.declared.Error.{Error}
@@ -19,7 +19,10 @@ use Rattle.httparse.specs.Spans.{IsWithin, IsSectionWithin, IsRequestWithin, IsR
 use Rattle.http_message.specs.Head.{Head, StartsWith, BeginsWith, HasNoStart, HasNoHead, IsToldOf, request_seen, response_seen}
 use Rattle.http_message.specs.Fields.{Summary, lone, summary, values_of}
 use Rattle.http_message.specs.Message.{HasLone}
+use Rattle.http_message.specs.Methods.{taken}
 use Rattle.http_message.specs.Says.{said}
+use Rattle.http_message.specs.declared.method.Method.{Method}
+use Rattle.http_message.specs.declared.methods.Methods.{Methods}
 use Rattle.http_message.specs.Expect.{expects_continue}
 use Rattle.http_message.specs.declared.told.Told.{Told}
 use Rattle.http_message.specs.declared.start.Start.TheVariants as starts
@@ -81,40 +84,39 @@ pub whole_response : (most : ℕ) (bytes : List ℕ) (spans : List HeaderSpan) (
     → IfComplete {E = Error} (Ok s) (IsResponseOf bytes spans)
     → told ≡ said most starts.Response (map (header_bytes bytes) (take r.headers spans))
     → (head : Head) × StartsWith kinds.Response bytes head
-    × IsToldOf most bytes head (record { size = r.len; code = r.code; target = record { start = 0; end = 0 }; says = told; expects_continue = false })
+    × IsToldOf most bytes head (record { size = r.len; code = r.code; method = None; target = record { start = 0; end = 0 }; says = told; expects_continue = false })
 whole_response most bytes spans s r told is room within complete says =
     let in_bytes = complete_at s r (IsResponseWithin bytes spans) is within in
     let of = complete_at s r (IsResponseOf bytes spans) is complete in (
       response_seen of.0,
       (of.0, drop r.len bytes, of.1.reads, few_fields bytes spans r.len r.headers of.0.fields room in_bytes.section of.1.fields, refl),
-      record { size = of.1.len; code = of.1.code; target = refl; says = says ∙ ap (λ fs. said most starts.Response fs) of.1.fields; expects = refl },
+      record { size = of.1.len; code = of.1.code; method = refl; target = refl; says = says ∙ ap (λ fs. said most starts.Response fs) of.1.fields; expects = refl },
     )
 
-pub whole_request : (most : ℕ) (bytes : List ℕ) (spans : List HeaderSpan) (s : Status RequestSpans) (r : RequestSpans)
-    (method post post_bytes : List ℕ) (is_post : Bool) (told : Result ℕ Refused) (expects : Bool)
+pub whole_request : (methods : Methods) (most : ℕ) (bytes : List ℕ) (spans : List HeaderSpan) (s : Status RequestSpans)
+    (r : RequestSpans) (name : List ℕ) (method : Option Method) (told : Result ℕ Refused) (expects : Bool)
     → s ≡ Complete r → length spans ≡ 64
     → IfComplete {E = Error} (Ok s) (IsRequestWithin bytes spans)
     → IfComplete {E = Error} (Ok s) (IsRequestOf bytes spans)
-    → method ≡ span_bytes bytes r.method → post ≡ codes "POST" → post_bytes ≡ post
-    → is_post ≡ bytes_eq method post_bytes
-    → told ≡ said most (starts.Request is_post (r.version == 1)) (map (header_bytes bytes) (take r.headers spans))
-    → expects ≡ expects_continue (starts.Request is_post (r.version == 1)) (map (header_bytes bytes) (take r.headers spans))
-    → (head : Head) × StartsWith kinds.Request bytes head
-    × IsToldOf most bytes head (record { size = r.len; code = 0; target = r.path; says = told; expects_continue = expects })
-whole_request most bytes spans s r method post post_bytes is_post told expects is room within complete of_method of_post of_bytes eq says asks =
+    → name ≡ span_bytes bytes r.method → method ≡ taken methods name
+    → told ≡ said most (starts.Request method (r.version == 1)) (map (header_bytes bytes) (take r.headers spans))
+    → expects ≡ expects_continue (starts.Request method (r.version == 1)) (map (header_bytes bytes) (take r.headers spans))
+    → (head : Head) × StartsWith (kinds.Request methods) bytes head
+    × IsToldOf most bytes head (record { size = r.len; code = 0; method = method; target = r.path; says = told; expects_continue = expects })
+whole_request methods most bytes spans s r name method told expects is room within complete of_name of_method says asks =
     let in_bytes = complete_at s r (IsRequestWithin bytes spans) is within in
     let of = complete_at s r (IsRequestOf bytes spans) is complete in
-    let posts : is_post ≡ bytes_eq of.0.method (codes "POST") =
-    eq ∙ ap (λ m. bytes_eq m post_bytes) (of_method ∙ of.1.method) ∙ ap (λ p. bytes_eq of.0.method p) (of_bytes ∙ of_post) in
+    let asked : method ≡ taken methods of.0.method = of_method ∙ ap (taken methods) (of_name ∙ of.1.method) in
     let wants : (r.version == 1) ≡ (of.0.minor == 1) = ap (λ v. v == 1) of.1.version in (
-      request_seen of.0,
+      request_seen methods of.0,
       (of.0, drop r.len bytes, of.1.reads, few_fields bytes spans r.len r.headers of.0.fields room in_bytes.section of.1.fields, refl),
       record {
         size = of.1.len;
         code = refl;
+        method = asked;
         target = of.1.path;
-        says = says ∙ (λ i. said most (starts.Request (posts i) (wants i)) (of.1.fields i));
-        expects = asks ∙ (λ i. expects_continue (starts.Request (posts i) (wants i)) (of.1.fields i));
+        says = says ∙ (λ i. said most (starts.Request (asked i) (wants i)) (of.1.fields i));
+        expects = asks ∙ (λ i. expects_continue (starts.Request (asked i) (wants i)) (of.1.fields i));
       },
     )
 
@@ -136,6 +138,7 @@ told_in_front most m bytes head told within of =
     record {
       size = of.size;
       code = of.code;
+      method = of.method;
       target = ap (λ xs. span_bytes xs told.target) (sym (take-append-drop m bytes))
           ∙ within_front (take m bytes) (drop m bytes) told.target within ∙ of.target;
       says = of.says;
@@ -145,11 +148,11 @@ told_in_front most m bytes head told within of =
 -- ---- whatever follows
 
 starts_more : (kind : Kind) (bytes more : List ℕ) (head : Head) → StartsWith kind bytes head → StartsWith kind (bytes ++ more) head
-starts_more kinds.Request bytes more head s = (s.0, s.1 ++ more, ReadsRequest-append bytes s.0 s.1 more s.2, s.3, s.4)
+starts_more (kinds.Request methods) bytes more head s = (s.0, s.1 ++ more, ReadsRequest-append bytes s.0 s.1 more s.2, s.3, s.4)
 starts_more kinds.Response bytes more head s = (s.0, s.1 ++ more, ReadsResponse-append bytes s.0 s.1 more s.2, s.3, s.4)
 
 starts_once : (kind : Kind) (bytes : List ℕ) (a b : Head) → StartsWith kind bytes a → StartsWith kind bytes b → a ≡ b
-starts_once kinds.Request bytes a b s t = s.4 ∙ ap request_seen (request_unique bytes s.0 t.0 s.1 t.1 s.2 t.2).0 ∙ sym t.4
+starts_once (kinds.Request methods) bytes a b s t = s.4 ∙ ap (request_seen methods) (request_unique bytes s.0 t.0 s.1 t.1 s.2 t.2).0 ∙ sym t.4
 starts_once kinds.Response bytes a b s t = s.4 ∙ ap response_seen (response_unique bytes s.0 t.0 s.1 t.1 s.2 t.2).0 ∙ sym t.4
 
 -- what stands within the limit stands there whatever follows
@@ -179,7 +182,7 @@ front_of bytes text rest is =
 
 -- they begin with it by themselves
 pub head_alone : (kind : Kind) (bytes : List ℕ) (head : Head) → BeginsWith kind bytes head → StartsWith kind (take head.size bytes) head
-head_alone kinds.Request bytes head s = (
+head_alone (kinds.Request methods) bytes head s = (
   s.0,
   [],
   (s.2.0, ap (λ h. take h.size bytes) s.4 ∙ front_of bytes (print_request s.0) s.1 s.2.1),
@@ -206,10 +209,10 @@ lone_there bytes name spans s r named value is room within complete of_named of_
     let in_bytes = complete_at s r (IsRequestWithin bytes spans) is within in
     let of = complete_at s r (IsRequestOf bytes spans) is complete in
     record {
-      alone = λ head starts. of_value ∙ ap lone of_named
+      alone = λ methods head starts. of_value ∙ ap lone of_named
           ∙ ap (λ fs. lone (summary (values_of name fs)))
           (of.1.fields ∙ ap (λ h. map name_and_value h.fields) (request_unique bytes of.0 starts.0 (drop r.len bytes) starts.1 of.1.reads starts.2).0
           ∙ ap (λ h. h.fields) (sym starts.4));
-      none = λ none. absurd (none (request_seen of.0)
+      none = λ methods none. absurd (none (request_seen methods of.0)
           (of.0, drop r.len bytes, of.1.reads, few_fields bytes spans r.len r.headers of.0.fields room in_bytes.section of.1.fields, refl));
     }

@@ -8,6 +8,7 @@ pub mod Making
 pub mod Pushed
 pub mod WholeRead
 pub mod OneAnswer
+pub mod TakenMethods
 pub mod Writing
 pub mod TextLemmas
 pub mod Messages

@@ -91,7 +91,7 @@ record TextOf (kind : Kind) (bytes : List ℕ) (head : Head) : Type 0 where
   again : (other more : List ℕ) → other ≡ text ++ more → StartsWith kind other head
 
 text_of : (kind : Kind) (bytes : List ℕ) (head : Head) → StartsWith kind bytes head → TextOf kind bytes head
-text_of kinds.Request bytes head s = record {
+text_of (kinds.Request methods) bytes head s = record {
   text = print_request s.0;
   rest = s.1;
   is = s.2.1;

@@ -60,7 +60,7 @@ lost_by_head most kind bytes told e has says =
 
 pub whole_there : (most : ℕ) (kind : Kind) (bytes : List ℕ) (told : Told) (n : ℕ)
     → IsHeadOf most kind bytes told → told.says ≡ Ok n → told.size + n ≤ length bytes
-    → IsWhole most kind bytes (record { status = told.code; target = told.target; start = told.size; end = told.size + n })
+    → IsWhole most kind bytes (record { status = told.code; method = told.method; target = told.target; start = told.size; end = told.size + n })
 whole_there most kind bytes told n has says within =
     record {
       target = has.bounded.target;
@@ -74,6 +74,11 @@ whole_there most kind bytes told n has says within =
           code = has.told_of.code;
           rest = drop ((told.size + n) - told.size) (drop told.size bytes) ++ more;
           behind = ap (λ s. drop s (bytes ++ more)) (sym has.told_of.size) ∙ body_behind bytes more told.size n within;
+        };
+        asked = λ more. record {
+          head = has.head;
+          begins = begins_more kind bytes more has.head has.begins;
+          is = has.told_of.method;
         };
         headed = λ more. record {
           head = has.head;

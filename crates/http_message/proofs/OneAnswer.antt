@@ -1,11 +1,12 @@
 -- An input has at most one answer.
-use Rattle.std.proofs.Common.{true, false, ◌≡◌, ◌∙◌, ℕ, ◌+◌, List, ◌++◌, length, take, drop, Result, Ok, Err, is_ok, arith, sym, ap, ⊎_elim, length-append}
+use Rattle.std.proofs.Common.{true, false, ◌≡◌, ◌∙◌, ℕ, ◌+◌, List, ◌++◌, length, take, drop, Option, Result, Ok, Err, is_ok, arith, sym, ap, ⊎_elim, length-append}
 use Rattle.std.proofs.Math.Seq.{take-append_seam}
 use Rattle.streams.specs.declared.refused.Refused.{Refused}
-use Rattle.http_message.specs.Head.{Head, BeginsWith, head_says}
+use Rattle.http_message.specs.Head.{Head, BeginsWith, head_method, head_says}
 use Rattle.http_message.specs.Laws.{InputsHaveOneAnswer}
-use Rattle.http_message.specs.Message.{CarriesWithin, HasHead, HasTarget, IsCut, IsRefusedWithin}
+use Rattle.http_message.specs.Message.{CarriesWithin, HasHead, HasMethod, HasTarget, IsCut, IsRefusedWithin}
 use Rattle.http_message.specs.declared.kind.Kind.{Kind}
+use Rattle.http_message.specs.declared.method.Method.{Method}
 use Rattle.http_message.proofs.Heads.{begins_once}
 
 ok_is : (m n : ℕ) (r : Result ℕ Refused) → r ≡ Ok m → r ≡ Ok n → m ≡ n
@@ -38,6 +39,10 @@ same_body most kind input s t a b x y =
 same_bytes : (kind : Kind) (input : List ℕ) (a b : List ℕ) → HasHead kind input a → HasHead kind input b → a ≡ b
 same_bytes kind input a b x y =
     x.front ∙ ap (λ h. take h.size input) (begins_once kind input x.head y.head x.begins y.begins) ∙ sym y.front
+
+same_method : (kind : Kind) (input : List ℕ) (a b : Option Method) → HasMethod kind input a → HasMethod kind input b → a ≡ b
+same_method kind input a b x y =
+    x.is ∙ ap head_method (begins_once kind input x.head y.head x.begins y.begins) ∙ sym y.is
 
 same_target : (kind : Kind) (input : List ℕ) (a b : List ℕ) → HasTarget kind input a → HasTarget kind input b → a ≡ b
 same_target kind input a b x y =
@@ -89,5 +94,6 @@ one_answer most kind input =
       refusal = same_refusal most kind input;
       either = λ s a e x refused. carried_or_refused most kind input s a e x refused;
       head = same_bytes kind input;
+      method = same_method kind input;
       target = same_target kind input;
     }

@@ -64,6 +64,7 @@ kept most kind bytes piece (looks.Head told) found none = record {
   told_of = record {
     size = found.told_of.size;
     code = found.told_of.code;
+    method = found.told_of.method;
     target = within_front bytes piece told.target found.bounded.target ∙ found.told_of.target;
     says = found.told_of.says;
     expects = found.told_of.expects;

@@ -1,12 +1,14 @@
 -- What a head says is a length, or a refusal of HTTP.
-use Rattle.std.proofs.Common.{◌≡◌, ℕ, Bool, true, false, if◌then◌else◌, List, Result, Ok, Err, refl}
-use Rattle.std.specs.Prelude.{nat_lt, codes, not, ◌&&◌}
+use Rattle.std.proofs.Common.{◌≡◌, ℕ, Bool, true, false, if◌then◌else◌, List, Option, Some, None, Result, Ok, Err, refl}
+use Rattle.std.specs.Prelude.{nat_lt, codes, not, ◌&&◌, ◌==◌}
 use Rattle.std.specs.Str.Parse.{digits_value}
 use Rattle.streams.specs.declared.refused.Refused.{Refused}
-use Rattle.streams.specs.declared.refused.Refused.TheVariants.{BadHead, TooLarge}
+use Rattle.streams.specs.declared.refused.Refused.TheVariants.{BadHead, NoLength, TooLarge}
 use Rattle.http_message.specs.Fields.{NamedValue, Summary, absent, once, often, is_once}
 use Rattle.http_message.specs.Message.{is_refusal}
-use Rattle.http_message.specs.Says.{is_number, length_of, length_told, is_bad, is_coded, said, said_with, under}
+use Rattle.http_message.specs.Says.{is_number, length_of, length_told, is_bad, is_coded, no_body, said, said_by, said_with, told_by, under}
+use Rattle.http_message.specs.declared.method.Method.{Method}
+use Rattle.http_message.specs.declared.method.Method.TheVariants as methods
 use Rattle.http_message.specs.declared.start.Start.{Start}
 use Rattle.http_message.specs.declared.start.Start.TheVariants as starts
 
@@ -32,11 +34,26 @@ of_told most absent = refl
 of_told most (once v) = of_length most v
 of_told most often = refl
 
+of_none : (length : Result ℕ Refused) → is_of_http length ≡ true → is_of_http (no_body length) ≡ true
+of_none (Ok n) ok = either (n == 0) (Ok 0) (Err TooLarge) refl refl
+of_none (Err NoLength) ok = refl
+of_none (Err e) ok = ok
+
+of_method : (method : Method) (length : Result ℕ Refused) → is_of_http length ≡ true
+    → is_of_http (told_by method length) ≡ true
+of_method methods.Post length ok = ok
+of_method methods.Get length ok = of_none length ok
+of_method methods.Head length ok = of_none length ok
+
+of_taken : (taken : Option Method) (fields : List NamedValue) (length : Result ℕ Refused) → is_of_http length ≡ true
+    → is_of_http (said_by taken fields length) ≡ true
+of_taken None fields length ok = refl
+of_taken (Some method) fields length ok = either (is_coded fields) _ _ refl (of_method method length ok)
+
 of_rest : (start : Start) (fields : List NamedValue) (length : Result ℕ Refused) → is_of_http length ≡ true
     → is_of_http (said_with start fields length) ≡ true
-of_rest (starts.Request is_post wants_host) fields length ok =
-    either (wants_host && not (is_once (under (codes "host") fields))) _ _ refl
-    (either is_post _ _ (either (is_coded fields) _ _ refl ok) refl)
+of_rest (starts.Request taken wants_host) fields length ok =
+    either (wants_host && not (is_once (under (codes "host") fields))) _ _ refl (of_taken taken fields length ok)
 of_rest starts.Response fields length ok = either (is_coded fields) _ _ refl ok
 
 pub said_of_http : (most : ℕ) (start : Start) (fields : List NamedValue) → is_of_http (said most start fields) ≡ true

@@ -13,6 +13,6 @@ is_continue often = false
 
 -- a request asks for the interim response by its field Expect, unless it is of HTTP/1.0
 abbrev pub expects_continue : Start → List NamedValue → Bool
-expects_continue (starts.Request is_post wants_host) fields =
+expects_continue (starts.Request taken wants_host) fields =
     wants_host && is_continue (under (codes "expect") fields)
 expects_continue starts.Response fields = false

@@ -1,19 +1,21 @@
 -- The head at the front of an input: whole, within the limits, and what it says.
 use Rattle.std.specs.Prelude.{◌≡◌, ℕ, ◌≤◌, ◌==◌, Bool, List, [], length, take, map}
-use Rattle.std.specs.Prelude.{codes, bytes_eq, Result}
-use Rattle.std.specs.Prelude.{IfOk, ⊤}
+use Rattle.std.specs.Prelude.{Option, None, Result, IfOk, ⊤}
 use Rattle.streams.specs.declared.refused.Refused.{Refused}
 use Rattle.httparse.specs.Grammar.{RequestHead, ReadsRequest, print_request}
 use Rattle.httparse.specs.Grammar.{ResponseHead, ReadsResponse, print_response, status_code}
 use Rattle.httparse.specs.Spans.{IsWithin, name_and_value, span_bytes}
 use Rattle.http_message.specs.Expect.{expects_continue}
 use Rattle.http_message.specs.Fields.{NamedValue}
+use Rattle.http_message.specs.Methods.{taken}
 use Rattle.http_message.specs.Says.{said}
 use Rattle.http_message.specs.declared.kind.Kind.{Kind}
 use Rattle.http_message.specs.declared.kind.Kind.TheVariants as kinds
 use Rattle.http_message.specs.declared.look.Look.{Look}
 use Rattle.http_message.specs.declared.look.Look.TheVariants as looks
 use Rattle.http_message.specs.declared.looking.TheConstants.{MAX_HEAD_BYTES, MAX_FIELDS}
+use Rattle.http_message.specs.declared.method.Method.{Method}
+use Rattle.http_message.specs.declared.methods.Methods.{Methods}
 use Rattle.http_message.specs.declared.start.Start.{Start}
 use Rattle.http_message.specs.declared.start.Start.TheVariants as starts
 use Rattle.http_message.specs.declared.told.Told.{Told}
@@ -27,11 +29,11 @@ pub record Head : Type 0 where
   pub fields : List NamedValue
   pub size : ℕ
 
--- what of a request's head, and of a response's, counts here
-abbrev pub request_seen : RequestHead → Head
-request_seen h =
+-- what of a request's head counts to a listener that takes these methods, and what of a response's
+abbrev pub request_seen : Methods → RequestHead → Head
+request_seen methods h =
     record {
-      start = starts.Request (bytes_eq h.method (codes "POST")) (h.minor == 1);
+      start = starts.Request (taken methods h.method) (h.minor == 1);
       code = 0;
       target = h.target;
       fields = map name_and_value h.fields;
@@ -50,9 +52,9 @@ response_seen h =
 
 -- the bytes begin with this head, which has no more fields than may be
 abbrev pub StartsWith : Kind → List ℕ → Head → Type 0
-StartsWith kinds.Request bytes head =
+StartsWith (kinds.Request methods) bytes head =
     (h : RequestHead) × (rest : List ℕ) × ReadsRequest bytes h rest × (length h.fields ≤ MAX_FIELDS)
-    × (head ≡ request_seen h)
+    × (head ≡ request_seen methods h)
 StartsWith kinds.Response bytes head =
     (h : ResponseHead) × (rest : List ℕ) × ReadsResponse bytes h rest
     × (length h.fields ≤ MAX_FIELDS) × (head ≡ response_seen h)
@@ -73,6 +75,14 @@ HasNoHead kind input = (head : Head) → ¬ (BeginsWith kind input head)
 abbrev pub head_says : ℕ → Head → Result ℕ Refused
 head_says most head = said most head.start head.fields
 
+-- the method of a request, if it is taken, and none of a response
+abbrev pub start_method : Start → Option Method
+start_method (starts.Request taken wants_host) = taken
+start_method starts.Response = None
+
+abbrev pub head_method : Head → Option Method
+head_method head = start_method head.start
+
 -- whether the head asks for the interim response
 abbrev pub head_expects : Head → Bool
 head_expects head = expects_continue head.start head.fields
@@ -81,6 +91,7 @@ head_expects head = expects_continue head.start head.fields
 pub record IsToldOf (most : ℕ) (bytes : List ℕ) (head : Head) (told : Told) : Type 0 where
   pub size : told.size ≡ head.size
   pub code : told.code ≡ head.code
+  pub method : told.method ≡ head_method head
   pub target : span_bytes bytes told.target ≡ head.target
   pub says : told.says ≡ head_says most head
   pub expects : told.expects_continue ≡ head_expects head

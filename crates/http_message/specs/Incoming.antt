@@ -13,7 +13,8 @@ use Rattle.streams.specs.Counts.{Counts, CountsRead}
 use Rattle.streams.specs.declared.refused.Refused.{Refused}
 use Rattle.http_message.specs.Head.{Head, BeginsWith, HasNoHead, IsToldOf, IsBounded}
 use Rattle.http_message.specs.Head.{head_expects, head_says}
-use Rattle.http_message.specs.Message.{CarriesWithin, HasHead, HasTarget, IsRefusedWithin}
+use Rattle.http_message.specs.Message.{CarriesWithin, HasHead, HasMethod, HasTarget}
+use Rattle.http_message.specs.Message.{IsRefusedWithin}
 use Rattle.http_message.specs.Message.{is_refusal}
 use Rattle.http_message.specs.declared.arrival.Arrival.{Arrival}
 use Rattle.http_message.specs.declared.arrival.Arrival.TheVariants as arrivals
@@ -21,6 +22,7 @@ use Rattle.http_message.specs.declared.kind.Kind.{Kind}
 use Rattle.http_message.specs.declared.look.Look.{Look}
 use Rattle.http_message.specs.declared.look.Look.TheVariants as looks
 use Rattle.http_message.specs.declared.looking.TheConstants.{MAX_HEAD_BYTES}
+use Rattle.http_message.specs.declared.method.Method.{Method}
 use Rattle.http_message.specs.declared.standing.Standing.{Standing}
 use Rattle.http_message.specs.declared.standing.Standing.TheVariants as standings
 use Rattle.http_message.specs.declared.told.Told.{Told}
@@ -78,9 +80,11 @@ pub record IsLost (most : ℕ) (kind : Kind) (bytes : List ℕ) (e : Refused) : 
 
 -- the input carries this message, whatever follows
 pub record Says
-    (most : ℕ) (kind : Kind) (bytes : List ℕ) (status : ℕ) (head target body : List ℕ)
+    (most : ℕ) (kind : Kind) (bytes : List ℕ) (status : ℕ) (method : Option Method)
+    (head target body : List ℕ)
     : Type 0 where
   pub carries : Always bytes (λ all. CarriesWithin most kind all status body)
+  pub asked : Always bytes (λ all. HasMethod kind all method)
   pub headed : Always bytes (λ all. HasHead kind all head)
   pub targeted : Always bytes (λ all. HasTarget kind all target)
 
@@ -89,8 +93,8 @@ pub record IsWhole (most : ℕ) (kind : Kind) (bytes : List ℕ) (w : Whole) : T
   pub target : IsWithin (length bytes) w.target
   pub ordered : w.start ≤ w.end
   pub within : w.end ≤ length bytes
-  pub says : Says most kind bytes w.status (take w.start bytes) (span_bytes bytes w.target)
-      (slice_range bytes w.start w.end)
+  pub says : Says most kind bytes w.status w.method (take w.start bytes)
+      (span_bytes bytes w.target) (slice_range bytes w.start w.end)
 
 abbrev pub Stands : ℕ → Kind → List ℕ → Standing → Type 0
 Stands most kind bytes (standings.Wanted w) = IsWanted most kind bytes w

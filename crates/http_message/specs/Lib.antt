@@ -1,5 +1,6 @@
 pub mod Fields
 pub mod Seen
+pub mod Methods
 pub mod Says
 pub mod Expect
 pub mod Head

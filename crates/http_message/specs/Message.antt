@@ -6,11 +6,13 @@ use Rattle.streams.specs.declared.refused.Refused.TheVariants.{BadHead, NotPost,
 use Rattle.streams.specs.declared.refused.Refused.TheVariants.{TooLarge, CutShort, Coding}
 use Rattle.http_message.specs.Fields.{lone}
 use Rattle.http_message.specs.Head.{Head, BeginsWith, HasNoHead, HasNoStart, StartsWith}
-use Rattle.http_message.specs.Head.{head_says}
+use Rattle.http_message.specs.Head.{head_method, head_says}
 use Rattle.http_message.specs.Says.{under}
 use Rattle.http_message.specs.declared.kind.Kind.{Kind}
 use Rattle.http_message.specs.declared.kind.Kind.TheVariants as kinds
 use Rattle.http_message.specs.declared.length.TheConstants.{MAX_BODY_BYTES}
+use Rattle.http_message.specs.declared.method.Method.{Method}
+use Rattle.http_message.specs.declared.methods.Methods.{Methods}
 
 -- the input begins with a head of this status, and this body stands behind it, of so many bytes at
 -- most
@@ -33,6 +35,12 @@ pub record HasTarget (kind : Kind) (input target : List ℕ) : Type 0 where
   pub begins : BeginsWith kind input head
   pub is : target ≡ head.target
 
+-- the input begins with a head of this method, or of none
+pub record HasMethod (kind : Kind) (input : List ℕ) (method : Option Method) : Type 0 where
+  pub head : Head
+  pub begins : BeginsWith kind input head
+  pub is : method ≡ head_method head
+
 -- the input begins with a head, and these are its bytes: they begin with it by themselves
 pub record HasHead (kind : Kind) (input bytes : List ℕ) : Type 0 where
   pub head : Head
@@ -40,12 +48,12 @@ pub record HasHead (kind : Kind) (input bytes : List ℕ) : Type 0 where
   pub front : bytes ≡ take head.size input
   pub itself : StartsWith kind bytes head
 
--- the value of the one field of a name, in the head of a request that the bytes begin with; none
--- where there is no such field or more than one, or no such head
+-- the value of the one field of a name, in the head of a request that the bytes begin with, whatever
+-- methods are taken; none where there is no such field or more than one, or no such head
 pub record HasLone (bytes name : List ℕ) (value : Option (List ℕ)) : Type 0 where
-  pub alone : (head : Head) → StartsWith kinds.Request bytes head
+  pub alone : (methods : Methods) (head : Head) → StartsWith (kinds.Request methods) bytes head
       → value ≡ lone (under name head.fields)
-  pub none : HasNoStart kinds.Request bytes → value ≡ None
+  pub none : (methods : Methods) → HasNoStart (kinds.Request methods) bytes → value ≡ None
 
 -- the input ends before its body does
 pub record IsCut (most : ℕ) (kind : Kind) (input : List ℕ) : Type 0 where

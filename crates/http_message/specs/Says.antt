@@ -1,6 +1,6 @@
 -- What a head says of the body behind it: its length, or the first refusal.
 use Rattle.std.specs.Prelude.{ℕ, Bool, true, false, not, ◌&&◌, ◌||◌, nat_lt, List, length}
-use Rattle.std.specs.Prelude.{if◌then◌else◌, codes, Result, Ok, Err}
+use Rattle.std.specs.Prelude.{◌==◌, if◌then◌else◌, codes, Option, Some, None, Result, Ok, Err}
 use Rattle.std.specs.Char.{is_ascii_digit}
 use Rattle.std.specs.List.{list_all}
 use Rattle.std.specs.Str.Parse.{digits_value}
@@ -9,6 +9,8 @@ use Rattle.streams.specs.declared.refused.Refused.TheVariants.{BadHead, NotPost,
 use Rattle.streams.specs.declared.refused.Refused.TheVariants.{Coding}
 use Rattle.http_message.specs.Fields.{NamedValue, Summary, absent, once, often, values_of, summary}
 use Rattle.http_message.specs.Fields.{is_once, is_absent}
+use Rattle.http_message.specs.declared.method.Method.{Method}
+use Rattle.http_message.specs.declared.method.Method.TheVariants.{Post, Get, Head}
 use Rattle.http_message.specs.declared.start.Start.{Start}
 use Rattle.http_message.specs.declared.start.Start.TheVariants as starts
 
@@ -48,11 +50,29 @@ is_coded fields =
 abbrev pub uncoded : List NamedValue → Result ℕ Refused → Result ℕ Refused
 uncoded fields length = if is_coded fields then Err Coding else length
 
+-- the length of a body that isn't there: it needn't be told (RFC 9112, 6.3), and may be told as 0
+abbrev pub no_body : Result ℕ Refused → Result ℕ Refused
+no_body (Ok n) = if n == 0 then Ok 0 else Err TooLarge
+no_body (Err NoLength) = Ok 0
+no_body (Err e) = Err e
+
+-- the length of the body of a request by this method: one by GET or HEAD has none, since nothing is
+-- meant by it (RFC 9110, 9.3.1, 9.3.2)
+abbrev pub told_by : Method → Result ℕ Refused → Result ℕ Refused
+told_by Post length = length
+told_by Get length = no_body length
+told_by Head length = no_body length
+
+-- what a method and the fields say, where this is told of the length
+abbrev pub said_by : Option Method → List NamedValue → Result ℕ Refused → Result ℕ Refused
+said_by (Some method) fields length = uncoded fields (told_by method length)
+said_by None fields length = Err NotPost
+
 -- what a first line and the fields say, where this is told of the length
 abbrev pub said_with : Start → List NamedValue → Result ℕ Refused → Result ℕ Refused
-said_with (starts.Request is_post wants_host) fields length =
+said_with (starts.Request taken wants_host) fields length =
     if wants_host && not (is_once (under (codes "host") fields)) then Err BadHead
-    else (if is_post then uncoded fields length else Err NotPost)
+    else said_by taken fields length
 said_with starts.Response fields length = uncoded fields length
 
 -- the length of the body, of so many bytes at most, or the first refusal

@@ -9,8 +9,13 @@ use Rattle.http.specs.StatusCode.{code_digits}
 use Rattle.streams.specs.declared.refused.Refused.{Refused}
 use Rattle.streams.specs.declared.refused.Refused.TheVariants.{NotPost}
 use Rattle.streams.specs.Refused.{name_of, number_of}
+use Rattle.http_message.specs.Methods.{allow_line, takes}
 use Rattle.http_message.specs.Status.{bad_status, done_status, missing_status, status_of}
 use Rattle.http_message.specs.Status.{phrase_of}
+use Rattle.http_message.specs.declared.method.Method.{Method}
+use Rattle.http_message.specs.declared.method.Method.TheVariants as asked
+use Rattle.http_message.specs.declared.methods.Methods.{Methods}
+use Rattle.http_message.specs.declared.methods.Methods.TheVariants as listeners
 
 -- a line of a head
 abbrev pub head_line : List ℕ → List ℕ
@@ -28,9 +33,13 @@ plain_line = head_line (codes "Content-Type: text/plain")
 abbrev pub length_line : List ℕ → List ℕ
 length_line body = head_line (codes "Content-Length: " ++ decimal (length body))
 
--- the last lines of a head, and the body behind it
+-- the last lines of the head in front of a body
+abbrev pub end_lines : List ℕ → List ℕ
+end_lines body = length_line body ++ head_line (codes "Connection: close") ++ head_line []
+
+-- these, and the body behind them
 abbrev pub last_lines : List ℕ → List ℕ
-last_lines body = length_line body ++ head_line (codes "Connection: close") ++ head_line [] ++ body
+last_lines body = end_lines body ++ body
 
 -- one word of visible ASCII, as a host and a target are
 abbrev pub is_word : List ℕ → Bool
@@ -50,53 +59,87 @@ request_text = request_to (codes "127.0.0.1") (codes "/jmf")
 abbrev pub status_line : List ℕ → List ℕ → List ℕ
 status_line code phrase = head_line (codes "HTTP/1.1 " ++ code ++ codes " " ++ phrase)
 
--- the lines that only some refusals have: which method is allowed, where another came
-abbrev pub refusal_lines : Refused → List ℕ
-refusal_lines NotPost = head_line (codes "Allow: POST")
-refusal_lines _ = []
+-- the lines that only some refusals have: which methods are taken, where another came
+abbrev pub refusal_lines : Methods → Refused → List ℕ
+refusal_lines methods NotPost = allow_line methods
+refusal_lines methods _ = []
 
--- a response whose status has this code and this phrase, with these lines and this body
-unfoldable pub parts_text : List ℕ → List ℕ → List ℕ → List ℕ → List ℕ
-parts_text code phrase lines body = status_line code phrase ++ lines ++ last_lines body
+-- a response whose status has this code and this phrase, with these lines, the length of this body,
+-- and so much of it
+unfoldable pub parts_text : List ℕ → List ℕ → List ℕ → List ℕ → List ℕ → List ℕ
+parts_text code phrase lines body sent =
+    status_line code phrase ++ lines ++ (end_lines body ++ sent)
+
+-- a response of this status, with the length of this body, and so much of it
+unfoldable pub sent_text : ℕ → List ℕ → List ℕ → List ℕ → List ℕ
+sent_text status lines body sent =
+    parts_text (code_digits status) (phrase_of status) lines body sent
 
 -- a response of this status
-unfoldable pub status_text : ℕ → List ℕ → List ℕ → List ℕ
-status_text status lines body = parts_text (code_digits status) (phrase_of status) lines body
+abbrev pub status_text : ℕ → List ℕ → List ℕ → List ℕ
+status_text status lines body = sent_text status lines body body
 
 -- the response to a request that was answered with a body or with none
 abbrev pub answer_text : Option (List ℕ) → List ℕ
 answer_text (Some body) = status_text done_status type_line body
 answer_text None = status_text done_status [] []
 
--- the response to a request that was refused
-abbrev pub refusal_text : Refused → List ℕ
-refusal_text e = status_text (status_of e) (refusal_lines e) []
+-- the response to a request that a listener of these methods refused
+abbrev pub refusal_text : Methods → Refused → List ℕ
+refusal_text methods e = status_text (status_of e) (refusal_lines methods e) []
 
 -- the response to a request that names no controller that is there
 abbrev pub missing_text : List ℕ
 missing_text = status_text missing_status plain_line (codes "no controller of this name\n")
 
--- the response to a request that was answered or refused
+-- the response to a message that was answered or refused
 abbrev pub response_text : Result (Option (List ℕ)) Refused → List ℕ
 response_text (Ok body) = answer_text body
-response_text (Err e) = refusal_text e
+response_text (Err e) = refusal_text listeners.Post e
 
 -- what tells a refusal, as JSON
 abbrev pub refusal_body : Refused → List ℕ
 refusal_body e =
     codes "{\"Name\":\"" ++ name_of e ++ codes "\",\"Refused\":" ++ decimal (number_of e) ++ codes "}"
 
--- the response of a server to a request that was refused: where the request is to blame, its body
--- tells the refusal
-abbrev pub told_text : Refused → List ℕ
-told_text e =
-    if status_of e == bad_status then status_text bad_status type_line (refusal_body e)
-    else refusal_text e
+-- the refusal is told in a body: where the request is to blame, unless HEAD may have been asked,
+-- which is answered without a body (RFC 9110, 9.3.2)
+abbrev pub is_told : Methods → Refused → Bool
+is_told methods e = status_of e == bad_status && not (takes methods asked.Head)
 
--- the response of a server to a request that was answered or refused
+-- the response of a server to a request that a listener of these methods refused
+abbrev pub told_text : Methods → Refused → List ℕ
+told_text methods e =
+    if is_told methods e then status_text bad_status type_line (refusal_body e)
+    else refusal_text methods e
+
+-- the response of a server to a message that was answered or refused
 abbrev pub served_text : Result (Option (List ℕ)) Refused → List ℕ
 served_text (Ok body) = answer_text body
-served_text (Err e) = told_text e
+served_text (Err e) = told_text listeners.Post e
+
+-- how much of a body a request by this method is answered with: with none, where it asks for the
+-- head alone (RFC 9110, 9.3.2)
+abbrev pub sent_to : Method → List ℕ → List ℕ
+sent_to asked.Post body = body
+sent_to asked.Get body = body
+sent_to asked.Head body = []
+
+-- the lines of a page: what its body is, that it is neither stored nor taken for anything else, and
+-- that it loads nothing, runs nothing, sends nothing and stands in no other page; and these
+abbrev pub page_lines : List ℕ → List ℕ → List ℕ
+page_lines kind lines =
+    head_line (codes "Content-Type: " ++ kind)
+    ++ head_line (codes "Cache-Control: no-store")
+    ++ head_line (codes "X-Content-Type-Options: nosniff")
+    ++ head_line (codes "Content-Security-Policy: default-src 'none'; style-src 'unsafe-inline'; "
+    ++ codes "frame-ancestors 'none'; base-uri 'none'; form-action 'none'")
+    ++ lines
+
+-- a page of this status: the response to a request by this method
+abbrev pub page_text : Method → ℕ → List ℕ → List ℕ → List ℕ → List ℕ
+page_text method status kind lines body =
+    sent_text status (page_lines kind lines) body (sent_to method body)
 
 -- what was answered, with the body itself for the reference to it
 abbrev pub answer_of : Result (Option (Bor (List ℕ))) Refused → Result (Option (List ℕ)) Refused

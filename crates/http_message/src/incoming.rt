@@ -98,6 +98,7 @@ fn standing_behind(kind: Kind, bytes: &[u8], told: &Told, most: u32) -> Standing
     }
     Standing::Whole(Whole {
         status: told.code,
+        method: told.method,
         target: told.target,
         start: told.size,
         end,
@@ -216,13 +217,14 @@ impl Incoming {
     pub fn into_received(self, alloc: Global, whole: Whole) -> Result<Received, AllocError>
         requires { IsWhole self.most self.kind self.bytes whole }
         ensures { IfOk result (λ message. Says self.most self.kind self.bytes message.status
-            message.head.items message.target.items message.body) }
+            message.method message.head.items message.target.items message.body) }
     {
         let bytes = self.bytes.as_slice();
         let head = Vec::from_slice(alloc, &bytes[..whole.start])?;
         let target = Vec::from_slice(alloc, whole.target.of(bytes))?;
         Ok(Received {
             status: whole.status,
+            method: whole.method,
             head,
             target,
             body: Body::new(self.bytes, whole.start, whole.end),

@@ -9,10 +9,10 @@ ghost use Rattle.http_message.specs.declared.look.Look.TheVariants as looks;
 use crate::expect::expects_continue;
 use crate::kind::Kind;
 use crate::look::Look;
+use crate::methods::{Methods, taken};
 use crate::says::says;
 use crate::start::Start;
 use crate::told::Told;
-use http::Method;
 use httparse::Status;
 use httparse::spans::{EMPTY_HEADER_SPAN, Span, parse_request, parse_response};
 
@@ -25,24 +25,26 @@ pub const MAX_FIELDS: usize = 64;
 // Where what a response hasn't stands.
 const NOWHERE: Span = Span { start: 0, end: 0 };
 
-fn look_for_request(bytes: &[u8], most: u32) -> Look
-    ensures head { IfHead result (λ told. (head : Head) × StartsWith kinds.Request bytes.now head
-        × IsToldOf most bytes.now head told) }
+fn look_for_request(methods: Methods, bytes: &[u8], most: u32) -> Look
+    ensures head { IfHead result (λ told. (head : Head) × StartsWith (kinds.Request methods)
+        bytes.now head × IsToldOf most bytes.now head told) }
     ensures bound { IfHead result (IsBounded most (length bytes.now)) }
-    ensures part { result ≡ looks.Part → HasNoStart kinds.Request bytes.now }
+    ensures part { result ≡ looks.Part → HasNoStart (kinds.Request methods) bytes.now }
     ensures never { result ≡ looks.Never
-        → (more : List ℕ) → HasNoStart kinds.Request (bytes.now ++ more) }
+        → (more : List ℕ) → HasNoStart (kinds.Request methods) (bytes.now ++ more) }
 {
     let mut fields = [EMPTY_HEADER_SPAN; MAX_FIELDS];
     match parse_request(bytes, &mut fields) {
         Ok(Status::Complete(head)) => {
+            let method = taken(methods, head.method.of(bytes));
             let start = Start::Request {
-                is_post: head.method.of(bytes) == Method::POST.as_str().as_bytes(),
+                taken: method,
                 wants_host: head.version == 1,
             };
             Look::Head(Told {
                 size: head.len,
                 code: 0,
+                method,
                 target: head.path,
                 says: says(start, bytes, &fields[..head.headers], most),
                 expects_continue: expects_continue(start, bytes, &fields[..head.headers]),
@@ -66,6 +68,7 @@ fn look_for_response(bytes: &[u8], most: u32) -> Look
         Ok(Status::Complete(head)) => Look::Head(Told {
             size: head.len,
             code: head.code,
+            method: None,
             target: NOWHERE,
             says: says(Start::Response, bytes, &fields[..head.headers], most),
             expects_continue: false,
@@ -84,7 +87,7 @@ fn look_in(kind: Kind, bytes: &[u8], most: u32) -> Look
     ensures never { result ≡ looks.Never → (more : List ℕ) → HasNoStart kind (bytes.now ++ more) }
 {
     match kind {
-        Kind::Request => look_for_request(bytes, most),
+        Kind::Request(methods) => look_for_request(methods, bytes, most),
         Kind::Response => look_for_response(bytes, most),
     }
 }

@@ -5,13 +5,14 @@ ghost use Rattle.std.specs.Prelude.{[], IfErr, IfOk, IfSome, OnOk, vec_len};
 ghost use Rattle.std.specs.Io.KnownBytes.{IsAtEnd};
 ghost use Rattle.streams.specs.Streams.{used};
 ghost use Rattle.streams.specs.declared.refused.Refused.TheVariants.{ReadFailed};
-ghost use Rattle.http_message.specs.Message.{Carries, HasHead, HasTarget};
+ghost use Rattle.http_message.specs.Message.{Carries, HasHead, HasMethod, HasTarget};
 ghost use Rattle.http_message.specs.Reading.{Grows, HasFailedIn, HasRead, HasWhole};
 ghost use Rattle.http_message.specs.Reading.{IsMoreFault, IsUnfailed, IsUnread, IsUnreadWithin};
 
 use crate::incoming::Incoming;
 use crate::kind::Kind;
 use crate::length::MAX_BODY_BYTES;
+use crate::methods::Methods;
 use crate::received::Received;
 use crate::standing::Standing;
 use crate::whole::Whole;
@@ -132,6 +133,8 @@ fn read_message<R: Read>(
 ) -> Result<Received, Refused>
     ensures ok { IfOk result (λ message. IfSome (R.remaining reader.old.inner)
         (λ all. Carries kind all message.status message.body)) }
+    ensures method { IfOk result (λ message. IfSome (R.remaining reader.old.inner)
+        (λ all. HasMethod kind all message.method)) }
     ensures head { IfOk result (λ message. IfSome (R.remaining reader.old.inner)
         (λ all. HasHead kind all message.head.items)) }
     ensures target { IfOk result (λ message. IfSome (R.remaining reader.old.inner)
@@ -157,17 +160,19 @@ fn read_message<R: Read>(
 /// refuses `ReadFailed`, and `Memory` where that runs out. Limits and refusals are our own.
 pub fn read_request<R: Read>(alloc: Global, reader: &mut Counted<R>) -> Result<Received, Refused>
     ensures ok { IfOk result (λ request. IfSome (R.remaining reader.old.inner)
-        (λ all. Carries Kind.Request all 0 request.body)) }
+        (λ all. Carries (Kind.Request Methods.Post) all 0 request.body)) }
+    ensures method { IfOk result (λ request. IfSome (R.remaining reader.old.inner)
+        (λ all. HasMethod (Kind.Request Methods.Post) all request.method)) }
     ensures head { IfOk result (λ request. IfSome (R.remaining reader.old.inner)
-        (λ all. HasHead Kind.Request all request.head.items)) }
+        (λ all. HasHead (Kind.Request Methods.Post) all request.head.items)) }
     ensures target { IfOk result (λ request. IfSome (R.remaining reader.old.inner)
-        (λ all. HasTarget Kind.Request all request.target.items)) }
+        (λ all. HasTarget (Kind.Request Methods.Post) all request.target.items)) }
     ensures unfailed { OnOk result (IsUnfailed (used R.remaining reader.old reader.new)) }
-    ensures unread { IfErr result (IsUnread Kind.Request reader.old.calls
-        (used R.remaining reader.old reader.new)) }
+    ensures unread { IfErr result (IsUnread (Kind.Request Methods.Post)
+        reader.old.calls (used R.remaining reader.old reader.new)) }
     ensures bound { reader.new.calls ≤ reader.old.calls + MAX_READS }
 {
-    read_message(alloc, reader, Kind::Request)
+    read_message(alloc, reader, Kind::Request(Methods::Post))
 }
 
 /// Reads a response (RFC 9112) and gives its status and body. Refuses as `read_request`, but that

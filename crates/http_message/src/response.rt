@@ -6,6 +6,7 @@ ghost use Rattle.streams.specs.Streams.{used, Writes, WritesFront};
 ghost use Rattle.http_message.specs.Texts as texts;
 
 use crate::lines::{BEFORE_LENGTH, BEHIND_LENGTH, NOTHING, PLAIN_LINE, TYPE_LINE};
+use crate::methods::{Methods, allow_line};
 use crate::pieces::write_pieces;
 use crate::status::{phrase_of, status_of};
 use http::StatusCode;
@@ -17,28 +18,30 @@ use streams::{Counted, Refused};
 const MISSING: &[u8] = b"no controller of this name\n";
 
 /// The lines that only the response to this refusal has: RFC 9110 asks for the methods that are
-/// allowed, where another came.
-fn refusal_lines(refused: &Refused) -> &'static [u8]
-    ensures { result.now ≡ texts.refusal_lines refused.now }
+/// taken, where another came.
+fn refusal_lines(methods: Methods, refused: &Refused) -> &'static [u8]
+    ensures { result.now ≡ texts.refusal_lines methods refused.now }
 {
     match refused {
-        Refused::NotPost => b"Allow: POST\r\n",
+        Refused::NotPost => allow_line(methods),
         _ => NOTHING,
     }
 }
 
-/// Writes a response whose status has this code and this phrase.
+/// Writes a response whose status has this code and this phrase, with the length of the body, and
+/// so much of it as is sent.
 fn write_parts<'a, W: Write>(
     writer: &mut Counted<W>,
     code: &'a [u8],
     phrase: &'a [u8],
     lines: &'a [u8],
-    body: &'a [u8],
+    body: &[u8],
+    sent: &'a [u8],
 ) -> Result<(), Refused>
     ensures ok { OnOk result (Writes (used W.contents writer.old writer.new)
-        (texts.parts_text code.now phrase.now lines.now body.now)) }
+        (texts.parts_text code.now phrase.now lines.now body.now sent.now)) }
     ensures front { OnErr result (WritesFront (used W.contents writer.old writer.new)
-        (texts.parts_text code.now phrase.now lines.now body.now)) }
+        (texts.parts_text code.now phrase.now lines.now body.now sent.now)) }
     ensures refusal { IfErr result (λ e. e ≡ WriteFailed) }
 {
     let mut buffer = Buffer::new();
@@ -55,8 +58,33 @@ fn write_parts<'a, W: Write>(
             BEFORE_LENGTH,
             length,
             BEHIND_LENGTH,
-            body,
+            sent,
         ],
+    )
+}
+
+/// Writes a response of this status, with the length of the body, and so much of it as is sent.
+pub(crate) fn write_sent<W: Write>(
+    writer: &mut Counted<W>,
+    status: StatusCode,
+    lines: &[u8],
+    body: &[u8],
+    sent: &[u8],
+) -> Result<(), Refused>
+    ensures ok { OnOk result (Writes (used W.contents writer.old writer.new)
+        (texts.sent_text status lines.now body.now sent.now)) }
+    ensures front { OnErr result (WritesFront (used W.contents writer.old writer.new)
+        (texts.sent_text status lines.now body.now sent.now)) }
+    ensures refusal { IfErr result (λ e. e ≡ WriteFailed) }
+{
+    let code = status.as_str().as_bytes();
+    write_parts(
+        writer,
+        code,
+        phrase_of(status).as_bytes(),
+        lines,
+        body,
+        sent,
     )
 }
 
@@ -73,8 +101,7 @@ pub(crate) fn write_status<W: Write>(
         (texts.status_text status lines.now body.now)) }
     ensures refusal { IfErr result (λ e. e ≡ WriteFailed) }
 {
-    let code = status.as_str().as_bytes();
-    write_parts(writer, code, phrase_of(status).as_bytes(), lines, body)
+    write_sent(writer, status, lines, body, body)
 }
 
 /// Writes the response to a request that was answered with a body or with none.
@@ -91,15 +118,19 @@ fn write_answer<W: Write>(writer: &mut Counted<W>, body: Option<&[u8]>) -> Resul
     }
 }
 
-/// Writes the response to a request that was refused.
-fn write_refusal<W: Write>(writer: &mut Counted<W>, refused: Refused) -> Result<(), Refused>
+/// Writes the response to a request that a listener of these methods refused.
+pub(crate) fn write_refusal<W: Write>(
+    writer: &mut Counted<W>,
+    methods: Methods,
+    refused: Refused,
+) -> Result<(), Refused>
     ensures ok { OnOk result (Writes (used W.contents writer.old writer.new)
-        (texts.refusal_text refused)) }
+        (texts.refusal_text methods refused)) }
     ensures front { OnErr result (WritesFront (used W.contents writer.old writer.new)
-        (texts.refusal_text refused)) }
+        (texts.refusal_text methods refused)) }
     ensures refusal { IfErr result (λ e. e ≡ WriteFailed) }
 {
-    let lines = refusal_lines(&refused);
+    let lines = refusal_lines(methods, &refused);
     write_status(writer, status_of(refused), lines, NOTHING)
 }
 
@@ -116,7 +147,7 @@ pub fn write_missing<W: Write>(writer: &mut Counted<W>) -> Result<(), Refused>
     write_status(writer, StatusCode::NOT_FOUND, PLAIN_LINE, MISSING)
 }
 
-/// Writes the response to a request that was answered with a body or with none, or was refused. Its
+/// Writes the response to a message that was answered with a body or with none, or was refused. Its
 /// form is that of RFC 9112; which status answers a refusal is our own. It takes no memory. Refuses
 /// `WriteFailed` where a write fails.
 pub fn write_response<W: Write>(
@@ -131,6 +162,6 @@ pub fn write_response<W: Write>(
 {
     match answered {
         Ok(body) => write_answer(writer, *body),
-        Err(refused) => write_refusal(writer, *refused),
+        Err(refused) => write_refusal(writer, Methods::Post, *refused),
     }
 }

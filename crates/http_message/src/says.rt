@@ -7,6 +7,7 @@ ghost use Rattle.http_message.specs.Says as rules;
 
 use crate::field::{Named, find_named};
 use crate::length::length_told;
+use crate::method::Method;
 use crate::start::Start;
 use httparse::spans::HeaderSpan;
 use streams::Refused;
@@ -24,6 +25,30 @@ fn is_coded(bytes: &[u8], fields: &[HeaderSpan]) -> bool
     )
 }
 
+/// The length of a body that isn't there, where this is told of it.
+fn no_body(length: Result<usize, Refused>) -> Result<usize, Refused>
+    ensures value { result ≡ rules.no_body length }
+    ensures bound { IfOk result (λ n. n ≡ 0) }
+{
+    match length {
+        Ok(0) | Err(Refused::NoLength) => Ok(0),
+        Ok(_) => Err(Refused::TooLarge),
+        Err(refused) => Err(refused),
+    }
+}
+
+/// The length of the body of a request by this method, where this is told of it.
+fn told_by(method: Method, length: Result<usize, Refused>, most: u32) -> Result<usize, Refused>
+    requires { IfOk length (λ n. n ≤ most) }
+    ensures value { result ≡ rules.told_by method length }
+    ensures bound { IfOk result (λ n. n ≤ most) }
+{
+    match method {
+        Method::Post => length,
+        Method::Get | Method::Head => no_body(length),
+    }
+}
+
 /// The length of the body, of at most so many bytes, or the first refusal.
 pub(crate) fn says(
     start: Start,
@@ -39,20 +64,20 @@ pub(crate) fn says(
     if let Err(Refused::BadHead) = length {
         return Err(Refused::BadHead);
     }
-    if let Start::Request {
-        is_post,
-        wants_host,
-    } = start
-    {
-        if wants_host && !matches!(find_named(b"host", bytes, fields), Named::Once(_)) {
-            return Err(Refused::BadHead);
+    let told = match start {
+        Start::Request { taken, wants_host } => {
+            if wants_host && !matches!(find_named(b"host", bytes, fields), Named::Once(_)) {
+                return Err(Refused::BadHead);
+            }
+            match taken {
+                Some(method) => told_by(method, length, most),
+                None => return Err(Refused::NotPost),
+            }
         }
-        if !is_post {
-            return Err(Refused::NotPost);
-        }
-    }
+        Start::Response => length,
+    };
     if is_coded(bytes, fields) {
         return Err(Refused::Coding);
     }
-    length
+    told
 }

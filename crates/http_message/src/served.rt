@@ -5,7 +5,9 @@ ghost use Rattle.streams.specs.Streams.{used, Writes, WritesFront};
 ghost use Rattle.http_message.specs.Texts as texts;
 
 use crate::lines::TYPE_LINE;
-use crate::response::{write_missing, write_response, write_status};
+use crate::method::Method;
+use crate::methods::{Methods, takes};
+use crate::response::{write_missing, write_refusal, write_response, write_status};
 use crate::status::status_of;
 use http::StatusCode;
 use std::alloc::{AllocError, Global};
@@ -13,7 +15,7 @@ use std::io::Write;
 use streams::{Counted, Refused};
 
 /// What tells a refusal, as JSON.
-fn refusal_body(alloc: Global, refused: &Refused) -> Result<String, AllocError>
+pub fn refusal_body(alloc: Global, refused: &Refused) -> Result<String, AllocError>
     ensures { IfOk result (λ body. string_bytes body ≡ texts.refusal_body refused.now) }
 {
     let name = refused.name();
@@ -21,21 +23,29 @@ fn refusal_body(alloc: Global, refused: &Refused) -> Result<String, AllocError>
     format!(in alloc; "{{\"Name\":\"{name}\",\"Refused\":{number}}}")
 }
 
-/// Writes the response to a request that was refused, which tells the refusal where the request is
-/// to blame.
+/// Whether the response to a refused request has a body, which tells the refusal: where the request
+/// is to blame. What may answer HEAD has none.
+fn is_told(methods: Methods, refused: &Refused) -> bool
+    ensures { result ≡ texts.is_told methods refused.now }
+{
+    status_of(*refused) == StatusCode::BAD_REQUEST && !takes(methods, Method::Head)
+}
+
+/// Writes the response to a request that a listener of these methods refused.
 fn write_told<W: Write>(
     alloc: Global,
     writer: &mut Counted<W>,
+    methods: Methods,
     refused: &Refused,
 ) -> Result<(), AllocError>
     ensures { OnOk result (Writes (used W.contents writer.old writer.new)
-        (texts.told_text refused.now)) }
+        (texts.told_text methods refused.now)) }
 {
-    let written = if status_of(*refused) == StatusCode::BAD_REQUEST {
+    let written = if is_told(methods, refused) {
         let body = refusal_body(alloc, refused)?;
         write_status(writer, StatusCode::BAD_REQUEST, TYPE_LINE, body.as_bytes())
     } else {
-        write_response(writer, &Err(*refused))
+        write_refusal(writer, methods, *refused)
     };
     match written {
         Ok(()) => Ok(()),
@@ -43,7 +53,22 @@ fn write_told<W: Write>(
     }
 }
 
-/// The response to a request that was answered with a body or with none, or was refused: that of
+/// The response to a request that a listener of these methods refused. It names them where another
+/// came. One of status 400 tells the refusal in its body, as JSON, unless HEAD is among them: what
+/// answers that has no body (RFC 9110, 9.3.2).
+pub fn refused_bytes(
+    alloc: Global,
+    methods: Methods,
+    refused: &Refused,
+) -> Result<Vec<u8>, AllocError>
+    ensures { IfOk result (λ text. text.items ≡ texts.told_text methods refused.now) }
+{
+    let mut writer = Counted::new(Vec::new(alloc));
+    write_told(alloc, &mut writer, methods, refused)?;
+    Ok(writer.into_inner())
+}
+
+/// The response to a message that was answered with a body or with none, or was refused: that of
 /// `write_response`, but that a response of status 400 tells the refusal in its body, as JSON.
 pub fn served_bytes(
     alloc: Global,
@@ -53,7 +78,7 @@ pub fn served_bytes(
 {
     let mut writer = Counted::new(Vec::new(alloc));
     match answered {
-        Err(refused) => write_told(alloc, &mut writer, refused)?,
+        Err(refused) => write_told(alloc, &mut writer, Methods::Post, refused)?,
         Ok(_) => match write_response(&mut writer, answered) {
             Ok(()) => {}
             Err(_) => return Err(AllocError),

@@ -19,8 +19,9 @@ fn path_length(target: &[u8]) -> usize
     query_place(target).unwrap_or(target.len())
 }
 
-/// A target without its query.
-fn path_of(target: &[u8]) -> &[u8]
+/// A target without its query: what stands before a `?`. Nothing of it is decoded: a name that is
+/// written with `%` is another name.
+pub fn path_of(target: &[u8]) -> &[u8]
     ensures { result.now ≡ targets.path_of target.now }
 {
     &target[..path_length(target)]

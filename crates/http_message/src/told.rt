@@ -1,3 +1,4 @@
+use crate::method::Method;
 use httparse::spans::Span;
 use streams::Refused;
 
@@ -8,6 +9,8 @@ pub(crate) struct Told {
     pub size: usize,
     /// The status of a response, and 0 of a request.
     pub code: u16,
+    /// The method of a request, if it is taken, and none of a response.
+    pub method: Option<Method>,
     /// Where the target of a request stands, and nowhere for a response.
     pub target: Span,
     /// How many bytes the body takes, or the first refusal.

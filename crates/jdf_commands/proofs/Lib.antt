@@ -6,3 +6,5 @@ pub mod Commands
 pub mod Readers
 mod NotedCalls
 pub mod Verdicts
+pub mod ListedFiles
+mod Journaled

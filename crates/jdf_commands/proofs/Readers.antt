@@ -1,5 +1,5 @@
 -- What a reader answers, without what it reads.
-use Rattle.std.proofs.Common.{ℕ, List, Result, Ok, Err, ap, inl, inr, ⊎_elim}
+use Rattle.std.proofs.Common.{ℕ, List, Result, Ok, ap, inl, inr, ⊎_elim}
 use Rattle.serde_json.specs.Data.{Data}
 use Rattle.ticket_items.specs.declared.refusal.Refusal.{Refusal}
 use Rattle.json_profile.specs.ReadAs.{IsReadAs, IsRefusalOf}

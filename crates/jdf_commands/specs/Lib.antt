@@ -1,6 +1,9 @@
 pub mod EditCommand
 pub mod WorldCommand
 pub mod FileCommands
+pub mod Files
 pub mod Calls
 pub mod CheckCommand
+pub mod ExplainCommand
 pub mod Told
+pub mod Caused

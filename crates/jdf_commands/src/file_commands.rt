@@ -2,7 +2,13 @@
 //! it a message, and to show it; and the calls of the program, these and the others.
 
 mod answers;
+mod asked;
 mod beginning;
+mod journaling;
+mod listed;
+mod listing;
+mod lists;
+mod moment;
 mod noted;
 mod notes;
 mod opening;
@@ -14,7 +20,7 @@ mod step;
 mod taking;
 
 pub(crate) use answers::named_number;
-pub use answers::{answer_output, refusal_told, refused_by};
+pub use answers::{answer_output, refused_by};
 pub use beginning::begin;
 pub use noted::{Noted, finish_noting};
 pub use ordering::{Ordered, order_in_file, order_noted};

@@ -1,19 +1,21 @@
 //! The calls of the program that need no network, over readers and writers: `edit`, `world`,
-//! `check`, and those that keep a controller in a file.
+//! `check`, `explain`, and those that keep a controller in a file.
 #![tactic(auto)]
 
+mod caused;
 mod check_command;
 mod edit_command;
+mod explain_command;
 mod file_commands;
-mod shown_master;
 mod told;
 mod world_command;
 
+pub use caused::{Caused, give_up_caused};
 pub use check_command::run_check;
 pub use edit_command::run_edit;
+pub use explain_command::run_explain;
 pub use file_commands::{
     Noted, Ordered, answer_output, begin, call_output, finish_noting, order_in_file, order_noted,
-    refusal_told, refused_by, run_file, step_output, take_in_file, worker_text,
+    refused_by, run_file, step_output, take_in_file, worker_text,
 };
-pub use shown_master::push_shown;
 pub use world_command::{push_line, run_world};

@@ -2,7 +2,7 @@
 use Rattle.std.proofs.Common.{◌≡◌, ℕ, refl}
 use Rattle.jdf_commands.specs.Calls.{EndsCall}
 use Rattle.jdf_words.specs.declared.call.Call.{Call}
-use Rattle.jdf_words.specs.declared.call.Call.TheVariants.{Check, Edit, World, Loop, New, Order, SendOrder, Take, Show, Serve, Send}
+use Rattle.jdf_words.specs.declared.call.Call.TheVariants.{Check, Edit, Explain, World, Loop, New, Order, SendOrder, Take, Show, Serve, Send, Listing}
 use Rattle.streams.specs.Streams.{Use}
 use Rattle.jdf_net.specs.Words.{EndsAnyCall}
 
@@ -18,7 +18,9 @@ over_files (New file) i o t s loops orders serves sends ends = ends
 over_files (Order file at) i o t s loops orders serves sends ends = ends
 over_files (SendOrder file at url) i o t s loops orders serves sends ends = absurd (orders file at url refl)
 over_files (Take file at) i o t s loops orders serves sends ends = ends
-over_files (Show file picture) i o t s loops orders serves sends ends = ends
+over_files (Show file picture at) i o t s loops orders serves sends ends = ends
+over_files (Listing file at is_open is_json) i o t s loops orders serves sends ends = ends
 over_files (Check kind all) i o t s loops orders serves sends ends = ends
+over_files (Explain number) i o t s loops orders serves sends ends = ends
 over_files (Serve file listen limits requests peers field) i o t s loops orders serves sends ends = absurd (serves file listen limits requests peers field refl)
 over_files (Send url file) i o t s loops orders serves sends ends = absurd (sends url file refl)

@@ -2,9 +2,8 @@ mod AllEvents
 mod Answered
 mod AnyCalls
 mod EventLines
-mod GivenBack
-mod LinesJoined
 mod ShopKept
 mod ShopOpened
 mod ShopWorkers
 mod ShopOrders
+mod WordsAnswered

@@ -1,8 +1,5 @@
-pub mod Clients
-pub mod Lines
 pub mod LoopCommand
 pub mod OrderCommand
-pub mod Requests
 pub mod SendCommand
 pub mod ServeCommand
 pub mod Words

@@ -12,7 +12,7 @@ use Rattle.keepers.specs.OnDisk.{OnDisk}
 use Rattle.stored_state.specs.AnyStep.{IsHanded, IsNoOrder, IsOrdered}
 use Rattle.stored_state.specs.Held.{Held}
 use Rattle.stored_state.specs.declared.any_controller.AnyController.{AnyController}
-use Rattle.streams.specs.Ends.{EndsWith, GivesOut, GivesUp}
+use Rattle.streams.specs.Ends.{GivesOut, GivesUp}
 use Rattle.streams.specs.Streams.{IsUntouched, Stream, Use}
 use Rattle.streams.specs.declared.fault.Fault.{Fault}
 use Rattle.streams.specs.declared.fault.Fault.TheVariants.{Input}
@@ -21,6 +21,7 @@ use Rattle.jdf_net.specs.SendCommand.{IsNoPlace}
 use Rattle.jdf_net.specs.declared.order_command.run.Came.{Came}
 use Rattle.jdf_net.specs.declared.order_command.run.Came.TheVariants.{Answered, NoPeer, Refused}
 use Rattle.jdf_commands.specs.Calls.{DoesNone, held, is_honest, kept_in, place}
+use Rattle.jdf_commands.specs.Caused.{EndsWithCaused, GivesUpCaused}
 use Rattle.jdf_commands.specs.FileCommands.Answers.{IsOfAnswer}
 use Rattle.jdf_commands.specs.FileCommands.Commands.{GivesHeld, GivesNoting, GivesStepOf}
 use Rattle.jdf_commands.specs.FileCommands.Notes.{GivesOutNoting, notes_of_order}
@@ -76,7 +77,7 @@ IsCome file at (Answered output) = IsOfSome file at output.text.items output.ref
 -- its receiver has no URL, which is told
 abbrev pub SendsOn : Bor (List ℕ) → ℕ → Ending
 SendsOn file at output told status =
-    EndsWith (IsOfSome file at) (λ _. Unit {0}) output told status
+    EndsWithCaused (IsOfSome file at) (λ _. Unit {0}) output told status
     ⊎ (IsUntouched output × (status ≡ 1))
 
 -- the line of the reply is given out; and where that was done and nothing was refused, the message
@@ -113,14 +114,14 @@ abbrev pub IsNowhere : List ℕ → Use → Ending
 IsNowhere url input output told status =
     IsUntouched input
     × ((IsUntouched output × (status ≡ 2))
-    ⊎ ((fault : Fault) × IsNoPlace url fault × GivesUp fault output told status))
+    ⊎ ((fault : Fault) × IsNoPlace url fault × GivesUpCaused fault output told status))
 
 -- the order is given, or it isn't, for this
 abbrev pub Orders : Bor (List ℕ) → ℕ → List ℕ → Use → Ending
 Orders file at url input output told status =
     OrdersAndSends file at input output told status
     ⊎ (((fault : Fault) × DoesNone IsNoOrder (IsOrdered at) file.now input fault
-    × GivesUp fault output told status)
+    × GivesUpCaused fault output told status)
     ⊎ IsNowhere url input output told status)
 
 -- the same, and the status is that of `order`, `send` or `take`

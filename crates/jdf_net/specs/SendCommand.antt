@@ -17,8 +17,10 @@ use Rattle.streams.specs.declared.fault.Fault.TheVariants.{Device, Input}
 use Rattle.url.specs.Parts.{Parts}
 use Rattle.peers_file.specs.Destination.{destination_in}
 use Rattle.peers_file.specs.Table.{IsUrlOf}
+use Rattle.jdf_server.specs.PeersInFile.{IsNoTable}
 use Rattle.jdf_net.specs.declared.send_command.send_to.SendTo.{SendTo}
 use Rattle.jdf_net.specs.declared.send_command.send_to.SendTo.TheVariants.{Peers, Url}
+use Rattle.jdf_commands.specs.Caused.{GivesUpCaused}
 use Rattle.jdf_commands.specs.FileCommands.Answers.{IsRefusedBy, refusal_told}
 use Rattle.jdf_commands.specs.FileCommands.Notes.{TellsNotes}
 
@@ -34,10 +36,6 @@ abbrev pub IsPlaceIn : List ℕ → Option SendTo → Type 0
 IsPlaceIn text (Some (Peers rows)) = names_peers text ≡ true
 IsPlaceIn text (Some (Url url)) = (names_peers text ≡ false) × (destination_in text ≡ Some url)
 IsPlaceIn text None = (names_peers text ≡ false) × (destination_in text ≡ None)
-
--- why there is no table in a peers' file: memory ran out, or the file can't be loaded
-abbrev pub IsNoTable : Refused → Type 0
-IsNoTable e = (e ≡ Core Memory) ⊎ (e ≡ LoadFailed)
 
 -- why it isn't known where a text says to send to: memory ran out; or it names a peers' file, and
 -- there is no table in that
@@ -123,4 +121,4 @@ EndsSend input output told status =
     ((answer : List ℕ) × EndsAnswer answer output told status)
     ⊎ ((IsUntouched output × (status ≡ 1))
     ⊎ ((IsUntouched input × IsUntouched output × (status ≡ 2))
-    ⊎ ((fault : Fault) × GivesUp fault output told status)))
+    ⊎ ((fault : Fault) × GivesUpCaused fault output told status)))

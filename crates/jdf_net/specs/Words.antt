@@ -1,18 +1,22 @@
 -- How the words of the command line end.
-use Rattle.std.specs.Prelude.{◌≡◌, ◌≢◌, ◌⊎◌, ℕ, List, [], map, String, string_bytes, true}
+use Rattle.std.specs.Prelude.{◌≡◌, ◌≢◌, ◌⊎◌, ℕ, Bool, List, [], map, String, string_bytes}
+use Rattle.std.specs.Prelude.{Option, Some, None, codes, option_map, if◌then◌else◌, false, true}
+use Rattle.std.specs.Str.{bytes_eq}
 use Rattle.std.specs.declared.alloc.Global.{Global}
-use Rattle.clap.specs.Words.{subcommand_of, takes}
+use Rattle.clap.specs.Words.{IsAmong, fault_of, subcommand_of, takes}
+use Rattle.clap.specs.declared.error.kind.ErrorKind.{ErrorKind}
 use Rattle.ticket_items.specs.declared.refusal.Refusal.TheVariants.{Memory}
-use Rattle.streams.specs.declared.refused.Refused.TheVariants.{Core}
-use Rattle.streams.specs.declared.fault.Fault.TheVariants.{Input}
-use Rattle.streams.specs.Ends.{GivesUp}
-use Rattle.streams.specs.Streams.{IsUntouched, Use}
-use Rattle.jdf_words.specs.Calls.{Means}
+use Rattle.streams.specs.declared.refused.Refused.TheVariants.{Core, ReadFailed, SaveFailed}
+use Rattle.streams.specs.declared.fault.Fault.TheVariants.{Device, Input}
+use Rattle.streams.specs.Ends.{GivesOut, GivesUp}
+use Rattle.streams.specs.Streams.{IsUntouched, Stream, Use}
+use Rattle.jdf_words.specs.Calls.{IsEdit, IsInvocation, is_asked}
 use Rattle.jdf_words.specs.Commands.{jdf}
 use Rattle.jdf_words.specs.declared.call.Call.{Call}
-use Rattle.jdf_words.specs.declared.call.Call.TheVariants.{Edit, Loop, Send, SendOrder}
-use Rattle.jdf_words.specs.declared.call.Call.TheVariants.{Serve}
+use Rattle.jdf_words.specs.declared.call.Call.TheVariants.{Loop, Send, SendOrder, Serve}
+use Rattle.jdf_words.specs.declared.invocation.Invocation.{Invocation}
 use Rattle.jdf_commands.specs.Calls.{EndsCall}
+use Rattle.jdf_commands.specs.Caused.{GivesUpCaused}
 use Rattle.jdf_net.specs.LoopCommand.Run.{EndsLoop}
 use Rattle.jdf_net.specs.OrderCommand.{EndsSendOrder}
 use Rattle.jdf_net.specs.SendCommand.{EndsSend}
@@ -28,24 +32,82 @@ EndsAnyCall (Serve file listen limits requests peers field) input output told st
 EndsAnyCall (Send url file) input output told status = EndsSend input output told status
 EndsAnyCall call input output told status = EndsCall call input output told status
 
--- the call that words stand for: `edit` where there is none
-pub record IsCallOf (words : List (String Global)) (call : Call) : Type 0 where
-  pub edit : words ≡ [] → call ≡ Edit
-  pub named : words ≢ [] → Means call (subcommand_of jdf (map string_bytes words))
+-- a call ends so, and behind all that it tells something may be told
+abbrev pub EndsTelling : Call → Use → Use → Use → ℕ → Type 0
+EndsTelling call input output told status =
+    (tells : Stream)
+    × EndsAnyCall call input output (record { before = told.before; after = tells }) status
 
--- these words stand for no call: nothing is read or written, and the status says so. clap's text
--- is told, of which nothing is said here
-pub record TellsHelp (words : List (String Global)) (input output : Use) (status : ℕ) : Type 0 where
+-- how a call with a journal ends: that can't be opened, which is told, and nothing is read; or as the
+-- call does, and behind all else it may be told that lines aren't in it
+abbrev pub EndsWithJournal : Call → Use → Use → Use → ℕ → Type 0
+EndsWithJournal call input output told status =
+    (IsUntouched input × GivesUpCaused (Device SaveFailed) output told status)
+    ⊎ EndsTelling call input output told status
+
+-- the same where the path of a journal is named, and else as the call does
+abbrev pub EndsJournaled : Option (List ℕ) → Call → Use → Use → Use → ℕ → Type 0
+EndsJournaled None call input output told status = EndsAnyCall call input output told status
+EndsJournaled (Some path) call input output told status =
+    EndsWithJournal call input output told status
+
+-- what words stand for: `edit` where there is none
+pub record AreWordsOf (words : List (String Global)) (i : Invocation) : Type 0 where
+  pub edit : words ≡ [] → IsEdit i
+  pub named : words ≢ [] → IsInvocation i (subcommand_of jdf (map string_bytes words))
+
+-- clap's text, of which nothing is said here, is written where it is what is asked for, with status
+-- 0; or else nothing is written, the text is told, and the status says that there is no call
+abbrev pub EndsAnswer : Bool → Use → Use → ℕ → Type 0
+EndsAnswer true output told status =
+    ((text : List ℕ) × GivesOut text false output told status)
+    ⊎ GivesUp (Input (Core Memory)) output told status
+EndsAnswer false output told status = IsUntouched output × (status ≡ NO_CALL)
+
+-- these words stand for no call: nothing is read, and clap answers them with a text of this kind
+pub record IsAnswered (words : List (String Global)) (input output told : Use) (status : ℕ)
+    : Type 0 where
   pub some : words ≢ []
   pub wrong : takes jdf (map string_bytes words) ≢ true
+  pub kind : ErrorKind
+  pub among : IsAmong kind (fault_of jdf (map string_bytes words))
   pub unread : IsUntouched input
-  pub unwritten : IsUntouched output
-  pub no_call : status ≡ NO_CALL
+  pub ends : EndsAnswer (is_asked (map string_bytes words) kind) output told status
 
--- the call of the words is run; or they are told to stand for none; or memory ran out for reading
--- them
+-- no call was made of it yet
+abbrev pub IsFresh : Stream → Type 0
+IsFresh s = (s.calls ≡ 0) × (s.failures ≡ 0) × (s.interruptions ≡ 0)
+
+-- how a call, with the journal that is named, ends whose input comes from a file: as it ends over
+-- that, of which nothing was read before; or the file can't be opened, which is told, and nothing is
+-- done
+abbrev pub EndsFromFile : Option (List ℕ) → Call → Use → Use → ℕ → Type 0
+EndsFromFile journal call output told status =
+    ((file : Use) × IsFresh file.before × EndsJournaled journal call file output told status)
+    ⊎ GivesUpCaused (Device ReadFailed) output told status
+
+-- the file that a path names: none where it is `-`, which stands for standard input
+abbrev pub file_of : Option (List ℕ) → Option (List ℕ)
+file_of None = None
+file_of (Some path) = if bytes_eq path (codes "-") then None else Some path
+
+-- how a call ends whose input comes from this file, and not from standard input, where one is named
+abbrev pub EndsFrom : (from journal : Option (List ℕ)) → Call → Use → Use → Use → ℕ → Type 0
+EndsFrom None journal call input output told status =
+    EndsJournaled journal call input output told status
+EndsFrom (Some path) journal call input output told status =
+    IsUntouched input × EndsFromFile journal call output told status
+
+-- the same of what words stand for
+abbrev pub EndsInvocation : Invocation → Use → Use → Use → ℕ → Type 0
+EndsInvocation i input output told status =
+    EndsFrom (file_of (option_map (λ path. path.now) i.from)) (option_map (λ path. path.now) i.journal)
+    i.call input output told status
+
+-- the call of the words is run; or they stand for none, and are answered; or memory ran out for
+-- reading them
 abbrev pub EndsWords : List (String Global) → Use → Use → Use → ℕ → Type 0
 EndsWords words input output told status =
-    ((call : Call) × IsCallOf words call × EndsAnyCall call input output told status)
-    ⊎ (TellsHelp words input output status
+    ((i : Invocation) × AreWordsOf words i × EndsInvocation i input output told status)
+    ⊎ (IsAnswered words input output told status
     ⊎ (IsUntouched input × GivesUp (Input (Core Memory)) output told status))

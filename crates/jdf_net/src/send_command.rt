@@ -8,4 +8,4 @@ mod send_to;
 pub(crate) use exchanging::post;
 pub use run::run_send;
 pub(crate) use run::{DONE, tell_no_peer, tell_no_url, tell_status};
-pub(crate) use send_to::SendTo;
+pub(crate) use send_to::{SendTo, no_place};

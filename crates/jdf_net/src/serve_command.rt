@@ -1,29 +1,276 @@
 //! The command `serve`: the controller that is kept in a file, or those of a folder, over HTTP.
 
-mod accepting;
-mod calling;
-mod clients;
-mod entry;
-mod hearing;
-mod houses;
-mod line;
-mod lines;
-mod log;
-mod moments;
-mod note;
-mod own;
-mod owner;
-mod place;
-mod post;
-mod posting;
-mod rounding;
-mod route;
-mod run;
-mod server;
-mod service;
-mod stepping;
-mod telling;
-mod watching;
+ghost use Rattle.std.specs.Prelude.{◌≡◌, ◌⊎◌, IfErr};
+ghost use Rattle.jdf_net.specs.ServeCommand.{EndsServe, IsUnserved};
+ghost use Rattle.streams.specs.declared.refused.Refused.TheVariants.{NoConnection, WriteFailed};
 
-pub use run::run_serve;
-pub use service::Service;
+use jdf_commands::{Caused, give_up_caused};
+use jdf_server::{NO_PEERS, Post, Server, Service, check_file};
+use keepers::Locks;
+use mio::net::TcpListener;
+use shop_folder::{Lies, PEERS, Place, in_folder};
+use std::alloc::{Alloc, AllocError, Global};
+use std::io::{self, ErrorKind, Write};
+use std::net::{Net, SocketAddr, ToSocketAddrs};
+use std::rt::Files;
+use std::time::Clock;
+use streams::{Counted, Fault, Refused};
+
+/// A listener on an address, which is a host and a port.
+fn listen<R: Net>(rt: &R, address: &str) -> io::Result<TcpListener> {
+    let mut last = io::Error::from(ErrorKind::NotFound);
+    for one in address.to_socket_addrs(rt)? {
+        match TcpListener::bind(rt, one) {
+            Ok(listener) => return Ok(listener),
+            Err(error) => last = error,
+        }
+    }
+    Err(last)
+}
+
+/// Writes the address that is listened on.
+fn announce<W: Write>(address: io::Result<SocketAddr>, writer: &mut W) -> Result<(), Refused>
+    ensures { IfErr result (λ e. (e ≡ NoConnection) ⊎ (e ≡ WriteFailed)) }
+{
+    let Ok(address) = address else {
+        return Err(Refused::NoConnection);
+    };
+    if writeln!(writer, "Listening on {address}").is_err() || writer.flush().is_err() {
+        return Err(Refused::WriteFailed);
+    }
+    Ok(())
+}
+
+/// Writes where the page is.
+fn announce_page<W: Write>(listener: &TcpListener, writer: &mut W) -> Result<(), Refused>
+    ensures { IfErr result (λ e. (e ≡ NoConnection) ⊎ (e ≡ WriteFailed)) }
+{
+    let address = match listener.local_addr() {
+        Ok(address) => address,
+        Err(_) => return Err(Refused::NoConnection),
+    };
+    if writeln!(writer, "Page at http://{address}/").is_err() || writer.flush().is_err() {
+        return Err(Refused::WriteFailed);
+    }
+    Ok(())
+}
+
+/// Why it can't listen on an address.
+fn unheard(alloc: Global, address: &str, error: &io::Error) -> Caused
+    ensures { IsUnserved result.fault }
+{
+    match error.kind() {
+        ErrorKind::OutOfMemory => Caused::bare(Fault::from(AllocError)),
+        _ => {
+            let fault = Fault::Device(Refused::NoConnection);
+            Caused::of_error(alloc, fault, address, error)
+        }
+    }
+}
+
+/// Whether a controller can be loaded of a file that is served. Of a folder nothing is read, so
+/// that many files cost nothing. Refuses as `check_file`.
+fn check<R: Locks>(rt: &R, alloc: Global, place: &Place<'_>) -> Result<(), Refused> {
+    match place {
+        Place::File(file) => check_file(rt, alloc, file),
+        Place::Folder(_) => Ok(()),
+    }
+}
+
+/// The path of the peers' file: the one that is named, or else `peers.json` in a folder that is
+/// served, where there is one.
+fn peers_path<R: Files>(
+    rt: &R,
+    alloc: Global,
+    service: &Service<'_>,
+    place: &Place<'_>,
+) -> Result<Option<String>, AllocError> {
+    if let Some(path) = service.peers {
+        return Ok(Some(String::from_str(alloc, path)?));
+    }
+    match place {
+        Place::File(_) => Ok(None),
+        Place::Folder(folder) => {
+            let path = in_folder(alloc, folder, PEERS)?;
+            match Lies::at(rt, path.as_str()) {
+                Lies::File => Ok(Some(path)),
+                Lies::Folder | Lies::Nothing => Ok(None),
+            }
+        }
+    }
+}
+
+/// What goes out by itself, where there is a peers' file. Refuses `LoadFailed` where that can't be
+/// read or is none, and `Memory`.
+fn post_of<R: Files>(
+    rt: &R,
+    alloc: Global,
+    service: &Service<'_>,
+    place: &Place<'_>,
+) -> Result<Option<Post>, Caused>
+    ensures { IfErr result (λ caused. IsUnserved caused.fault) }
+{
+    let Some(file) = peers_path(rt, alloc, service, place)? else {
+        return Ok(None);
+    };
+    let path = String::from_str(alloc, file.as_str())?;
+    match Post::of(rt, alloc, path) {
+        Ok(post) => Ok(Some(post)),
+        Err(refused) => {
+            let fault = Fault::Device(refused);
+            Err(Caused::at_path(rt, alloc, fault, file.as_str(), NO_PEERS))
+        }
+    }
+}
+
+/// An address with its host: where it is a port alone, that of loopback.
+fn with_host(alloc: Global, address: &str) -> Result<String, AllocError> {
+    if address.contains(':') {
+        String::from_str(alloc, address)
+    } else {
+        format!(in alloc; "127.0.0.1:{address}")
+    }
+}
+
+/// Listens for readers of the page at an address, and writes it.
+fn begin_page<R: Files + Net, F, W: Write>(
+    rt: &R,
+    alloc: Global,
+    server: &mut Server<'_, R, F>,
+    address: &str,
+    writer: &mut W,
+) -> Result<(), Caused>
+    ensures { IfErr result (λ caused. IsUnserved caused.fault) }
+{
+    let address = with_host(alloc, address)?;
+    let address = address.as_str();
+    let listener = match listen(rt, address) {
+        Ok(listener) => listener,
+        Err(error) => return Err(unheard(alloc, address, &error)),
+    };
+    if let Err(refused) = announce_page(&listener, writer) {
+        return Err(Caused::bare(Fault::Device(refused)));
+    }
+    match server.open_page(listener) {
+        Ok(()) => Ok(()),
+        Err(error) => Err(unheard(alloc, address, &error)),
+    }
+}
+
+/// Listens for orders on a local socket, and writes where it is.
+fn begin_orders<R: Files + Net, F, W: Write>(
+    alloc: Global,
+    server: &mut Server<'_, R, F>,
+    path: &str,
+    writer: &mut W,
+) -> Result<(), Caused>
+    ensures { IfErr result (λ caused. IsUnserved caused.fault) }
+{
+    if let Err(error) = server.open_orders(path) {
+        return Err(unheard(alloc, path, &error));
+    }
+    if writeln!(writer, "Orders at {path}").is_err() || writer.flush().is_err() {
+        return Err(Caused::bare(Fault::Device(Refused::WriteFailed)));
+    }
+    Ok(())
+}
+
+/// Has a server send what is out by itself, if it is to, and writes the addresses that it listens
+/// on.
+fn begin<R: Files + Net, F, W: Write>(
+    rt: &R,
+    alloc: Global,
+    server: &mut Server<'_, R, F>,
+    service: &Service<'_>,
+    place: &Place<'_>,
+    writer: &mut W,
+) -> Result<(), Caused>
+    ensures { IfErr result (λ caused. IsUnserved caused.fault) }
+{
+    server.send_by(post_of(rt, alloc, service, place)?);
+    if let Err(refused) = announce(server.listens_at(), writer) {
+        return Err(Caused::bare(Fault::Device(refused)));
+    }
+    if let Some(address) = service.page {
+        begin_page(rt, alloc, server, address, writer)?;
+    }
+    match service.orders {
+        Some(path) => begin_orders(alloc, server, path, writer),
+        None => Ok(()),
+    }
+}
+
+/// Serves the connections that come.
+fn serve_with<R: Locks + Net + Clock + Alloc + Clone + Drop, F: Write + Drop, W: Write>(
+    rt: &R,
+    alloc: Global,
+    mut server: Server<'_, R, F>,
+    service: &Service<'_>,
+    place: &Place<'_>,
+    writer: &mut W,
+) -> Result<(), Caused>
+    ensures { IfErr result (λ caused. IsUnserved caused.fault) }
+{
+    begin(rt, alloc, &mut server, service, place, writer)?;
+    server.run();
+    Ok(())
+}
+
+/// Listens, and serves the connections that come.
+fn serve<R: Locks + Net + Clock + Alloc + Clone + Drop, W: Write, F: Write>(
+    rt: &R,
+    alloc: Global,
+    service: &Service<'_>,
+    writer: &mut W,
+    faults: &mut F,
+) -> Result<(), Caused>
+    ensures { IfErr result (λ caused. IsUnserved caused.fault) }
+{
+    let place = Place::at(rt, service.path);
+    if let Err(refused) = check(rt, alloc, &place) {
+        let fault = Fault::Device(refused);
+        return Err(Caused::at_path(rt, alloc, fault, service.path, ""));
+    }
+    let listener = match listen(rt, service.listen) {
+        Ok(listener) => listener,
+        Err(error) => return Err(unheard(alloc, service.listen, &error)),
+    };
+    match Server::new(rt, alloc, service, place, listener, &mut *faults) {
+        Ok(server) => serve_with(rt, alloc, server, service, &place, writer),
+        Err(error) => Err(unheard(alloc, service.listen, &error)),
+    }
+}
+
+/// Serves the controller that is kept in a file, or those in the files of a folder, over HTTP/1.1
+/// (RFC 9112): listens on an address, writes it as soon as it does, and answers one request of each
+/// connection. Clients are served side by side: none is waited for, and whoever takes longer than
+/// the limit for the request to come, for the step to be made or for the response to be taken is
+/// cut off. Of a folder a message leads to the file of its receiver, or in the folder of that name
+/// of its sender; one for none that is there is answered with 404. Where there is a peers' file,
+/// a sender that it doesn't know is answered with 403, and what is out goes to its receiver by
+/// itself. The messages that wait for a controller are handed to it one
+/// after the other, and its state is saved once behind the last, before their responses are
+/// written; the file is locked for that alone, so that the commands on the file go on beside it,
+/// and where somebody else has it locked its clients wait, and no others. A line of each connection
+/// is written in `faults`, which is never waited for. Behind the save, and before the responses are
+/// written, a line of each message that was taken and changed its controller is appended to the
+/// journal, where one is named; where that fails, the log tells it.
+///
+/// Answers the exit status: 0 where it served as many connections as were asked for; 1 where memory
+/// ran out before it served any; 4 where no controller can be loaded of a file as it begins, and
+/// where it can't listen or write where it does; that is told in `faults`, with the path or the
+/// address that it comes from and what the system says of that.
+pub fn run_serve<R: Locks + Net + Clock + Alloc + Clone + Drop, W: Write, F: Write>(
+    rt: &R,
+    alloc: Global,
+    service: &Service<'_>,
+    writer: &mut Counted<W>,
+    faults: &mut Counted<F>,
+) -> u8
+    ensures { EndsServe result }
+{
+    match serve(rt, alloc, service, writer, faults) {
+        Ok(()) => 0,
+        Err(caused) => give_up_caused(alloc, caused, faults),
+    }
+}

@@ -1,24 +1,47 @@
 //! The words of the command line.
 
-ghost use Rattle.std.specs.Prelude.{◌≡◌};
-ghost use Rattle.jdf_net.specs.Words.{EndsAnyCall, EndsWords};
+ghost use Rattle.std.specs.Prelude.{◌≡◌, IfErr, IfOk, false, map, option_map, string_bytes};
+ghost use Rattle.clap.specs.Words.{kind_of};
+ghost use Rattle.ticket_items.specs.declared.refusal.Refusal.TheVariants.{Memory};
+ghost use Rattle.streams.specs.declared.fault.Fault.TheVariants.{Input};
+ghost use Rattle.streams.specs.declared.refused.Refused.TheVariants.{Core};
+ghost use Rattle.jdf_words.specs.Calls as calls;
+ghost use Rattle.jdf_net.specs.Words as ends;
+ghost use Rattle.jdf_net.specs.Words.{EndsAnswer, EndsAnyCall, EndsFrom, EndsFromFile, EndsJournaled};
+ghost use Rattle.jdf_net.specs.Words.{EndsWithJournal, EndsWords};
 ghost use Rattle.streams.specs.Streams.{used};
 
+use crate::input_file::{file_of, open_input};
 use crate::loop_command::run_loop;
 use crate::order_command::{SendOrder, run_send_order};
 use crate::send_command::run_send;
-use crate::serve_command::{Service, run_serve};
-use jdf_commands::run_file;
-use jdf_words::{Call, CallFault, command_of};
+use crate::serve_command::run_serve;
+use jdf_commands::{Caused, give_up_caused, run_file};
+use jdf_server::Service;
+use jdf_words::{Call, CallFault, Invocation, command_of, is_asked};
+use journal::FileJournal;
 use keepers::Locks;
 use std::alloc::{Alloc, AllocError, Global};
 use std::io::{Read, Write};
 use std::net::Net;
 use std::time::Clock;
-use streams::{Counted, Fault, finish};
+use streams::{Counted, Fault, Output, Refused, finish, tell, write_bytes};
 
 /// The exit status for words that stand for no call, those that ask for help among them.
 pub const NO_CALL: u8 = 2;
+
+/// What `clap` answers words with.
+fn answer_output(alloc: Global, answer: &clap::Error) -> Result<Output, Fault>
+    ensures done { IfOk result (λ o. o.refused ≡ false) }
+    ensures memory { IfErr result (λ fault. fault ≡ Input (Core Memory)) }
+{
+    let mut text = Vec::new(alloc);
+    text.extend_from_slice(format!(in alloc; "{answer}")?.as_bytes())?;
+    Ok(Output {
+        text,
+        refused: false,
+    })
+}
 
 /// Tells the text of `clap`'s fault, as far as `faults` takes it. Answers `NO_CALL`.
 fn tell_help<F: Write>(fault: &clap::Error, faults: &mut Counted<F>) -> u8
@@ -28,23 +51,44 @@ fn tell_help<F: Write>(fault: &clap::Error, faults: &mut Counted<F>) -> u8
     NO_CALL
 }
 
-/// Runs a call, over the network or over files.
-fn run_call<R: Locks + Net + Clock + Alloc + Clone + Drop, I: Read, W: Write, F: Write>(
-    rt: &R,
+/// Writes what words ask for that stand for no call, or tells that they stand for none. Answers the
+/// exit status.
+fn answer_words<W: Write, F: Write>(
     alloc: Global,
-    call: &Call<'_>,
-    reader: &mut Counted<I>,
+    words: &[String],
+    answer: &clap::Error,
     writer: &mut Counted<W>,
     faults: &mut Counted<F>,
 ) -> u8
-    ensures { EndsAnyCall call.now (used I.remaining reader.old reader.new)
+    ensures { EndsAnswer (calls.is_asked (map string_bytes words.now) (kind_of answer.now))
         (used W.contents writer.old writer.new) (used F.contents faults.old faults.new) result }
 {
-    match call {
+    if is_asked(words, answer) {
+        finish(answer_output(alloc, answer), writer, faults)
+    } else {
+        tell_help(answer, faults)
+    }
+}
+
+/// Runs a call, over the network or over files; `serve` with the journal and the page that are
+/// named beside it.
+fn run_call<R: Locks + Net + Clock + Alloc + Clone + Drop, I: Read, W: Write, F: Write>(
+    rt: &R,
+    alloc: Global,
+    asked: &Invocation<'_>,
+    reader: &mut Counted<I>,
+    writer: &mut Counted<W>,
+    faults: &mut Counted<F>,
+    journal: &mut FileJournal<'_, R>,
+) -> u8
+    ensures { EndsAnyCall asked.now.call (used I.remaining reader.old reader.new)
+        (used W.contents writer.old writer.new) (used F.contents faults.old faults.new) result }
+{
+    match &asked.call {
         Call::Loop => run_loop(rt, alloc, reader, writer, faults),
         Call::SendOrder { file, at, url } => {
             let order = SendOrder { file, at: *at, url };
-            run_send_order(rt, alloc, &order, reader, writer, faults)
+            run_send_order(rt, alloc, &order, reader, writer, faults, journal)
         }
         Call::Serve {
             file,
@@ -60,18 +104,130 @@ fn run_call<R: Locks + Net + Clock + Alloc + Clone + Drop, I: Read, W: Write, F:
                 limits: *limits,
                 requests: *requests,
                 peers: *peers,
+                page: asked.page,
+                orders: asked.orders,
                 sender_field: *sender_field,
+                journal: asked.journal,
             };
             run_serve(rt, alloc, &service, writer, faults)
         }
         Call::Send { url, file } => run_send(rt, alloc, url, *file, reader, writer, faults),
-        _ => run_file(rt, alloc, call, reader, writer, faults),
+        _ => run_file(rt, alloc, &asked.call, reader, writer, faults, journal),
+    }
+}
+
+/// Tells that lines aren't in the journal, if there are such, as far as `faults` takes it.
+fn tell_missed<R: Locks, F: Write>(
+    alloc: Global,
+    journal: &FileJournal<'_, R>,
+    faults: &mut Counted<F>,
+) {
+    match journal.note(alloc) {
+        Ok(Some(note)) => {
+            let _ = write_bytes(faults, note.as_bytes());
+        }
+        Ok(None) => {}
+        Err(_) => tell(faults, &Fault::from(AllocError)),
+    }
+}
+
+/// Runs a call with the journal in the file of this path. Where that can't be opened it does
+/// nothing, tells `SaveFailed` with what the system says of the path, and answers 4; where a line
+/// isn't in it in the end that is told behind all else, and the status stays.
+fn run_with_journal<R: Locks + Net + Clock + Alloc + Clone + Drop, I: Read, W: Write, F: Write>(
+    rt: &R,
+    alloc: Global,
+    asked: &Invocation<'_>,
+    path: &str,
+    reader: &mut Counted<I>,
+    writer: &mut Counted<W>,
+    faults: &mut Counted<F>,
+) -> u8
+    ensures { EndsWithJournal asked.now.call (used I.remaining reader.old reader.new)
+        (used W.contents writer.old writer.new) (used F.contents faults.old faults.new) result }
+{
+    let mut journal = FileJournal::at(rt, Some(path));
+    if let Err(error) = journal.check() {
+        let fault = Fault::Device(Refused::SaveFailed);
+        return give_up_caused(alloc, Caused::of_error(alloc, fault, path, &error), faults);
+    }
+    let status = run_call(rt, alloc, asked, reader, writer, faults, &mut journal);
+    tell_missed(alloc, &journal, faults);
+    status
+}
+
+/// Runs a call with the journal that is named beside it, if there is one.
+fn run_journaled<R: Locks + Net + Clock + Alloc + Clone + Drop, I: Read, W: Write, F: Write>(
+    rt: &R,
+    alloc: Global,
+    asked: &Invocation<'_>,
+    reader: &mut Counted<I>,
+    writer: &mut Counted<W>,
+    faults: &mut Counted<F>,
+) -> u8
+    ensures { EndsJournaled (option_map (λ name. name.now) asked.now.journal) asked.now.call
+        (used I.remaining reader.old reader.new) (used W.contents writer.old writer.new)
+        (used F.contents faults.old faults.new) result }
+{
+    match asked.journal {
+        None => {
+            let mut journal = FileJournal::at(rt, None);
+            run_call(rt, alloc, asked, reader, writer, faults, &mut journal)
+        }
+        Some(path) => run_with_journal(rt, alloc, asked, path, reader, writer, faults),
+    }
+}
+
+/// Runs a call whose input comes from the file of a path. Where that can't be opened it does
+/// nothing, tells `ReadFailed` with what the system says of the path, and answers 4.
+fn run_from<R: Locks + Net + Clock + Alloc + Clone + Drop, W: Write, F: Write>(
+    rt: &R,
+    alloc: Global,
+    invocation: &Invocation<'_>,
+    path: &str,
+    writer: &mut Counted<W>,
+    faults: &mut Counted<F>,
+) -> u8
+    ensures { EndsFromFile (option_map (λ name. name.now) invocation.now.journal)
+        invocation.now.call (used W.contents writer.old writer.new)
+        (used F.contents faults.old faults.new) result }
+{
+    match open_input(rt, alloc, path) {
+        Ok(file) => {
+            let mut reader = Counted::new(file);
+            run_journaled(rt, alloc, invocation, &mut reader, writer, faults)
+        }
+        Err(caused) => give_up_caused(alloc, caused, faults),
+    }
+}
+
+/// Runs a call, whose input is standard input, or comes from the file that is named.
+fn run_invocation<R: Locks + Net + Clock + Alloc + Clone + Drop, I: Read, W: Write, F: Write>(
+    rt: &R,
+    alloc: Global,
+    invocation: &Invocation<'_>,
+    reader: &mut Counted<I>,
+    writer: &mut Counted<W>,
+    faults: &mut Counted<F>,
+) -> u8
+    ensures { EndsFrom (ends.file_of (option_map (λ path. path.now) invocation.now.from))
+        (option_map (λ path. path.now) invocation.now.journal)
+        invocation.now.call (used I.remaining reader.old reader.new)
+        (used W.contents writer.old writer.new) (used F.contents faults.old faults.new) result }
+{
+    match file_of(invocation.from) {
+        Some(path) => run_from(rt, alloc, invocation, path, writer, faults),
+        None => run_journaled(rt, alloc, invocation, reader, writer, faults),
     }
 }
 
 /// Runs what the words of the command line stand for, which come without the program's name: `edit`
-/// where there is none. Answers its exit status. For other words, and for those that ask for help,
-/// nothing is read or written, `clap`'s text is told in `faults`, and the status is `NO_CALL`.
+/// where there is none. Answers its exit status. With `--from` the input comes from the file that
+/// is named, and standard input isn't read, but where it is `-`; where the file can't be opened,
+/// nothing is done, and the status is 4. For the version, and for help that is asked for by the word
+/// `help`, nothing is read, `clap`'s text is written, and the status is 0. For other words, and for
+/// those that ask for help by `--help`, nothing is read or written, `clap`'s text is told in
+/// `faults`, and the status is `NO_CALL`.
 pub fn run_words<R: Locks + Net + Clock + Alloc + Clone + Drop, I: Read, W: Write, F: Write>(
     rt: &R,
     alloc: Global,
@@ -84,8 +240,8 @@ pub fn run_words<R: Locks + Net + Clock + Alloc + Clone + Drop, I: Read, W: Writ
         (used W.contents writer.old writer.new) (used F.contents faults.old faults.new) result }
 {
     match command_of(alloc, words) {
-        Ok(call) => run_call(rt, alloc, &call, reader, writer, faults),
-        Err(CallFault::Clap(fault)) => tell_help(&fault, faults),
+        Ok(invocation) => run_invocation(rt, alloc, &invocation, reader, writer, faults),
+        Err(CallFault::Clap(answer)) => answer_words(alloc, words, &answer, writer, faults),
         Err(CallFault::Memory) => finish(Err(Fault::from(AllocError)), writer, faults),
     }
 }

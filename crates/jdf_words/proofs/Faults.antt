@@ -8,9 +8,9 @@ use Rattle.clap.specs.declared.error.ErrorKind.TheVariants.{OutOfMemory}
 use Rattle.clap.proofs.OnLiterals.{clap_on_literals}
 use Rattle.jdf_words.specs.Calls.{Tells, TellsOf}
 use Rattle.jdf_words.specs.Commands.{jdf}
-use Rattle.jdf_words.specs.declared.call.Call.{Call}
 use Rattle.jdf_words.specs.declared.call_fault.CallFault.{CallFault}
 use Rattle.jdf_words.specs.declared.call_fault.CallFault.TheVariants.{Clap, Memory}
+use Rattle.jdf_words.specs.declared.invocation.Invocation.{Invocation}
 
 -- clap tells all of the program
 pub is_simple_jdf : is_simple jdf ≡ true
@@ -31,12 +31,12 @@ told e (Clap x) kinds tells has =
     (⊎_elim (λ none. absurd (enough none)) (λ among. among) has, enough)
 
 -- what holds of an error of clap's holds of the fault that tells of it
-pub refused : (e : Error) (answer : Result Call CallFault) (kinds : Kinds) → IsErrAnd answer (TellsOf e) → HasKind kinds e
+pub refused : (e : Error) (answer : Result Invocation CallFault) (kinds : Kinds) → IsErrAnd answer (TellsOf e) → HasKind kinds e
     → MatchResult answer (λ _. kinds ≡ []) (Tells kinds)
-refused e (Ok call) kinds tells has = absurd tells
+refused e (Ok words) kinds tells has = absurd tells
 refused e (Err fault) kinds tells has = told e fault kinds tells has
 
-pub only_memory : (e : Error) (answer : Result Call CallFault) (P : Type 0) → IsErrAnd answer (TellsOf e) → (P → kind_of e ≡ OutOfMemory)
+pub only_memory : (e : Error) (answer : Result Invocation CallFault) (P : Type 0) → IsErrAnd answer (TellsOf e) → (P → kind_of e ≡ OutOfMemory)
     → IfErr answer (λ fault. P → fault ≡ Memory)
-only_memory e (Ok call) P tells passes = tt
+only_memory e (Ok words) P tells passes = tt
 only_memory e (Err fault) P tells passes = λ p. tells.0 (passes p)

@@ -17,8 +17,8 @@ use Rattle.clap.specs.declared.builder.value_parser.ValueParser.TheVariants as p
 use Rattle.clap.specs.declared.parser.matches.ValueSource.{ValueSource}
 use Rattle.clap.specs.declared.parser.matches.ValueSource.TheVariants.{CommandLine}
 use Rattle.clap.proofs.ValueTestLemmas.{accepts-Accepts}
-use Rattle.jdf_words.specs.Calls.{HasAt, HasFile, HasServing, HasText, IsCall, IsWithin}
-use Rattle.jdf_words.specs.Commands.{at_rule, bare, command, file_rule, jdf, order_rules, send_rules, serve_rules, show_rules}
+use Rattle.jdf_words.specs.Calls.{HasAt, HasFile, HasServing, HasText, IsCall, IsWithin, MayHaveAt}
+use Rattle.jdf_words.specs.Commands.{bare, command, edit_rules, jdf, list_rules, new_rules, order_rules, refusal_rule, send_rules, serve_rules, show_rules, take_rules}
 use Rattle.jdf_words.proofs.Walks.{AsksNoHelp, IsIn, IsMade, IsPlainRule, found_in, level_passed, made}
 
 -- an element that is found has what each has
@@ -62,11 +62,11 @@ given_row c id rows all given = go (find (λ r. bytes_eq r.id id) rows) refl giv
 abbrev leaf : Text → List Rule → Shape
 leaf name arguments = built_leaf (inherited bare.top (command name arguments))
 
-abbrev filed : Text → Shape
-filed name = leaf name (file_rule ∷ [])
+abbrev beginning : Shape
+beginning = leaf (codes "new") new_rules
 
-abbrev timed : Text → Shape
-timed name = leaf name (file_rule ∷ at_rule ∷ [])
+abbrev taking : Shape
+taking = leaf (codes "take") take_rules
 
 abbrev ordering : Shape
 ordering = leaf (codes "order") order_rules
@@ -74,35 +74,54 @@ ordering = leaf (codes "order") order_rules
 abbrev showing : Shape
 showing = leaf (codes "show") show_rules
 
+abbrev listing : Shape
+listing = leaf (codes "list") list_rules
+
 abbrev serving : Shape
 serving = leaf (codes "serve") serve_rules
 
 abbrev sending : Shape
 sending = leaf (codes "send") send_rules
 
+abbrev explaining : Shape
+explaining = leaf (codes "explain") (refusal_rule ∷ [])
+
 help_plain : (name : Text) (a : Rule) → IsIn a (leaf name []).rules → IsPlainRule a
 help_plain name a (inl is) = rw is (inr (inr refl), inl refl)
 help_plain name a (inr none) = absurd none
 
-filed_plain : (name : Text) (a : Rule) → IsIn a (filed name).rules → IsPlainRule a
-filed_plain name a (inl is) = rw is (inl (refl, refl, refl), inl refl)
-filed_plain name a (inr is) = help_plain name a is
+beginning_plain : (a : Rule) → IsIn a beginning.rules → IsPlainRule a
+beginning_plain a (inl is) = rw is (inl (refl, refl, refl), inl refl)
+beginning_plain a (inr (inl is)) = rw is (inl (refl, refl, refl), inl refl)
+beginning_plain a (inr (inr is)) = help_plain (codes "new") a is
 
-timed_plain : (name : Text) (a : Rule) → IsIn a (timed name).rules → IsPlainRule a
-timed_plain name a (inl is) = rw is (inl (refl, refl, refl), inl refl)
-timed_plain name a (inr (inl is)) = rw is (inl (refl, refl, refl), inl refl)
-timed_plain name a (inr (inr is)) = help_plain name a is
+taking_plain : (a : Rule) → IsIn a taking.rules → IsPlainRule a
+taking_plain a (inl is) = rw is (inl (refl, refl, refl), inl refl)
+taking_plain a (inr (inl is)) = rw is (inl (refl, refl, refl), inl refl)
+taking_plain a (inr (inr (inl is))) = rw is (inl (refl, refl, refl), inl refl)
+taking_plain a (inr (inr (inr (inl is)))) = rw is (inl (refl, refl, refl), inl refl)
+taking_plain a (inr (inr (inr (inr is)))) = help_plain (codes "take") a is
 
 ordering_plain : (a : Rule) → IsIn a ordering.rules → IsPlainRule a
 ordering_plain a (inl is) = rw is (inl (refl, refl, refl), inl refl)
 ordering_plain a (inr (inl is)) = rw is (inl (refl, refl, refl), inl refl)
 ordering_plain a (inr (inr (inl is))) = rw is (inl (refl, refl, refl), inl refl)
-ordering_plain a (inr (inr (inr is))) = help_plain (codes "order") a is
+ordering_plain a (inr (inr (inr (inl is)))) = rw is (inl (refl, refl, refl), inl refl)
+ordering_plain a (inr (inr (inr (inr (inl is))))) = rw is (inl (refl, refl, refl), inl refl)
+ordering_plain a (inr (inr (inr (inr (inr is))))) = help_plain (codes "order") a is
 
 showing_plain : (a : Rule) → IsIn a showing.rules → IsPlainRule a
 showing_plain a (inl is) = rw is (inl (refl, refl, refl), inl refl)
 showing_plain a (inr (inl is)) = rw is (inr (inl (refl, refl, refl, refl)), inr (codes "false", refl, refl))
-showing_plain a (inr (inr is)) = help_plain (codes "show") a is
+showing_plain a (inr (inr (inl is))) = rw is (inl (refl, refl, refl), inl refl)
+showing_plain a (inr (inr (inr is))) = help_plain (codes "show") a is
+
+listing_plain : (a : Rule) → IsIn a listing.rules → IsPlainRule a
+listing_plain a (inl is) = rw is (inl (refl, refl, refl), inl refl)
+listing_plain a (inr (inl is)) = rw is (inl (refl, refl, refl), inl refl)
+listing_plain a (inr (inr (inl is))) = rw is (inr (inl (refl, refl, refl, refl)), inr (codes "false", refl, refl))
+listing_plain a (inr (inr (inr (inl is)))) = rw is (inr (inl (refl, refl, refl, refl)), inr (codes "false", refl, refl))
+listing_plain a (inr (inr (inr (inr is)))) = help_plain (codes "list") a is
 
 serving_plain : (a : Rule) → IsIn a serving.rules → IsPlainRule a
 serving_plain a (inl is) = rw is (inl (refl, refl, refl), inl refl)
@@ -114,12 +133,19 @@ serving_plain a (inr (inr (inr (inr (inr (inl is)))))) = rw is (inl (refl, refl,
 serving_plain a (inr (inr (inr (inr (inr (inr (inl is))))))) = rw is (inl (refl, refl, refl), inl refl)
 serving_plain a (inr (inr (inr (inr (inr (inr (inr (inl is)))))))) = rw is (inl (refl, refl, refl), inl refl)
 serving_plain a (inr (inr (inr (inr (inr (inr (inr (inr (inl is))))))))) = rw is (inl (refl, refl, refl), inl refl)
-serving_plain a (inr (inr (inr (inr (inr (inr (inr (inr (inr is))))))))) = help_plain (codes "serve") a is
+serving_plain a (inr (inr (inr (inr (inr (inr (inr (inr (inr (inl is)))))))))) = rw is (inl (refl, refl, refl), inl refl)
+serving_plain a (inr (inr (inr (inr (inr (inr (inr (inr (inr (inr (inl is))))))))))) = rw is (inl (refl, refl, refl), inl refl)
+serving_plain a (inr (inr (inr (inr (inr (inr (inr (inr (inr (inr (inr (inl is)))))))))))) = rw is (inl (refl, refl, refl), inl refl)
+serving_plain a (inr (inr (inr (inr (inr (inr (inr (inr (inr (inr (inr (inr is)))))))))))) = help_plain (codes "serve") a is
 
 sending_plain : (a : Rule) → IsIn a sending.rules → IsPlainRule a
 sending_plain a (inl is) = rw is (inl (refl, refl, refl), inl refl)
 sending_plain a (inr (inl is)) = rw is (inl (refl, refl, refl), inl refl)
 sending_plain a (inr (inr is)) = help_plain (codes "send") a is
+
+explaining_plain : (a : Rule) → IsIn a explaining.rules → IsPlainRule a
+explaining_plain a (inl is) = rw is (inl (refl, refl, refl), inl refl)
+explaining_plain a (inr is) = help_plain (codes "explain") a is
 
 none_missing : (missing : Bool) → check_kinds false false missing ≡ [] → missing ≡ false
 none_missing true e = cc
@@ -188,7 +214,7 @@ serving_within : (id : Text) (low high : ℕ) (rows : List Row) → parsers_of i
 serving_within id low high rows only all =
     value_holds serving.rules id (IsUnsignedIn low high) rows all (number_passes serving.rules id low high only)
 
--- `serve` has its FILE and its ADDR, and `send` its URL
+-- `serve` has its FILE and its ADDR, `send` its URL, and `explain` its N
 serving_has : (words : List Text) → level_fault serving [] nothing_held words false [] ≡ []
     → HasFile (rows_after serving.rules [] words) × HasServing (rows_after serving.rules [] words)
 serving_has words e =
@@ -211,25 +237,43 @@ sending_has words e =
     let passed = level_passed sending sending_plain refl [] words false [] e in
     text_given sending.rules (codes "URL") _ passed.rows (there _ (or_parts _ false (none_missing _ passed.checks)).0)
 
--- a command on a FILE has it, and a timed one its N too
-filed_has : (name : Text) (words : List Text) → level_fault (filed name) [] nothing_held words false [] ≡ [] → HasFile (rows_after (filed name).rules [] words)
-filed_has name words e =
-    let passed = level_passed (filed name) (filed_plain name) refl [] words false [] e in
-    text_given (filed name).rules (codes "FILE") _ passed.rows (there _ (or_parts _ false (none_missing _ passed.checks)).0)
+explaining_has : (words : List Text) → level_fault explaining [] nothing_held words false [] ≡ [] → HasText (codes "N") (rows_after explaining.rules [] words)
+explaining_has words e =
+    let passed = level_passed explaining explaining_plain refl [] words false [] e in
+    text_given explaining.rules (codes "N") _ passed.rows (there _ (or_parts _ false (none_missing _ passed.checks)).0)
 
-showing_has : (words : List Text) → level_fault showing [] nothing_held words false [] ≡ [] → HasFile (rows_after showing.rules [] words)
+-- `new` has its FILE
+beginning_has : (words : List Text) → level_fault beginning [] nothing_held words false [] ≡ [] → HasFile (rows_after beginning.rules [] words)
+beginning_has words e =
+    let passed = level_passed beginning beginning_plain refl [] words false [] e in
+    text_given beginning.rules (codes "FILE") _ passed.rows (there _ (or_parts _ false (none_missing _ passed.checks)).0)
+
+-- `show` has its FILE, and so has `list`; N where that was given is a time
+showing_has : (words : List Text) → level_fault showing [] nothing_held words false [] ≡ []
+    → HasFile (rows_after showing.rules [] words) × MayHaveAt (rows_after showing.rules [] words)
 showing_has words e =
-    let passed = level_passed showing showing_plain refl [] words false [] e in
-    text_given showing.rules (codes "FILE") _ passed.rows (there _ (or_parts _ false (none_missing _ passed.checks)).0)
+    let passed = level_passed showing showing_plain refl [] words false [] e in (
+      text_given showing.rules (codes "FILE") _ passed.rows (there _ (or_parts _ false (none_missing _ passed.checks)).0),
+      value_holds showing.rules (codes "at") (IsUnsignedIn 0 9999999999) _ passed.rows (number_passes showing.rules (codes "at") 0 9999999999 refl),
+    )
 
-timed_has : (name : Text) (words : List Text) → level_fault (timed name) [] nothing_held words false [] ≡ []
-    → HasFile (rows_after (timed name).rules [] words) × HasAt (rows_after (timed name).rules [] words)
-timed_has name words e =
-    let passed = level_passed (timed name) (timed_plain name) refl [] words false [] e in
-    let file = or_parts (not (is_given (codes "FILE") (rows_after (timed name).rules [] words))) _ (none_missing _ passed.checks) in
-    let time = or_parts (not (is_given (codes "at") (rows_after (timed name).rules [] words))) false file.1 in (
-      text_given (timed name).rules (codes "FILE") _ passed.rows (there _ file.0),
-      at_given (timed name).rules _ refl passed.rows (there _ time.0),
+listing_has : (words : List Text) → level_fault listing [] nothing_held words false [] ≡ []
+    → HasFile (rows_after listing.rules [] words) × MayHaveAt (rows_after listing.rules [] words)
+listing_has words e =
+    let passed = level_passed listing listing_plain refl [] words false [] e in (
+      text_given listing.rules (codes "FILE") _ passed.rows (there _ (or_parts _ false (none_missing _ passed.checks)).0),
+      value_holds listing.rules (codes "at") (IsUnsignedIn 0 9999999999) _ passed.rows (number_passes listing.rules (codes "at") 0 9999999999 refl),
+    )
+
+-- `take` and `order` have their FILE and their N
+taking_has : (words : List Text) → level_fault taking [] nothing_held words false [] ≡ []
+    → HasFile (rows_after taking.rules [] words) × HasAt (rows_after taking.rules [] words)
+taking_has words e =
+    let passed = level_passed taking taking_plain refl [] words false [] e in
+    let file = or_parts (not (is_given (codes "FILE") (rows_after taking.rules [] words))) _ (none_missing _ passed.checks) in
+    let time = or_parts (not (is_given (codes "at") (rows_after taking.rules [] words))) false file.1 in (
+      text_given taking.rules (codes "FILE") _ passed.rows (there _ file.0),
+      at_given taking.rules _ refl passed.rows (there _ time.0),
     )
 
 ordering_has : (words : List Text) → level_fault ordering [] nothing_held words false [] ≡ []
@@ -247,7 +291,8 @@ ordering_has words e =
 top_plain : (a : Rule) → IsIn a (built jdf).top.rules → IsPlainRule a
 unfolding jdf
 top_plain a (inl is) = rw is (inr (inr refl), inl refl)
-top_plain a (inr none) = absurd none
+top_plain a (inr (inl is)) = rw is (inr (inr refl), inl refl)
+top_plain a (inr (inr none)) = absurd none
 
 not_help : (name : Text) → (bytes_eq (codes "help") name || false) ≡ true → AsksNoHelp (built jdf).top name → ⊥
 unfolding jdf
@@ -263,32 +308,38 @@ not_help name same no_help = elim (or_cases (bytes_eq (codes "help") name) false
 command_has : (s : Shape) (name : Text) (words : List Text) → IsIn s (built jdf).subs → answers_to name (label_of s) ≡ true → AsksNoHelp (built jdf).top name
     → level_fault s [] nothing_held words false [] ≡ [] → IsCall (rows_at s words)
 unfolding jdf
-command_has s name words (inl is) answers no_help e = rw is (record { command = refl; file = λ bad. cc; at = λ bad. cc; serving = λ bad. cc; url = λ bad. cc })
-command_has s name words (inr (inl is)) answers no_help e = rw is (record { command = refl; file = λ bad. cc; at = λ bad. cc; serving = λ bad. cc; url = λ bad. cc })
-command_has s name words (inr (inr (inl is))) answers no_help e = rw is (record { command = refl; file = λ bad. cc; at = λ bad. cc; serving = λ bad. cc; url = λ bad. cc })
+command_has s name words (inl is) answers no_help e = rw is (record { command = refl; file = λ bad. cc; at = λ bad. cc; moment = λ bad. cc; serving = λ bad. cc; url = λ bad. cc; number = λ bad. cc })
+command_has s name words (inr (inl is)) answers no_help e = rw is (record { command = refl; file = λ bad. cc; at = λ bad. cc; moment = λ bad. cc; serving = λ bad. cc; url = λ bad. cc; number = λ bad. cc })
+command_has s name words (inr (inr (inl is))) answers no_help e = rw is (record { command = refl; file = λ bad. cc; at = λ bad. cc; moment = λ bad. cc; serving = λ bad. cc; url = λ bad. cc; number = λ bad. cc })
 command_has s name words (inr (inr (inr (inl is)))) answers no_help e =
-    let has = filed_has (codes "new") words (rw is at e) in
-    rw is (record { command = refl; file = λ _. has; at = λ bad. cc; serving = λ bad. cc; url = λ bad. cc })
+    let has = beginning_has words (rw is at e) in
+    rw is (record { command = refl; file = λ _. has; at = λ bad. cc; moment = λ bad. cc; serving = λ bad. cc; url = λ bad. cc; number = λ bad. cc })
 command_has s name words (inr (inr (inr (inr (inl is))))) answers no_help e =
     let has = ordering_has words (rw is at e) in
-    rw is (record { command = refl; file = λ _. has.0; at = λ _. has.1; serving = λ bad. cc; url = λ bad. cc })
+    rw is (record { command = refl; file = λ _. has.0; at = λ _. has.1; moment = λ bad. cc; serving = λ bad. cc; url = λ bad. cc; number = λ bad. cc })
 command_has s name words (inr (inr (inr (inr (inr (inl is)))))) answers no_help e =
-    let has = timed_has (codes "take") words (rw is at e) in
-    rw is (record { command = refl; file = λ _. has.0; at = λ _. has.1; serving = λ bad. cc; url = λ bad. cc })
+    let has = taking_has words (rw is at e) in
+    rw is (record { command = refl; file = λ _. has.0; at = λ _. has.1; moment = λ bad. cc; serving = λ bad. cc; url = λ bad. cc; number = λ bad. cc })
 command_has s name words (inr (inr (inr (inr (inr (inr (inl is))))))) answers no_help e =
     let has = showing_has words (rw is at e) in
-    rw is (record { command = refl; file = λ _. has; at = λ bad. cc; serving = λ bad. cc; url = λ bad. cc })
-command_has s name words (inr (inr (inr (inr (inr (inr (inr (inl is)))))))) answers no_help e = rw is (record { command = refl; file = λ bad. cc; at = λ bad. cc; serving = λ bad. cc; url = λ bad. cc })
-command_has s name words (inr (inr (inr (inr (inr (inr (inr (inr (inl is))))))))) answers no_help e =
-    let has = serving_has words (rw is at e) in
-    rw is (record { command = refl; file = λ _. has.0; at = λ bad. cc; serving = λ _. has.1; url = λ bad. cc })
+    rw is (record { command = refl; file = λ _. has.0; at = λ bad. cc; moment = λ _. has.1; serving = λ bad. cc; url = λ bad. cc; number = λ bad. cc })
+command_has s name words (inr (inr (inr (inr (inr (inr (inr (inl is)))))))) answers no_help e =
+    let has = listing_has words (rw is at e) in
+    rw is (record { command = refl; file = λ _. has.0; at = λ bad. cc; moment = λ _. has.1; serving = λ bad. cc; url = λ bad. cc; number = λ bad. cc })
+command_has s name words (inr (inr (inr (inr (inr (inr (inr (inr (inl is))))))))) answers no_help e = rw is (record { command = refl; file = λ bad. cc; at = λ bad. cc; moment = λ bad. cc; serving = λ bad. cc; url = λ bad. cc; number = λ bad. cc })
 command_has s name words (inr (inr (inr (inr (inr (inr (inr (inr (inr (inl is)))))))))) answers no_help e =
-    let has = sending_has words (rw is at e) in
-    rw is (record { command = refl; file = λ bad. cc; at = λ bad. cc; serving = λ bad. cc; url = λ _. has })
+    let has = explaining_has words (rw is at e) in
+    rw is (record { command = refl; file = λ bad. cc; at = λ bad. cc; moment = λ bad. cc; serving = λ bad. cc; url = λ bad. cc; number = λ _. has })
 command_has s name words (inr (inr (inr (inr (inr (inr (inr (inr (inr (inr (inl is))))))))))) answers no_help e =
+    let has = serving_has words (rw is at e) in
+    rw is (record { command = refl; file = λ _. has.0; at = λ bad. cc; moment = λ bad. cc; serving = λ _. has.1; url = λ bad. cc; number = λ bad. cc })
+command_has s name words (inr (inr (inr (inr (inr (inr (inr (inr (inr (inr (inr (inl is)))))))))))) answers no_help e =
+    let has = sending_has words (rw is at e) in
+    rw is (record { command = refl; file = λ bad. cc; at = λ bad. cc; moment = λ bad. cc; serving = λ bad. cc; url = λ _. has; number = λ bad. cc })
+command_has s name words (inr (inr (inr (inr (inr (inr (inr (inr (inr (inr (inr (inr (inl is))))))))))))) answers no_help e =
     let same : (bytes_eq (codes "help") name || false) ≡ true = rw is at answers in
     absurd (not_help name same no_help)
-command_has s name words (inr (inr (inr (inr (inr (inr (inr (inr (inr (inr (inr none))))))))))) answers no_help e = absurd none
+command_has s name words (inr (inr (inr (inr (inr (inr (inr (inr (inr (inr (inr (inr (inr none))))))))))))) answers no_help e = absurd none
 
 has_command : (has : Bool) → check_kinds (not has && false) (not has && true) false ≡ [] → has ≡ true
 has_command true e = refl

@@ -1,6 +1,7 @@
 -- What clap makes of some lines of words, by computation.
 use Rattle.std.proofs.Common.{◌≡◌, [], ◌∷◌, List, None, Some, codes, false, refl, true}
-use Rattle.clap.specs.Words.{Text, subcommand_of, takes}
+use Rattle.clap.specs.Words.{Text, fault_of, subcommand_of, takes}
+use Rattle.clap.specs.declared.error.kind.ErrorKind.TheVariants.{DisplayHelp, DisplayVersion, InvalidSubcommand}
 use Rattle.clap.proofs.OnLiterals.{clap_on_literals}
 use Rattle.jdf_words.specs.Calls.{at_in, file_in, is_set_in, name_in, number_in, text_in}
 use Rattle.jdf_words.specs.Commands.{jdf}
@@ -10,9 +11,18 @@ use Rattle.jdf_words.specs.Commands.{jdf}
 abbrev edit : List Text
 edit = codes "edit" ∷ []
 
-edit_is : (takes jdf edit ≡ true) × (name_in (subcommand_of jdf edit) ≡ Some (codes "edit"))
+edit_is : (takes jdf edit ≡ true) × (name_in (subcommand_of jdf edit) ≡ Some (codes "edit")) × (text_in (codes "from") (subcommand_of jdf edit) ≡ None)
 unfolding jdf clap_on_literals
-edit_is = (refl, refl)
+edit_is = (refl, refl, refl)
+
+-- from a file
+abbrev edit_of : List Text
+edit_of = codes "edit" ∷ codes "--from" ∷ codes "x" ∷ []
+
+edit_of_is : (takes jdf edit_of ≡ true) × (name_in (subcommand_of jdf edit_of) ≡ Some (codes "edit"))
+    × (text_in (codes "from") (subcommand_of jdf edit_of) ≡ Some (codes "x")) × (text_in (codes "journal") (subcommand_of jdf edit_of) ≡ None)
+unfolding jdf clap_on_literals
+edit_of_is = (refl, refl, refl, refl)
 
 abbrev world : List Text
 world = codes "world" ∷ []
@@ -51,6 +61,16 @@ sent_is : (takes jdf sent ≡ true) × (name_in (subcommand_of jdf sent) ≡ Som
 unfolding jdf clap_on_literals
 sent_is = (refl, refl, refl, refl, refl)
 
+-- with its input from a file, and a journal
+abbrev noted : List Text
+noted = codes "order" ∷ codes "mis" ∷ codes "--at" ∷ codes "1" ∷ codes "--from" ∷ codes "x" ∷ codes "--journal" ∷ codes "j" ∷ []
+
+noted_is : (takes jdf noted ≡ true) × (name_in (subcommand_of jdf noted) ≡ Some (codes "order")) × (file_in (subcommand_of jdf noted) ≡ Some (codes "mis"))
+    × (at_in (subcommand_of jdf noted) ≡ Some 1) × (text_in (codes "send") (subcommand_of jdf noted) ≡ None)
+    × (text_in (codes "from") (subcommand_of jdf noted) ≡ Some (codes "x")) × (text_in (codes "journal") (subcommand_of jdf noted) ≡ Some (codes "j"))
+unfolding jdf clap_on_literals
+noted_is = (refl, refl, refl, refl, refl, refl, refl)
+
 -- N may stand before FILE, and go up to the last second
 abbrev last : List Text
 last = codes "order" ∷ codes "--at=9999999999" ∷ codes "job.json" ∷ []
@@ -66,6 +86,23 @@ take_is : (takes jdf take ≡ true) × (name_in (subcommand_of jdf take) ≡ Som
     × (at_in (subcommand_of jdf take) ≡ Some 5)
 unfolding jdf clap_on_literals
 take_is = (refl, refl, refl, refl)
+
+-- a dash is a path as any other
+abbrev taken_from : List Text
+taken_from = codes "take" ∷ codes "--from=-" ∷ codes "--journal=j" ∷ codes "job.json" ∷ codes "--at" ∷ codes "5" ∷ []
+
+taken_from_is : (takes jdf taken_from ≡ true) × (file_in (subcommand_of jdf taken_from) ≡ Some (codes "job.json"))
+    × (text_in (codes "from") (subcommand_of jdf taken_from) ≡ Some (codes "-")) × (text_in (codes "journal") (subcommand_of jdf taken_from) ≡ Some (codes "j"))
+unfolding jdf clap_on_literals
+taken_from_is = (refl, refl, refl, refl)
+
+abbrev new_from : List Text
+new_from = codes "new" ∷ codes "--from" ∷ codes "-" ∷ codes "job.json" ∷ []
+
+new_from_is : (takes jdf new_from ≡ true) × (file_in (subcommand_of jdf new_from) ≡ Some (codes "job.json"))
+    × (text_in (codes "from") (subcommand_of jdf new_from) ≡ Some (codes "-"))
+unfolding jdf clap_on_literals
+new_from_is = (refl, refl, refl)
 
 abbrev show : List Text
 show = codes "show" ∷ codes "job.json" ∷ []
@@ -98,6 +135,26 @@ checked_is : (takes jdf checked ≡ true) × (text_in (codes "KIND") (subcommand
 unfolding jdf clap_on_literals
 checked_is = (refl, refl, refl)
 
+abbrev explain : List Text
+explain = codes "explain" ∷ codes "41" ∷ []
+
+explain_is : (takes jdf explain ≡ true) × (name_in (subcommand_of jdf explain) ≡ Some (codes "explain")) × (text_in (codes "N") (subcommand_of jdf explain) ≡ Some (codes "41"))
+unfolding jdf clap_on_literals
+explain_is = (refl, refl, refl)
+
+-- the version and help, which are no calls; of `help` clap says no more than one of two kinds
+version_is : fault_of jdf (codes "--version" ∷ []) ≡ DisplayVersion ∷ []
+unfolding jdf clap_on_literals
+version_is = refl
+
+help_is : fault_of jdf (codes "help" ∷ []) ≡ DisplayHelp ∷ InvalidSubcommand ∷ []
+unfolding jdf clap_on_literals
+help_is = refl
+
+help_of_one_is : fault_of jdf (codes "help" ∷ codes "check" ∷ []) ≡ DisplayHelp ∷ InvalidSubcommand ∷ []
+unfolding jdf clap_on_literals
+help_of_one_is = refl
+
 abbrev serve : List Text
 serve = codes "serve" ∷ codes "job.json" ∷ codes "--listen" ∷ codes "h:1" ∷ []
 
@@ -110,12 +167,15 @@ serve_is = (refl, refl, refl, refl, refl, refl, refl, refl, refl)
 
 -- where other controllers are, and what tells who sends
 abbrev known_to : List Text
-known_to = codes "serve" ∷ codes "house" ∷ codes "--listen=h:1" ∷ codes "--peers" ∷ codes "peers.json" ∷ codes "--sender-field=X-Sender" ∷ []
+known_to = codes "serve" ∷ codes "house" ∷ codes "--listen=h:1" ∷ codes "--peers" ∷ codes "peers.json" ∷ codes "--sender-field=X-Sender"
+    ∷ codes "--journal=j" ∷ codes "--page" ∷ codes "h:2" ∷ codes "--orders=o" ∷ []
 
 known_to_is : (takes jdf known_to ≡ true) × (file_in (subcommand_of jdf known_to) ≡ Some (codes "house"))
     × (text_in (codes "peers") (subcommand_of jdf known_to) ≡ Some (codes "peers.json")) × (text_in (codes "sender-field") (subcommand_of jdf known_to) ≡ Some (codes "X-Sender"))
+    × (text_in (codes "journal") (subcommand_of jdf known_to) ≡ Some (codes "j")) × (text_in (codes "page") (subcommand_of jdf known_to) ≡ Some (codes "h:2"))
+    × (text_in (codes "orders") (subcommand_of jdf known_to) ≡ Some (codes "o"))
 unfolding jdf clap_on_literals
-known_to_is = (refl, refl, refl, refl)
+known_to_is = (refl, refl, refl, refl, refl, refl, refl)
 
 -- options may stand before FILE, and the longest time goes up to an hour
 abbrev bounded : List Text
@@ -151,6 +211,14 @@ send_is : (takes jdf send ≡ true) × (name_in (subcommand_of jdf send) ≡ Som
 unfolding jdf clap_on_literals
 send_is = (refl, refl, refl, refl)
 
+-- a dash is a path here too
+abbrev dashed : List Text
+dashed = codes "send" ∷ codes "http://h/jmf" ∷ codes "-" ∷ []
+
+dashed_is : (takes jdf dashed ≡ true) × (file_in (subcommand_of jdf dashed) ≡ Some (codes "-"))
+unfolding jdf clap_on_literals
+dashed_is = (refl, refl)
+
 abbrev piped : List Text
 piped = codes "send" ∷ codes "http://h/jmf" ∷ []
 
@@ -179,6 +247,14 @@ no_number = refl
 twice_drawn : takes jdf (codes "show" ∷ codes "job.json" ∷ codes "--picture" ∷ codes "--picture" ∷ []) ≡ false
 unfolding jdf clap_on_literals
 twice_drawn = refl
+
+no_input_of_show : takes jdf (codes "show" ∷ codes "job.json" ∷ codes "--from" ∷ codes "x" ∷ []) ≡ false
+unfolding jdf clap_on_literals
+no_input_of_show = refl
+
+no_journal_of_new : takes jdf (codes "new" ∷ codes "job.json" ∷ codes "--journal" ∷ codes "j" ∷ []) ≡ false
+unfolding jdf clap_on_literals
+no_journal_of_new = refl
 
 no_file : takes jdf (codes "show" ∷ []) ≡ false
 unfolding jdf clap_on_literals

@@ -9,13 +9,16 @@ use Rattle.std.specs.Str.Parse.{digits_value, without_leading_plus}
 use Rattle.clap.specs.Kinds.{IsAmong, Kinds}
 use Rattle.clap.specs.Words.{IsUnsignedIn, Row, Text, first_of, kind_of, one_of}
 use Rattle.clap.specs.declared.error.Error.{Error}
+use Rattle.clap.specs.declared.error.kind.ErrorKind.{ErrorKind}
+use Rattle.clap.specs.declared.error.kind.ErrorKind.TheVariants.{DisplayHelp, DisplayVersion}
 use Rattle.clap.specs.declared.error.kind.ErrorKind.TheVariants.{OutOfMemory}
 use Rattle.jdf_words.specs.declared.call.Call.{Call}
 use Rattle.jdf_words.specs.declared.call.Call.TheVariants.{Edit, World, Loop}
 use Rattle.jdf_words.specs.declared.call.Call.TheVariants.{New, Order, Take, Show, Serve, Send}
-use Rattle.jdf_words.specs.declared.call.Call.TheVariants.{Check, SendOrder}
+use Rattle.jdf_words.specs.declared.call.Call.TheVariants.{Check, Explain, SendOrder, Listing}
 use Rattle.jdf_words.specs.declared.call_fault.CallFault.{CallFault}
 use Rattle.jdf_words.specs.declared.call_fault.CallFault.TheVariants.{Clap, Memory}
+use Rattle.jdf_words.specs.declared.invocation.Invocation.{Invocation}
 use Rattle.jdf_words.specs.declared.serve_limits.ServeLimits.{ServeLimits}
 
 -- the name of the command that was found
@@ -57,6 +60,11 @@ abbrev pub IsTimed : Text → Text → ℕ → Option (Text × List Row) → Typ
 IsTimed name file at found = (name_in found ≡ Some name) × (file_in found ≡ Some file)
     × (at_in found ≡ Some at) × (at ≤ 9999999999)
 
+-- the same, at the N that is among them, if it is
+abbrev pub IsSeen : Text → Text → Option ℕ → Option (Text × List Row) → Type 0
+IsSeen name file at found = (name_in found ≡ Some name) × (file_in found ≡ Some file)
+    × (at ≡ at_in found) × IfSome at (λ n. n ≤ 9999999999)
+
 -- the number is that of an option, or this other where it isn't there, and within bounds
 abbrev pub IsNumberOr : Text → ℕ → ℕ → ℕ → ℕ → Option (Text × List Row) → Type 0
 IsNumberOr id otherwise low high number found =
@@ -87,16 +95,21 @@ IsSend url file found = (name_in found ≡ Some (codes "send"))
 -- a command that wants FILE, and N
 abbrev pub wants_file : Text → Bool
 wants_file name = list_any (bytes_eq name)
-    (codes "new" ∷ codes "order" ∷ codes "take" ∷ codes "show" ∷ codes "serve" ∷ [])
+    (codes "new" ∷ codes "order" ∷ codes "take" ∷ codes "show" ∷ codes "serve" ∷ codes "list"
+    ∷ [])
 
 abbrev pub wants_at : Text → Bool
 wants_at name = list_any (bytes_eq name) (codes "order" ∷ codes "take" ∷ [])
 
+-- a command that takes N, and else looks at the clock
+abbrev pub takes_at : Text → Bool
+takes_at name = list_any (bytes_eq name) (codes "show" ∷ codes "list" ∷ [])
+
 -- one of the commands
 abbrev pub is_command : Text → Bool
 is_command name = list_any (bytes_eq name)
-    (codes "edit" ∷ codes "world" ∷ codes "loop" ∷ codes "check" ∷ codes "send" ∷ [])
-    || wants_file name
+    (codes "edit" ∷ codes "world" ∷ codes "loop" ∷ codes "check" ∷ codes "explain"
+    ∷ codes "send" ∷ []) || wants_file name
 
 -- an argument of this name is among those that were found; FILE is
 abbrev pub HasText : Text → List Row → Type 0
@@ -113,6 +126,10 @@ IsWithin id low high rows = IfSome (one_of id rows) (IsUnsignedIn low high)
 abbrev pub HasAt : List Row → Type 0
 HasAt rows = IsSomeAnd (one_of (codes "at") rows) (IsUnsignedIn 0 9999999999)
 
+-- N isn't among them, or is a time
+abbrev pub MayHaveAt : List Row → Type 0
+MayHaveAt = IsWithin (codes "at") 0 9999999999
+
 -- what `serve` wants beside FILE is among them
 pub record HasServing (rows : List Row) : Type 0 where
   pub listen : HasText (codes "listen") rows
@@ -127,8 +144,10 @@ pub record IsCall (found : Text × List Row) : Type 0 where
   pub command : is_command found.0 ≡ true
   pub file : wants_file found.0 ≡ true → HasFile found.1
   pub at : wants_at found.0 ≡ true → HasAt found.1
+  pub moment : takes_at found.0 ≡ true → MayHaveAt found.1
   pub serving : bytes_eq found.0 (codes "serve") ≡ true → HasServing found.1
   pub url : bytes_eq found.0 (codes "send") ≡ true → HasText (codes "URL") found.1
+  pub number : bytes_eq found.0 (codes "explain") ≡ true → HasText (codes "N") found.1
 
 -- the call is what was found: the name of the command and its arguments
 abbrev pub Means : Call → Option (Text × List Row) → Type 0
@@ -142,16 +161,34 @@ Means (Order file at) found =
 Means (SendOrder file at url) found =
     IsTimed (codes "order") file.now at found × (text_in (codes "send") found ≡ Some url.now)
 Means (Take file at) found = IsTimed (codes "take") file.now at found
-Means (Show file picture) found =
-    (name_in found ≡ Some (codes "show")) × (file_in found ≡ Some file.now)
-    × (picture ≡ is_set_in (codes "picture") found)
+Means (Show file picture at) found =
+    IsSeen (codes "show") file.now at found × (picture ≡ is_set_in (codes "picture") found)
 Means (Check kind all) found = (name_in found ≡ Some (codes "check"))
     × (text_in (codes "KIND") found ≡ option_map (λ word. word.now) kind)
     × (all ≡ is_set_in (codes "all") found)
+Means (Listing file at is_open is_json) found =
+    IsSeen (codes "list") file.now at found × (is_open ≡ is_set_in (codes "open") found)
+    × (is_json ≡ is_set_in (codes "json") found)
+Means (Explain number) found = (name_in found ≡ Some (codes "explain"))
+    × (text_in (codes "N") found ≡ Some number.now)
 Means (Serve file listen limits requests peers field) found =
     IsServe file.now listen.now limits requests (option_map (λ path. path.now) peers)
     (option_map (λ name. name.now) field) found
 Means (Send url file) found = IsSend url.now (option_map (λ path. path.now) file) found
+
+-- the call is what was found, and the paths and the address are the words behind `--from`,
+-- `--journal` and `--page` where they are there
+pub record IsInvocation (i : Invocation) (found : Option (Text × List Row)) : Type 0 where
+  pub call : Means i.call found
+  pub from : text_in (codes "from") found ≡ option_map (λ path. path.now) i.from
+  pub journal : text_in (codes "journal") found ≡ option_map (λ path. path.now) i.journal
+  pub page : text_in (codes "page") found ≡ option_map (λ address. address.now) i.page
+  pub orders : text_in (codes "orders") found ≡ option_map (λ path. path.now) i.orders
+
+-- `edit` from standard input, with no journal and no page
+abbrev pub IsEdit : Invocation → Type 0
+IsEdit i =
+    (i.call ≡ Edit) × (i.from ≡ None) × (i.journal ≡ None) × (i.page ≡ None) × (i.orders ≡ None)
 
 -- the fault says what clap's error says: that memory ran out, or else that error itself
 abbrev pub TellsOf : Error → CallFault → Type 0
@@ -162,6 +199,12 @@ TellsOf e fault = (kind_of e ≡ OutOfMemory → fault ≡ Memory)
 abbrev pub Tells : Kinds → CallFault → Type 0
 Tells kinds (Clap e) = IsAmong (kind_of e) kinds × (kind_of e ≢ OutOfMemory)
 Tells kinds Memory = ⊤
+
+-- whether what clap answers words with is what they ask for: the version, or help by `help`
+abbrev pub is_asked : List Text → ErrorKind → Bool
+is_asked words DisplayVersion = true
+is_asked (word ∷ words) DisplayHelp = bytes_eq word (codes "help")
+is_asked words kind = false
 
 -- the line that is printed where memory ran out; of clap's texts nothing is said
 abbrev pub fault_text : CallFault → Option Text

@@ -26,18 +26,45 @@ at_rule = record (number_rule (codes "at") 0 9999999999) { required = true }
 abbrev pub send_rule : Rule
 send_rule = option_rule (codes "send")
 
--- what `order` takes
+-- `--from INPUT` and `--journal JOURNAL`, any text
+abbrev pub from_rule : Rule
+from_rule = option_rule (codes "from")
+
+abbrev pub journal_rule : Rule
+journal_rule = option_rule (codes "journal")
+
+-- what `edit`, `new`, `order` and `take` take
+abbrev pub edit_rules : List Rule
+edit_rules = from_rule ∷ []
+
+abbrev pub new_rules : List Rule
+new_rules = file_rule ∷ from_rule ∷ []
+
 abbrev pub order_rules : List Rule
-order_rules = file_rule ∷ at_rule ∷ send_rule ∷ []
+order_rules = file_rule ∷ at_rule ∷ send_rule ∷ from_rule ∷ journal_rule ∷ []
+
+abbrev pub take_rules : List Rule
+take_rules = file_rule ∷ at_rule ∷ from_rule ∷ journal_rule ∷ []
+
+-- an option `--name`, which takes nothing
+abbrev pub flag_rule : Text → Rule
+flag_rule name = record (new_rule name) { long = Some name; action = Some SetTrue }
 
 -- `--picture`
 abbrev pub picture_rule : Rule
-picture_rule =
-    record (new_rule (codes "picture")) { long = Some (codes "picture"); action = Some SetTrue }
+picture_rule = flag_rule (codes "picture")
+
+-- `--at N`, which may be there: the same number
+abbrev pub moment_rule : Rule
+moment_rule = number_rule (codes "at") 0 9999999999
 
 -- what `show` takes
 abbrev pub show_rules : List Rule
-show_rules = file_rule ∷ picture_rule ∷ []
+show_rules = file_rule ∷ picture_rule ∷ moment_rule ∷ []
+
+-- what `list` takes
+abbrev pub list_rules : List Rule
+list_rules = file_rule ∷ moment_rule ∷ flag_rule (codes "open") ∷ flag_rule (codes "json") ∷ []
 
 -- KIND, any text
 abbrev pub kind_rule : Rule
@@ -45,11 +72,15 @@ kind_rule = new_rule (codes "KIND")
 
 -- `--all`
 abbrev pub all_rule : Rule
-all_rule = record (new_rule (codes "all")) { long = Some (codes "all"); action = Some SetTrue }
+all_rule = flag_rule (codes "all")
 
 -- what `check` takes
 abbrev pub check_rules : List Rule
 check_rules = kind_rule ∷ all_rule ∷ []
+
+-- N, any text, which has to be there
+abbrev pub refusal_rule : Rule
+refusal_rule = record (new_rule (codes "N")) { required = true }
 
 -- `--listen ADDR`, any text, which has to be there
 abbrev pub listen_rule : Rule
@@ -83,10 +114,19 @@ peers_rule = option_rule (codes "peers")
 abbrev pub sender_field_rule : Rule
 sender_field_rule = option_rule (codes "sender-field")
 
+-- `--page ADDR`, any text
+abbrev pub page_rule : Rule
+page_rule = option_rule (codes "page")
+
+-- `--orders SOCKET`, any text
+abbrev pub orders_rule : Rule
+orders_rule = option_rule (codes "orders")
+
 -- what `serve` takes
 abbrev pub serve_rules : List Rule
 serve_rules = file_rule ∷ listen_rule ∷ limit_rule ∷ clients_rule ∷ body_rule ∷ memory_rule
-    ∷ requests_rule ∷ peers_rule ∷ sender_field_rule ∷ []
+    ∷ requests_rule ∷ peers_rule ∷ sender_field_rule ∷ journal_rule ∷ page_rule ∷ orders_rule
+    ∷ []
 
 -- URL, any text, which has to be there
 abbrev pub url_rule : Rule
@@ -108,25 +148,29 @@ command name arguments = record (new_shape name) { rules = arguments }
 abbrev pub alone : Shape → App
 alone of_name = record { top = of_name; subs = [] }
 
--- the program before it has commands: its words come without its name, and name a command
+-- the program before it has commands: its words come without its name, and name a command; it
+-- tells its version
 abbrev pub bare : App
 bare = alone (record (new_shape (codes "jdf_cli")) {
   no_binary_name = true;
   subcommand_required = true;
+  has_version = true;
 })
 
 -- the program, with its commands
 unfoldable pub jdf : App
 jdf = record {
   top = record bare.top { is_leaf = false };
-  subs = command (codes "edit") []
+  subs = command (codes "edit") edit_rules
       ∷ command (codes "world") []
       ∷ command (codes "loop") []
-      ∷ command (codes "new") (file_rule ∷ [])
+      ∷ command (codes "new") new_rules
       ∷ command (codes "order") order_rules
-      ∷ command (codes "take") (file_rule ∷ at_rule ∷ [])
+      ∷ command (codes "take") take_rules
       ∷ command (codes "show") show_rules
+      ∷ command (codes "list") list_rules
       ∷ command (codes "check") check_rules
+      ∷ command (codes "explain") (refusal_rule ∷ [])
       ∷ command (codes "serve") serve_rules
       ∷ command (codes "send") send_rules
       ∷ [];

@@ -45,6 +45,20 @@ pub enum Call<'a> {
         file: &'a str,
         /// Whether a picture is wanted.
         picture: bool,
+        /// The time at which it is drawn, in seconds since 1970. `None`: that of the clock.
+        at: Option<u64>,
+    },
+    /// A list of the work of the controller that is kept in a file, or of each that is kept in a
+    /// folder.
+    Listing {
+        /// The path of the file or of the folder.
+        file: &'a str,
+        /// The time of the list, in seconds since 1970. `None`: that of the clock.
+        at: Option<u64>,
+        /// Whether only what is open is wanted.
+        is_open: bool,
+        /// Whether it is wanted as JSON.
+        is_json: bool,
     },
     /// A look for what is wrong with a document, which comes on standard input.
     Check {
@@ -52,6 +66,11 @@ pub enum Call<'a> {
         kind: Option<&'a str>,
         /// Whether all that is wrong is to be told.
         all: bool,
+    },
+    /// A look at what a refusal means.
+    Explain {
+        /// The refusal's number.
+        number: &'a str,
     },
     /// The controller that is kept in a file, which answers over the network.
     Serve {

@@ -3,12 +3,15 @@
 ghost use Rattle.std.specs.Prelude.{◌≡◌, [], ◌∷◌, IfOk, Some, codes, false, true};
 ghost use Rattle.clap.specs.Words.{App, Shape, app_of, rule_of, with_subcommand};
 ghost use Rattle.jdf_words.specs.Commands.{all_rule, alone, at_rule, bare, body_rule, check_rules};
-ghost use Rattle.jdf_words.specs.Commands.{clients_rule, command, kind_rule};
-ghost use Rattle.jdf_words.specs.Commands.{file_rule, jdf, limit_rule, listen_rule, memory_rule};
-ghost use Rattle.jdf_words.specs.Commands.{message_rule, option_rule, order_rules, peers_rule};
-ghost use Rattle.jdf_words.specs.Commands.{picture_rule, sender_field_rule};
-ghost use Rattle.jdf_words.specs.Commands.{requests_rule, send_rule, send_rules, serve_rules};
-ghost use Rattle.jdf_words.specs.Commands.{show_rules, url_rule};
+ghost use Rattle.jdf_words.specs.Commands.{clients_rule, command, edit_rules, file_rule, flag_rule};
+ghost use Rattle.jdf_words.specs.Commands.{from_rule, jdf, journal_rule, kind_rule, limit_rule};
+ghost use Rattle.jdf_words.specs.Commands.{list_rules, listen_rule, memory_rule, message_rule};
+ghost use Rattle.jdf_words.specs.Commands.{moment_rule, new_rules, option_rule, order_rules};
+ghost use Rattle.jdf_words.specs.Commands.{orders_rule};
+ghost use Rattle.jdf_words.specs.Commands.{page_rule, peers_rule, picture_rule, refusal_rule};
+ghost use Rattle.jdf_words.specs.Commands.{requests_rule, send_rule, send_rules};
+ghost use Rattle.jdf_words.specs.Commands.{sender_field_rule, serve_rules, show_rules, take_rules};
+ghost use Rattle.jdf_words.specs.Commands.{url_rule};
 
 use crate::help::{self, Help};
 use clap::builder::ValueParser;
@@ -63,15 +66,57 @@ fn send_argument<'a>(alloc: Global) -> Arg<'a>
     )
 }
 
+/// `--from INPUT`.
+fn from_argument<'a>(alloc: Global) -> Arg<'a>
+    ensures rule { rule_of result ≡ from_rule }
+    ensures local { result.global ≡ false }
+{
+    Arg::new(alloc, "from")
+        .long("from")
+        .value_name("INPUT")
+        .help("The file to read in place of standard input; - is standard input")
+}
+
+/// `--journal JOURNAL`.
+fn journal_argument<'a>(alloc: Global) -> Arg<'a>
+    ensures rule { rule_of result ≡ journal_rule }
+    ensures local { result.global ≡ false }
+{
+    Arg::new(alloc, "journal")
+        .long("journal")
+        .value_name("JOURNAL")
+        .help("The file that gets a line for each step")
+}
+
+/// An option that takes nothing.
+fn flag_argument<'a>(alloc: Global, name: &'a str, help: &'a str) -> Arg<'a>
+    ensures rule { rule_of result ≡ flag_rule name.entry.now }
+    ensures local { result.global ≡ false }
+{
+    Arg::new(alloc, name)
+        .long(name)
+        .action(ArgAction::SetTrue)
+        .help(help)
+}
+
 /// `--picture`.
 fn picture_argument<'a>(alloc: Global) -> Arg<'a>
     ensures rule { rule_of result ≡ picture_rule }
     ensures local { result.global ≡ false }
 {
-    Arg::new(alloc, "picture")
-        .long("picture")
-        .action(ArgAction::SetTrue)
-        .help("Prints a picture, as SVG")
+    flag_argument(alloc, "picture", "Prints a picture, as SVG")
+}
+
+/// `--at N`, which may be there.
+fn moment_argument<'a>(alloc: Global) -> Arg<'a>
+    ensures rule { rule_of result ≡ moment_rule }
+    ensures local { result.global ≡ false }
+{
+    let parser = clap::value_parser!(u64).range(0..=9_999_999_999);
+    number_argument(alloc, "at", "N", parser).help(
+        "The time that spans are counted to, in whole seconds since 1970; the clock's if none\n\
+        is named",
+    )
 }
 
 /// KIND, which may be there.
@@ -90,10 +135,21 @@ fn all_argument<'a>(alloc: Global) -> Arg<'a>
     ensures rule { rule_of result ≡ all_rule }
     ensures local { result.global ≡ false }
 {
-    Arg::new(alloc, "all")
-        .long("all")
-        .action(ArgAction::SetTrue)
-        .help("Prints each place that is wrong, and not the first alone")
+    flag_argument(
+        alloc,
+        "all",
+        "Prints each place that is wrong, and not the first alone",
+    )
+}
+
+/// N, which has to be there.
+fn refusal_argument<'a>(alloc: Global) -> Arg<'a>
+    ensures rule { rule_of result ≡ refusal_rule }
+    ensures local { result.global ≡ false }
+{
+    Arg::new(alloc, "N")
+        .required(true)
+        .help("The refusal's number")
 }
 
 /// `--listen ADDR`, which has to be there.
@@ -186,6 +242,27 @@ fn sender_field_argument<'a>(alloc: Global) -> Arg<'a>
         .help("The header field in which a proxy tells who sends; another's messages are refused")
 }
 
+/// `--page ADDR`.
+fn page_argument<'a>(alloc: Global) -> Arg<'a>
+    ensures rule { rule_of result ≡ page_rule }
+    ensures local { result.global ≡ false }
+{
+    Arg::new(alloc, "page").long("page").value_name("ADDR").help(
+        "The address of the page on which people see what is where: host and port, or a port",
+    )
+}
+
+/// `--orders SOCKET`.
+fn orders_argument<'a>(alloc: Global) -> Arg<'a>
+    ensures rule { rule_of result ≡ orders_rule }
+    ensures local { result.global ≡ false }
+{
+    Arg::new(alloc, "orders")
+        .long("orders")
+        .value_name("SOCKET")
+        .help("The path of a local socket over which its owner gives orders")
+}
+
 /// URL, which has to be there.
 fn url_argument<'a>(alloc: Global) -> Arg<'a>
     ensures rule { rule_of result ≡ url_rule }
@@ -201,7 +278,9 @@ fn message_argument<'a>(alloc: Global) -> Arg<'a>
     ensures rule { rule_of result ≡ message_rule }
     ensures local { result.global ≡ false }
 {
-    Arg::new(alloc, "FILE").help("The file that the message is in; standard input if none is named")
+    Arg::new(alloc, "FILE").help(
+        "The file that the message is in; standard input if none is named, or if it is -",
+    )
 }
 
 /// A command with no argument.
@@ -230,18 +309,58 @@ fn timed_command<'a>(alloc: Global, name: &'a str, help: Help) -> Result<Command
     file_command(alloc, name, help)?.arg(at_argument(alloc))
 }
 
+/// The command that edits a ticket.
+fn edit_command<'a>(alloc: Global) -> Result<Command<'a>, AllocError>
+    ensures { IfOk result (λ made. app_of made ≡ alone (command (codes "edit") edit_rules)) }
+{
+    plain_command(alloc, "edit", help::EDIT).arg(from_argument(alloc))
+}
+
+/// The command that begins a controller.
+fn new_command<'a>(alloc: Global) -> Result<Command<'a>, AllocError>
+    ensures { IfOk result (λ made. app_of made ≡ alone (command (codes "new") new_rules)) }
+{
+    file_command(alloc, "new", help::NEW)?.arg(from_argument(alloc))
+}
+
 /// The command that gives an order.
 fn order_command<'a>(alloc: Global) -> Result<Command<'a>, AllocError>
     ensures { IfOk result (λ made. app_of made ≡ alone (command (codes "order") order_rules)) }
 {
-    timed_command(alloc, "order", help::ORDER)?.arg(send_argument(alloc))
+    timed_command(alloc, "order", help::ORDER)?
+        .arg(send_argument(alloc))?
+        .arg(from_argument(alloc))?
+        .arg(journal_argument(alloc))
+}
+
+/// The command that hands over a message.
+fn take_command<'a>(alloc: Global) -> Result<Command<'a>, AllocError>
+    ensures { IfOk result (λ made. app_of made ≡ alone (command (codes "take") take_rules)) }
+{
+    timed_command(alloc, "take", help::TAKE)?
+        .arg(from_argument(alloc))?
+        .arg(journal_argument(alloc))
 }
 
 /// The command that shows a FILE.
 fn show_command<'a>(alloc: Global) -> Result<Command<'a>, AllocError>
     ensures { IfOk result (λ made. app_of made ≡ alone (command (codes "show") show_rules)) }
 {
-    file_command(alloc, "show", help::SHOW)?.arg(picture_argument(alloc))
+    file_command(alloc, "show", help::SHOW)?
+        .arg(picture_argument(alloc))?
+        .arg(moment_argument(alloc))
+}
+
+/// The command that lists what is out.
+fn list_command<'a>(alloc: Global) -> Result<Command<'a>, AllocError>
+    ensures { IfOk result (λ made. app_of made ≡ alone (command (codes "list") list_rules)) }
+{
+    let open = flag_argument(alloc, "open", "Lists only what is open");
+    let json = flag_argument(alloc, "json", "Prints JSON, one value on each line");
+    file_command(alloc, "list", help::LIST)?
+        .arg(moment_argument(alloc))?
+        .arg(open)?
+        .arg(json)
 }
 
 /// The command that checks a document.
@@ -251,6 +370,14 @@ fn check_command<'a>(alloc: Global) -> Result<Command<'a>, AllocError>
     plain_command(alloc, "check", help::CHECK)
         .arg(kind_argument(alloc))?
         .arg(all_argument(alloc))
+}
+
+/// The command that explains a refusal.
+fn explain_command<'a>(alloc: Global) -> Result<Command<'a>, AllocError>
+    ensures { IfOk result (λ made. app_of made
+        ≡ alone (command (codes "explain") (refusal_rule ∷ []))) }
+{
+    plain_command(alloc, "explain", help::EXPLAIN).arg(refusal_argument(alloc))
 }
 
 /// The command that serves a FILE.
@@ -265,7 +392,10 @@ fn serve_command<'a>(alloc: Global) -> Result<Command<'a>, AllocError>
         .arg(memory_argument(alloc))?
         .arg(requests_argument(alloc))?
         .arg(peers_argument(alloc))?
-        .arg(sender_field_argument(alloc))
+        .arg(sender_field_argument(alloc))?
+        .arg(journal_argument(alloc))?
+        .arg(page_argument(alloc))?
+        .arg(orders_argument(alloc))
 }
 
 /// The command that sends to a URL.
@@ -277,12 +407,14 @@ fn send_command<'a>(alloc: Global) -> Result<Command<'a>, AllocError>
         .arg(message_argument(alloc))
 }
 
-/// The program before it has commands: its words come without its name, and name a command.
+/// The program before it has commands: its words come without its name, and name a command; it
+/// tells its version.
 fn bare<'a>(alloc: Global) -> Result<Command<'a>, AllocError>
     ensures { IfOk result (λ made. app_of made ≡ bare) }
 {
     Command::new(alloc, "jdf_cli")
         .about(help::PROGRAM)
+        .version(help::VERSION)
         .after_help(help::EXAMPLES)
         .no_binary_name(true)
         .subcommand_required(true)
@@ -306,14 +438,16 @@ fn with_command<'a>(
 pub(crate) fn jdf<'a>(alloc: Global) -> Result<Command<'a>, AllocError>
     ensures { IfOk result (λ made. app_of made ≡ jdf) }
 {
-    let program = with_command(bare(alloc), Ok(plain_command(alloc, "edit", help::EDIT)));
+    let program = with_command(bare(alloc), edit_command(alloc));
     let program = with_command(program, Ok(plain_command(alloc, "world", help::WORLD)));
     let program = with_command(program, Ok(plain_command(alloc, "loop", help::LOOP)));
-    let program = with_command(program, file_command(alloc, "new", help::NEW));
+    let program = with_command(program, new_command(alloc));
     let program = with_command(program, order_command(alloc));
-    let program = with_command(program, timed_command(alloc, "take", help::TAKE));
+    let program = with_command(program, take_command(alloc));
     let program = with_command(program, show_command(alloc));
+    let program = with_command(program, list_command(alloc));
     let program = with_command(program, check_command(alloc));
+    let program = with_command(program, explain_command(alloc));
     let program = with_command(program, serve_command(alloc));
     with_command(program, send_command(alloc))
 }

@@ -1,14 +1,18 @@
 //! What the words of the command line of `jdf_cli` mean, read by `clap`.
 #![tactic(auto)]
 
+mod asked;
 mod call;
 mod call_fault;
 mod commands;
 mod help;
+mod invocation;
 mod reading;
 mod serve_limits;
 
+pub use asked::is_asked;
 pub use call::Call;
 pub use call_fault::CallFault;
+pub use invocation::Invocation;
 pub use reading::command_of;
 pub use serve_limits::ServeLimits;

@@ -6,14 +6,15 @@ ghost use Rattle.clap.specs.Words.{fault_of, found_of, rows_of, subcommand_of, s
 ghost use Rattle.clap.specs.Words.{first_of, one_of, takes};
 ghost use Rattle.jdf_words.specs.Calls as calls;
 ghost use Rattle.jdf_words.specs.Calls.{AreLimits, HasAt, HasFile, HasServing, HasText, IsCall};
-ghost use Rattle.jdf_words.specs.Calls.{IsNumberOr, IsWithin, Means, ReadsNumber, Tells, number_of};
+ghost use Rattle.jdf_words.specs.Calls.{IsEdit, IsInvocation, IsNumberOr, IsWithin, MayHaveAt};
+ghost use Rattle.jdf_words.specs.Calls.{Means, ReadsNumber, Tells, number_of};
 ghost use Rattle.jdf_words.specs.Commands.{jdf};
-ghost use Rattle.jdf_words.specs.declared.call.Call.TheVariants.{Edit};
 ghost use Rattle.jdf_words.specs.declared.call_fault.CallFault.TheVariants.{Memory};
 
 use crate::call::Call;
 use crate::call_fault::CallFault;
 use crate::commands;
+use crate::invocation::Invocation;
 use crate::serve_limits::ServeLimits;
 use clap::ArgMatches;
 use std::alloc::Global;
@@ -118,6 +119,16 @@ fn check_of<'a>(found: &ArgMatches<'a>) -> Call<'a>
     }
 }
 
+/// The call of `explain` with these arguments.
+fn explain_of<'a>(found: &ArgMatches<'a>) -> Call<'a>
+    requires { HasText (codes "N") (rows_of (found_of found.now)) }
+    ensures { Means result (Some (codes "explain", rows_of (found_of found.now))) }
+{
+    Call::Explain {
+        number: text_in(found, "N").unwrap(),
+    }
+}
+
 /// The call of `serve` with these arguments.
 fn serve_of<'a>(found: &ArgMatches<'a>) -> Call<'a>
     requires file { HasFile (rows_of (found_of found.now)) }
@@ -145,6 +156,43 @@ fn send_of<'a>(found: &ArgMatches<'a>) -> Call<'a>
     }
 }
 
+/// N among the arguments that were found, where it is there.
+fn moment_in(found: &ArgMatches<'_>) -> Option<u64>
+    requires { MayHaveAt (rows_of (found_of found.now)) }
+    ensures number { result
+        ≡ option_map number_of (one_of (codes "at") (rows_of (found_of found.now))) }
+    ensures time { IfSome result (λ n. n ≤ 9999999999) }
+{
+    number_in(found, "at")
+}
+
+/// The call of `show` with these arguments.
+fn show_of<'a>(found: &ArgMatches<'a>) -> Call<'a>
+    requires file { HasFile (rows_of (found_of found.now)) }
+    requires at { MayHaveAt (rows_of (found_of found.now)) }
+    ensures { Means result (Some (codes "show", rows_of (found_of found.now))) }
+{
+    Call::Show {
+        file: file_in(found),
+        picture: is_set(found, "picture"),
+        at: moment_in(found),
+    }
+}
+
+/// The call of `list` with these arguments.
+fn list_of<'a>(found: &ArgMatches<'a>) -> Call<'a>
+    requires file { HasFile (rows_of (found_of found.now)) }
+    requires at { MayHaveAt (rows_of (found_of found.now)) }
+    ensures { Means result (Some (codes "list", rows_of (found_of found.now))) }
+{
+    Call::Listing {
+        file: file_in(found),
+        at: moment_in(found),
+        is_open: is_set(found, "open"),
+        is_json: is_set(found, "json"),
+    }
+}
+
 /// The call for the command of this name with these arguments.
 fn call_of<'a>(name: &str, found: &ArgMatches<'a>) -> Call<'a>
     requires { IsCall (name.now, rows_of (found_of found.now)) }
@@ -162,40 +210,52 @@ fn call_of<'a>(name: &str, found: &ArgMatches<'a>) -> Call<'a>
             file: file_in(found),
             at: at_in(found),
         },
-        "show" => Call::Show {
-            file: file_in(found),
-            picture: is_set(found, "picture"),
-        },
+        "show" => show_of(found),
         "check" => check_of(found),
+        "explain" => explain_of(found),
         "serve" => serve_of(found),
         "send" => send_of(found),
+        "list" => list_of(found),
         _ => unreachable!(),
     }
 }
 
-/// The call for the command that was found.
-fn call_in<'a>(matches: &ArgMatches<'a>) -> Call<'a>
+/// The call for the command that was found, and its paths.
+fn invocation_in<'a>(matches: &ArgMatches<'a>) -> Invocation<'a>
     requires { IsSomeAnd (subcommand_rows_of matches.now) IsCall }
-    ensures { Means result (subcommand_rows_of matches.now) }
+    ensures { IsInvocation result (subcommand_rows_of matches.now) }
 {
     let (name, found) = matches.subcommand().unwrap();
-    call_of(name, found)
+    Invocation {
+        call: call_of(name, found),
+        from: text_in(found, "from"),
+        journal: text_in(found, "journal"),
+        page: text_in(found, "page"),
+        orders: text_in(found, "orders"),
+    }
 }
 
-/// The call that the words of the command line stand for, which come without the program's name.
-/// No word at all is `edit`; any others are read by `clap`, as `edit`, `world`, `loop`,
-/// `new FILE`, `order FILE --at N [--send URL]`, `take FILE --at N`, `show FILE [--picture]`,
-/// `check [KIND] [--all]`, `serve FILE --listen ADDR [--limit SECONDS] [--clients COUNT]
-/// [--body BYTES] [--memory BYTES] [--requests COUNT] [--peers PEERS] [--sender-field NAME]` or
-/// `send URL [FILE]`. FILE, KIND, ADDR, PEERS, NAME and URL are any text, N a whole number of
-/// seconds since 1970 of at most 9,999,999,999, and what else `serve` takes are whole numbers
-/// within the bounds of `ServeLimits`, that of requests at least 1. Other words, and those that
-/// ask for help, are answered with `clap`'s fault.
-pub fn command_of<'a>(alloc: Global, words: &'a [String]) -> Result<Call<'a>, CallFault>
+/// What the words of the command line stand for, which come without the program's name: a call,
+/// and its paths.
+///
+/// No word at all is `edit`; any others are read by `clap`, as `edit [--from INPUT]`, `world`,
+/// `loop`, `new FILE [--from INPUT]`,
+/// `order FILE --at N [--send URL] [--from INPUT] [--journal JOURNAL]`,
+/// `take FILE --at N [--from INPUT] [--journal JOURNAL]`, `show FILE [--picture] [--at N]`,
+/// `check [KIND] [--all]`, `explain N`, `list FILE [--at N] [--open] [--json]`,
+/// `serve FILE --listen ADDR [--limit SECONDS] [--clients COUNT] [--body BYTES] [--memory BYTES]
+/// [--requests COUNT] [--peers PEERS] [--sender-field NAME] [--journal JOURNAL] [--page ADDR]
+/// [--orders SOCKET]` or
+/// `send URL [FILE]`. FILE, INPUT, JOURNAL, KIND, ADDR, PEERS, NAME, URL and the N of `explain`
+/// are any text, the other N a whole number of seconds since 1970 of at most 9,999,999,999, and
+/// what else `serve` takes are whole numbers within the bounds of `ServeLimits`, that of requests
+/// at least 1. Other words, and those that ask for help or the version, are answered with `clap`'s
+/// fault.
+pub fn command_of<'a>(alloc: Global, words: &'a [String]) -> Result<Invocation<'a>, CallFault>
     ensures edit { words.entry.now ≡ [] → IsOk result }
-    ensures named { IfOk result (λ call. (words.entry.now ≡ [] → call ≡ Edit)
+    ensures named { IfOk result (λ invocation. (words.entry.now ≡ [] → IsEdit invocation)
         × (words.entry.now ≢ []
-        → Means call (subcommand_of jdf (map string_bytes words.entry.now)))) }
+        → IsInvocation invocation (subcommand_of jdf (map string_bytes words.entry.now)))) }
     ensures passes { IfErr result (λ fault. takes jdf (map string_bytes words.entry.now) ≡ true
         → fault ≡ Memory) }
     ensures kinds { words.entry.now ≢ []
@@ -203,8 +263,14 @@ pub fn command_of<'a>(alloc: Global, words: &'a [String]) -> Result<Call<'a>, Ca
         (Tells (fault_of jdf (map string_bytes words.entry.now))) }
 {
     if words.is_empty() {
-        return Ok(Call::Edit);
+        return Ok(Invocation {
+            call: Call::Edit,
+            from: None,
+            journal: None,
+            page: None,
+            orders: None,
+        });
     }
     let matches = commands::jdf(alloc)?.try_get_matches_from(words)?;
-    Ok(call_in(&matches))
+    Ok(invocation_in(&matches))
 }

@@ -5,3 +5,4 @@ pub mod Form
 pub mod Decoded
 pub mod Known
 pub mod Laws
+pub mod Refused

@@ -9,6 +9,7 @@ mod ids;
 mod items;
 mod jmf;
 pub mod laws;
+mod refused;
 mod responses;
 mod said;
 
@@ -16,3 +17,4 @@ pub use controller::{Body, Command, Done, Message, Outcome, QueueStatus, Reply};
 pub use decoding::decode;
 pub use encoding::encode;
 pub use ids::id_of;
+pub use refused::refusal_told;

@@ -1,2 +1,4 @@
+mod PlainTexts
+mod Folded
 pub mod Lines
 pub mod MarkTable

@@ -1,5 +1,11 @@
-pub mod Svg
-pub mod Bars
+pub mod Cards
+pub mod Laws
 pub mod Marked
+pub mod Moments
 pub mod Picture
-pub mod PartPicture
+pub mod Progress
+pub mod Rows
+pub mod Svg
+pub mod Texts
+pub mod Wall
+pub mod WorkerPicture

@@ -1,23 +1,23 @@
--- The picture of a master: its ticket with who holds what, and its spawns.
-use Rattle.std.specs.Prelude.{ℕ, ◌++◌, List, [], ◌∷◌, codes, map, if◌then◌else◌}
+-- The picture of a master: what is out, and its ticket with who holds what.
+use Rattle.std.specs.Prelude.{ℕ, ◌++◌, Bool, true, false, List, [], codes, length, map}
 use Rattle.std.specs.Prelude.{Option, Some, None}
-use Rattle.std.specs.List.{flat_map}
-use Rattle.std.specs.Option.{option_and_then, option_map_or}
-use Rattle.ticket_items.specs.SpawnId.{spawn_text}
+use Rattle.std.specs.Fmt.{decimal}
+use Rattle.std.specs.List.{filter}
+use Rattle.std.specs.Option.{option_and_then}
 use Rattle.ticket_items.specs.declared.node_row.NodeRow.{NodeRow}
 use Rattle.ticket_items.specs.declared.res_mark.ResMark.{ResMark}
-use Rattle.ticket_items.specs.declared.resource.Resource.{Resource}
 use Rattle.spawn.specs.Marking.{marks}
-use Rattle.spawn.specs.Records.{is_out}
 use Rattle.spawn.specs.declared.records.phase.Phase.{Phase}
 use Rattle.spawn.specs.declared.records.phase.Phase.TheVariants.{Out, Merged, Withdrawn}
 use Rattle.spawn.specs.declared.records.spawn_rec.SpawnRec.{SpawnRec}
 use Rattle.spawn.specs.declared.tables.holder.Holder.{Holder}
 use Rattle.spawn.specs.declared.tables.holder.Holder.TheVariants.{Master, Spawn}
-use Rattle.master_core.specs.Master.{Known, holder, record_of}
-use Rattle.job_picture.specs.Bars.{chip, copies_text, heading, node_bar, resource_bar, shade}
+use Rattle.master_core.specs.Master.{Known, holder}
+use Rattle.job_list.specs.Work.{works_of_master}
+use Rattle.job_picture.specs.Cards.{card}
 use Rattle.job_picture.specs.Marked.{mark_of}
-use Rattle.job_picture.specs.Svg.{bar, bold, svg}
+use Rattle.job_picture.specs.Rows.{Line, node_line}
+use Rattle.job_picture.specs.Wall.{wall}
 
 -- the spawn that a holder is, if it is one
 abbrev pub spawn_in : Holder → Option ℕ
@@ -28,63 +28,44 @@ spawn_in (Spawn s) = Some s
 unfoldable pub spawn_at : Known → List ℕ → Option ℕ
 spawn_at m x = option_and_then spawn_in (holder m x)
 
--- the worker to whom a spawn went
-unfoldable pub worker_of : Known → ℕ → List ℕ
-worker_of m s = option_map_or (λ r. r.worker) (record_of m.records s) []
-
--- who holds: a spawn with its worker, or the master
-unfoldable pub holder_text : Known → Option ℕ → List ℕ
-holder_text m None = bold m.name
-holder_text m (Some s) = bold (spawn_text s ++ codes " " ++ worker_of m s)
-
--- the line of a node
-unfoldable pub node_line : Known → NodeRow → List ℕ
-node_line m r = node_bar (shade (spawn_at m r.id)) r (holder_text m (spawn_at m r.id))
-
--- what a mark tells of copies, if there is one
-abbrev pub mark_text : Option ResMark → List ℕ
-mark_text None = []
-mark_text (Some k) = copies_text k.status k.spawn_ids
-
--- the line of a resource in the pool of a node at a depth, by the marks of resources
-unfoldable pub resource_line : Known → (List ℕ → Option ResMark) → ℕ → Resource → List ℕ
-resource_line m mark depth x =
-    resource_bar (shade (spawn_at m x.id)) depth x (mark_text (mark x.id))
-
--- the lines of a node and of its pool
-abbrev pub row_lines : Known → (List ℕ → Option ResMark) → NodeRow → List (List ℕ)
-row_lines m mark r = node_line m r ∷ map (resource_line m mark r.depth) r.resources
+-- the line of a node, by the marks of resources
+abbrev pub held_line : Known → (List ℕ → Option ResMark) → NodeRow → Line
+held_line m mark r = node_line mark r (spawn_at m r.id) []
 
 -- the lines of the ticket, in ticket order
-unfoldable pub ticket_lines : Known → List (List ℕ)
+unfoldable pub ticket_lines : Known → List Line
 ticket_lines m =
-    flat_map (row_lines m (mark_of (marks m.ticket.rows m.records).resources)) m.ticket.rows
+    map (held_line m (mark_of (marks m.ticket.rows m.records).resources)) m.ticket.rows
 
--- where the part of a spawn is, in words
-abbrev pub phase_word : Phase → List ℕ
-phase_word Out = codes "out"
-phase_word Merged = codes "came back"
-phase_word Withdrawn = codes "withdrawn"
+-- whether a spawn was merged, or was withdrawn
+abbrev pub is_merged_phase : Phase → Bool
+is_merged_phase Out = false
+is_merged_phase Merged = true
+is_merged_phase Withdrawn = false
 
--- the shade of the line of a spawn: its own where it is out
-abbrev pub spawn_shade : SpawnRec → ℕ
-spawn_shade r = shade (if is_out r then Some r.id else None)
+abbrev pub is_withdrawn_phase : Phase → Bool
+is_withdrawn_phase Out = false
+is_withdrawn_phase Merged = false
+is_withdrawn_phase Withdrawn = true
 
--- the line of a spawn
-unfoldable pub spawn_line : SpawnRec → List ℕ
-spawn_line r =
-    bar (codes "s") (spawn_shade r) 16
-    (chip r.id ++ codes " " ++ r.node) r.worker (phase_word r.phase)
+abbrev pub is_merged : SpawnRec → Bool
+is_merged r = is_merged_phase r.phase
 
--- the lines of a master: its ticket, and its spawns in the order of their numbers
-abbrev pub lines_of : Known → List (List ℕ)
-lines_of m =
-    heading (codes "Node, resource") (codes "Status") (codes "Held by, copies") ∷ ticket_lines m
-    ++ heading (codes "Spawn, node") (codes "Worker") (codes "Part") ∷ map spawn_line m.records
+abbrev pub is_withdrawn : SpawnRec → Bool
+is_withdrawn r = is_withdrawn_phase r.phase
+
+-- how many spawns came back, and how many were withdrawn
+unfoldable pub closed_spawns : List SpawnRec → List ℕ
+closed_spawns records =
+    decimal (length (filter is_merged records)) ++ codes " came back, "
+    ++ decimal (length (filter is_withdrawn records)) ++ codes " withdrawn"
 
 -- the job and its master
 unfoldable pub title_of : Known → List ℕ
 title_of m = codes "Job " ++ m.ticket.job_id ++ codes ", master " ++ m.name
 
-abbrev pub picture_of : Known → List ℕ
-picture_of m = svg (title_of m) (lines_of m)
+-- the picture of a master at a moment
+abbrev pub picture_of : ℕ → Known → List ℕ
+picture_of now m =
+    wall now (title_of m) (closed_spawns m.records) (codes "Out")
+    (map (card now) (works_of_master true m)) (ticket_lines m)

@@ -1,13 +1,21 @@
-//! Pictures of a job: who holds what of its ticket, and what is out, as SVG.
+//! Pictures of a job for a wall screen, as SVG: who has what, since when, and how far each node is.
 #![tactic(auto)]
 
-mod bars;
+mod cards;
+pub mod laws;
 mod marks;
 mod master_picture;
-mod part_picture;
+mod moments;
+mod node_line;
+mod progress;
+mod rows;
+mod style;
 mod svg;
+mod texts;
+mod wall;
+mod worker_picture;
 
-pub use bars::heading;
 pub use master_picture::push_picture;
-pub use part_picture::{entry_line, push_part};
-pub use svg::push_svg;
+pub use moments::{moment_text, span_text};
+pub use texts::escaped;
+pub use worker_picture::push_worker_picture;

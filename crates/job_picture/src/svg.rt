@@ -1,99 +1,55 @@
-//! A picture as SVG: a title, and below it lines of one height, which are bars of three cells.
+//! Parts of a picture as SVG.
 
-ghost use Rattle.std.specs.Prelude.{◌≡◌, ◌++◌, map, string_bytes, IfOk, OnOk};
+ghost use Rattle.std.specs.Prelude.{◌≡◌, string_bytes, IfOk};
 ghost use Rattle.job_picture.specs.Svg as svg;
 
 use std::alloc::{AllocError, Global};
+use ticket_items::SpawnId;
 
-/// How all looks. What the master holds is grey, and what is another's has one of eight colours.
-const STYLE: &str = "<style>text{font:18px Verdana,'DejaVu Sans',sans-serif;fill:#111}\
-    rect{stroke:#fff;stroke-width:2}.b{font-weight:bold}.t{font-size:28px}\
-    .r rect{stroke-width:8}.r text{font-size:15px}\
-    .h rect{display:none}.h text{font-size:15px;font-style:italic}.k{stroke:#111;stroke-width:.6}\
-    .c0 rect{fill:#e4e4e4}.c1 rect,.k1{fill:#b5dc6a}.c2 rect,.k2{fill:#7cc4f0}\
-    .c3 rect,.k3{fill:#f5b042}.c4 rect,.k4{fill:#5fd0a0}.c5 rect,.k5{fill:#e8a0c8}\
-    .c6 rect,.k6{fill:#f3e35a}.c7 rect,.k7{fill:#b3b0f5}.c8 rect,.k8{fill:#f2937a}</style>";
+/// How many colours there are.
+const COLOURS: u32 = 8;
 
-/// A text in bold.
-pub fn bold(alloc: Global, text: &str) -> Result<String, AllocError>
-    ensures { IfOk result (λ made. string_bytes made ≡ svg.bold text.now) }
+/// The shade of what a spawn holds, one of eight colours; what no spawn holds has none.
+#[tactic(auto, unfolding(crate::specs::Svg::shade))]
+pub fn shade(held: &Option<SpawnId>) -> u32
+    ensures { result ≡ svg.shade held.now }
 {
-    format!(in alloc; "<tspan class='b'>{text}</tspan>")
-}
-
-/// A cell from `x` on, which covers what runs out of the one in front.
-fn cell(alloc: Global, x: u64, text: &str) -> Result<String, AllocError>
-    ensures { IfOk result (λ made. string_bytes made ≡ svg.cell x text.now) }
-{
-    format!(in alloc;
-        "<rect x='{x}' width='1200' height='30'/>\
-        <text x='{x}' dx='12' y='21'>{text}</text>"
-    )
-}
-
-/// A bar of a kind in the colour of a shade, from `x` on, of three cells.
-pub fn bar(
-    alloc: Global,
-    kind: &str,
-    shade: u32,
-    x: u64,
-    first: &str,
-    second: &str,
-    third: &str,
-) -> Result<String, AllocError>
-    ensures { IfOk result (λ made. string_bytes made
-        ≡ svg.bar kind.now shade x first.now second.now third.now) }
-{
-    let left = cell(alloc, x, first)?;
-    let middle = cell(alloc, 700, second)?;
-    let right = cell(alloc, 900, third)?;
-    format!(in alloc; "<g class='{kind} c{shade}'>{left}{middle}{right}</g>")
-}
-
-/// The line of a number, at its place.
-fn placed(alloc: Global, number: usize, line: &str) -> Result<String, AllocError>
-    ensures { IfOk result (λ made. string_bytes made ≡ svg.placed number line.now) }
-{
-    let y = 34 * number as u128;
-    format!(in alloc; "<g transform='translate(0 {y})'>{line}</g>\n")
-}
-
-/// Appends lines, one below the other.
-fn push_lines(alloc: Global, text: &mut Vec<u8>, lines: &[String]) -> Result<(), AllocError>
-    ensures { OnOk result (text.new.items
-        ≡ text.old.items ++ svg.placed_lines (map string_bytes lines.now)) }
-{
-    for (number, line) in lines.iter().enumerate() {
-        text.extend_from_slice(placed(alloc, number, line.as_str())?.as_bytes())?;
+    match held {
+        None => 0,
+        Some(spawn) => spawn.number() % COLOURS + 1,
     }
-    Ok(())
 }
 
-/// What stands in front of so many lines.
-fn head(alloc: Global, title: &str, count: usize) -> Result<String, AllocError>
-    ensures { IfOk result (λ made. string_bytes made ≡ svg.head title.now count) }
+/// A spawn's id; nothing where there is none.
+pub fn held_text(alloc: Global, held: &Option<SpawnId>) -> Result<String, AllocError>
+    ensures { IfOk result (λ made. string_bytes made ≡ svg.held_text held.now) }
 {
-    let height = 34 * count as u128 + 80;
-    format!(in alloc;
-        "<svg xmlns='http://www.w3.org/2000/svg' width='1200' height='{height}' \
-        viewBox='0 0 1200 {height}'>\n<title>{title}</title>\n{STYLE}\
-        <rect width='1200' height='100%' fill='#fff'/>\n<text class='t' x='16' y='42'>\
-        {title}</text>\n<g transform='translate(0 60)'>\n"
-    )
+    match held {
+        None => Ok(String::new(alloc)),
+        Some(spawn) => {
+            let number = spawn.number();
+            format!(in alloc; "S{number}")
+        }
+    }
 }
 
-/// Appends the picture of a title and lines.
-pub fn push_svg(
-    alloc: Global,
-    text: &mut Vec<u8>,
-    title: &str,
-    lines: &[String],
-) -> Result<(), AllocError>
-    ensures { OnOk result (text.new.items
-        ≡ text.old.items ++ svg.svg title.now (map string_bytes lines.now)) }
+/// What is drawn in a place of its own.
+pub fn placed(alloc: Global, x: u64, y: u64, drawn: &str) -> Result<String, AllocError>
+    ensures { IfOk result (λ made. string_bytes made ≡ svg.placed x y drawn.now) }
 {
-    text.extend_from_slice(head(alloc, title, lines.len())?.as_bytes())?;
-    push_lines(alloc, text, lines)?;
-    text.extend_from_slice(b"</g>\n</svg>\n")?;
-    Ok(())
+    format!(in alloc; "<g transform='translate({x} {y})'>{drawn}</g>\n")
+}
+
+/// A text of a class from a point on.
+pub fn label(alloc: Global, class: &str, x: u64, y: u64, text: &str) -> Result<String, AllocError>
+    ensures { IfOk result (λ made. string_bytes made ≡ svg.label class.now x y text.now) }
+{
+    format!(in alloc; "<text class='{class}' x='{x}' y='{y}'>{text}</text>")
+}
+
+/// The shape of a number.
+pub fn shape(alloc: Global, number: u32, x: u64, y: u64) -> Result<String, AllocError>
+    ensures { IfOk result (λ made. string_bytes made ≡ svg.shape number x y) }
+{
+    format!(in alloc; "<use href='#p{number}' x='{x}' y='{y}'/>")
 }

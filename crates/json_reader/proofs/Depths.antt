@@ -28,7 +28,7 @@ depth-get name (object ms) e is = let below = depth-get_member name ms e is in o
 
 -- ---- the items of a list
 
-depth-as_array : (d : Data) (ds : Items) → as_array d ≡ Some ds → items_depth ds < depth d
+pub depth-as_array : (d : Data) (ds : Items) → as_array d ≡ Some ds → items_depth ds < depth d
 depth-as_array null ds is = cc
 depth-as_array (boolean b) ds is = cc
 depth-as_array (number m) ds is = cc
@@ -37,7 +37,7 @@ depth-as_array (array items) ds is = let same : items_depth items ≡ items_dept
 depth-as_array (object ms) ds is = cc
 
 module _ {V : Type 0} (content : V → Data) where
-  depth-item : (values : List V) (i : ℕ) (v : V) → i < length values → v ≡ get_or values i v → depth (content v) ≤ items_depth (items_of (map content values))
+  pub depth-item : (values : List V) (i : ℕ) (v : V) → i < length values → v ≡ get_or values i v → depth (content v) ≤ items_depth (items_of (map content values))
   depth-item [] i v within is = absurd (omega arith)
   depth-item (x ∷ values) zero v within is = let same : depth (content v) ≡ depth (content x) = ap (λ y. depth (content y)) is in omega arith
   depth-item (x ∷ values) (suc i) v within is = let later = depth-item values i v (omega arith) is in omega arith

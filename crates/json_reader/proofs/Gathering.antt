@@ -29,7 +29,7 @@ whole_node names n d = own_first (own_row names n d) _ ∙ sym (node_rows-get na
 
 -- ---- the nodes of a list
 
-list_rows-as_array : (n : ℕ) (d : Data) (ds : Items) → as_array d ≡ Some ds → list_rows n d ≡ item_rows n ds
+pub list_rows-as_array : (n : ℕ) (d : Data) (ds : Items) → as_array d ≡ Some ds → list_rows n d ≡ item_rows n ds
 list_rows-as_array n null ds is = cc
 list_rows-as_array n (boolean b) ds is = cc
 list_rows-as_array n (number m) ds is = cc

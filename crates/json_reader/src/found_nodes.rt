@@ -75,14 +75,14 @@ impl FoundNodes {
 }
 
 /// The depth of a child.
-fn next_depth(depth: u32) -> u32
+pub fn next_depth(depth: u32) -> u32
     ensures { result ≡ form.next_depth depth }
 {
     depth.saturating_add(1).min(DEEPEST_READ)
 }
 
 /// Adds a node without its children, of an object with no other members than `names`.
-fn push_own<S: Source>(
+pub fn push_own<S: Source>(
     alloc: Global,
     found: &mut FoundNodes,
     names: &[&str],

@@ -7,6 +7,7 @@ mod found_row;
 mod part_groups;
 mod raw_part;
 mod raw_ticket;
+mod taken_nodes;
 
 pub use found_pool::FoundPool;
 pub use raw_part::RawPart;

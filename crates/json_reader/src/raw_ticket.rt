@@ -1,6 +1,7 @@
 use crate::found_nodes::{FoundNodes, PART_MEMBERS, find_node};
+use crate::taken_nodes::take_node;
 use json_items::{Form, Judged, Raw, both, find_under};
-use json_source::Source;
+use json_source::{Source, Tree};
 use std::alloc::Global;
 use std::marker::Model;
 use ticket_tree::{Items, Name, NodeRow, Refusal, Ticket};
@@ -20,6 +21,25 @@ impl Model for RawTicket {
     ghost Value = { TicketSeen };
 
     ghost view = { λ t. record { job = record { job_id = t.job; rows = t.rows }; bare = t.bare } };
+}
+
+impl RawTicket {
+    ghost use Rattle.json_items.specs.Judged.{Reads};
+    ghost use Rattle.json_items.specs.TicketDraft.{ticket_draft};
+    ghost use Rattle.json_items.specs.TicketForm as form;
+    ghost use Rattle.json_source.specs.Tree.{tree_data};
+
+    /// What is found of the ticket that a tree is, each node's part of which is given back as soon
+    /// as all is found of it. Refuses `NotProfile`, and `Memory`.
+    pub fn of(alloc: Global, tree: Tree<'_>) -> Result<Judged<RawTicket>, Refusal>
+        ensures { Reads form.has_names form.has_texts result (ticket_draft (tree_data tree.entry)) }
+    {
+        let job = find_under(alloc, &tree, "JobID")?;
+        let mut found = FoundNodes::new(alloc);
+        take_node(alloc, &mut found, &PART_MEMBERS[2..], 1, tree)?;
+        let FoundNodes { rows, bare } = found;
+        Ok(both(job, rows).map(|(job, rows)| RawTicket { job, rows, bare }))
+    }
 }
 
 impl Form for RawTicket {

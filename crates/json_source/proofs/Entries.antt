@@ -1,5 +1,5 @@
 -- Items of a tree, and its members as they are found by their names.
-use Rattle.std.proofs.Common.{◌≡◌, ◌∙◌, ℕ, ◌+◌, ◌<◌, ◌≤◌, List, [], ◌∷◌, length, drop, get_or, map, Global, Ordering, Less, Equal, Greater, refl, sym, ap, Bor, Vec, rules}
+use Rattle.std.proofs.Common.{◌≡◌, ◌∙◌, ℕ, ◌+◌, ◌<◌, ◌≤◌, List, [], ◌∷◌, length, drop, get_or, map, Some, Global, Ordering, Less, Equal, Greater, refl, sym, ap, Bor, Vec, rules}
 use Rattle.std.proofs.lemmas.List.{drop_more, drop_all}
 use Rattle.std.specs.BTreeMap.{insert_entry}
 use Rattle.std.specs.Ordering.{match_ordering}
@@ -7,10 +7,11 @@ use Rattle.json.specs.Json as json
 use Rattle.json.specs.Value.{items_view, members_view, value_view}
 use Rattle.json.specs.declared.value.Value.{Value as Tree, Array, the_lemmas}
 use Rattle.serde_json.specs.Data.{item, Members, member, put}
+use Rattle.serde_json.specs.Find.{as_array}
 use Rattle.serde_json.specs.View.{items_of}
-use Rattle.json_source.specs.Tree.{entries_data, items_data, members_data, tree_data}
+use Rattle.json_source.specs.Tree.{data_of, entries_data, items_data, members_data, tree_data}
 use Rattle.json_source.proofs.Pairs.{Entry, lent_cmp}
-use Rattle.json_source.proofs.Ranges.{Member}
+use Rattle.json_source.proofs.Objects.{Member}
 
 -- an array by its items
 pub tree-Array : (ts : Vec (Tree Global) Global) → value_view (Array ts) ≡ json.array (items_view ts.items)
@@ -19,6 +20,10 @@ tree-Array ts = search (rules, the_lemmas)
 pub data_items : (ts : List (Tree Global)) → items_of (map tree_data ts) ≡ items_data (items_view ts)
 data_items [] = refl
 data_items (t ∷ ts) = ap (item (tree_data t)) (data_items ts)
+
+-- the items of an array, as data
+pub array_items : (t : Tree Global) (ts : Vec (Tree Global) Global) → t ≡ Array ts → as_array (tree_data t) ≡ Some (items_of (map tree_data ts.items))
+array_items t ts is = ap (λ j. as_array (data_of j)) (ap value_view is ∙ tree-Array ts) ∙ sym (ap Some (data_items ts.items))
 
 -- ---- by their names
 

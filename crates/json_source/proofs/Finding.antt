@@ -16,7 +16,7 @@ use Rattle.serde_json.proofs.Views.{get_member-put, get_member-put_other}
 use Rattle.ticket_items.specs.Ids.{mem}
 use Rattle.json_source.specs.Read.{are_among, has_only}
 use Rattle.json_source.proofs.MemberLemmas.{mem-borrowed}
-use Rattle.json_source.proofs.Ranges.{Member}
+use Rattle.json_source.proofs.Objects.{Member}
 use Rattle.json_source.specs.Tree.{data_of, members_data, names_among, tree_data}
 
 -- ---- what stands under a name

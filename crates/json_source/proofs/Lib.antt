@@ -1,6 +1,9 @@
+pub mod Converted
 pub mod Entries
 pub mod Finding
 pub mod LastMember
 pub mod MemberLemmas
+pub mod Objects
 pub mod Pairs
-pub mod Ranges
+pub mod Reading
+pub mod Rising

@@ -1,7 +1,9 @@
 -- The data that a tree is.
 use Rattle.std.specs.Prelude.{ℕ, ◌&&◌, Bool, true, List, [], ◌∷◌}
 use Rattle.std.specs.Borrow.{Bor}
+use Rattle.std.specs.Cmp.Lexicographic.{slice_cmp}
 use Rattle.std.specs.Option.{option_map_or}
+use Rattle.std.specs.Ordering.{is_lt, nat_cmp}
 use Rattle.json.specs.Json as json
 use Rattle.json.specs.Value.{value_view}
 use Rattle.json.specs.declared.value.Value.{Value as Tree}
@@ -41,6 +43,21 @@ tree_data t = data_of (value_view t)
 abbrev pub names_among : List (List ℕ) → json.Members → Bool
 names_among names json.no_members = true
 names_among names (json.member k j ms) = mem k names && names_among names ms
+
+-- whether a name is below that of the first of these
+abbrev pub is_below : List ℕ → json.Members → Bool
+is_below k json.no_members = true
+is_below k (json.member l j ms) = is_lt (slice_cmp nat_cmp k l)
+
+-- whether each name is below the next one, in byte order
+abbrev pub names_rise : json.Members → Bool
+names_rise json.no_members = true
+names_rise (json.member k j ms) = is_below k ms && names_rise ms
+
+-- the members as they stand, each as data
+abbrev pub listed_data : json.Members → Members
+listed_data json.no_members = no_members
+listed_data (json.member k j ms) = member k (data_of j) (listed_data ms)
 
 -- members by their names, each lent
 abbrev pub entries_data : {A : Type 0} → List (Bor (List ℕ) × Bor (Tree A)) → Members

@@ -10,6 +10,6 @@ mod tree_source;
 mod value_source;
 
 pub use json::{Scratch, Value as Tree};
-pub use member::members_alone;
+pub use member::{member_alone, members_alone};
 pub use source::Source;
 pub use text::tree_of;

@@ -8,6 +8,24 @@ ghost use Rattle.json_source.specs.Tree.{tree_data};
 
 use json::Value as Tree;
 
+/// What stands under a name in the object that a tree is; all else of the tree is given back. Of a
+/// name that stands twice it is the last.
+pub fn member_alone<'a>(tree: Tree<'a>, name: &str) -> Option<Tree<'a>>
+    ensures { option_map tree_data result ≡ get name.now (tree_data tree.entry) }
+{
+    let Tree::Object(members) = tree else {
+        return None;
+    };
+    let mut members = members;
+    while let Some((own, member)) = members.pop() {
+        if own == name {
+            return Some(member);
+        }
+        drop(member);
+    }
+    None
+}
+
 /// What stands under each of two names in the object that a tree is; all else of the tree is given
 /// back. Of a name that stands twice it is the last.
 pub fn members_alone<'a>(

@@ -14,7 +14,7 @@ use std::alloc::Global;
 use ticket_items::Refusal;
 
 /// Whether a name is one of these.
-pub fn is_among(name: &str, names: &[&str]) -> bool
+fn is_among(name: &str, names: &[&str]) -> bool
     ensures { result ≡ list_any (λ other. bytes_eq other.now name.now) names.now }
 {
     names.iter().any(|other| *other == name)

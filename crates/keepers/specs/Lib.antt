@@ -6,3 +6,4 @@ pub mod InMemory
 pub mod Keeper
 pub mod OnDisk
 pub mod Saved
+pub mod SystemFile

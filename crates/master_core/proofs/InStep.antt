@@ -9,12 +9,10 @@ use Rattle.ticket_tree.specs.Part.{Copied}
 use Rattle.ticket_tree.proofs.PlainOneRow.{append_of_places}
 use Rattle.spawn.proofs.HoldingsEdited.{edit_keeps_table}
 use Rattle.spawn.proofs.HoldingsKept.{end_keeps_table}
-use Rattle.spawn.specs.Holdings.{Holdings, claim_given}
-use Rattle.spawn.specs.HoldingsLaws.{edited_holdings}
+use Rattle.spawn.specs.Holdings.{Holdings, IsGiven, claims}
 use Rattle.spawn.specs.Records.{is_out}
 use Rattle.spawn.specs.Spawning.{parent_of}
 use Rattle.spawn.specs.declared.records.spawn_rec.SpawnRec.{SpawnRec}
-use Rattle.spawn.specs.declared.tables.holder.Holder.TheVariants.{Master}
 use Rattle.merge.proofs.PutPlaces.{put_of_places}
 use Rattle.merge.specs.Put.{put}
 use Rattle.merge.specs.Shape.{Fits}
@@ -30,35 +28,37 @@ use Rattle.master_core.specs.declared.order.Order.TheVariants as order
 
 -- ---- a spawn that ends
 
--- the claim of a spawn that ended is the master's again
-ended : (w : Known) (h : Holdings) (s k : ℕ) (r made : SpawnRec) (later : Job) → IsInStep w h → OutThere w.records s k r → is_out made ≡ false → places later.rows ≡ places w.ticket.rows
-    → IsKept (known w.name w.workers later (slice_set w.records k made)) → IsInStep (known w.name w.workers later (slice_set w.records k made)) (claim_given later.rows r Master h)
-ended w h s k r made later step own off still kept =
+-- no spawn holds the claim of one that ended
+ended : (w : Known) (h after : Holdings) (s k : ℕ) (r made : SpawnRec) (later : Job) → IsInStep w h → OutThere w.records s k r → is_out made ≡ false → places later.rows ≡ places w.ticket.rows
+    → IsKept (known w.name w.workers later (slice_set w.records k made)) → IsGiven (claims later.rows r) None h after → IsInStep (known w.name w.workers later (slice_set w.records k made)) after
+ended w h after s k r made later step own off still kept given =
     record {
       kept = kept;
-      table = end_keeps_table w.ticket.rows later.rows w.records k r made h kept.valid still step.kept.apart own.there own.out off step.table;
+      table = end_keeps_table w.ticket.rows later.rows w.records k r made h after still step.kept.apart own.there own.out off step.table given;
     }
 
 -- that of a spawn whose part was put in
-pub put_in_step : (w : Known) (h : Holdings) (p : Copied) (at k : ℕ) (r : SpawnRec) → IsInStep w h → OutThere w.records p.spawn_id k r → Fits w.ticket r p → IsValid (with_copies p.rows p.rw p.ro)
-    → IsInStep (known w.name w.workers (put w.ticket r p at) (slice_set w.records k (merged_record r))) (claim_given (put w.ticket r p at).rows r Master h)
-put_in_step w h p at k r step own fits part =
+pub put_in_step : (w : Known) (h after : Holdings) (p : Copied) (at k : ℕ) (r : SpawnRec) → IsInStep w h → OutThere w.records p.spawn_id k r → Fits w.ticket r p → IsValid (with_copies p.rows p.rw p.ro)
+    → IsGiven (claims (put w.ticket r p at).rows r) None h after
+    → IsInStep (known w.name w.workers (put w.ticket r p at) (slice_set w.records k (merged_record r))) after
+put_in_step w h after p at k r step own fits part given =
     let kept = merged_kept p at w r part step.kept (record { place = k; there = own.there }) own.out fits in
     let still = put_of_places w.ticket r p at step.kept.valid (step.kept.apart.good k r own.there own.out) fits in
-    ended w h p.spawn_id k r (merged_record r) (put w.ticket r p at) step own refl still (subst IsKept (sym (put_there w p at k r step.kept.numbered own)) kept)
+    ended w h after p.spawn_id k r (merged_record r) (put w.ticket r p at) step own refl still (subst IsKept (sym (put_there w p at k r step.kept.numbered own)) kept) given
 
 -- and that of one that was withdrawn
-pub free_in_step : (w : Known) (h : Holdings) (s at k : ℕ) (r : SpawnRec) → IsInStep w h → OutThere w.records s k r
-    → IsInStep (known w.name w.workers (withdrawn w.ticket r at) (slice_set w.records k (withdrawn_record r))) (claim_given (withdrawn w.ticket r at).rows r Master h)
-free_in_step w h s at k r step own =
+pub free_in_step : (w : Known) (h after : Holdings) (s at k : ℕ) (r : SpawnRec) → IsInStep w h → OutThere w.records s k r
+    → IsGiven (claims (withdrawn w.ticket r at).rows r) None h after
+    → IsInStep (known w.name w.workers (withdrawn w.ticket r at) (slice_set w.records k (withdrawn_record r))) after
+free_in_step w h after s at k r step own given =
     let kept = freed_kept at w r step.kept (record { place = k; there = own.there }) own.out in
     let still = append_of_places (parent_of w.ticket.rows r.node) (withdrawn_audit r at) w.ticket.rows in
-    ended w h s k r (withdrawn_record r) (withdrawn w.ticket r at) step own refl still (subst IsKept (sym (free_there w s at k r step.kept.numbered own)) kept)
+    ended w h after s k r (withdrawn_record r) (withdrawn w.ticket r at) step own refl still (subst IsKept (sym (free_there w s at k r step.kept.numbered own)) kept) given
 
 -- ---- an order
 
 -- the table is that of the edited ticket
-pub edit_in_step : (e : Edit) (at : ℕ) (w : Known) (h : Holdings) → IsInStep w h → edit_refusal e w ≡ None → IsInStep (ordered (order.Edit e) at w).next (edited_holdings e h)
+pub edit_in_step : (e : Edit) (at : ℕ) (w : Known) (h : Holdings) → IsInStep w h → edit_refusal e w ≡ None → IsInStep (ordered (order.Edit e) at w).next h
 edit_in_step e at w h step none =
     let free = edit_free e w none in
     record {

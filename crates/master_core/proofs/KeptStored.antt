@@ -1,5 +1,5 @@
 -- A master of which all holds that always does passes the test of what is stored, and one that passes it is so.
-use Rattle.std.proofs.Common.{◌≡◌, ◌∙◌, ℕ, zero, suc, ◌+◌, ◌==◌, ◌&&◌, Bool, true, List, [], ◌∷◌, Some, slice_get, refl, sym, ap, arith, eq-eqb, Result, Ok, Err, IfOk}
+use Rattle.std.proofs.Common.{◌≡◌, ℕ, zero, suc, ◌+◌, ◌==◌, ◌&&◌, Bool, true, List, [], ◌∷◌, Option, Some, None, IfSome, Result, Ok, Err, IfOk, is_some, slice_get, refl, sym, ap, arith, eq-eqb}
 use Rattle.std.proofs.lemmas.Bool.{and_from, and_parts, eqb-true}
 use Rattle.std.proofs.lemmas.List.Elements.{All-cons, All-head, All-tail}
 use Rattle.std.specs.List.{All, list_all}
@@ -8,9 +8,10 @@ use Rattle.ticket_items.specs.Ids.{are_distinct, mem}
 use Rattle.ticket_rows.specs.Place.{places}
 use Rattle.ticket_rows.specs.Ticket.{IsValid}
 use Rattle.spawn.proofs.HeldOnce.{standing_is_a_test}
+use Rattle.spawn.specs.Holdings.{Holdings, IsTable}
 use Rattle.spawn.specs.Stored.{are_apart, are_good, stands_in}
 use Rattle.spawn.specs.declared.records.spawn_rec.SpawnRec.{SpawnRec}
-use Rattle.master_core.specs.Master.{IsKept, IsNumbered, Known}
+use Rattle.master_core.specs.Master.{IsInStep, IsKept, IsNumbered, Known}
 use Rattle.master_core.specs.Stored.{AKeptMasterIsStored, are_numbered, are_recorded, are_sent, is_master}
 
 -- ---- what holds of each
@@ -90,10 +91,27 @@ a_kept_master_is_stored w kept =
     (and_from (stand && good) apart (and_from stand good (each_passes (stands_in w.ticket.rows) w.records kept.recorded) both.0) both.1)
 
 -- where the other tests pass, that of the records decides
-pub kept_by : {E : Type 0} (result : Result Bool E) (w : Known) → IfOk result (λ b. b ≡ true → IsValid w.ticket.rows) → are_distinct (w.name ∷ w.workers) ≡ true → are_numbered 1 w.records ≡ true → are_sent w.workers w.records ≡ true → IfOk result (λ b. b ≡ are_recorded w.ticket w.records) → IfOk result (λ b. b ≡ true → IsKept w)
-kept_by (Err e) w valid names numbered sent told = tt
-kept_by (Ok b) w valid names numbered sent told =
+pub kept_by : {E : Type 0} (result : Result (Option Holdings) E) (w : Known)
+    → IfOk result (λ found. IfSome found (λ _. IsValid w.ticket.rows))
+    → IfOk result (λ found. IfSome found (λ h. IsTable w.ticket.rows w.records h))
+    → are_distinct (w.name ∷ w.workers) ≡ true → are_numbered 1 w.records ≡ true
+    → are_sent w.workers w.records ≡ true
+    → IfOk result (λ found. is_some found ≡ are_recorded w.ticket w.records)
+    → IfOk result (λ found. IfSome found (λ h. IsInStep w h))
+kept_by (Err e) w valid table names numbered sent told = tt
+kept_by (Ok None) w valid table names numbered sent told = tt
+kept_by (Ok (Some h)) w valid table names numbered sent told =
     let one = are_distinct (w.name ∷ w.workers) in
     let two = are_numbered 1 w.records in
     let three = are_sent w.workers w.records in
-    λ passes. kept_from w (valid passes) (and_from (one && two && three) (are_recorded w.ticket w.records) (and_from (one && two) three (and_from one two names numbered) sent) (sym told ∙ passes))
+    record {
+      kept = kept_from w valid (and_from (one && two && three) (are_recorded w.ticket w.records) (and_from (one && two) three (and_from one two names numbered) sent) (sym told));
+      table = table;
+    }
+
+-- what holds in any case holds of what was found
+pub if_found : {E P : Type 0} (result : Result (Option Holdings) E) → P
+    → IfOk result (λ found. IfSome found (λ _. P))
+if_found (Err e) p = tt
+if_found (Ok None) p = tt
+if_found (Ok (Some h)) p = p

@@ -15,7 +15,7 @@ use Rattle.ticket_items.specs.declared.resource.Resource.{Resource}
 use Rattle.ticket_rows.proofs.Below.{mem-node_ids}
 use Rattle.ticket_rows.specs.Edit.{behind_last, edited_rows, refusal_of}
 use Rattle.ticket_rows.specs.Homes.{has_resource}
-use Rattle.ticket_rows.specs.Place.{Place, Thing, node, below, fixed, fixed_at, is_node, node_places, nodes_in, parent, place_at, places, up}
+use Rattle.ticket_rows.specs.Place.{Place, Thing, below, fixed, fixed_at, is_node, node_places, nodes_in, parent, place_at, places, up}
 use Rattle.ticket_rows.specs.Ticket.{IsValid, has_node, ids}
 use Rattle.ticket_tree.proofs.OnPlaces.{stands_node, stands_resource}
 use Rattle.ticket_tree.proofs.PlainEdits.{edit_of_places}
@@ -25,7 +25,7 @@ use Rattle.spawn.specs.Claim.{is_linked_below, is_linked_outside, linked_outside
 use Rattle.spawn.specs.Records.{IsGood}
 use Rattle.spawn.specs.Stored.{stands_in}
 use Rattle.spawn.specs.declared.records.spawn_rec.SpawnRec.{SpawnRec}
-use Rattle.spawn.proofs.StandingSets.{all_same}
+use Rattle.spawn.proofs.Tests.{all_as}
 use Rattle.master_core.proofs.EditedParts.{Told, edit_told, none_added, told, kind_linked, linked}
 
 -- ---- by places
@@ -55,8 +55,8 @@ has_is rows x = sym (found_any (λ p. not (is_node p)) (places rows) x) ∙ stan
 
 among_is : (rows : List NodeRow) (r : SpawnRec) → stands_among (places rows) r ≡ stands_in rows r
 among_is rows r =
-    ap (λ b. (is_some (up (node_places rows) r.node) && b) && list_all (λ (x : Resource). has (places rows) x.id) r.ro) (all_same (has (places rows)) (has_resource rows) r.rw (has_is rows))
-    ∙ ap (λ b. (is_some (up (node_places rows) r.node) && list_all (has_resource rows) r.rw) && b) (all_same (λ (x : Resource). has (places rows) x.id) (λ (x : Resource). has_resource rows x.id) r.ro (λ x. has_is rows x.id))
+    ap (λ b. (is_some (up (node_places rows) r.node) && b) && list_all (λ (x : Resource). has (places rows) x.id) r.ro) (all_as (has (places rows)) (has_resource rows) (has_is rows) r.rw)
+    ∙ ap (λ b. (is_some (up (node_places rows) r.node) && list_all (has_resource rows) r.rw) && b) (all_as (λ (x : Resource). has (places rows) x.id) (λ (x : Resource). has_resource rows x.id) (λ x. has_is rows x.id) r.ro)
 
 -- ---- where nothing moves
 

@@ -1,18 +1,15 @@
 //! What a master does with an edit of its ticket.
 
-ghost use Rattle.std.specs.Prelude.{◌≡◌, ℕ, List, None, Some, OnOk, OnErr, IfErr};
-ghost use Rattle.ticket_items.specs.Edit.{added_id};
+ghost use Rattle.std.specs.Prelude.{◌≡◌, None, OnOk, OnErr, IfErr};
 ghost use Rattle.ticket_rows.specs.Edit as edits;
-ghost use Rattle.spawn.specs.Holdings.{held_by};
-ghost use Rattle.spawn.specs.HoldingsLaws.{edited_holdings};
 ghost use Rattle.master_core.specs.Orders as orders;
 
 use crate::master::Master;
 use crate::order::Order;
 use controller::{Done, Reply};
-use spawn::{Holder, Holders};
+use spawn::Holder;
 use std::alloc::Global;
-use ticket_tree::{Duplicate, Edit, Id, Refusal, Ticket};
+use ticket_tree::{Edit, Id, Refusal, Ticket};
 
 /// Why what a holder has can't be changed by the master.
 fn held_refusal(holder: Holder) -> Option<Refusal>
@@ -24,33 +21,14 @@ fn held_refusal(holder: Holder) -> Option<Refusal>
     }
 }
 
-/// Does an edit that nothing is against at a time. The master holds the id that it adds.
-fn apply_held(
-    alloc: Global,
-    ticket: &mut Ticket,
-    holders: &mut Holders,
-    edit: Edit,
-    at: u64,
-) -> Result<(), Refusal>
-    requires free { edits.refusal_of edit ticket.old.rows ≡ None }
-    requires new { (i : List ℕ) → added_id edit ≡ Some i → held_by holders.old i ≡ None }
+/// Does an edit that nothing is against, at a time.
+fn apply_held(alloc: Global, ticket: &mut Ticket, edit: Edit, at: u64) -> Result<(), Refusal>
+    requires { edits.refusal_of edit ticket.old.rows ≡ None }
     ensures ok { OnOk result (ticket.new ≡ edits.edited edit at ticket.old) }
-    ensures holders { OnOk result (holders.new ≡ edited_holdings edit holders.old) }
     ensures err { OnErr result (ticket.new ≡ ticket.old) }
-    ensures holders_stay { OnErr result (holders.new ≡ holders.old) }
     ensures memory { IfErr result (λ e. e ≡ Refusal.Memory) }
 {
-    match edit.added_id() {
-        None => ticket.apply(alloc, edit, at),
-        Some(id) => {
-            holders.add(id.copy(alloc)?)?;
-            let applied = ticket.apply(alloc, edit, at);
-            if applied.is_err() {
-                holders.unadd();
-            }
-            applied
-        }
-    }
+    ticket.apply(alloc, edit, at)
 }
 
 impl Master {
@@ -82,7 +60,7 @@ impl Master {
         match self.edit_refusal(&edit) {
             Some(refusal) => Err(refusal),
             None => {
-                apply_held(alloc, &mut self.ticket, &mut self.holders, edit, at)?;
+                apply_held(alloc, &mut self.ticket, edit, at)?;
                 Ok(Done {
                     reply: Reply::Edited,
                     message: None,

@@ -7,7 +7,6 @@ ghost use Rattle.master_core.specs.Messages as messages;
 use crate::master::Master;
 use crate::records::{is_spawn_out, place_of};
 use merge::withdraw;
-use spawn::Holder;
 use std::alloc::{AllocError, Global};
 use ticket_tree::SpawnId;
 
@@ -24,7 +23,7 @@ impl Master {
         }
         let record = &mut self.records[place_of(spawn)];
         withdraw(alloc, &mut self.ticket, record, at).or(Err(AllocError))?;
-        self.holders.set(&self.ticket, record, Holder::Master);
+        self.holders.free(&self.ticket, record);
         Ok(())
     }
 }

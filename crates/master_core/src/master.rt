@@ -1,6 +1,6 @@
 use crate::names::are_apart;
 use crate::order::Order;
-use crate::stored::is_master;
+use crate::stored::holders_of;
 use controller::answering::outcome_of;
 use controller::{Done, Message, Outcome};
 use spawn::{Holder, Holders, SpawnRec, marked};
@@ -56,13 +56,12 @@ impl Master {
         if !are_apart(alloc, &name, workers.as_slice())? {
             return Err(Refusal::SameName);
         }
-        let holders = Holders::of(alloc, &ticket, &[])?;
         Ok(Master {
             name,
             workers,
             ticket,
             records: Vec::new(alloc),
-            holders,
+            holders: Holders::new(alloc),
         })
     }
 
@@ -90,16 +89,16 @@ impl Master {
             → IfErr result (λ e. e ≡ Refusal.Memory) }
         ensures only { IfErr result (λ e. (e ≡ Refusal.BadState) ⊎ (e ≡ Refusal.Memory)) }
     {
-        if !is_master(
+        let Some(holders) = holders_of(
             alloc,
             &name,
             workers.as_slice(),
             &ticket,
             records.as_slice(),
-        )? {
+        )?
+        else {
             return Err(Refusal::BadState);
-        }
-        let holders = Holders::of(alloc, &ticket, records.as_slice())?;
+        };
         Ok(Master {
             name,
             workers,
@@ -147,7 +146,7 @@ impl Master {
     pub fn holder_of(&self, id: &Id) -> Option<Holder>
         ensures { result ≡ master.holder self.now id.now }
     {
-        self.holders.get(id)
+        self.holders.holder_of(&self.ticket, id)
     }
 
     /// Whether it may change a node or a resource: it holds it. Needs no memory.

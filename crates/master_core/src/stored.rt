@@ -1,14 +1,15 @@
 //! Whether the parts of a master that were stored are those of one.
 
-ghost use Rattle.std.specs.Prelude.{◌≡◌, ◌&&◌, true, IfOk};
+ghost use Rattle.std.specs.Prelude.{◌≡◌, is_some, IfOk, IfSome};
 ghost use Rattle.ticket_rows.specs.Ticket.{IsValid};
 ghost use Rattle.master_core.specs.Master as master;
-ghost use Rattle.master_core.specs.Master.{IsKept};
+ghost use Rattle.master_core.specs.Master.{IsInStep};
+ghost use Rattle.spawn.specs.Holdings.{IsTable};
 ghost use Rattle.master_core.specs.Stored as stored;
 
 use crate::names;
 use crate::records::place_of;
-use spawn::{SpawnRec, are_good, stand_in};
+use spawn::{Holders, SpawnRec, are_good, stand_in};
 use std::alloc::{AllocError, Global};
 use ticket_items::is_among;
 use ticket_tree::{Id, Ticket};
@@ -34,35 +35,42 @@ fn are_sent(workers: &[Id], records: &[SpawnRec]) -> bool
         .all(|record| is_among(workers, &record.worker))
 }
 
-/// Whether records are those of a ticket.
-fn are_recorded(alloc: Global, ticket: &Ticket, records: &[SpawnRec]) -> Result<bool, AllocError>
-    ensures test { IfOk result (λ b. b ≡ stored.are_recorded ticket.now records.now) }
-    ensures valid { IfOk result (λ b. b ≡ true → IsValid ticket.now.rows) }
+/// The table of holders of a ticket by these records. `None` where they aren't those of the ticket.
+fn holders_by(
+    alloc: Global,
+    ticket: &Ticket,
+    records: &[SpawnRec],
+) -> Result<Option<Holders>, AllocError>
+    ensures test { IfOk result (λ found. is_some found
+        ≡ stored.are_recorded ticket.now records.now) }
+    ensures table { IfOk result (λ found. IfSome found
+        (λ h. IsTable ticket.now.rows records.now h)) }
+    ensures valid { IfOk result (λ found. IfSome found (λ _. IsValid ticket.now.rows)) }
 {
-    if !are_good(ticket, records) || !stand_in(alloc, ticket, records)? {
-        return Ok(false);
+    if !are_good(ticket, records) || !stand_in(ticket, records) {
+        return Ok(None);
     }
-    spawn::are_apart(alloc, ticket, records)
+    Holders::of(alloc, ticket, records)
 }
 
-/// Whether these can be the parts of a master.
-pub fn is_master(
+/// The table of holders of the master of these parts. `None` where these can't be those of one.
+pub fn holders_of(
     alloc: Global,
     name: &Id,
     workers: &[Id],
     ticket: &Ticket,
     records: &[SpawnRec],
-) -> Result<bool, AllocError>
-    ensures test { IfOk result (λ b. b
+) -> Result<Option<Holders>, AllocError>
+    ensures test { IfOk result (λ found. is_some found
         ≡ stored.is_master (master.known name.now workers.now ticket.now records.now)) }
-    ensures kept { IfOk result (λ b. b ≡ true
-        → IsKept (master.known name.now workers.now ticket.now records.now)) }
+    ensures kept { IfOk result (λ found. IfSome found
+        (λ h. IsInStep (master.known name.now workers.now ticket.now records.now) h)) }
 {
     if !are_numbered(records) || !are_sent(workers, records) {
-        return Ok(false);
+        return Ok(None);
     }
     if !names::are_apart(alloc, name, workers)? {
-        return Ok(false);
+        return Ok(None);
     }
-    are_recorded(alloc, ticket, records)
+    holders_by(alloc, ticket, records)
 }

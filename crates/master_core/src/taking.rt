@@ -16,7 +16,7 @@ use crate::records::{is_spawn_out, place_of, record_of};
 use controller::answering::spawn_in;
 use controller::{Body, Command, Message, QueueStatus, Reply, Taken};
 use merge::{fits, merge_fitting};
-use spawn::{Holder, Phase, SpawnRec};
+use spawn::{Phase, SpawnRec};
 use std::alloc::{AllocError, Global};
 use ticket_tree::{Part, Refusal, SpawnId, Ticket};
 
@@ -211,7 +211,7 @@ impl Master {
         }
         let record = &mut self.records[place_of(spawn)];
         merge_fitting(alloc, &mut self.ticket, record, part, at).or(Err(AllocError))?;
-        self.holders.set(&self.ticket, record, Holder::Master);
+        self.holders.free(&self.ticket, record);
         Ok(())
     }
 

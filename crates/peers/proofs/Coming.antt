@@ -180,7 +180,7 @@ decided now before after old new (events.Request r) none decides idle = (
   old,
   grows_none old,
   idle,
-  with_none (λ b. Says old.came.most old.came.kind b r.status r.head.items r.target.items r.body) old.came.bytes decides.0,
+  with_none (λ b. Says old.came.most old.came.kind b r.status r.method r.head.items r.target.items r.body) old.came.bytes decides.0,
   decides.1,
   unanswered_left old new (ap (λ s. s.out) decides.1) (ap (λ s. s.asked) decides.1) none,
 )
@@ -287,7 +287,7 @@ comes_behind now before mid after old cur new g (events.Request r) grows taken c
   comes.1,
   grows_more old cur comes.1 g comes.0 grows comes.2,
   consumes_more before mid after g comes.0 taken comes.3,
-  as_before (λ m k b. Says m k b r.status r.head.items r.target.items r.body) old cur g comes.0 grows comes.4,
+  as_before (λ m k b. Says m k b r.status r.method r.head.items r.target.items r.body) old cur g comes.0 grows comes.4,
   comes.5,
   comes.6,
 )

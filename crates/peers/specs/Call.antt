@@ -23,8 +23,8 @@ IsWhole c w = making.IsWhole c.exchange.came.most c.exchange.came.kind c.exchang
 -- a response that is whole is given, unless memory runs out
 abbrev pub Ends : {S : Type 0} → Outgoing S → CallTurn S → Type 0
 Ends c (turns.Came r) =
-    Says c.exchange.came.most c.exchange.came.kind c.exchange.came.bytes r.status r.head.items
-    r.target.items r.body
+    Says c.exchange.came.most c.exchange.came.kind c.exchange.came.bytes r.status r.method
+    r.head.items r.target.items r.body
 Ends c (turns.Failed e) = e ≡ Core Memory
 Ends c _ = ⊥
 
@@ -58,8 +58,8 @@ pub record Waits {S : Type 0} (reads : S → Option (List ℕ)) (old new : Outgo
 -- what came before and these bytes carry this
 abbrev pub SaysOf : Exchange → List ℕ → Received → Type 0
 SaysOf x gained r =
-    Says x.came.most x.came.kind (x.came.bytes ++ gained) r.status r.head.items r.target.items
-    r.body
+    Says x.came.most x.came.kind (x.came.bytes ++ gained) r.status r.method r.head.items
+    r.target.items r.body
 
 -- it read the last bytes of its response, which are of this message: what came before and now
 -- carries it. Nothing is said of the request: its response may come before all of it was written

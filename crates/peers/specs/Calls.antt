@@ -66,8 +66,8 @@ Comes now before after old new events.Wait = Continues before after old new × W
 Comes now before after old new events.Again = Continues before after old new
 Comes now before after old new (events.Request r) =
     (gained : List ℕ) × (between : Seen) × Grows old between gained × Consumes before after gained
-    × Says old.came.most old.came.kind (old.came.bytes ++ gained) r.status r.head.items
-    r.target.items r.body
+    × Says old.came.most old.came.kind (old.came.bytes ++ gained) r.status r.method
+    r.head.items r.target.items r.body
     × (new ≡ handed now between) × IsUnanswered new
 Comes now before after old new (events.Refused e) =
     (gained : List ℕ) × (between : Seen) × Grows old between gained

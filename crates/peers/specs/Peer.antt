@@ -74,7 +74,8 @@ later now time = min (now + time) (2 ^ 64 - 1)
 
 -- nothing of a request
 abbrev pub nothing : Limits → Came
-nothing limits = record { kind = kinds.Request; most = limits.body; bytes = []; looks = 0 }
+nothing limits =
+    record { kind = kinds.Request limits.methods; most = limits.body; bytes = []; looks = 0 }
 
 -- a connection that was accepted
 abbrev pub accepted : Limits → ℕ → Seen
@@ -199,7 +200,8 @@ Idles before after = Consumes before after []
 -- refused, unless memory runs out
 abbrev pub Decides : ℕ → Seen → Seen → Event → Type 0
 Decides now old new (events.Request r) =
-    Says old.came.most old.came.kind old.came.bytes r.status r.head.items r.target.items r.body
+    Says old.came.most old.came.kind old.came.bytes r.status r.method r.head.items r.target.items
+    r.body
     × (new ≡ handed now old)
 Decides now old new (events.Refused e) =
     (IsLost old.came.most old.came.kind old.came.bytes e × (new ≡ waiting now old))

@@ -150,7 +150,7 @@ impl Exchange {
     pub fn into_received(self, alloc: Global, whole: Whole) -> Result<Received, AllocError>
         requires { IsWhole self.came.most self.came.kind self.came.bytes whole }
         ensures { IfOk result (λ r. Says self.came.most self.came.kind self.came.bytes r.status
-            r.head.items r.target.items r.body) }
+            r.method r.head.items r.target.items r.body) }
     {
         self.incoming.into_received(alloc, whole)
     }

@@ -14,8 +14,6 @@ mod limits;
 mod peer;
 mod phase;
 mod progress;
-#[cfg(test)]
-mod tests;
 mod turn;
 mod writing;
 

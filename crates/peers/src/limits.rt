@@ -1,6 +1,10 @@
+use http_message::Methods;
+
 /// The limits of a listener's connections. Times are in milliseconds.
 #[derive(Clone, Copy)]
 pub struct Limits {
+    /// Which methods are taken.
+    pub methods: Methods,
     /// How long a request may take to come, from the moment when its connection was accepted.
     pub request: u64,
     /// How long its step may take to be made.

@@ -62,7 +62,7 @@ impl Peer {
         Peer {
             limits,
             phase: Phase::Reading,
-            incoming: Incoming::new(alloc, Kind::Request, limits.body),
+            incoming: Incoming::new(alloc, Kind::Request(limits.methods), limits.body),
             asked: false,
             out: Vec::new(alloc),
             done: 0,
@@ -193,7 +193,7 @@ impl Peer {
         requires whole { IsWhole self.old.came.most self.old.came.kind self.old.came.bytes whole }
         ensures { peers.Decides now self.old self.new result }
     {
-        let empty = Incoming::new(alloc, Kind::Request, self.limits.body);
+        let empty = Incoming::new(alloc, Kind::Request(self.limits.methods), self.limits.body);
         let incoming = mem::replace(&mut self.incoming, empty);
         self.wait(now);
         match incoming.into_received(alloc, whole) {

@@ -7,8 +7,6 @@ mod pattern;
 mod read;
 mod rows;
 mod table;
-#[cfg(test)]
-mod tests;
 
 pub use destination::Destination;
 pub use read::peers_of;

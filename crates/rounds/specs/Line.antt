@@ -51,7 +51,7 @@ abbrev pub comings_of : {S : Type 0} → List (Errand S) → List Coming
 comings_of errands = map coming_in errands
 
 -- there is room for what comes of so many clients
-pub record HasRoom {S : Type 0} (clients : ℕ) (room : Room S) : Type 0 where
+pub record HasRoom {S A : Type 0} (clients : ℕ) (room : Room S A) : Type 0 where
   pub no_answered : room.answered.items ≡ []
   pub no_waiting : room.waiting.items ≡ []
   pub no_comings : room.comings.items ≡ []
@@ -72,51 +72,76 @@ pub record IsAnswered {S : Type 0} (now : ℕ) (came : Result TakenBytes Refused
   pub told : a.told ≡ told_of came
   pub taken : a.taken ≡ taken_of came
 
--- each of those who waited is answered, in turn, by what came of the request
-abbrev pub AreAnswered : {S : Type 0} → ℕ → List (Result TakenBytes Refused) → List (Waiting S)
-    → List (Answered S) → Type 0
-AreAnswered now [] [] [] = ⊤
-AreAnswered now (came ∷ rest) (w ∷ waiting) (a ∷ answered) =
-    IsAnswered now came w.key w.asked a × AreAnswered now rest waiting answered
-AreAnswered now _ _ _ = ⊥
+-- each of those who waited is told, in turn, what came of the request, in this form
+abbrev pub AreTold : {S A : Type 0} → (Result TakenBytes Refused → Waiting S → A → Type 0)
+    → List (Result TakenBytes Refused) → List (Waiting S) → List A → Type 0
+AreTold IsTold [] [] [] = ⊤
+AreTold IsTold (came ∷ rest) (w ∷ waiting) (a ∷ told) =
+    IsTold came w a × AreTold IsTold rest waiting told
+AreTold IsTold _ _ _ = ⊥
 
 -- each of them is refused for this
-abbrev pub AreRefused : {S : Type 0} → ℕ → Refused → List (Waiting S) → List (Answered S) → Type 0
-AreRefused now e waiting answered =
-    AreAnswered now (map (λ w. Err e) waiting) waiting answered
+abbrev pub AreToldOf : {S A : Type 0} → (Result TakenBytes Refused → Waiting S → A → Type 0)
+    → Refused → List (Waiting S) → List A → Type 0
+AreToldOf IsTold e waiting told = AreTold IsTold (map (λ w. Err e) waiting) waiting told
 
 -- each of them is refused, with a status of 503
-abbrev pub AreUnavailable : {S : Type 0} → ℕ → List (Waiting S) → List (Answered S) → Type 0
-AreUnavailable now waiting answered =
-    (e : Refused) × (status_of e ≡ 503) × AreRefused now e waiting answered
+abbrev pub AreToldNone : {S A : Type 0} → (Result TakenBytes Refused → Waiting S → A → Type 0)
+    → List (Waiting S) → List A → Type 0
+AreToldNone IsTold waiting told =
+    (e : Refused) × (status_of e ≡ 503) × AreToldOf IsTold e waiting told
 
 -- the controller that a keeper held takes what clients have come for, one after the other; each of
--- them is answered by what came of it, and the state behind the last is held
-pub record StepsAll {S K : Type 0} (is_honest : K → Bool) (held : K → List ℕ) (to : Addressee)
-    (at now : ℕ) (old new : K) (errands : List (Errand S)) (answered : List (Answered S))
-    (saved : Option AnyController) : Type 0 where
+-- them is told what came of it, and the state behind the last is held
+pub record TellsAll {S A K : Type 0} (IsTold : Result TakenBytes Refused → Waiting S → A → Type 0)
+    (is_honest : K → Bool) (held : K → List ℕ) (to : Addressee) (at : ℕ) (old new : K)
+    (errands : List (Errand S)) (told : List A) (saved : Option AnyController) : Type 0 where
   pub given : List (Result TakenBytes Refusal)
   pub taken : TakesAll is_honest held to at (comings_of errands) given saved old new
-  pub answers : AreAnswered now (map came_of given) (waiting_of errands) answered
+  pub answers : AreTold IsTold (map came_of given) (waiting_of errands) told
 
 -- each of them is refused, with a status of 503, since this kept the controller from its steps, or
 -- these from being saved
-pub record StepsNone {S K : Type 0} (is_honest : K → Bool) (held place : K → List ℕ)
-    (count : K → ℕ) (load_fails : K → K → Type 0) (save_fails : K → List ℕ → K → Type 0)
-    (to : Addressee) (at now : ℕ) (old new : K) (errands : List (Errand S))
-    (answered : List (Answered S)) (saved : Option AnyController) : Type 0 where
+pub record TellsNone {S A K : Type 0} (IsTold : Result TakenBytes Refused → Waiting S → A → Type 0)
+    (is_honest : K → Bool) (held place : K → List ℕ) (count : K → ℕ) (load_fails : K → K → Type 0)
+    (save_fails : K → List ℕ → K → Type 0) (to : Addressee) (at : ℕ) (old new : K)
+    (errands : List (Errand S)) (told : List A) (saved : Option AnyController) : Type 0 where
   pub why : Refused
   pub none :
       TakesNone is_honest held place count load_fails save_fails to at (comings_of errands) old new
       why
-  pub answers : AreUnavailable now (waiting_of errands) answered
+  pub answers : AreToldNone IsTold (waiting_of errands) told
   pub unsaved : saved ≡ None
+
+-- what those who wait for the controller that a keeper holds are told, in this form
+abbrev pub TellsLine : {S A K : Type 0} → (Result TakenBytes Refused → Waiting S → A → Type 0)
+    → (K → Bool) → (held place : K → List ℕ) → (K → ℕ) → (K → K → Type 0)
+    → (K → List ℕ → K → Type 0) → Addressee → (at : ℕ) → (old new : K) → List (Errand S) → List A
+    → Option AnyController → Type 0
+TellsLine IsTold is_honest held place count load_fails save_fails to at old new errands told saved =
+    TellsAll IsTold is_honest held to at old new errands told saved
+    ⊎ TellsNone IsTold is_honest held place count load_fails save_fails to at old new errands told
+    saved
+
+-- ---- those who have sent a message
+
+-- who waited has the response to what came of the request
+abbrev pub HasAnswer : {S : Type 0} → ℕ → Result TakenBytes Refused → Waiting S → Answered S
+    → Type 0
+HasAnswer now came w a = IsAnswered now came w.key w.asked a
+
+-- each of them is refused for this
+abbrev pub AreRefused : {S : Type 0} → ℕ → Refused → List (Waiting S) → List (Answered S) → Type 0
+AreRefused now e waiting answered = AreToldOf (HasAnswer now) e waiting answered
+
+-- each of them is refused, with a status of 503
+abbrev pub AreUnavailable : {S : Type 0} → ℕ → List (Waiting S) → List (Answered S) → Type 0
+AreUnavailable now waiting answered = AreToldNone (HasAnswer now) waiting answered
 
 -- what comes of those who wait for the controller that a keeper holds
 abbrev pub StepsLine : {S K : Type 0} → (K → Bool) → (held place : K → List ℕ) → (K → ℕ)
     → (K → K → Type 0) → (K → List ℕ → K → Type 0) → Addressee → (at now : ℕ) → (old new : K)
     → List (Errand S) → List (Answered S) → Option AnyController → Type 0
 StepsLine is_honest held place count load_fails save_fails to at now old new errands answered saved =
-    StepsAll is_honest held to at now old new errands answered saved
-    ⊎ StepsNone is_honest held place count load_fails save_fails to at now old new errands answered
-    saved
+    TellsLine (HasAnswer now) is_honest held place count load_fails save_fails to at old new errands
+    answered saved

@@ -1,26 +1,19 @@
-//! What waits for one controller: the errands of clients, and their responses.
+//! Those who wait for one controller, and what they are told.
 
-ghost use Rattle.std.specs.Prelude.{◌≡◌, ◌≤◌, [], map, length, vec_capacity};
-ghost use Rattle.http_edge.specs.Exchange as exchanges;
+ghost use Rattle.std.specs.Prelude.{◌≡◌, ◌≤◌, [], length, map, vec_capacity};
 ghost use Rattle.http_message.specs.Status.{status_of as status_for};
-ghost use Rattle.http_message.specs.Texts.{answer_of};
 ghost use Rattle.rounds.specs.Line as line;
-ghost use Rattle.rounds.specs.Line.{AreAnswered, AreRefused, IsAnswered, StepsLine};
+ghost use Rattle.rounds.specs.Line.{AreTold, AreToldOf, TellsLine};
 
-use crate::answered::Answered;
 use crate::errand::Errand;
 use crate::room::Room;
-use crate::taken_from::TakenFrom;
+use crate::told::Told;
 use crate::waiting::Waiting;
-use controller::Reply;
-use http_edge::Served;
-use http_message::{served_bytes, status_of};
 use keepers::Keep;
-use peers::Asked;
 use std::alloc::Global;
 use stored_state::{Addressee, Coming, Saved, TakenBytes, take_all};
 use streams::Refused;
-use ticket_items::{Id, Refusal};
+use ticket_items::Refusal;
 
 /// Parts errands into those who wait and what has come.
 fn parted<S: Drop>(
@@ -42,141 +35,35 @@ fn parted<S: Drop>(
     (waiting, comings)
 }
 
-/// What a message from this sender was taken as, if it was.
-fn reply_from(sender: Option<Id>, reply: Result<Reply, Refusal>) -> Option<TakenFrom>
-    ensures { result ≡ line.reply_from sender reply }
-{
-    match (sender, reply) {
-        (Some(sender), Ok(reply)) => Some(TakenFrom { reply, sender }),
-        _ => None,
-    }
-}
-
-/// What a message was taken as and from whom, if it was.
-fn taken_of(came: Result<TakenBytes, Refused>) -> Option<TakenFrom>
-    ensures { result ≡ line.taken_of came }
-{
-    match came {
-        Ok(taken) => {
-            let TakenBytes {
-                sender,
-                reply,
-                answer,
-            } = taken;
-            drop(answer);
-            reply_from(sender, reply)
-        }
-        Err(_) => None,
-    }
-}
-
-/// What is told of a message that was taken so.
-fn told_of_reply(reply: Result<Reply, Refusal>) -> Option<Refused>
-    ensures { result ≡ exchanges.refusal_in reply }
-{
-    match reply {
-        Ok(_) => None,
-        Err(refusal) => Some(Refused::Core(refusal)),
-    }
-}
-
-/// What is told of a request of which this came.
-fn told_of(came: &Result<TakenBytes, Refused>) -> Served
-    ensures { result ≡ exchanges.told_of came.now }
-{
-    match came {
-        Ok(taken) => Served {
-            status: 200,
-            refusal: told_of_reply(taken.reply),
-        },
-        Err(refused) => Served {
-            status: status_of(*refused).as_u16(),
-            refusal: Some(*refused),
-        },
-    }
-}
-
-/// The text of an answer, if there is one, or why there is no step.
-fn answer_in(came: &Result<TakenBytes, Refused>) -> Result<Option<&[u8]>, Refused>
-    ensures { answer_of result ≡ exchanges.answer_in came.now }
-{
-    match came {
-        Ok(taken) => match &taken.answer {
-            Some(text) => Ok(Some(text.as_slice())),
-            None => Ok(None),
-        },
-        Err(refused) => Err(*refused),
-    }
-}
-
-/// A client with the response to what came of the request.
-fn answer<S: Drop>(
-    alloc: Global,
-    key: usize,
-    asked: Asked<S>,
-    came: Result<TakenBytes, Refused>,
-    now: u64,
-) -> Answered<S>
-    ensures { IsAnswered now came key asked result }
-{
-    let client = match served_bytes(alloc, &answer_in(&came)) {
-        Ok(response) => asked.answer(response.as_slice(), now).ok(),
-        Err(_) => {
-            drop(asked);
-            None
-        }
-    };
-    Answered {
-        key,
-        client,
-        told: told_of(&came),
-        taken: taken_of(came),
-    }
-}
-
-/// A client with the response to a request that is refused.
-pub fn refuse<S: Drop>(
-    alloc: Global,
-    key: usize,
-    asked: Asked<S>,
-    refused: Refused,
-    now: u64,
-) -> Answered<S>
-    ensures { IsAnswered now (Err refused) key asked result }
-{
-    answer(alloc, key, asked, Err(refused), now)
-}
-
-/// Refuses each of these clients.
-fn refuse_all<S: Drop>(
+/// Refuses each of those who wait.
+fn refuse_all<S: Drop, A: Told<S>>(
     alloc: Global,
     waiting: Vec<Waiting<S>>,
-    mut answered: Vec<Answered<S>>,
+    mut answered: Vec<A>,
     refused: Refused,
     now: u64,
-) -> Vec<Answered<S>>
+) -> Vec<A>
     requires empty { answered.items ≡ [] }
     requires room { length waiting.items ≤ vec_capacity answered }
-    ensures { AreRefused now refused waiting.items result.items }
+    ensures { AreToldOf (A.is_told now) refused waiting.items result.items }
 {
     let why = &refused;
     for one in waiting {
-        let Waiting { key, asked } = one;
-        answered.push_reserved(refuse(alloc, key, asked, *why, now));
+        answered.push_reserved(A::tell(alloc, one, Err(*why), now));
     }
     answered
 }
 
-/// Refuses each client with an errand.
-pub fn refuse_errands<S: Drop>(
+/// Refuses each of those with an errand.
+pub fn refuse_errands<S: Drop, A: Told<S>>(
     alloc: Global,
     errands: Vec<Errand<S>>,
-    room: Room<S>,
+    room: Room<S, A>,
     refused: Refused,
     now: u64,
-) -> Vec<Answered<S>>
+) -> Vec<A>
     requires { line.HasRoom (length errands.items) room }
-    ensures { AreRefused now refused (line.waiting_of errands.items) result.items }
+    ensures { AreToldOf (A.is_told now) refused (line.waiting_of errands.items) result.items }
 {
     let Room {
         answered,
@@ -198,35 +85,21 @@ fn came_of(given: Result<TakenBytes, Refusal>) -> Result<TakenBytes, Refused>
     }
 }
 
-/// A client with the response to a message that was handed on.
-fn give<S: Drop>(
-    alloc: Global,
-    key: usize,
-    asked: Asked<S>,
-    taken: Result<TakenBytes, Refusal>,
-    now: u64,
-) -> Answered<S>
-    ensures { IsAnswered now (line.came_of taken) key asked result }
-{
-    answer(alloc, key, asked, came_of(taken), now)
-}
-
-/// Answers each of these clients by what the message was taken as.
-fn give_all<S: Drop>(
+/// Tells each of those who wait what came of the errand.
+fn give_all<S: Drop, A: Told<S>>(
     alloc: Global,
     waiting: Vec<Waiting<S>>,
-    mut answered: Vec<Answered<S>>,
+    mut answered: Vec<A>,
     given: Vec<Result<TakenBytes, Refusal>>,
     now: u64,
-) -> Vec<Answered<S>>
+) -> Vec<A>
     requires empty { answered.items ≡ [] }
     requires room { length waiting.items ≤ vec_capacity answered }
     requires each { length given.items ≡ length waiting.items }
-    ensures { AreAnswered now (map line.came_of given.items) waiting.items result.items }
+    ensures { AreTold (A.is_told now) (map line.came_of given.items) waiting.items result.items }
 {
     for (one, taken) in waiting.into_iter().zip(given) {
-        let Waiting { key, asked } = one;
-        answered.push_reserved(give(alloc, key, asked, taken, now));
+        answered.push_reserved(A::tell(alloc, one, came_of(taken), now));
     }
     answered
 }
@@ -242,24 +115,24 @@ fn refused_to_clients(refused: Refused) -> Refused
     }
 }
 
-/// Hands the controller that a keeper holds what clients have come for, one after the other, at a
-/// time in seconds since 1970, saves its state once behind the last, and gives each client the
-/// response at this moment, in milliseconds. Gives the controller with the text that was saved.
-/// Where it can't be loaded or saved, or isn't one that is addressed, each client is refused with a
-/// status of 503.
-pub fn answer_all<K: Keep, S: Drop>(
+/// Hands the controller that a keeper holds what those who wait have come for, one after the other,
+/// at a time in seconds since 1970, saves its state once behind the last, and gives each the
+/// response at this moment, in milliseconds: who sent a message the answer to it, who gave an order
+/// what was replied. Gives the controller with the text that was saved. Where it can't be loaded or
+/// saved, or isn't one that is addressed, each is refused with a status of 503.
+pub fn answer_all<K: Keep, S: Drop, A: Told<S>>(
     alloc: Global,
     keep: &mut K,
     last: Option<Saved>,
     to: Addressee<'_>,
     errands: Vec<Errand<S>>,
-    room: Room<S>,
+    room: Room<S, A>,
     at: u64,
     now: u64,
-) -> (Vec<Answered<S>>, Option<Saved>)
+) -> (Vec<A>, Option<Saved>)
     requires { line.HasRoom (length errands.items) room }
-    ensures steps { StepsLine K.is_honest K.held K.place K.count K.load_fails K.save_fails to.entry
-        at now keep.old keep.new errands.items result.0.items result.1 }
+    ensures steps { TellsLine (A.is_told now) K.is_honest K.held K.place K.count K.load_fails
+        K.save_fails to.entry at keep.old keep.new errands.items result.0.items result.1 }
     ensures place { K.place keep.new ≡ K.place keep.old }
 {
     let Room {

@@ -1,22 +1,22 @@
 ghost use Rattle.std.specs.Prelude.{IfOk};
 ghost use Rattle.rounds.specs.Line.{HasRoom};
 
-use crate::answered::Answered;
 use crate::waiting::Waiting;
 use std::alloc::{AllocError, Global};
 use stored_state::Coming;
 
-/// Room for what comes of a line, so that no client is lost for want of memory once it is stepped.
+/// Room for what comes of a line, so that no client is lost for want of memory once it is stepped:
+/// among it for what each is told.
 #[derive(Drop)]
-pub struct Room<S> {
-    pub answered: Vec<Answered<S>>,
+pub struct Room<S, A> {
+    pub answered: Vec<A>,
     pub waiting: Vec<Waiting<S>>,
     pub comings: Vec<Coming>,
 }
 
-impl<S: Drop> Room<S> {
+impl<S: Drop, A: Drop> Room<S, A> {
     /// Room for so many clients.
-    pub fn new(alloc: Global, clients: usize) -> Result<Room<S>, AllocError>
+    pub fn new(alloc: Global, clients: usize) -> Result<Room<S, A>, AllocError>
         ensures { IfOk result (HasRoom clients) }
     {
         Ok(Room {

@@ -1,2 +1,5 @@
+pub mod Files
 pub mod Names
+pub mod Owner
+pub mod Place
 pub mod Routes

@@ -1,15 +1,21 @@
-//! A folder of controllers, each in a file of its own name: which file a message leads to, and which
-//! names the controller in a file has to have.
+//! A folder of controllers, each in a file of its own name: which files it has, which of them a
+//! message leads to, and which names the controller in a file has to have.
 #![tactic(auto)]
 
+mod files;
+mod folder_file;
 mod lies;
 mod names;
+mod owner;
 mod owners;
+mod place;
 mod routes;
-#[cfg(test)]
-mod tests;
 
+pub use files::files_in;
+pub use folder_file::FolderFile;
 pub use lies::Lies;
 pub use names::is_file_name;
+pub use owner::Owner;
 pub use owners::{PEERS, owner_of};
+pub use place::Place;
 pub use routes::{file_for, in_folder};

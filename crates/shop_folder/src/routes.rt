@@ -19,7 +19,7 @@ pub fn in_folder(alloc: Global, folder: &str, name: &str) -> Result<String, Allo
 }
 
 /// The path of a sender's file in the folder of a receiver.
-fn in_receivers(
+pub(crate) fn in_receivers(
     alloc: Global,
     folder: &str,
     receiver: &str,

@@ -1,19 +1,14 @@
 -- The nodes that stand below another are those of rows with a depth above 1.
-use Rattle.std.proofs.Common.{◌≡◌, ◌∙◌, ℕ, suc, ◌&&◌, ◌||◌, Bool, true, false, not}
-use Rattle.std.proofs.Common.{cond, List, [], ◌∷◌, length, Option, Some, None, is_some, nat_lt, refl}
-use Rattle.std.proofs.Common.{slice_get, sym, ap, arith}
-use Rattle.std.proofs.lemmas.Bool.{and_parts, lt-ltb, not-true, or_parts}
-use Rattle.std.proofs.lemmas.Slice.Eq.{bytes_eq-Decides}
-use Rattle.std.specs.List.{list_any}
+use Rattle.std.proofs.Common.{◌≡◌, ◌∙◌, ℕ, suc, Bool, true, false, cond, List, [], ◌∷◌, length}
+use Rattle.std.proofs.Common.{Option, Some, None, is_some, nat_lt, refl, slice_get, sym, ap, arith}
+use Rattle.std.proofs.lemmas.Bool.{lt-ltb}
 use Rattle.std.specs.Option.{option_and_then, option_map_or}
 use Rattle.std.specs.Str.{bytes_eq}
-use Rattle.ticket_items.proofs.Apart.{or_none}
-use Rattle.ticket_items.specs.Ids.{are_distinct, mem}
 use Rattle.ticket_items.specs.declared.node_row.NodeRow.{NodeRow}
 use Rattle.ticket_rows.proofs.Below.{Follows, Follows-outline, length-path_of}
-use Rattle.ticket_rows.proofs.NodePlaces.{node_ids_distinct, node_places-rows, nodes_from}
+use Rattle.ticket_rows.proofs.NodePlaces.{node_places-rows, nodes_from}
 use Rattle.ticket_rows.specs.Place.{Place, node_place, node_places, parent, path_of, place_at, up}
-use Rattle.ticket_rows.specs.Ticket.{IsValid, node_ids, row_of}
+use Rattle.ticket_rows.specs.Ticket.{IsValid, row_of}
 
 -- whether a node stands below another
 abbrev pub is_lower : NodeRow → Bool
@@ -47,48 +42,11 @@ depth_from before [] n follows = refl
 depth_from before (r ∷ rows) n follows =
     depth_at (bytes_eq r.id n) before r (place_at (nodes_from (path_of before r) rows) n) (row_of rows n) (length-path_of before r follows.0 follows.1) (depth_from (path_of before r) rows n follows.2)
 
--- ---- among the rows
-
-and_none : (b : Bool) → (b && false) ≡ false
-and_none true = refl
-and_none false = refl
-
-and_true : (b : Bool) → (b && true) ≡ b
-and_true true = refl
-and_true false = refl
-
-none_lower : (rows : List NodeRow) (x : List ℕ) → mem x (node_ids rows) ≡ false
-    → list_any (λ r. is_lower r && bytes_eq r.id x) rows ≡ false
-none_lower [] x out = refl
-none_lower (r ∷ rows) x out =
-    let parts = or_parts (bytes_eq r.id x) (mem x (node_ids rows)) out in
-    ap (λ b. (is_lower r && b) || list_any (λ s. is_lower s && bytes_eq s.id x) rows) parts.0
-    ∙ ap (λ b. b || list_any (λ s. is_lower s && bytes_eq s.id x) rows) (and_none (is_lower r))
-    ∙ none_lower rows x parts.1
-
-lower_at : (here : Bool) (r : NodeRow) (rows : List NodeRow) (x : List ℕ) → bytes_eq r.id x ≡ here
-    → mem r.id (node_ids rows) ≡ false
-    → list_any (λ s. is_lower s && bytes_eq s.id x) rows ≡ option_map_or is_lower (row_of rows x) false
-    → ((is_lower r && here) || list_any (λ s. is_lower s && bytes_eq s.id x) rows)
-    ≡ option_map_or is_lower (cond here (Some r) (row_of rows x)) false
-lower_at true r rows x e out later =
-    ap (λ b. (is_lower r && true) || b) (none_lower rows x (ap (λ i. mem i (node_ids rows)) (sym ((bytes_eq-Decides r.id x).0 e)) ∙ out)) ∙ or_none (is_lower r && true) ∙ and_true (is_lower r)
-lower_at false r rows x e out later = ap (λ b. b || list_any (λ s. is_lower s && bytes_eq s.id x) rows) (and_none (is_lower r)) ∙ later
-
-lower_is : (rows : List NodeRow) (x : List ℕ) → are_distinct (node_ids rows) ≡ true
-    → list_any (λ r. is_lower r && bytes_eq r.id x) rows ≡ option_map_or is_lower (row_of rows x) false
-lower_is [] x apart = refl
-lower_is (r ∷ rows) x apart =
-    let parts = and_parts (not (mem r.id (node_ids rows))) (are_distinct (node_ids rows)) apart in
-    lower_at (bytes_eq r.id x) r rows x refl (not-true _ parts.0) (lower_is rows x parts.1)
-
 -- ---- together
 
 pub has_parent_is : (rows : List NodeRow) (x : List ℕ) → IsValid rows
-    → list_any (λ r. nat_lt 1 r.depth && bytes_eq r.id x) rows
-    ≡ is_some (up (node_places rows) x)
+    → option_map_or is_lower (row_of rows x) false ≡ is_some (up (node_places rows) x)
 has_parent_is rows x valid =
-    lower_is rows x (node_ids_distinct rows valid.distinct)
-    ∙ sym (depth_from [] rows x (Follows-outline rows valid.tree))
+    sym (depth_from [] rows x (Follows-outline rows valid.tree))
     ∙ ap (λ nodes. option_map_or (λ q. nat_lt 1 (length q.path)) (place_at nodes x) false) (sym (node_places-rows rows))
     ∙ sym (parent_by (place_at (node_places rows) x))

@@ -1,39 +1,36 @@
 -- What a spawn claims, by the ids of the rows below its node and of its copies.
 use Rattle.std.proofs.Common.{◌≡◌, ◌∙◌, ◌⊎◌, ℕ, ◌&&◌, ◌||◌, Bool, true, false, cond, List, []}
-use Rattle.std.proofs.Common.{◌∷◌, ◌++◌, ◌+◌, ◌<◌, Bor, Some, inl, inr, length, map, get_or, take, refl}
-use Rattle.std.proofs.Common.{sym, ap, append-nil}
+use Rattle.std.proofs.Common.{◌∷◌, ◌++◌, ◌+◌, ◌<◌, Option, Some, None, inl, inr, is_some, length}
+use Rattle.std.proofs.Common.{map, get_or, take, refl, sym, ap}
 use Rattle.std.proofs.lemmas.Bool.Decides.{same_from_decides}
 use Rattle.std.proofs.lemmas.Bool.{true≢false, and_from, and_parts, or_left, or_right}
 use Rattle.std.proofs.lemmas.List.{take_more}
-use Rattle.std.proofs.lemmas.List.Folds.{list_any-append}
 use Rattle.std.proofs.lemmas.Slice.Eq.{bytes_eq-Decides}
-use Rattle.std.specs.BTreeSet.{BTreeSet}
-use Rattle.std.specs.List.{filter, list_any}
+use Rattle.std.specs.List.{filter, find, list_any}
+use Rattle.std.specs.Option.{option_and_then, option_map, option_map_or}
 use Rattle.std.specs.Str.{bytes_eq}
-use Rattle.ticket_items.proofs.Apart.{bytes_eq-same, mem-append, or_none}
+use Rattle.ticket_items.proofs.Apart.{bytes_eq-same, mem-append}
 use Rattle.ticket_items.specs.Ids.{mem}
 use Rattle.ticket_items.specs.declared.node_row.NodeRow.{NodeRow}
-use Rattle.ticket_items.specs.declared.resource.Resource.{Resource}
 use Rattle.ticket_rows.proofs.Below.{mem-node_ids}
 use Rattle.ticket_rows.specs.Place.{Place, below, is_below, node_places, place_at, places}
 use Rattle.ticket_rows.specs.Ticket.{IsValid, has_node, ids, ids_of}
-use Rattle.ticket_tree.proofs.OnPlaces.{ids_of_places}
+use Rattle.ticket_tree.proofs.OnPlaces.{ids_of_places, stands_somewhere}
 use Rattle.spawn.proofs.Among.{mem_back, mem_front}
 use Rattle.spawn.proofs.ApartMore.{hold_both}
 use Rattle.spawn.proofs.Chosen.{AllOwn, all_own}
-use Rattle.spawn.proofs.HomesBelow.{ids-append}
 use Rattle.spawn.proofs.Outside.{inside, none_found, outside}
 use Rattle.spawn.proofs.RowsBelow.{rows_below-around}
 use Rattle.spawn.proofs.Split.{Around, around, none_below}
-use Rattle.spawn.proofs.Standing.{ids_apart}
+use Rattle.spawn.proofs.Standing.{ids_apart, named}
 use Rattle.spawn.specs.Claim.{is_claimed}
-use Rattle.spawn.specs.IdSet.{IsSetOf, is_in}
+use Rattle.spawn.specs.Holdings.{Holdings, IsFree, IsTable, claimed_ids, claims, held_by}
 use Rattle.ticket_tree.proofs.AtNode.{none_below_unknown}
 use Rattle.ticket_tree.specs.At.{rows_below}
 use Rattle.spawn.specs.Records.{is_out}
-use Rattle.spawn.specs.Stored.{claimed_by, claims_id}
-use Rattle.spawn.specs.Table.{holds}
+use Rattle.spawn.specs.Table.{as_spawn, holder_at, holds}
 use Rattle.spawn.specs.declared.records.spawn_rec.SpawnRec.{SpawnRec}
+use Rattle.spawn.specs.declared.tables.holder.Holder.TheVariants.{Master, Spawn}
 
 -- ---- a place below a node
 
@@ -56,17 +53,7 @@ pub below_rows : (rows : List NodeRow) (n : List ℕ) (p : Place) → IsValid ro
     → place_at (places rows) p.id ≡ Some p → below n p ≡ mem p.id (ids (rows_below rows n))
 below_rows rows n p valid own = below_at (has_node rows n) rows n p valid refl own
 
--- ---- who holds it
-
-pub holds_same : (rows : List NodeRow) (r : SpawnRec) (p : Place) → IsValid rows
-    → place_at (places rows) p.id ≡ Some p → holds p r ≡ (is_out r && claims_id rows r p.id)
-holds_same rows r p valid own = ap (λ b. is_out r && (b || mem p.id r.rw)) (below_rows rows r.node p valid own)
-
-any_holds : (rows : List NodeRow) (recs : List SpawnRec) (p : Place) → IsValid rows
-    → place_at (places rows) p.id ≡ Some p → list_any (holds p) recs ≡ claimed_by rows recs p.id
-any_holds rows [] p valid own = refl
-any_holds rows (r ∷ recs) p valid own =
-    ap (λ b. b || list_any (holds p) recs) (holds_same rows r p valid own) ∙ ap (λ b. (is_out r && claims_id rows r p.id) || b) (any_holds rows recs p valid own)
+-- ---- by places and by ids
 
 any_own : (all : List Place) (f : Place → Bool) (g : List ℕ → Bool) (tree : List Place)
     → AllOwn all tree → ((p : Place) → place_at all p.id ≡ Some p → f p ≡ g p.id)
@@ -74,18 +61,7 @@ any_own : (all : List Place) (f : Place → Bool) (g : List ℕ → Bool) (tree 
 any_own all f g [] own same = refl
 any_own all f g (p ∷ tree) own same = ap (λ b. b || list_any f tree) (same p own.0) ∙ ap (λ b. g p.id || b) (any_own all f g tree own.1 same)
 
--- what a spawn and one of others hold, by ids
-both_ids : (rows : List NodeRow) (recs : List SpawnRec) (r : SpawnRec) → IsValid rows
-    → hold_both (places rows) recs r
-    ≡ list_any (λ x. (is_out r && claims_id rows r x) && claimed_by rows recs x) (ids rows)
-both_ids rows recs r valid =
-    let tree = places rows in
-    let g : List ℕ → Bool = λ x. (is_out r && claims_id rows r x) && claimed_by rows recs x in
-    any_own tree (λ p. holds p r && list_any (holds p) recs) g tree (all_own tree tree (λ y p found. found) (ids_apart rows valid))
-    (λ p own. ap (λ b. b && list_any (holds p) recs) (holds_same rows r p valid own) ∙ ap (λ b. (is_out r && claims_id rows r p.id) && b) (any_holds rows recs p valid own))
-    ∙ ap (list_any g) (ids_of_places [] rows)
-
--- ---- ids in two lists
+-- ---- ids that pass a test
 
 some_passes_at : (here : Bool) (f : List ℕ → Bool) (y : List ℕ) (xs : List (List ℕ)) → f y ≡ here
     → (here || list_any f xs) ≡ true
@@ -119,35 +95,6 @@ or_either false b e = inr e
 abbrev AreWithin : List (List ℕ) → List (List ℕ) → Type 0
 AreWithin inner all = (x : List ℕ) → mem x inner ≡ true → mem x all ≡ true
 
-met_there : (all inner copies : List (List ℕ)) (f : List ℕ → Bool)
-    → list_any (λ x. (mem x inner || mem x copies) && f x) all ≡ true
-    → (list_any f inner || list_any (λ x. mem x all && f x) copies) ≡ true
-met_there all inner copies f any =
-    let some = some_passes (λ x. (mem x inner || mem x copies) && f x) all any in
-    let x : List ℕ = some.0 in
-    let parts = and_parts (mem x inner || mem x copies) (f x) some.2 in
-    elim (or_either (mem x inner) (mem x copies) parts.0) [
-      | inl inside' ↦ or_left (list_any f inner) (list_any (λ y. mem y all && f y) copies) (passes_there f inner x inside' parts.1)
-      | inr copied ↦
-          or_right (list_any f inner) (list_any (λ y. mem y all && f y) copies)
-          (passes_there (λ y. mem y all && f y) copies x copied (and_from (mem x all) (f x) some.1 parts.1))
-    ]
-
-there_met : (all inner copies : List (List ℕ)) (f : List ℕ → Bool) → AreWithin inner all
-    → (list_any f inner || list_any (λ x. mem x all && f x) copies) ≡ true
-    → list_any (λ x. (mem x inner || mem x copies) && f x) all ≡ true
-there_met all inner copies f within any =
-    let g : List ℕ → Bool = λ x. (mem x inner || mem x copies) && f x in
-    elim (or_either (list_any f inner) (list_any (λ x. mem x all && f x) copies) any) [
-      | inl inside' ↦
-          let some = some_passes f inner inside' in
-          passes_there g all some.0 (within some.0 some.1) (and_from (mem some.0 inner || mem some.0 copies) (f some.0) (or_left (mem some.0 inner) (mem some.0 copies) some.1) some.2)
-      | inr copied ↦
-          let some = some_passes (λ x. mem x all && f x) copies copied in
-          let parts = and_parts (mem some.0 all) (f some.0) some.2 in
-          passes_there g all some.0 parts.0 (and_from (mem some.0 inner || mem some.0 copies) (f some.0) (or_right (mem some.0 inner) (mem some.0 copies) some.1) parts.1)
-    ]
-
 -- the ids of rows that pass a test are among those of all
 within_at : (kept : Bool) (f : NodeRow → Bool) (r : NodeRow) (rows : List NodeRow) (x : List ℕ)
     → (mem x (ids (filter f rows)) ≡ true → mem x (ids rows) ≡ true)
@@ -164,62 +111,134 @@ ids_within : (f : NodeRow → Bool) (rows : List NodeRow) → AreWithin (ids (fi
 ids_within f [] x there = there
 ids_within f (r ∷ rows) x there = within_at (f r) f r rows x (ids_within f rows x) there
 
--- ---- ids of rows
+-- whether one of some passes, which are those of all that a test tells
+any_there : (all some : List (List ℕ)) (f g : List ℕ → Bool) → ((x : List ℕ) → mem x some ≡ f x)
+    → AreWithin some all → list_any g some ≡ true → list_any (λ x. f x && g x) all ≡ true
+any_there all some f g same within any =
+    let one = some_passes g some any in
+    passes_there (λ x. f x && g x) all one.0 (within one.0 one.1) (and_from (f one.0) (g one.0) (sym (same one.0) ∙ one.1) one.2)
 
--- an id of the rows is one of a row
-any_rows : (f : List ℕ → Bool) (rows : List NodeRow)
-    → list_any (λ r. list_any f (ids_of r)) rows ≡ list_any f (ids rows)
-any_rows f [] = refl
-any_rows f (r ∷ rows) = ap (λ b. list_any f (ids_of r) || b) (any_rows f rows) ∙ sym (list_any-append f (ids_of r) (ids rows))
+there_any : (all some : List (List ℕ)) (f g : List ℕ → Bool) → ((x : List ℕ) → mem x some ≡ f x)
+    → list_any (λ x. f x && g x) all ≡ true → list_any g some ≡ true
+there_any all some f g same any =
+    let one = some_passes (λ x. f x && g x) all any in
+    let parts = and_parts (f one.0) (g one.0) one.2 in
+    passes_there g some one.0 (same one.0 ∙ parts.0) parts.1
 
--- those of a row
-pub any_row : (f : List ℕ → Bool) (r : NodeRow)
-    → (f r.id || list_any (λ y. f y.id) r.resources) ≡ list_any f (ids_of r)
-any_row f r = ap (λ b. f r.id || b) (pool r.resources)
+any_among : (all some : List (List ℕ)) (f g : List ℕ → Bool) → ((x : List ℕ) → mem x some ≡ f x)
+    → AreWithin some all → list_any g some ≡ list_any (λ x. f x && g x) all
+any_among all some f g same within =
+    same_from_decides (list_any g some) (list_any (λ x. f x && g x) all) (any_there all some f g same within, there_any all some f g same) (λ e. e, λ e. e)
+
+-- ---- the ids of a claim
+
+mem_chosen_at : (b here : Bool) (f : List ℕ → Bool) (y x : List ℕ) (xs : List (List ℕ)) → f y ≡ b
+    → bytes_eq y x ≡ here → mem x (filter f xs) ≡ (f x && mem x xs)
+    → mem x (cond b (y ∷ filter f xs) (filter f xs)) ≡ (f x && (here || mem x xs))
+mem_chosen_at true true f y x xs e own go = ap (λ c. c || mem x (filter f xs)) own ∙ sym (ap (λ c. c && true) (ap f (sym ((bytes_eq-Decides y x).0 own)) ∙ e))
+mem_chosen_at true false f y x xs e own go = ap (λ c. c || mem x (filter f xs)) own ∙ go
+mem_chosen_at false true f y x xs e own go =
+    let fails : f x ≡ false = ap f (sym ((bytes_eq-Decides y x).0 own)) ∙ e in
+    go ∙ ap (λ c. c && mem x xs) fails ∙ sym (ap (λ c. c && true) fails)
+mem_chosen_at false false f y x xs e own go = go
+
+mem_chosen : (f : List ℕ → Bool) (x : List ℕ) (xs : List (List ℕ))
+    → mem x (filter f xs) ≡ (f x && mem x xs)
+mem_chosen f x [] = sym (and_none (f x))
   where
-    pool : (xs : List Resource) → list_any (λ y. f y.id) xs ≡ list_any f (map (λ y. y.id) xs)
-    pool [] = refl
-    pool (x ∷ xs) = ap (λ b. f x.id || b) (pool xs)
+    and_none : (b : Bool) → (b && false) ≡ false
+    and_none true = refl
+    and_none false = refl
+mem_chosen f x (y ∷ xs) = mem_chosen_at (f y) (bytes_eq y x) f y x xs refl refl (mem_chosen f x xs)
 
-or_assoc : (a b c d : Bool) → (((a || b) || c) || d) ≡ (a || (b || (c || d)))
-or_assoc true b c d = refl
-or_assoc false true c d = refl
-or_assoc false false c d = refl
+-- the ids of the rows below its node, and those of its copies, known or not
+abbrev claims_id : List NodeRow → SpawnRec → List ℕ → Bool
+claims_id rows r x = mem x (ids (rows_below rows r.node)) || mem x r.rw
 
--- the ids of one row more
-pub ids_more : (known : Bool) (rows : List NodeRow) (i : ℕ) (r : NodeRow) (x : List ℕ)
-    → i < length rows → r ≡ get_or rows i r
-    → (((known || mem x (ids (take i rows))) || bytes_eq r.id x) || list_any (λ y. bytes_eq y.id x) r.resources)
-    ≡ (known || mem x (ids (take (i + 1) rows)))
-ids_more known rows i r x within is =
-    or_assoc known (mem x (ids (take i rows))) (bytes_eq r.id x) (list_any (λ y. bytes_eq y.id x) r.resources)
-    ∙ ap (λ b. known || (mem x (ids (take i rows)) || b)) (any_row (λ y. bytes_eq y x) r ∙ sym (ap (mem x) (append-nil (ids_of r))))
-    ∙ ap (λ b. known || b) (sym (mem-append x (ids (take i rows)) (ids (r ∷ []))))
-    ∙ ap (λ is'. known || mem x is') (sym (ids-append (take i rows) (r ∷ [])))
-    ∙ ap (λ rs. known || mem x (ids rs)) (sym (take_more rows i r within ∙ ap (λ s. take i rows ++ s ∷ []) (sym is)))
+-- of what stands at a place
+claimed_at : (rows : List NodeRow) (r : SpawnRec) (x : List ℕ) (p : Place) → IsValid rows
+    → place_at (places rows) x ≡ Some p → claims_id rows r x ≡ is_claimed r.node r.rw p
+claimed_at rows r x p valid there =
+    let id : p.id ≡ x = named (places rows) x p there in
+    ap (claims_id rows r) (sym id)
+    ∙ ap (λ b. b || mem p.id r.rw) (sym (below_rows rows r.node p valid (ap (place_at (places rows)) id ∙ there)))
+
+out_of_part : (b : Bool) (inner all : List (List ℕ)) (x : List ℕ) → AreWithin inner all
+    → mem x all ≡ false → mem x inner ≡ b → b ≡ false
+out_of_part true inner all x within out e = absurd (true≢false (sym (within x e) ∙ out))
+out_of_part false inner all x within out e = refl
+
+listed_at : (o : Option Place) (rows : List NodeRow) (r : SpawnRec) (x : List ℕ) → IsValid rows
+    → place_at (places rows) x ≡ o
+    → (mem x (ids (rows_below rows r.node)) || (mem x (ids rows) && mem x r.rw))
+    ≡ option_map_or (is_claimed r.node r.rw) o false
+listed_at None rows r x valid none =
+    let out : mem x (ids rows) ≡ false = sym (stands_somewhere rows x) ∙ ap is_some none in
+    let away = out_of_part (mem x (ids (rows_below rows r.node))) (ids (rows_below rows r.node)) (ids rows) x (ids_within (λ s. is_below (node_places rows) s.id r.node) rows) out refl in
+    ap (λ b. b || (mem x (ids rows) && mem x r.rw)) away ∙ ap (λ b. b && mem x r.rw) out
+listed_at (Some p) rows r x valid there =
+    let known : mem x (ids rows) ≡ true = sym (stands_somewhere rows x) ∙ ap is_some there in
+    ap (λ b. mem x (ids (rows_below rows r.node)) || (b && mem x r.rw)) known ∙ claimed_at rows r x p valid there
+
+-- the ids of what a spawn claims are those under which something stands that it claims
+pub claims_listed : (rows : List NodeRow) (r : SpawnRec) (x : List ℕ) → IsValid rows
+    → mem x (claimed_ids rows r) ≡ claims rows r x
+claims_listed rows r x valid =
+    mem-append x (ids (rows_below rows r.node)) (filter (λ y. mem y (ids rows)) r.rw)
+    ∙ ap (λ b. mem x (ids (rows_below rows r.node)) || b) (mem_chosen (λ y. mem y (ids rows)) x r.rw)
+    ∙ listed_at (place_at (places rows) x) rows r x valid refl
+
+stands_by : (o : Option Place) (rows : List NodeRow) (r : SpawnRec) (x : List ℕ)
+    → place_at (places rows) x ≡ o → option_map_or (is_claimed r.node r.rw) o false ≡ true
+    → mem x (ids rows) ≡ true
+stands_by None rows r x there claimed = absurd (true≢false (sym claimed))
+stands_by (Some p) rows r x there claimed = sym (stands_somewhere rows x) ∙ ap is_some there
+
+claimed_within : (rows : List NodeRow) (r : SpawnRec) → IsValid rows
+    → AreWithin (claimed_ids rows r) (ids rows)
+claimed_within rows r valid x there = stands_by (place_at (places rows) x) rows r x refl (sym (claims_listed rows r x valid) ∙ there)
 
 -- ---- what meets what was claimed
 
-any_as : (f g : List ℕ → Bool) (xs : List (List ℕ)) → ((x : List ℕ) → f x ≡ g x)
-    → list_any f xs ≡ list_any g xs
-any_as f g [] same = refl
-any_as f g (x ∷ xs) same = ap (λ b. b || list_any f xs) (same x) ∙ ap (λ b. g x || b) (any_as f g xs same)
+some_holds : (f : SpawnRec → Bool) (recs : List SpawnRec)
+    → is_some (as_spawn (option_map_or (λ s. Spawn s.id) (find f recs) Master)) ≡ list_any f recs
+some_holds f [] = refl
+some_holds f (r ∷ recs) = by (f r) (some_holds f recs)
+  where
+    by : (b : Bool) → is_some (as_spawn (option_map_or (λ s. Spawn s.id) (find f recs) Master)) ≡ list_any f recs → is_some (as_spawn (option_map_or (λ s. Spawn s.id) (cond b (Some r) (find f recs)) Master)) ≡ (b || list_any f recs)
+    by true go = refl
+    by false go = go
 
-pub met_is : (rows : List NodeRow) (recs : List SpawnRec) (r : SpawnRec)
-    (known claimed : BTreeSet (Bor (List ℕ)))
-    → IsValid rows → is_out r ≡ true → IsSetOf (λ x. mem x (ids rows)) known
-    → IsSetOf (claimed_by rows recs) claimed
-    → (list_any (λ s. list_any (is_in claimed) (ids_of s)) (rows_below rows r.node)
-    || list_any (λ x. is_in known x && is_in claimed x) r.rw)
-    ≡ hold_both (places rows) recs r
-met_is rows recs r known claimed valid out all own =
-    let f = claimed_by rows recs in
-    let inner = ids (rows_below rows r.node) in
-    ap (λ b. b || list_any (λ x. is_in known x && is_in claimed x) r.rw) (any_rows (is_in claimed) (rows_below rows r.node) ∙ any_as (is_in claimed) f inner own.just)
-    ∙ ap (λ b. list_any f inner || b) (any_as (λ x. is_in known x && is_in claimed x) (λ x. mem x (ids rows) && f x) r.rw (λ x. ap (λ b. b && is_in claimed x) (all.just x) ∙ ap (λ b. mem x (ids rows) && b) (own.just x)))
-    ∙ same_from_decides (list_any f inner || list_any (λ x. mem x (ids rows) && f x) r.rw) (list_any (λ x. (mem x inner || mem x r.rw) && f x) (ids rows))
-    (there_met (ids rows) inner r.rw f (ids_within (λ s. is_below (node_places rows) s.id r.node) rows), met_there (ids rows) inner r.rw f) (λ e. e, λ e. e)
-    ∙ sym (both_ids rows recs r valid ∙ ap (λ b. list_any (λ x. (b && claims_id rows r x) && claimed_by rows recs x) (ids rows)) out)
+both_at : (rows : List NodeRow) (recs : List SpawnRec) (r : SpawnRec) (h : Holdings) (p : Place)
+    → is_out r ≡ true → IsTable rows recs h → place_at (places rows) p.id ≡ Some p
+    → (holds p r && list_any (holds p) recs) ≡ (claims rows r p.id && is_some (held_by h p.id))
+both_at rows recs r h p out table own =
+    ap (λ b. (b && is_claimed r.node r.rw p) && list_any (holds p) recs) out
+    ∙ ap (λ b. is_claimed r.node r.rw p && b) (sym (some_holds (holds p) recs))
+    ∙ sym (ap (λ o. option_map_or (is_claimed r.node r.rw) o false && is_some (held_by h p.id)) own
+    ∙ ap (λ o. is_claimed r.node r.rw p && is_some o) (table.same p.id ∙ ap (λ o. option_and_then as_spawn (option_map (holder_at recs) o)) own))
+
+-- one of the ids of a claim is held just where a spawn holds a place of it
+pub held_is_met : (rows : List NodeRow) (recs : List SpawnRec) (r : SpawnRec) (h : Holdings)
+    → IsValid rows → is_out r ≡ true → IsTable rows recs h
+    → list_any (λ x. is_some (held_by h x)) (claimed_ids rows r) ≡ hold_both (places rows) recs r
+held_is_met rows recs r h valid out table =
+    let tree = places rows in
+    let g : List ℕ → Bool = λ x. claims rows r x && is_some (held_by h x) in
+    any_among (ids rows) (claimed_ids rows r) (claims rows r) (λ x. is_some (held_by h x)) (λ x. claims_listed rows r x valid) (claimed_within rows r valid)
+    ∙ ap (list_any g) (sym (ids_of_places [] rows))
+    ∙ sym (any_own tree (λ p. holds p r && list_any (holds p) recs) g tree (all_own tree tree (λ y p found. found) (ids_apart rows valid)) (λ p own. both_at rows recs r h p out table own))
+
+-- so where none is held the claim is free
+none_held_at : (o : Option ℕ) (g : List ℕ → Option ℕ) (xs : List (List ℕ)) (x : List ℕ) → g x ≡ o
+    → mem x xs ≡ true → list_any (λ y. is_some (g y)) xs ≡ false → o ≡ None
+none_held_at None g xs x e there none = refl
+none_held_at (Some s) g xs x e there none = absurd (true≢false (sym (passes_there (λ y. is_some (g y)) xs x there (ap is_some e)) ∙ none))
+
+pub unmet_is_free : (rows : List NodeRow) (r : SpawnRec) (h : Holdings) → IsValid rows
+    → list_any (λ x. is_some (held_by h x)) (claimed_ids rows r) ≡ false → IsFree (claims rows r) h
+unmet_is_free rows r h valid none =
+    record { none = λ x claimed. none_held_at (held_by h x) (held_by h) (claimed_ids rows r) x refl (claims_listed rows r x valid ∙ claimed) none }
 
 -- ---- one spawn more
 
@@ -227,30 +246,9 @@ pub records_more : (recs : List SpawnRec) (i : ℕ) (r : SpawnRec) → i < lengt
     → r ≡ get_or recs i r → take (i + 1) recs ≡ take i recs ++ r ∷ []
 records_more recs i r within is = take_more recs i r within ∙ ap (λ s. take i recs ++ s ∷ []) (sym is)
 
-pub claimed_more : (rows : List NodeRow) (recs : List SpawnRec) (r : SpawnRec) (x : List ℕ)
-    → claimed_by rows (recs ++ r ∷ []) x
-    ≡ (claimed_by rows recs x || (is_out r && claims_id rows r x))
-claimed_more rows recs r x = list_any-append (λ s. is_out s && claims_id rows s x) recs (r ∷ []) ∙ ap (λ b. claimed_by rows recs x || b) (or_none (is_out r && claims_id rows r x))
-
 -- one that isn't out holds nothing
 pub none_both : (tree : List Place) (recs : List SpawnRec) (r : SpawnRec) → is_out r ≡ false
     → hold_both tree recs r ≡ false
 none_both [] recs r away = refl
 none_both (p ∷ tree) recs r away =
     ap (λ b. ((b && is_claimed r.node r.rw p) && list_any (holds p) recs) || hold_both tree recs r) away ∙ none_both tree recs r away
-
--- and adds nothing
-pub claimed_still : (rows : List NodeRow) (recs : List SpawnRec) (r : SpawnRec)
-    (claimed : BTreeSet (Bor (List ℕ)))
-    → is_out r ≡ false → IsSetOf (claimed_by rows recs) claimed
-    → IsSetOf (claimed_by rows (recs ++ r ∷ [])) claimed
-claimed_still rows recs r claimed away own =
-    record { just = λ x. own.just x ∙ sym (claimed_more rows recs r x ∙ ap (λ b. claimed_by rows recs x || (b && claims_id rows r x)) away ∙ or_none (claimed_by rows recs x)) }
-
--- one that is out adds its claim
-pub claimed_too : (rows : List NodeRow) (recs : List SpawnRec) (r : SpawnRec)
-    (claimed : BTreeSet (Bor (List ℕ)))
-    → is_out r ≡ true → IsSetOf (λ x. claimed_by rows recs x || claims_id rows r x) claimed
-    → IsSetOf (claimed_by rows (recs ++ r ∷ [])) claimed
-claimed_too rows recs r claimed out own =
-    record { just = λ x. own.just x ∙ sym (claimed_more rows recs r x ∙ ap (λ b. claimed_by rows recs x || (b && claims_id rows r x)) out) }

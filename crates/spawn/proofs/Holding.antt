@@ -1,9 +1,10 @@
 -- Who holds an id, by the node at which it stands.
 use Rattle.std.proofs.Common.{◌≡◌, ◌∙◌, ℕ, ◌&&◌, ◌||◌, Bool, true, false, cond, List, [], ◌∷◌}
-use Rattle.std.proofs.Common.{Option, Some, None, is_some, subst, refl, ap}
+use Rattle.std.proofs.Common.{Bor, Option, Some, None, is_some, subst, refl, sym, ap}
 use Rattle.std.proofs.lemmas.Bool.{or_parts}
+use Rattle.std.specs.Bool.{then_some}
 use Rattle.std.specs.List.{find, list_any}
-use Rattle.std.specs.Option.{option_map, option_map_or}
+use Rattle.std.specs.Option.{option_and_then, option_copied, option_map, option_map_or}
 use Rattle.std.specs.Str.{bytes_eq}
 use Rattle.ticket_items.proofs.Apart.{or_false}
 use Rattle.ticket_rows.proofs.AtHome.{mem-ids, holds}
@@ -13,11 +14,12 @@ use Rattle.ticket_items.proofs.AtKey.{any_key}
 use Rattle.ticket_rows.specs.Homes.{home_of, entry_of}
 use Rattle.ticket_items.specs.Ids.{mem}
 use Rattle.ticket_rows.specs.Place.{Place, places, node_places, place_at, is_below}
-use Rattle.ticket_rows.specs.Ticket.{IsValid, has_node}
+use Rattle.ticket_rows.specs.Ticket.{IsValid, has_node, ids}
 use Rattle.ticket_items.specs.declared.node_row.NodeRow.{NodeRow}
 use Rattle.spawn.proofs.Standing.{StandsAt, node_stands, resource_stands}
 use Rattle.spawn.specs.Records.{is_out}
-use Rattle.spawn.specs.Table.{stand_of, holder_at, holder_of}
+use Rattle.spawn.specs.Table.{as_spawn, stand_of, holder_at, holder_of, spawn_with}
+use Rattle.spawn.specs.declared.tables.holder.Holder.{Holder}
 use Rattle.spawn.specs.declared.tables.holder.Holder.TheVariants.{Master, Spawn}
 use Rattle.spawn.specs.declared.records.spawn_rec.SpawnRec.{SpawnRec}
 
@@ -85,11 +87,55 @@ no_entry : {X : Type 0} (o : Option (X × List ℕ)) → option_map (λ e. e.1) 
 no_entry None h = refl
 no_entry (Some e) h = cc
 
-pub unheld : (rows : List NodeRow) (recs : List SpawnRec) (x : List ℕ) → stand_of rows x ≡ None
-    → holder_of rows recs x ≡ None
-unheld rows recs x at =
+unknown : (rows : List NodeRow) (x : List ℕ) → stand_of rows x ≡ None → mem x (ids rows) ≡ false
+unknown rows x at =
     let parts = unknown_by (has_node rows x) rows x refl at in
     let nodes : list_any (λ r. bytes_eq r.id x) rows ≡ false = any_key (λ r. r.id) x rows ∙ mem-node_ids rows x ∙ parts.0 in
     let pools : list_any (holds x) rows ≡ false = has_resource-any rows x ∙ no_entry (entry_of rows x) parts.1 in
-    let missing = stands_somewhere rows x ∙ mem-ids x rows ∙ any_or (λ r. bytes_eq r.id x) (holds x) rows nodes pools in
-    ap (option_map (holder_at recs)) (none_stands (places rows) x missing)
+    mem-ids x rows ∙ any_or (λ r. bytes_eq r.id x) (holds x) rows nodes pools
+
+pub unheld : (rows : List NodeRow) (recs : List SpawnRec) (x : List ℕ) → stand_of rows x ≡ None
+    → holder_of rows recs x ≡ None
+unheld rows recs x at = ap (option_map (holder_at recs)) (none_stands (places rows) x (stands_somewhere rows x ∙ unknown rows x at))
+
+-- ---- whether an id is known
+
+known_by : (o : Option (List ℕ)) (rows : List NodeRow) (x : List ℕ) → IsValid rows
+    → stand_of rows x ≡ o → is_some o ≡ mem x (ids rows)
+known_by None rows x valid at = sym (unknown rows x at)
+known_by (Some h) rows x valid at = sym (ap is_some (stands_at rows x h valid at).there) ∙ stands_somewhere rows x
+
+pub copied_some : {X : Type 0} (o : Option (Bor X)) → is_some o ≡ is_some (option_copied o)
+copied_some None = refl
+copied_some (Some x) = refl
+
+pub stands_known : (rows : List NodeRow) (x : List ℕ) → IsValid rows
+    → is_some (stand_of rows x) ≡ mem x (ids rows)
+stands_known rows x valid = known_by (stand_of rows x) rows x valid refl
+
+-- what a known id is held by, where no spawn holds it
+unspawned_at : (o : Option Place) (rows : List NodeRow) (recs : List SpawnRec) (x : List ℕ)
+    → place_at (places rows) x ≡ o → spawn_with rows recs x ≡ None
+    → then_some (is_some o) Master ≡ option_map (holder_at recs) o
+unspawned_at None rows recs x at none = refl
+unspawned_at (Some p) rows recs x at none = ap Some (master (holder_at recs p) (sym (ap (λ o. option_and_then as_spawn (option_map (holder_at recs) o)) at) ∙ none))
+  where
+    master : (h : Holder) → as_spawn h ≡ None → Master ≡ h
+    master Master e = refl
+    master (Spawn s) e = cc
+
+pub masters : (rows : List NodeRow) (recs : List SpawnRec) (x : List ℕ)
+    → spawn_with rows recs x ≡ None
+    → then_some (mem x (ids rows)) Master ≡ holder_of rows recs x
+masters rows recs x none =
+    ap (λ b. then_some b Master) (sym (stands_somewhere rows x)) ∙ unspawned_at (place_at (places rows) x) rows recs x refl none
+
+-- and where one does
+spawned_by : (o : Option Holder) (s : ℕ) → option_and_then as_spawn o ≡ Some s → Some (Spawn s) ≡ o
+spawned_by None s e = cc
+spawned_by (Some Master) s e = cc
+spawned_by (Some (Spawn t)) s e = ap (λ o. Some (Spawn (option_map_or (λ n. n) o s))) (sym e)
+
+pub spawns : (rows : List NodeRow) (recs : List SpawnRec) (x : List ℕ) (s : ℕ)
+    → spawn_with rows recs x ≡ Some s → Some (Spawn s) ≡ holder_of rows recs x
+spawns rows recs x s e = spawned_by (holder_of rows recs x) s e

@@ -1,185 +1,151 @@
--- The table of holders as a list: what a look-up answers, and what becomes of it.
-use Rattle.std.proofs.Common.{◌≡◌, ◌∙◌, ℕ, ◌+◌, ◌-◌, ◌<◌, ◌&&◌, ◌||◌, Bool, true, false, cond, List, []}
-use Rattle.std.proofs.Common.{◌∷◌, ◌++◌, map, take, drop, length, get_or, Option, Some, None, refl}
-use Rattle.std.proofs.Common.{sym, ap, append-nil, append_assoc, arith}
-use Rattle.std.proofs.Math.Seq.{take-append_seam}
-use Rattle.std.proofs.lemmas.Bool.{or_left}
-use Rattle.std.proofs.lemmas.List.{length-append, map-append, take-append-drop, take_more, drop_more}
-use Rattle.std.proofs.lemmas.Map.{lookup-none}
-use Rattle.std.proofs.lemmas.Map.Entries.{none_past_head}
-use Rattle.std.proofs.lemmas.Map.Keys.{IsDistinct-tail}
-use Rattle.std.proofs.lemmas.Slice.Eq.{bytes_eq-Decides}
-use Rattle.std.specs.Cmp.Lexicographic.{nat_list_eq_equiv}
-use Rattle.std.specs.List.{IsDistinct}
-use Rattle.std.specs.Map.{keys_of, set_value}
-use Rattle.std.specs.Option.{option_map, option_map_or}
+-- The ids that spawns hold, as a list: what a look-up answers, and what becomes of it.
+use Rattle.std.proofs.Common.{◌≡◌, ◌∙◌, ℕ, ◌+◌, ◌<◌, ◌||◌, Bool, true, false, cond, List, []}
+use Rattle.std.proofs.Common.{◌∷◌, ◌++◌, map, take, length, get_or, Option, Some, None, refl}
+use Rattle.std.proofs.Common.{sym, ap, subst, append-nil, String, Result, Ok, Err, OnErr}
+use Rattle.std.proofs.lemmas.Bool.{or_parts}
+use Rattle.std.proofs.lemmas.List.{map-append, take_more}
+use Rattle.std.proofs.lemmas.Map.Text.{btree_map_updates_text, is_eq-slice_cmp}
+use Rattle.std.specs.BTreeMap.{BTreeMap, UpdatesBy, get_by_text, is_at}
+use Rattle.std.specs.Cmp.Lexicographic.{slice_cmp}
+use Rattle.std.specs.List.{AllZip, filter}
+use Rattle.std.specs.Map.{lookup}
+use Rattle.std.specs.Ordering.{is_eq, nat_cmp}
 use Rattle.std.specs.Str.{bytes_eq}
-use Rattle.ticket_items.proofs.Apart.{bytes_eq-same, bytes_eq-symm, front_distinct, mem-append}
-use Rattle.ticket_items.proofs.Apart.{not_in_front, or_none}
-use Rattle.ticket_items.specs.Ids.{are_distinct, mem}
-use Rattle.ticket_tree.proofs.OnPlaces.{ids_of_places}
-use Rattle.ticket_rows.specs.Place.{Place, place_at, places}
-use Rattle.ticket_rows.specs.Ticket.{IsValid, ids, ids_of}
+use Rattle.std.specs.String.{string_bytes, string_cmp}
+use Rattle.ticket_items.proofs.Apart.{mem-append, or_none}
+use Rattle.ticket_items.specs.Ids.{mem}
 use Rattle.ticket_items.specs.declared.node_row.NodeRow.{NodeRow}
-use Rattle.spawn.proofs.Chosen.{AllOwn, all_own}
-use Rattle.spawn.proofs.ClaimedIds.{holds_same}
+use Rattle.ticket_rows.specs.Ticket.{ids, ids_of}
 use Rattle.spawn.proofs.HomesBelow.{ids-append}
-use Rattle.spawn.proofs.Standing.{ids_apart}
-use Rattle.spawn.specs.Holdings.{Holdings, IsTable, claim_given, given, held_by, held_ids, masters}
-use Rattle.spawn.specs.Holdings.{table, without_last}
-use Rattle.spawn.specs.Records.{is_out}
-use Rattle.spawn.specs.Stored.{claims_id}
-use Rattle.spawn.specs.Table.{holder_at, holding, holds}
-use Rattle.spawn.specs.declared.tables.holder.Holder.{Holder}
-use Rattle.spawn.specs.declared.tables.holder.Holder.TheVariants.{Master, Spawn}
-use Rattle.spawn.specs.declared.records.spawn_rec.SpawnRec.{SpawnRec}
+use Rattle.spawn.proofs.RowsBelow.{filter-append}
+use Rattle.spawn.specs.Holdings.{Holdings, IsFree, IsGiven, IsSame, OthersStay, held_by}
+use Rattle.spawn.specs.Holdings.{holdings_in}
 
--- ---- what a look-up answers
+-- ---- in a map by texts
 
-found_at : (here : Bool) (f : Place → Holder) (p : Place) (o : Option Place)
-    → cond here (Some (f p)) (option_map f o) ≡ option_map f (cond here (Some p) o)
-found_at true f p o = refl
-found_at false f p o = refl
+-- an entry, by the bytes of its text
+abbrev seen : {A : Type 0} → String A × ℕ → List ℕ × ℕ
+seen e = (string_bytes e.0, e.1)
 
-held_places : (f : Place → Holder) (tree : List Place) (x : List ℕ)
-    → held_by (map (λ p. (p.id, f p)) tree) x ≡ option_map f (place_at tree x)
-held_places f [] x = refl
-held_places f (p ∷ tree) x =
-    ap (λ b. cond b (Some (f p)) (held_by (map (λ q. (q.id, f q)) tree) x)) (bytes_eq-symm x p.id)
-    ∙ ap (cond (bytes_eq p.id x) (Some (f p))) (held_places f tree x)
-    ∙ found_at (bytes_eq p.id x) f p (place_at tree x)
+looked : {A : Type 0} (x : List ℕ) (es : List (String A × ℕ))
+    → lookup (bytes_eq x) (map seen es)
+    ≡ lookup (is_at (λ k. slice_cmp nat_cmp x (string_bytes k))) es
+looked x [] = refl
+looked x (e ∷ es) =
+    ap (λ b. cond b (Some e.1) (lookup (bytes_eq x) (map seen es))) (sym (is_eq-slice_cmp x (string_bytes e.0)))
+    ∙ ap (cond (is_eq (slice_cmp nat_cmp x (string_bytes e.0))) (Some e.1)) (looked x es)
 
-pub table_is : (rows : List NodeRow) (recs : List SpawnRec) → IsTable rows recs (table rows recs)
-table_is rows recs = record { same = held_places (holder_at recs) (places rows) }
+pub held_in : {A : Type 0} (m : BTreeMap (String A) ℕ) (x : List ℕ)
+    → held_by (holdings_in m) x ≡ get_by_text m x
+held_in m x = looked x m.entries
 
--- ---- ids given to one holder
+-- a clone has the same
+pub cloned_in : {A : Type 0} (es fs : List (String A × ℕ))
+    → AllZip (λ p q. (string_bytes q.0 ≡ string_bytes p.0) × (q.1 ≡ p.1)) es fs
+    → map seen fs ≡ map seen es
+cloned_in [] [] same = refl
+cloned_in [] (f ∷ fs) same = absurd same
+cloned_in (e ∷ es) [] same = absurd same
+cloned_in (e ∷ es) (f ∷ fs) same =
+    let one : seen f ≡ seen e = λ i. (same.0.0 i, same.0.1 i) in
+    ap (λ d. d ∷ map seen fs) one ∙ ap (λ ds. seen e ∷ ds) (cloned_in es fs same.1)
 
-pub given_as : (f g : List ℕ → Bool) (who : Holder) (h : Holdings) → ((x : List ℕ) → f x ≡ g x)
-    → given f who h ≡ given g who h
-given_as f g who [] same = refl
-given_as f g who (e ∷ h) same =
-    ap (λ b. (e.0, cond b who e.1) ∷ given f who h) (same e.0) ∙ ap (λ es. (e.0, cond (g e.0) who e.1) ∷ es) (given_as f g who h same)
+-- an update at a text
+pub updated_in : {A : Type 0} (y : List ℕ) (who : Option ℕ) (m n : BTreeMap (String A) ℕ)
+    → UpdatesBy string_cmp (λ k. slice_cmp nat_cmp y (string_bytes k)) m n who
+    → IsGiven (bytes_eq y) who (holdings_in m) (holdings_in n)
+updated_in y who m n updates =
+    record { each = λ x. held_in n x ∙ btree_map_updates_text y m n who updates x ∙ ap (cond (bytes_eq y x) who) (sym (held_in m x)) }
 
-pub given_none : (who : Holder) (h : Holdings) → given (λ x. false) who h ≡ h
-given_none who [] = refl
-given_none who (e ∷ h) = ap (λ es. e ∷ es) (given_none who h)
+-- one by a key
+pub inserted_in : {A : Type 0} (key : String A) (y : List ℕ) (who : Option ℕ)
+    (m n : BTreeMap (String A) ℕ) (h : Holdings)
+    → string_bytes key ≡ y → holdings_in m ≡ h → UpdatesBy string_cmp (string_cmp key) m n who
+    → IsGiven (bytes_eq y) who h (holdings_in n)
+inserted_in key y who m n h same was updates =
+    subst (λ i. IsGiven (bytes_eq i) who h (holdings_in n)) same (subst (λ g. IsGiven (bytes_eq (string_bytes key)) who g (holdings_in n)) was (updated_in (string_bytes key) who m n updates))
 
-either : (a b : Bool) (who was : Holder) → cond b who (cond a who was) ≡ cond (a || b) who was
+-- one by a text
+pub removed_in : {A : Type 0} (x y : List ℕ) (who : Option ℕ) (m n : BTreeMap (String A) ℕ)
+    (h : Holdings)
+    → x ≡ y → holdings_in m ≡ h
+    → UpdatesBy string_cmp (λ k. slice_cmp nat_cmp x (string_bytes k)) m n who
+    → IsGiven (bytes_eq y) who h (holdings_in n)
+removed_in x y who m n h same was updates =
+    subst (λ i. IsGiven (bytes_eq i) who h (holdings_in n)) same (subst (λ g. IsGiven (bytes_eq x) who g (holdings_in n)) was (updated_in x who m n updates))
+
+-- ---- what was given
+
+pub given_as : (f g : List ℕ → Bool) (who : Option ℕ) (h after : Holdings)
+    → ((x : List ℕ) → f x ≡ g x) → IsGiven f who h after → IsGiven g who h after
+given_as f g who h after same given = record { each = λ x. given.each x ∙ ap (λ b. cond b who (held_by h x)) (same x) }
+
+pub given_none : (who : Option ℕ) (h : Holdings) → IsGiven (λ x. false) who h h
+given_none who h = record { each = λ x. refl }
+
+either : (a b : Bool) (who was : Option ℕ) → cond b who (cond a who was) ≡ cond (a || b) who was
 either true true who was = refl
 either true false who was = refl
 either false b who was = refl
 
-pub given_more : (f g : List ℕ → Bool) (who : Holder) (h : Holdings)
-    → given g who (given f who h) ≡ given (λ x. f x || g x) who h
-given_more f g who [] = refl
-given_more f g who (e ∷ h) =
-    ap (λ w. (e.0, w) ∷ given g who (given f who h)) (either (f e.0) (g e.0) who e.1)
-    ∙ ap (λ es. (e.0, cond (f e.0 || g e.0) who e.1) ∷ es) (given_more f g who h)
+pub given_more : (f g : List ℕ → Bool) (who : Option ℕ) (h mid after : Holdings)
+    → IsGiven f who h mid → IsGiven g who mid after → IsGiven (λ x. f x || g x) who h after
+given_more f g who h mid after first second =
+    record { each = λ x. second.each x ∙ ap (cond (g x) who) (first.each x) ∙ either (f x) (g x) who (held_by h x) }
 
 -- what stands behind the ids that were given so far
-pub given_grown : (done more all : List (List ℕ)) (who : Holder) (old h : Holdings)
-    → h ≡ given (λ x. mem x done) who old → all ≡ done ++ more
-    → given (λ x. mem x more) who h ≡ given (λ x. mem x all) who old
-given_grown done more all who old h so_far whole =
-    ap (given (λ x. mem x more) who) so_far ∙ given_more (λ x. mem x done) (λ x. mem x more) who old
-    ∙ given_as (λ x. mem x done || mem x more) (λ x. mem x all) who old (λ x. sym (ap (mem x) whole ∙ mem-append x done more))
+pub given_grown : (done more all : List (List ℕ)) (who : Option ℕ) (h mid after : Holdings)
+    → IsGiven (λ x. mem x done) who h mid → IsGiven (λ x. mem x more) who mid after
+    → all ≡ done ++ more → IsGiven (λ x. mem x all) who h after
+given_grown done more all who h mid after first second whole =
+    given_as (λ x. mem x done || mem x more) (λ x. mem x all) who h after (λ x. sym (ap (mem x) whole ∙ mem-append x done more)) (given_more (λ x. mem x done) (λ x. mem x more) who h mid after first second)
 
-pub given_next : (done : List (List ℕ)) (y : List ℕ) (all : List (List ℕ)) (who : Holder)
-    (old h : Holdings)
-    → h ≡ given (λ x. mem x done) who old → all ≡ done ++ y ∷ []
-    → given (bytes_eq y) who h ≡ given (λ x. mem x all) who old
-given_next done y all who old h so_far whole =
-    given_as (bytes_eq y) (λ x. mem x (y ∷ [])) who h (λ x. sym (or_none (bytes_eq y x))) ∙ given_grown done (y ∷ []) all who old h so_far whole
+pub given_one : (y : List ℕ) (who : Option ℕ) (h after : Holdings) → IsGiven (bytes_eq y) who h after
+    → IsGiven (λ x. mem x (y ∷ [])) who h after
+given_one y who h after given = given_as (bytes_eq y) (λ x. mem x (y ∷ [])) who h after (λ x. sym (or_none (bytes_eq y x))) given
 
--- an id that isn't there can't be given
-missing_at : (here : Bool) (x : List ℕ) (who : Holder) (e : List ℕ × Holder) (h : Holdings)
-    → bytes_eq x e.0 ≡ here → cond here (Some e.1) (held_by h x) ≡ None
-    → (held_by h x ≡ None → given (bytes_eq x) who h ≡ h)
-    → given (bytes_eq x) who (e ∷ h) ≡ e ∷ h
-missing_at true x who e h own none go = cc
-missing_at false x who e h own none go = ap (λ b. (e.0, cond b who e.1) ∷ given (bytes_eq x) who h) own ∙ ap (λ es. e ∷ es) (go none)
+pub given_next : (done : List (List ℕ)) (y : List ℕ) (all : List (List ℕ)) (who : Option ℕ)
+    (h mid after : Holdings)
+    → IsGiven (λ x. mem x done) who h mid → IsGiven (bytes_eq y) who mid after
+    → all ≡ done ++ y ∷ [] → IsGiven (λ x. mem x all) who h after
+given_next done y all who h mid after first second whole = given_grown done (y ∷ []) all who h mid after first (given_one y who mid after second) whole
 
-pub given_missing : (x : List ℕ) (who : Holder) (h : Holdings) → held_by h x ≡ None
-    → given (bytes_eq x) who h ≡ h
-given_missing x who [] none = refl
-given_missing x who (e ∷ h) none = missing_at (bytes_eq x e.0) x who e h refl none (given_missing x who h)
+-- ---- what wasn't, or was given back
 
--- a write at an id gives it, where each stands once
-written_at : (here : Bool) (x : List ℕ) (who : Holder) (e : List ℕ × Holder) (h : Holdings)
-    → bytes_eq x e.0 ≡ here → IsDistinct bytes_eq (keys_of (e ∷ h))
-    → (IsDistinct bytes_eq (keys_of h) → set_value (bytes_eq x) h who ≡ given (bytes_eq x) who h)
-    → cond here ((e.0, who) ∷ h) (e ∷ set_value (bytes_eq x) h who) ≡ given (bytes_eq x) who (e ∷ h)
-written_at true x who e h own apart go =
-    ap (λ es. (e.0, who) ∷ es) (sym (given_missing x who h (lookup-none (bytes_eq x) h (none_past_head nat_list_eq_equiv x e h apart own))))
-    ∙ sym (ap (λ b. (e.0, cond b who e.1) ∷ given (bytes_eq x) who h) own)
-written_at false x who e h own apart go =
-    ap (λ es. e ∷ es) (go (IsDistinct-tail bytes_eq e.0 (keys_of h) apart)) ∙ sym (ap (λ b. (e.0, cond b who e.1) ∷ given (bytes_eq x) who h) own)
+-- ids that weren't given are held as before
+pub others_stay : (f : List ℕ → Bool) (who : Option ℕ) (h after : Holdings) → IsGiven f who h after
+    → OthersStay f h after
+others_stay f who h after given = record { each = λ x fails. given.each x ∙ ap (λ b. cond b who (held_by h x)) fails }
 
-pub given_written : (x : List ℕ) (who : Holder) (h : Holdings) → IsDistinct bytes_eq (keys_of h)
-    → set_value (bytes_eq x) h who ≡ given (bytes_eq x) who h
-given_written x who [] apart = refl
-given_written x who (e ∷ h) apart = written_at (bytes_eq x e.0) x who e h refl apart (given_written x who h)
+pub others_as : (f g : List ℕ → Bool) (h after : Holdings) → ((x : List ℕ) → f x ≡ g x)
+    → OthersStay f h after → OthersStay g h after
+others_as f g h after same others = record { each = λ x fails. others.each x (same x ∙ fails) }
 
--- what is given to a holder is held by it, and all else as it was
-one_of : (b : Bool) (who was : Holder) → Some (cond b who was) ≡ cond b (Some who) (Some was)
-one_of true who was = refl
-one_of false who was = refl
+-- also where more could have been given
+pub others_of_front : (done more all : List (List ℕ)) (who : Option ℕ) (h mid after : Holdings)
+    → IsGiven (λ x. mem x done) who h mid → after ≡ mid → all ≡ done ++ more
+    → OthersStay (λ x. mem x all) h after
+others_of_front done more all who h mid after first still whole =
+    record {
+      each = λ x out.
+          let parts = or_parts (mem x done) (mem x more) (sym (ap (mem x) whole ∙ mem-append x done more) ∙ out) in
+          ap (λ es. held_by es x) still ∙ (others_stay (λ y. mem y done) who h mid first).each x parts.0;
+    }
 
-given_at : (here : Bool) (f : List ℕ → Bool) (who : Holder) (e : List ℕ × Holder) (x : List ℕ)
-    (o later : Option Holder)
-    → bytes_eq x e.0 ≡ here → later ≡ cond (f x) (option_map (λ w. who) o) o
-    → cond here (Some (cond (f e.0) who e.1)) later
-    ≡ cond (f x) (option_map (λ w. who) (cond here (Some e.1) o)) (cond here (Some e.1) o)
-given_at true f who e x o later own go = ap (λ y. Some (cond (f y) who e.1)) (sym ((bytes_eq-Decides x e.0).0 own)) ∙ one_of (f x) who e.1
-given_at false f who e x o later own go = go
+undone_at : (b : Bool) (f : List ℕ → Bool) (h mid after : Holdings) (x : List ℕ) → f x ≡ b
+    → OthersStay f h mid → IsGiven f None mid after → IsFree f h → held_by after x ≡ held_by h x
+undone_at true f h mid after x e others given free = given.each x ∙ ap (λ b. cond b None (held_by mid x)) e ∙ sym (free.none x e)
+undone_at false f h mid after x e others given free = given.each x ∙ ap (λ b. cond b None (held_by mid x)) e ∙ others.each x e
 
-empty_at : (b : Bool) (who : Holder) → None ≡ cond b (option_map (λ (w : Holder). who) None) None
-empty_at true who = refl
-empty_at false who = refl
+-- what is given back that none held is as it was
+pub undone : (f : List ℕ → Bool) (h mid after : Holdings) → OthersStay f h mid
+    → IsGiven f None mid after → IsFree f h → IsSame h after
+undone f h mid after others given free = record { each = λ x. undone_at (f x) f h mid after x refl others given free }
 
-pub held_given : (f : List ℕ → Bool) (who : Holder) (h : Holdings) (x : List ℕ)
-    → held_by (given f who h) x ≡ cond (f x) (option_map (λ w. who) (held_by h x)) (held_by h x)
-held_given f who [] x = empty_at (f x) who
-held_given f who (e ∷ h) x = given_at (bytes_eq x e.0) f who e x (held_by h x) (held_by (given f who h) x) refl (held_given f who h x)
-
--- ---- ids of the master's
-
-pub ids_of_masters : (is : List (List ℕ)) → held_ids (masters is) ≡ is
-ids_of_masters [] = refl
-ids_of_masters (i ∷ is) = ap (λ js. i ∷ js) (ids_of_masters is)
-
-new_at : (here : Bool) (e : List ℕ × Holder) (y : List ℕ) (h : Holdings) → bytes_eq e.0 y ≡ here
-    → (here || mem y (held_ids h)) ≡ false → (mem y (held_ids h) ≡ false → held_by h y ≡ None)
-    → held_by (e ∷ h) y ≡ None
-new_at true e y h own out go = cc
-new_at false e y h own out go = ap (λ b. cond b (Some e.1) (held_by h y)) (bytes_eq-symm y e.0 ∙ own) ∙ go out
-
--- an id that isn't among those there has no holder
-pub unheld_id : (y : List ℕ) (h : Holdings) → mem y (held_ids h) ≡ false → held_by h y ≡ None
-unheld_id y [] out = refl
-unheld_id y (e ∷ h) out = new_at (bytes_eq e.0 y) e y h refl out (unheld_id y h)
-
--- the ids of a table with more of the master's
-pub ids_with : (h : Holdings) (done : List (List ℕ)) → held_ids (h ++ masters done) ≡ held_ids h ++ done
-ids_with h done = map-append (λ e. e.0) h (masters done) ∙ ap (λ is. held_ids h ++ is) (ids_of_masters done)
-
--- the next of ids that are apart isn't there yet
-pub next_is_new : (h old : Holdings) (done rest all : List (List ℕ)) (y : List ℕ)
-    → are_distinct (held_ids old ++ all) ≡ true → all ≡ done ++ y ∷ rest → h ≡ old ++ masters done
-    → held_by h y ≡ None
-next_is_new h old done rest all y apart whole so_far =
-    unheld_id y h (ap (λ es. mem y (held_ids es)) so_far ∙ ap (mem y) (ids_with old done)
-    ∙ not_in_front y (held_ids old ++ done) (y ∷ rest) (ap are_distinct (append_assoc (held_ids old) done (y ∷ rest)) ∙ ap (λ is. are_distinct (held_ids old ++ is)) (sym whole) ∙ apart)
-    (or_left (bytes_eq y y) (mem y rest) (bytes_eq-same y)))
-
--- and the next of them stand apart from those there
-pub next_are_apart : (h old : Holdings) (done more rest all : List (List ℕ))
-    → are_distinct (held_ids old ++ all) ≡ true → all ≡ (done ++ more) ++ rest
-    → h ≡ old ++ masters done → are_distinct (held_ids h ++ more) ≡ true
-next_are_apart h old done more rest all apart whole so_far =
-    ap (λ es. are_distinct (held_ids es ++ more)) so_far ∙ ap (λ is. are_distinct (is ++ more)) (ids_with old done)
-    ∙ ap are_distinct (append_assoc (held_ids old) done more)
-    ∙ front_distinct (held_ids old ++ (done ++ more)) rest (ap are_distinct (append_assoc (held_ids old) (done ++ more) rest) ∙ ap (λ is. are_distinct (held_ids old ++ is)) (sym whole) ∙ apart)
+-- what holds whatever comes holds where it fails
+pub on_err : {X E : Type 0} {P : Type 0} (result : Result X E) → P → OnErr result P
+on_err (Ok x) p = tt
+on_err (Err e) p = p
 
 -- ---- one item more
 
@@ -188,62 +154,15 @@ pub item_more : {X : Type 0} (key : X → List ℕ) (xs : List X) (i : ℕ) (y :
 item_more key xs i y within is =
     ap (map key) (take_more xs i y within ∙ ap (λ z. take i xs ++ z ∷ []) (sym is)) ∙ map-append key (take i xs) (y ∷ [])
 
-pub items_whole : {X : Type 0} (key : X → List ℕ) (xs : List X) (i : ℕ) (y : X) → i < length xs
-    → y ≡ get_or xs i y
-    → map key xs ≡ map key (take i xs) ++ key y ∷ map key (drop (i + 1) xs)
-items_whole key xs i y within is =
-    ap (map key) (sym (take-append-drop i xs) ∙ ap (λ zs. take i xs ++ zs) (drop_more xs i y within ∙ ap (λ z. z ∷ drop (i + 1) xs) (sym is)))
-    ∙ map-append key (take i xs) (y ∷ drop (i + 1) xs)
-
 pub row_more : (rows : List NodeRow) (i : ℕ) (r : NodeRow) → i < length rows → r ≡ get_or rows i r
     → ids (take (i + 1) rows) ≡ ids (take i rows) ++ ids_of r
 row_more rows i r within is =
     ap ids (take_more rows i r within ∙ ap (λ s. take i rows ++ s ∷ []) (sym is)) ∙ ids-append (take i rows) (r ∷ []) ∙ ap (λ js. ids (take i rows) ++ js) (append-nil (ids_of r))
 
-pub rows_whole : (rows : List NodeRow) (i : ℕ) (r : NodeRow) → i < length rows → r ≡ get_or rows i r
-    → ids rows ≡ (ids (take i rows) ++ ids_of r) ++ ids (drop (i + 1) rows)
-rows_whole rows i r within is =
-    ap ids (sym (take-append-drop (i + 1) rows)) ∙ ids-append (take (i + 1) rows) (drop (i + 1) rows) ∙ ap (λ js. js ++ ids (drop (i + 1) rows)) (row_more rows i r within is)
-
--- ---- the table of one record more
-
-next_at : (b : Bool) (r : SpawnRec) (o : Option SpawnRec)
-    → cond b (Spawn r.id) (option_map_or (λ s. Spawn s.id) o Master)
-    ≡ option_map_or (λ s. Spawn s.id) (cond b (Some r) o) Master
-next_at true r o = refl
-next_at false r o = refl
-
-next_places : (rows : List NodeRow) (recs : List SpawnRec) (r : SpawnRec) (tree : List Place)
-    → IsValid rows → is_out r ≡ true → AllOwn (places rows) tree
-    → given (claims_id rows r) (Spawn r.id) (map (λ p. (p.id, holder_at recs p)) tree)
-    ≡ map (λ p. (p.id, holder_at (r ∷ recs) p)) tree
-next_places rows recs r [] valid out own = refl
-next_places rows recs r (p ∷ tree) valid out own =
-    let test : claims_id rows r p.id ≡ holds p r = sym (holds_same rows r p valid own.0 ∙ ap (λ b. b && claims_id rows r p.id) out) in
-    ap (λ w. (p.id, w) ∷ given (claims_id rows r) (Spawn r.id) (map (λ q. (q.id, holder_at recs q)) tree))
-    (ap (λ b. cond b (Spawn r.id) (holder_at recs p)) test ∙ next_at (holds p r) r (holding recs p))
-    ∙ ap (λ es. (p.id, holder_at (r ∷ recs) p) ∷ es) (next_places rows recs r tree valid out own.1)
-
--- a spawn that is out, in front of all others, holds its claim
-pub table_next : (rows : List NodeRow) (recs : List SpawnRec) (r : SpawnRec) → IsValid rows
-    → is_out r ≡ true
-    → claim_given rows r (Spawn r.id) (table rows recs) ≡ table rows (r ∷ recs)
-table_next rows recs r valid out =
-    let tree = places rows in
-    next_places rows recs r tree valid out (all_own tree tree (λ y p found. found) (ids_apart rows valid))
-
-all_masters : (tree : List Place)
-    → masters (map (λ p. p.id) tree) ≡ map (λ p. (p.id, holder_at [] p)) tree
-all_masters [] = refl
-all_masters (p ∷ tree) = ap (λ es. (p.id, Master) ∷ es) (all_masters tree)
-
--- without records the master holds all
-pub table_none : (rows : List NodeRow) → masters (ids rows) ≡ table rows []
-table_none rows = ap masters (sym (ids_of_places [] rows)) ∙ all_masters (places rows)
-
--- ---- the last
-
-pub last_is_taken_out : (h : Holdings) (e : List ℕ × Holder) → without_last (h ++ e ∷ []) ≡ h
-last_is_taken_out h e =
-    let long : length (h ++ e ∷ []) - 1 ≡ length h = omega (arith, length-append h (e ∷ [])) in
-    ap (λ n. take n (h ++ e ∷ [])) long ∙ take-append_seam h (e ∷ [])
+-- one that passes a test, and one that fails it
+pub chosen_more : {X : Type 0} (f : X → Bool) (xs : List X) (i : ℕ) (y : X) (b : Bool)
+    → i < length xs → y ≡ get_or xs i y → f y ≡ b
+    → filter f (take (i + 1) xs) ≡ filter f (take i xs) ++ cond b (y ∷ []) []
+chosen_more f xs i y b within is passes =
+    ap (filter f) (take_more xs i y within ∙ ap (λ z. take i xs ++ z ∷ []) (sym is)) ∙ filter-append f (take i xs) (y ∷ [])
+    ∙ ap (λ c. filter f (take i xs) ++ cond c (y ∷ []) []) passes

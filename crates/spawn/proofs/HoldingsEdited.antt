@@ -1,12 +1,11 @@
--- A table of holders that is kept in step with a ticket as the master edits it.
+-- The ids that spawns hold are kept in step with a ticket as the master edits it.
 use Rattle.std.proofs.Common.{◌≡◌, ◌∙◌, ℕ, ◌&&◌, ◌||◌, Bool, true, false, not, cond, List, [], ◌∷◌}
-use Rattle.std.proofs.Common.{◌++◌, map, Option, Some, None, is_some, refl, sym, ap}
+use Rattle.std.proofs.Common.{map, Option, Some, None, is_some, refl, sym, ap}
 use Rattle.std.proofs.lemmas.Bool.{true≢false}
 use Rattle.std.proofs.lemmas.Slice.Eq.{bytes_eq-Decides}
 use Rattle.std.specs.List.{find, list_any}
-use Rattle.std.specs.Option.{option_map, option_map_or}
+use Rattle.std.specs.Option.{option_and_then, option_map, option_map_or}
 use Rattle.std.specs.Str.{bytes_eq}
-use Rattle.ticket_items.proofs.Apart.{bytes_eq-symm}
 use Rattle.ticket_items.specs.Ids.{mem}
 use Rattle.ticket_rows.proofs.Reasons.{child_new, resource_new}
 use Rattle.ticket_items.specs.Edit.{added_id, target}
@@ -27,11 +26,10 @@ use Rattle.spawn.proofs.EditKeeps.{edit_keeps_claims}
 use Rattle.spawn.proofs.Lawful.{held_is_claimed, placed}
 use Rattle.spawn.proofs.Standing.{found_among, ids_apart}
 use Rattle.spawn.specs.Claim.{is_claimed}
-use Rattle.spawn.specs.Holdings.{Holdings, IsTable, held_by}
-use Rattle.spawn.specs.HoldingsLaws.{AddedIsNew, EditKeepsTable, edited_holdings}
+use Rattle.spawn.specs.HoldingsLaws.{EditKeepsTable}
 use Rattle.spawn.specs.Laws.{StandApart}
 use Rattle.spawn.specs.Records.{is_out}
-use Rattle.spawn.specs.Table.{holder_at, holder_of, holding, holds}
+use Rattle.spawn.specs.Table.{as_spawn, holder_at, holder_of, holding, holds, spawn_with}
 use Rattle.spawn.specs.declared.tables.holder.Holder.{Holder}
 use Rattle.spawn.specs.declared.tables.holder.Holder.TheVariants.{Master, Spawn}
 use Rattle.spawn.specs.declared.records.spawn_rec.SpawnRec.{SpawnRec}
@@ -138,10 +136,6 @@ no_place : (rows : List NodeRow) (x : List ℕ) → mem x (ids rows) ≡ false
     → place_at (places rows) x ≡ None
 no_place rows x nowhere = none_of (place_at (places rows) x) (stands_somewhere rows x ∙ nowhere)
 
-pub added_is_new : AddedIsNew
-added_is_new rows recs e i h free added table =
-    table.same i ∙ ap (option_map (holder_at recs)) (no_place rows i (new_nowhere e rows i free added))
-
 -- now it stands
 own_by : (b here : Bool) (x : List ℕ) (new q : Place) (tree rest : List Place)
     → bytes_eq q.id x ≡ here → bytes_eq new.id x ≡ true
@@ -203,50 +197,31 @@ new_is_masters e at rows recs i x valid apart free mine added own =
     ap (option_map (holder_at recs)) there
     ∙ ap (λ o. Some (option_map_or (λ (r : SpawnRec). Spawn r.id) o Master)) (new_unheld e at rows recs x stands.0 (holding recs stands.0) valid apart free mine nowhere there refl)
 
--- ---- one id more in a table
+-- ---- what spawns hold after an edit
 
-pub pushed_other : (h : Holdings) (i x : List ℕ) (who : Holder) → bytes_eq i x ≡ false
-    → held_by (h ++ (i, who) ∷ []) x ≡ held_by h x
-pushed_other [] i x who other = ap (λ b. cond b (Some who) None) (bytes_eq-symm x i ∙ other)
-pushed_other (e ∷ h) i x who other = ap (λ o. cond (bytes_eq x e.0) (Some e.1) o) (pushed_other h i x who other)
-
-own_pushed_at : (here : Bool) (e : List ℕ × Holder) (h : Holdings) (i x : List ℕ) (who : Holder)
-    → bytes_eq x e.0 ≡ here → cond here (Some e.1) (held_by h x) ≡ None
-    → (held_by h x ≡ None → held_by (h ++ (i, who) ∷ []) x ≡ Some who)
-    → held_by (e ∷ h ++ (i, who) ∷ []) x ≡ Some who
-own_pushed_at true e h i x who own none go = cc
-own_pushed_at false e h i x who own none go = ap (λ b. cond b (Some e.1) (held_by (h ++ (i, who) ∷ []) x)) own ∙ go none
-
-pub pushed_own : (h : Holdings) (i x : List ℕ) (who : Holder) → bytes_eq i x ≡ true
-    → held_by h x ≡ None → held_by (h ++ (i, who) ∷ []) x ≡ Some who
-pushed_own [] i x who own none = ap (λ b. cond b (Some who) None) (bytes_eq-symm x i ∙ own)
-pushed_own (e ∷ h) i x who own none = own_pushed_at (bytes_eq x e.0) e h i x who refl none (pushed_own h i x who own)
-
--- ---- the table after an edit
-
-same_by : (b : Bool) (e : Edit) (at : ℕ) (rows : List NodeRow) (recs : List SpawnRec) (h : Holdings)
-    (i x : List ℕ)
+same_by : (b : Bool) (e : Edit) (at : ℕ) (rows : List NodeRow) (recs : List SpawnRec) (i x : List ℕ)
     → IsValid rows → StandApart rows recs → refusal_of e rows ≡ None
-    → holder_of rows recs (target e) ≡ Some Master → IsTable rows recs h → added_id e ≡ Some i
-    → bytes_eq i x ≡ b
-    → held_by (h ++ (i, Master) ∷ []) x ≡ holder_of (edited_rows e at rows) recs x
-same_by true e at rows recs h i x valid apart free mine table added own =
-    let none = ap (held_by h) (sym ((bytes_eq-Decides i x).0 own)) ∙ added_is_new rows recs e i h free added table in
-    pushed_own h i x Master own none ∙ sym (new_is_masters e at rows recs i x valid apart free mine added own)
-same_by false e at rows recs h i x valid apart free mine table added other =
-    pushed_other h i x Master other ∙ table.same x
-    ∙ sym (holder_stays e at rows recs x valid free (λ j is. ap (λ k. bytes_eq k x) (some_same j i (sym is ∙ added)) ∙ other))
+    → holder_of rows recs (target e) ≡ Some Master → added_id e ≡ Some i → bytes_eq i x ≡ b
+    → spawn_with rows recs x ≡ spawn_with (edited_rows e at rows) recs x
+same_by true e at rows recs i x valid apart free mine added own =
+    let nowhere = no_place rows x (ap (λ y. mem y (ids rows)) (sym ((bytes_eq-Decides i x).0 own)) ∙ new_nowhere e rows i free added) in
+    ap (λ o. option_and_then as_spawn (option_map (holder_at recs) o)) nowhere
+    ∙ sym (ap (option_and_then as_spawn) (new_is_masters e at rows recs i x valid apart free mine added own))
+same_by false e at rows recs i x valid apart free mine added other =
+    ap (option_and_then as_spawn) (sym (holder_stays e at rows recs x valid free (λ j is. ap (λ k. bytes_eq k x) (some_same j i (sym is ∙ added)) ∙ other)))
 
 same_at : (o : Option (List ℕ)) (e : Edit) (at : ℕ) (rows : List NodeRow) (recs : List SpawnRec)
-    (h : Holdings) (x : List ℕ)
+    (x : List ℕ)
     → IsValid rows → StandApart rows recs → refusal_of e rows ≡ None
-    → holder_of rows recs (target e) ≡ Some Master → IsTable rows recs h → added_id e ≡ o
-    → held_by (edited_holdings e h) x ≡ holder_of (edited_rows e at rows) recs x
-same_at None e at rows recs h x valid apart free mine table added =
-    ap (λ o. held_by (option_map_or (λ i. h ++ (i, Master) ∷ []) o h) x) added ∙ table.same x ∙ sym (holder_stays e at rows recs x valid free (λ i is. cc))
-same_at (Some i) e at rows recs h x valid apart free mine table added =
-    ap (λ o. held_by (option_map_or (λ j. h ++ (j, Master) ∷ []) o h) x) added ∙ same_by (bytes_eq i x) e at rows recs h i x valid apart free mine table added refl
+    → holder_of rows recs (target e) ≡ Some Master → added_id e ≡ o
+    → spawn_with rows recs x ≡ spawn_with (edited_rows e at rows) recs x
+same_at None e at rows recs x valid apart free mine added =
+    ap (option_and_then as_spawn) (sym (holder_stays e at rows recs x valid free (λ i is. none_added i (sym is ∙ added))))
+  where
+    none_added : (i : List ℕ) → Some i ≡ None → bytes_eq i x ≡ false
+    none_added i e' = cc
+same_at (Some i) e at rows recs x valid apart free mine added = same_by (bytes_eq i x) e at rows recs i x valid apart free mine added refl
 
 pub edit_keeps_table : EditKeepsTable
 edit_keeps_table rows recs e at h valid apart free mine table =
-    record { same = λ x. same_at (added_id e) e at rows recs h x valid apart free mine table refl }
+    record { same = λ x. table.same x ∙ same_at (added_id e) e at rows recs x valid apart free mine refl }

@@ -38,7 +38,6 @@ pub mod HeldOnce
 pub mod ApartMore
 pub mod ClaimedIds
 pub mod BelowRoot
-pub mod StandingSets
 pub mod Holdings
 pub mod HoldingsEdited
 pub mod Ended

@@ -1,18 +1,16 @@
 -- What is linked outside a node, by the home of a resource and by the links of the rows below the
 -- node.
 use Rattle.std.proofs.Common.{◌≡◌, ◌∙◌, ℕ, ◌&&◌, ◌||◌, Bool, true, false, not, List, [], ◌∷◌, ◌++◌}
-use Rattle.std.proofs.Common.{map, Option, Some, None, is_some, refl, sym, ap, ◌+◌, ◌<◌, length}
-use Rattle.std.proofs.Common.{take, get_or, Bor}
+use Rattle.std.proofs.Common.{map, Option, Some, None, is_some, refl, sym, ap, Bor}
 use Rattle.std.proofs.lemmas.Bool.{true≢false, and_parts, or_parts, or_from}
-use Rattle.std.proofs.lemmas.List.{take_more}
 use Rattle.std.specs.List.{filter, list_all, list_any}
 use Rattle.std.specs.Option.{option_map, option_map_or}
 use Rattle.std.specs.Str.{bytes_eq}
 use Rattle.std.specs.BTreeSet.{BTreeSet}
 use Rattle.ticket_items.proofs.Apart.{or_none}
-use Rattle.ticket_tree.proofs.OnPlaces.{stands_among, stands_resource, has_resource-any}
+use Rattle.ticket_tree.proofs.OnPlaces.{stands_among, stands_resource}
 use Rattle.ticket_rows.proofs.ResourcePlaces.{home_is}
-use Rattle.ticket_rows.specs.Homes.{entry_of, home_of, has_resource}
+use Rattle.ticket_rows.specs.Homes.{entry_of, home_of}
 use Rattle.ticket_items.specs.Ids.{mem, are_distinct}
 use Rattle.ticket_tree.specs.Part.{is_linked}
 use Rattle.ticket_rows.specs.Place.{Place, places, places_from, resource_place, resource_places}
@@ -27,7 +25,6 @@ use Rattle.spawn.proofs.Split.{path_after, around, Around}
 use Rattle.spawn.proofs.Standing.{held_some, ids_apart, place_of_resource, resource_stands}
 use Rattle.spawn.specs.Claim.{ids_of, links, is_linked_below, is_linked_outside, linked_outside}
 use Rattle.ticket_tree.specs.At.{rows_below}
-use Rattle.ticket_rows.proofs.AtHome.{holds}
 use Rattle.spawn.specs.IdSet.{IsSetOf}
 
 -- ---- links from below n
@@ -159,24 +156,8 @@ with_rows_below rows below_n n x h valid known is home =
     let at = around rows n valid known in
     ap (λ rs. not (is_below (node_places rows) h n) && is_linked rs x) (is ∙ rows_below-around rows n valid at) ∙ sym (linked_outside_is rows n x h valid at home)
 
--- ---- sets of ids, with one more at a time
-
--- whether any of the items so far passes, with one more
-pub any_more : {X : Type 0} (f : X → Bool) (xs : List X) (i : ℕ) (d : X) → i < length xs
-    → list_any f (take (i + 1) xs) ≡ (list_any f (take i xs) || f (get_or xs i d))
-any_more f xs i d within =
-    ap (list_any f) (take_more xs i d within) ∙ any-append f (take i xs) (get_or xs i d ∷ []) ∙ ap (λ b. list_any f (take i xs) || b) (or_none (f (get_or xs i d)))
+-- ---- sets of ids
 
 pub same_set : (f g : List ℕ → Bool) (s : BTreeSet (Bor (List ℕ))) → ((x : List ℕ) → f x ≡ g x)
     → IsSetOf f s → IsSetOf g s
 same_set f g s same is = record { just = λ x. is.just x ∙ same x }
-
--- what was there, and the resources of the rows so far, with those of one more
-pub resources_more : (known : Bool) (rows : List NodeRow) (i : ℕ) (d : NodeRow) (x : List ℕ)
-    → i < length rows
-    → ((known || has_resource (take i rows) x)
-    || list_any (λ y. bytes_eq y.id x) (get_or rows i d).resources)
-    ≡ (known || has_resource (take (i + 1) rows) x)
-resources_more known rows i d x within =
-    or_first known (has_resource (take i rows) x) (holds x (get_or rows i d))
-    ∙ ap (λ b. known || b) (ap (λ b. b || holds x (get_or rows i d)) (sym (has_resource-any (take i rows) x)) ∙ sym (any_more (holds x) rows i d within) ∙ has_resource-any (take (i + 1) rows) x)

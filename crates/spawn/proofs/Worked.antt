@@ -1,9 +1,10 @@
 -- The definitions computed on a small job: a product with paper and sheets in its pool, whose
 -- printing takes paper and makes sheets, and whose cutting takes the sheets.
-use Rattle.std.proofs.Common.{◌≡◌, ℕ, true, false, List, [], ◌∷◌, ◌++◌, map, Some, None, refl}
+use Rattle.std.proofs.Common.{◌≡◌, ℕ, true, false, List, [], ◌∷◌, map, Some, None, refl}
 use Rattle.std.specs.Fmt.{digits}
 use Rattle.std.specs.List.{filter}
 use Rattle.std.specs.Prelude.{codes}
+use Rattle.ticket_rows.specs.Edit.{edited_rows}
 use Rattle.ticket_rows.specs.Place.{below, places, resource, row_in}
 use Rattle.ticket_rows.specs.Ticket.{Job}
 use Rattle.ticket_tree.specs.PartView.{cut, part_row, part_thing}
@@ -18,13 +19,12 @@ use Rattle.ticket_items.specs.declared.resource.Resource.{Resource}
 use Rattle.ticket_items.specs.declared.spawn_status.SpawnStatus.TheVariants.{SpawnedRO, SpawnedRW}
 use Rattle.ticket_items.specs.declared.usage.Usage.TheVariants.{Input, Output}
 use Rattle.spawn.specs.Claim.{ids_of, linked_outside, claim}
-use Rattle.spawn.specs.Holdings.{Holdings, claim_given, held_by, table, without_last}
-use Rattle.spawn.specs.HoldingsLaws.{edited_holdings}
+use Rattle.spawn.specs.Holdings.{claimed_ids, claims}
 use Rattle.spawn.specs.Marking.{marks}
 use Rattle.spawn.specs.Parts.{part_for}
 use Rattle.spawn.specs.Spawning.{spawn_refusal, new_record, spawned}
 use Rattle.spawn.specs.Stored.{are_apart, are_good, stands_in}
-use Rattle.spawn.specs.Table.{holder_of}
+use Rattle.spawn.specs.Table.{holder_of, spawn_with}
 use Rattle.spawn.specs.declared.tables.holder.Holder.TheVariants.{Master, Spawn}
 use Rattle.spawn.specs.declared.records.phase.Phase.TheVariants.{Out, Merged, Withdrawn}
 use Rattle.spawn.specs.declared.records.spawn_rec.SpawnRec.{SpawnRec}
@@ -192,52 +192,47 @@ first_withdrawn : marks told (record first { phase = Withdrawn } ∷ second ∷ 
     ≡ marks told (record first { phase = Merged } ∷ second ∷ [])
 first_withdrawn = refl
 
--- ---- holders by id
+-- ---- who holds what, by id
 
 abbrev all_ids : List (List ℕ)
 all_ids = codes "n0" ∷ codes "n1" ∷ codes "n2" ∷ codes "r1" ∷ codes "r2" ∷ codes "n9" ∷ []
 
-both_held : map (held_by (table told (first ∷ second ∷ []))) all_ids
-    ≡ Some Master ∷ Some (Spawn 1) ∷ Some (Spawn 2) ∷ Some Master ∷ Some (Spawn 1) ∷ None ∷ []
-both_held = refl
+both_hold : map (spawn_with told (first ∷ second ∷ [])) all_ids
+    ≡ None ∷ Some 1 ∷ Some 2 ∷ None ∷ Some 1 ∷ None ∷ []
+both_hold = refl
 
--- the same, a spawn at a time
-both_given : claim_given told second (Spawn 2) (claim_given told first (Spawn 1) (table rows []))
-    ≡ table told (first ∷ second ∷ [])
-both_given = refl
+first_claims : map (claims told first) all_ids ≡ false ∷ true ∷ false ∷ false ∷ true ∷ false ∷ []
+first_claims = refl
 
--- and once the first is merged or withdrawn
-first_given_back : claim_given told first Master (table told (first ∷ second ∷ []))
-    ≡ table told (record first { phase = Merged } ∷ second ∷ [])
+first_ids : claimed_ids told first ≡ codes "n1" ∷ codes "r2" ∷ []
+first_ids = refl
+
+-- a copy that isn't of the ticket is no claim
+unknown_ids : claimed_ids told (record first { rw = codes "r9" ∷ [] }) ≡ codes "n1" ∷ []
+unknown_ids = refl
+
+-- once the first is merged or withdrawn
+first_given_back : map (spawn_with told (record first { phase = Merged } ∷ second ∷ [])) all_ids
+    ≡ None ∷ None ∷ Some 2 ∷ None ∷ None ∷ None ∷ []
 first_given_back = refl
 
-first_taken_back : claim_given told first Master (table told (first ∷ second ∷ []))
-    ≡ table told (record first { phase = Withdrawn } ∷ second ∷ [])
+first_taken_back : map (spawn_with told (record first { phase = Withdrawn } ∷ second ∷ [])) all_ids
+    ≡ None ∷ None ∷ Some 2 ∷ None ∷ None ∷ None ∷ []
 first_taken_back = refl
 
 -- of two claims that share something, the first of the records has it
-shared_claim : map (held_by (table told (first ∷ record second { rw = codes "r2" ∷ []; ro = [] } ∷ []))) all_ids
-    ≡ map (held_by (table told (first ∷ second ∷ []))) all_ids
+shared_claim : map (spawn_with told (first ∷ record second { rw = codes "r2" ∷ []; ro = [] } ∷ [])) all_ids
+    ≡ map (spawn_with told (first ∷ second ∷ [])) all_ids
 shared_claim = refl
 
-folding : Holdings → Holdings
-folding = edited_holdings (AddNode (codes "n0") (codes "n3") (codes "Folding") (codes "p3") (codes "Waiting"))
+-- no spawn holds what is added
+folding : List NodeRow
+folding = edited_rows (AddNode (codes "n0") (codes "n3") (codes "Folding") (codes "p3") (codes "Waiting")) 5 told
 
-folding_held : held_by (folding (table told (first ∷ second ∷ []))) (codes "n3") ≡ Some Master
+folding_held : map (holder_of folding (first ∷ second ∷ [])) (codes "n3" ∷ codes "n1" ∷ [])
+    ≡ Some Master ∷ Some (Spawn 1) ∷ []
 unfolding folding
 folding_held = refl
-
--- an id is added, and is taken out again
-added : Holdings
-added = table told (first ∷ second ∷ []) ++ (codes "n4", Master) ∷ []
-
-added_held : held_by added (codes "n4") ≡ Some Master
-unfolding added
-added_held = refl
-
-unadded_held : held_by (without_last added) (codes "n4") ≡ None
-unfolding added
-unadded_held = refl
 
 -- ---- what was stored
 

@@ -2,21 +2,17 @@
 use Rattle.std.specs.Prelude.{ℕ, List, Option, None, IfSome, if◌then◌else◌, slice_get, true}
 use Rattle.std.specs.Borrow.{Bor}
 use Rattle.std.specs.List.{filter_map}
-use Rattle.std.specs.Option.{option_and_then, option_map_or}
+use Rattle.std.specs.Option.{option_map_or}
 use Rattle.ticket_items.specs.Ids.{mem}
 use Rattle.ticket_items.specs.declared.node_row.NodeRow.{NodeRow}
 use Rattle.spawn.specs.Holdings.{IsTable}
-use Rattle.spawn.specs.Table.{as_spawn, holder_of}
+use Rattle.spawn.specs.Table.{spawn_with}
 use Rattle.spawn.specs.declared.records.spawn_rec.SpawnRec.{SpawnRec}
 use Rattle.spawn.specs.declared.tables.known.Known.{Known}
 
 -- the table of holders, where there is one, is that of the ticket and the records
 abbrev pub IsKnown : Known → Type 0
 IsKnown k = IfSome k.holders (λ h. IsTable k.ticket.now.rows k.records.now h.now)
-
--- the spawn that holds an id, if one does
-abbrev pub spawn_with : List NodeRow → List SpawnRec → List ℕ → Option ℕ
-spawn_with rows recs x = option_and_then as_spawn (holder_of rows recs x)
 
 -- the same where the id is asked for: all are, or those among some
 abbrev pub asked : List NodeRow → List SpawnRec → Option (Bor (List (List ℕ))) → List ℕ → Option ℕ

@@ -1,16 +1,14 @@
 -- Tests of records that were stored beside a ticket: whether they stand well beside it.
-use Rattle.std.specs.Prelude.{◌≡◌, ◌↔◌, ℕ, ◌&&◌, ◌||◌, Bool, true, false, not, List, length, nat_le}
+use Rattle.std.specs.Prelude.{◌≡◌, ◌↔◌, ◌&&◌, ◌||◌, Bool, true, false, not, List, length, nat_le}
 use Rattle.std.specs.Prelude.{is_some}
 use Rattle.std.specs.Cmp.Lexicographic.{pointwise}
-use Rattle.std.specs.List.{filter, list_all, list_any}
+use Rattle.std.specs.List.{filter, list_all}
 use Rattle.std.specs.Str.{bytes_eq}
-use Rattle.ticket_items.specs.Ids.{mem}
 use Rattle.ticket_items.specs.declared.node_row.NodeRow.{NodeRow}
 use Rattle.ticket_items.specs.declared.resource.Resource.{Resource}
 use Rattle.ticket_rows.specs.Homes.{has_resource}
 use Rattle.ticket_rows.specs.Place.{Place, Thing, node, resource, places, node_places, up}
-use Rattle.ticket_rows.specs.Ticket.{IsValid, ids}
-use Rattle.ticket_tree.specs.At.{rows_below}
+use Rattle.ticket_rows.specs.Ticket.{IsValid}
 use Rattle.spawn.specs.Claim.{ids_of, linked_rw, linked_ro}
 use Rattle.spawn.specs.Laws.{StandApart}
 use Rattle.spawn.specs.Records.{is_out}
@@ -51,15 +49,6 @@ is_held_once recs p = nat_le (length (filter (holds p) recs)) 1
 -- whether no two spawns that are out claim one place
 abbrev pub are_apart : List Place → List SpawnRec → Bool
 are_apart tree recs = list_all (is_held_once recs) tree
-
--- whether the claim of a spawn has an id, known or not: that of a node at or below its own, of a
--- resource at home there, or of a copy that may be changed
-abbrev pub claims_id : List NodeRow → SpawnRec → List ℕ → Bool
-claims_id rows r x = mem x (ids (rows_below rows r.node)) || mem x r.rw
-
--- whether a spawn that is out claims an id
-abbrev pub claimed_by : List NodeRow → List SpawnRec → List ℕ → Bool
-claimed_by rows recs x = list_any (λ r. is_out r && claims_id rows r x) recs
 
 -- the tests of the records that are out pass just where they stand well beside the ticket
 abbrev pub StandingIsATest : Type 0

@@ -1,7 +1,7 @@
 -- Who holds what: the one table of holders, by the records of the spawns that are out.
 use Rattle.std.specs.Prelude.{ℕ, ◌&&◌, Bool, true, false, List, Option, Some, None, if◌then◌else◌}
 use Rattle.std.specs.List.{find}
-use Rattle.std.specs.Option.{option_map, option_map_or}
+use Rattle.std.specs.Option.{option_and_then, option_map, option_map_or}
 use Rattle.ticket_rows.specs.Homes.{home_of}
 use Rattle.ticket_rows.specs.Place.{Place, places, place_at}
 use Rattle.ticket_rows.specs.Ticket.{has_node}
@@ -41,3 +41,7 @@ is_masters (Spawn s) = false
 abbrev pub as_spawn : Holder → Option ℕ
 as_spawn Master = None
 as_spawn (Spawn s) = Some s
+
+-- the spawn that holds an id, if one does
+abbrev pub spawn_with : List NodeRow → List SpawnRec → List ℕ → Option ℕ
+spawn_with rows recs x = option_and_then as_spawn (holder_of rows recs x)

@@ -70,12 +70,11 @@ pub fn whether_records_stand_well_is_a_test()
 {}
 
 /// Holders that are those of a ticket and its records go on to be so: an edit of what the master
-/// holds adds its new id, a spawn gives its claim to it, and the end of a spawn gives the claim
-/// back. An id that an edit may add isn't among them, and once added it is what `unadd` takes out.
+/// holds changes none, a spawn gives its claim to it, which none held, and the end of a spawn gives
+/// the claim back.
 pub fn holders_are_kept_in_step()
     ensures edits { holdings.EditKeepsTable }
-    ensures new { holdings.AddedIsNew }
-    ensures unadded { holdings.LastIsTakenOut }
+    ensures free { holdings.ClaimIsFree }
     ensures spawns { holdings.SpawnKeepsTable }
     ensures ends { holdings.EndKeepsTable }
 {}

@@ -1,5 +1,5 @@
--- The number and the name of each refusal.
-use Rattle.std.specs.Prelude.{ℕ, List, codes}
+-- The number and the name of each refusal, and the spawn that one tells of.
+use Rattle.std.specs.Prelude.{ℕ, List, codes, Option, Some, None}
 use Rattle.ticket_items.specs.declared.refusal.Refusal.{Refusal}
 use Rattle.ticket_items.specs.declared.refusal.Refusal.TheVariants as refusals
 
@@ -74,3 +74,8 @@ name_of refusals.WrongMessage = codes "WrongMessage"
 name_of refusals.WrongVersion = codes "WrongVersion"
 name_of refusals.BadState = codes "BadState"
 name_of refusals.Memory = codes "Memory"
+
+-- the spawn that holds what was to be changed or spawned
+abbrev pub holder_of : Refusal → Option ℕ
+holder_of (refusals.NotHeld s) = Some s
+holder_of _ = None

@@ -166,6 +166,16 @@ impl Refusal {
             Refusal::Memory => "Memory",
         }
     }
+
+    /// The spawn that holds what was to be changed or spawned, where that is why.
+    pub fn holder(self) -> Option<SpawnId>
+        ensures { result ≡ refusals.holder_of self }
+    {
+        match self {
+            Refusal::NotHeld(spawn) => Some(spawn),
+            _ => None,
+        }
+    }
 }
 
 impl fmt::Display for Refusal {

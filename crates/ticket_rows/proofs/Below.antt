@@ -20,7 +20,7 @@ use Rattle.ticket_rows.specs.Outline.{goes_on, is_outline}
 use Rattle.ticket_rows.proofs.NodePlaces.{nodes_from, node_places-rows, node_ids_distinct}
 use Rattle.ticket_rows.specs.Place.{path_of, node_place, node_places, place_at, Place, below}
 use Rattle.ticket_rows.specs.Place.{is_below, BoundsNodesBelow}
-use Rattle.ticket_rows.specs.Ticket.{depths, node_ids, row_of, IsValid}
+use Rattle.ticket_rows.specs.Ticket.{depths, ids, node_ids, row_of}
 use Rattle.ticket_items.specs.declared.node_row.NodeRow.{NodeRow}
 
 abbrev pub Path : Type 0
@@ -265,10 +265,11 @@ is_some-place_at before (r ∷ rows) a = same_at (bytes_eq r.id a) _ _ _ _ (is_s
 -- ---- what `subtree` and `is_below` answer
 
 pub bounds : (rows later : List NodeRow) (x : List ℕ) (k n : ℕ) (s : NodeRow)
-    → later ≡ drop (k + 1) rows → IsValid rows → position (λ r. bytes_eq r.id x) rows ≡ Some k
+    → later ≡ drop (k + 1) rows → is_outline (depths rows) ≡ true → are_distinct (ids rows) ≡ true
+    → position (λ r. bytes_eq r.id x) rows ≡ Some k
     → slice_get rows k ≡ Some s
     → n ≡ run_length s.depth later → n ≤ length later → BoundsNodesBelow rows x k (k + 1 + n)
-bounds rows later x k n s behind_k valid found at run fits =
+bounds rows later x k n s behind_k tree apart found at run fits =
     let within : k < length rows = below_length (λ r. bytes_eq r.id x) rows k found in
     let whole : RunOf rows x k (suc (k + n)) = run_of rows x k n s found at (run ∙ ap (run_length s.depth) (behind_k ∙ ap (λ i. drop i rows) (add-one k))) in
     let end : suc (k + n) ≡ k + 1 + n = omega arith in
@@ -276,7 +277,7 @@ bounds rows later x k n s behind_k valid found at run fits =
       node = ap (option_map (λ r. r.id)) at ∙ ap Some ((bytes_eq-Decides s.id x).0 (passes_at_position (λ r. bytes_eq r.id x) rows k s found at));
       end = omega (arith, length-drop (k + 1) rows, ap length behind_k);
       exact = λ j p there.
-          subst (λ to. Exact [] rows x k to) end (run_exact [] rows x k (suc (k + n)) (Follows-outline rows valid.tree) refl (node_ids_distinct rows valid.distinct) whole) j p
+          subst (λ to. Exact [] rows x k to) end (run_exact [] rows x k (suc (k + n)) (Follows-outline rows tree) refl (node_ids_distinct rows apart) whole) j p
           (ap (λ nodes. slice_get nodes j) (sym (node_places-rows rows)) ∙ there);
     }
 

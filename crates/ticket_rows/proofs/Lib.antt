@@ -2,13 +2,16 @@ pub mod Alike
 pub mod AtHome
 pub mod AtPlaces
 pub mod Below
+pub mod Building
 pub mod Changes
 pub mod Copies
 pub mod EditedValid
 pub mod Growing
+pub mod Growth
+pub mod InLists
 pub mod IndexFollows
-pub mod IndexedNodes
 pub mod LinkWalk
+pub mod LinksByRuns
 pub mod NewNode
 pub mod NewResource
 pub mod NodePlaces
@@ -16,5 +19,7 @@ pub mod OneRows
 pub mod PartEdits
 pub mod Reasons
 pub mod ResourcePlaces
-pub mod SpotsFound
+pub mod RunsGrow
+pub mod Shapes
 pub mod Table
+pub mod Walked

@@ -1,12 +1,14 @@
 -- The calls that change one row keep a ticket valid.
 use Rattle.std.proofs.Common.{◌≡◌, ℕ, Bool, true, false, not, cond, List, [], ◌∷◌, ◌++◌, map, Some}
-use Rattle.std.proofs.Common.{refl, sym, ap, ◌∙◌, subst, slice_get}
+use Rattle.std.proofs.Common.{refl, sym, ap, ◌∙◌, subst, get_or, slice_get}
 use Rattle.std.proofs.lemmas.Bool.{and_parts, not-true}
+use Rattle.std.proofs.lemmas.Option.{slice_get-get_or}
 use Rattle.std.proofs.lemmas.Slice.Eq.{bytes_eq-Decides}
 use Rattle.std.specs.List.{find, position}
 use Rattle.std.specs.Option.{option_map}
 use Rattle.std.specs.Str.{bytes_eq}
-use Rattle.ticket_items.proofs.Places.{found_at_position, passes_at_position, same_found}
+use Rattle.ticket_items.proofs.Places.{below_length, found_at_position, passes_at_position}
+use Rattle.ticket_items.proofs.Places.{same_found}
 use Rattle.ticket_items.proofs.AtKey.{at_key, at_key-none}
 use Rattle.ticket_rows.proofs.Changes.{KeepsTicket, IsValid-with_row, IsValid-with_resource}
 use Rattle.ticket_rows.proofs.NodePlaces.{node_ids_distinct}
@@ -15,7 +17,8 @@ use Rattle.ticket_items.specs.Resource.{with_item}
 use Rattle.ticket_items.specs.Ids.{mem, are_distinct}
 use Rattle.ticket_rows.specs.OneRow.{MayReplaceNode, replaced_node, replaced_resource}
 use Rattle.ticket_rows.specs.Place.{links_of}
-use Rattle.ticket_rows.specs.Spots.{pool_of}
+use Rattle.ticket_rows.proofs.Shapes.{shape}
+use Rattle.ticket_rows.specs.Index.{shape_of}
 use Rattle.ticket_rows.specs.Ticket.{IsValid, is_reserved, row_of}
 use Rattle.ticket_items.specs.declared.audit.Audit.{Audit}
 use Rattle.ticket_items.specs.declared.node_row.NodeRow.{NodeRow}
@@ -93,15 +96,19 @@ IsValid-replaced_node rows row may valid =
     (IsValid-with_row row.id (kept_row row) rows (keeps-kept_row row may.status) valid)
 
 -- what stands at the place that was found has the same pool
-pub pool_at_position : (rows : List NodeRow) (row : NodeRow) (k : ℕ) → MayReplaceNode rows row
-    → position (λ r. bytes_eq r.id row.id) rows ≡ Some k
-    → option_map pool_of (slice_get rows k) ≡ Some (pool_of row)
-pool_at_position rows row k may found =
+pub shape_at_position : (rows : List NodeRow) (row : NodeRow) (k : ℕ) (old : NodeRow)
+    → MayReplaceNode rows row → position (λ r. bytes_eq r.id row.id) rows ≡ Some k
+    → old ≡ get_or rows k old
+    → option_map shape_of (slice_get rows k) ≡ Some (shape_of (record row { depth = old.depth }))
+shape_at_position rows row k old may found is =
     let at = found_at_position (λ r. bytes_eq r.id row.id) rows k found in
     let r : NodeRow = at.0 in
     let same : r ≡ may.old = same_found r may.old (row_of rows row.id) at.1 may.there in
-    ap (option_map pool_of) at.2 ∙ ap (λ i. Some (i, map (λ x. x.id) r.resources)) ((bytes_eq-Decides r.id row.id).0 (passes_at_position (λ s. bytes_eq s.id row.id) rows k r found at.2))
-    ∙ ap (λ is. Some (row.id, is)) (ap (λ t. map (λ x. x.id) t.resources) same ∙ sym may.resources)
+    let there : r ≡ old = same_found r old (slice_get rows k) at.2 (slice_get-get_or rows k old (below_length (λ s. bytes_eq s.id row.id) rows k found) ∙ ap Some (sym is)) in
+    ap (option_map shape_of) at.2
+    ∙ ap (λ i. Some (shape i r.depth (map (λ x. x.id) r.resources))) ((bytes_eq-Decides r.id row.id).0 (passes_at_position (λ s. bytes_eq s.id row.id) rows k r found at.2))
+    ∙ ap (λ (t : NodeRow). Some (shape row.id t.depth (map (λ x. x.id) r.resources))) there
+    ∙ ap (λ is. Some (shape row.id old.depth is)) (ap (λ t. map (λ x. x.id) t.resources) same ∙ sym may.resources)
 
 -- ---- a resource in the place of another
 

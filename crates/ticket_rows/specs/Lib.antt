@@ -9,4 +9,4 @@ pub mod Edit
 pub mod Copies
 pub mod OneRow
 pub mod ChangedRow
-pub mod Spots
+pub mod Index

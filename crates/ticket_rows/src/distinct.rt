@@ -89,10 +89,3 @@ pub fn are_distinct_with(
     let all = all_ids(alloc, rows, rw, ro)?;
     are_apart(alloc, all.as_slice())
 }
-
-/// Whether no id stands twice.
-pub fn are_distinct(alloc: Global, rows: &[NodeRow]) -> Result<bool, AllocError>
-    ensures { IfOk result (λ distinct. distinct ≡ id_lists.are_distinct (valid.ids rows.now)) }
-{
-    are_distinct_with(alloc, rows, &[], &[])
-}

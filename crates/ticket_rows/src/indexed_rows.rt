@@ -1,60 +1,60 @@
 use crate::edit::{at_place, edits};
-use crate::home_index::{HomeIndex, homes_of};
-use crate::node_index::NodeIndex;
+use crate::index::Index;
 use crate::pools::resource_at;
-use crate::rows::run_end;
-use crate::spot::Spot;
 use std::alloc::{AllocError, Global};
 use std::marker::Model;
-use ticket_items::{Audit, Duplicate, Edit, Id, NodeRow, Resource, copies};
+use ticket_items::{Audit, Duplicate, Edit, Id, Link, NodeRow, Resource, copies};
 
 /// The nodes of a ticket in preorder. Each node and each resource is found by its id without a
 /// walk.
 #[derive(Drop)]
 pub struct IndexedRows {
     rows: Vec<NodeRow>,
-    nodes: NodeIndex,
-    homes: HomeIndex,
+    index: Index,
 }
 
 impl Model for IndexedRows {
     ghost use Rattle.std.specs.Prelude.{List};
     ghost use Rattle.ticket_items.specs.declared.node_row.NodeRow.{NodeRow};
-    ghost use Rattle.ticket_rows.specs.Spots.{IsIndex};
+    ghost use Rattle.ticket_rows.specs.Index.{IsIndex};
 
     ghost Value = { List NodeRow };
 
     ghost view = { λ a. a.rows.items };
 
-    ghost invariant = { λ a. IsIndex a.rows.items a.nodes a.homes };
+    ghost invariant = { λ a. IsIndex a.rows.items a.index };
 }
 
 impl IndexedRows {
-    ghost use Rattle.std.specs.Prelude.{◌≡◌, ◌∷◌, ◌++◌, [], ◌<◌, None, Some, false, true, length};
-    ghost use Rattle.std.specs.Prelude.{is_some, slice_get, slice_set, IfOk, IfSome, IsOk, OnErr};
+    ghost use Rattle.std.specs.Prelude.{◌≡◌, ◌∷◌, ◌++◌, [], ◌<◌, ◌≤◌, None, Some, false, true, length};
+    ghost use Rattle.std.specs.Prelude.{is_some, slice_get, slice_set, if◌then◌else◌, IfOk, IfSome, IsOk, OnErr};
     ghost use Rattle.std.specs.Prelude.{OnOk, slice_index_or};
-    ghost use Rattle.std.specs.List.{list_any, position};
-    ghost use Rattle.std.specs.Option.{option_copied, option_map};
+    ghost use Rattle.std.specs.List.{list_all, list_any, position};
+    ghost use Rattle.std.specs.Option.{option_copied, option_map, option_map_or};
     ghost use Rattle.std.specs.Str.{bytes_eq};
     ghost use Rattle.ticket_items.specs.Ids.{are_distinct, mem};
-    ghost use Rattle.ticket_rows.specs.ChangedRow.{at_place, changed_place};
+    ghost use Rattle.ticket_rows.specs.ChangedRow.{at_place, changed_place, end_behind};
     ghost use Rattle.ticket_items.specs.Edit.{grows};
     ghost use Rattle.ticket_rows.specs.Edit.{edited_rows, refusal_of};
     ghost use Rattle.ticket_rows.specs.Homes as homes;
     ghost use Rattle.ticket_rows.specs.OneRow as one;
-    ghost use Rattle.ticket_rows.specs.Place.{BoundsNodesBelow, node_places};
+    ghost use Rattle.ticket_rows.specs.Place.{BoundsNodesBelow, Place, node_places};
     ghost use Rattle.ticket_rows.specs.Place as tree;
-    ghost use Rattle.ticket_rows.specs.Spots.{pool_of, spot_of};
-    ghost use Rattle.ticket_rows.specs.Ticket.{IsValid, has_node, ids, row_of};
+    ghost use Rattle.ticket_rows.specs.Index.{resource_place, shape_of, shapes_of};
+    ghost use Rattle.ticket_rows.specs.Ticket.{IsValid, depths, has_node, ids, row_of};
+    ghost use Rattle.ticket_rows.specs.Ticket as valid;
+    ghost use Rattle.ticket_rows.specs.Outline.{is_outline};
+    ghost use Rattle.ticket_items.specs.declared.node_row.NodeRow.{NodeRow};
 
-    /// These nodes, where each id stands once.
-    pub fn of(alloc: Global, rows: Vec<NodeRow>) -> Result<IndexedRows, AllocError>
-        requires { are_distinct (ids rows.items) ≡ true }
-        ensures { IfOk result (λ indexed. indexed ≡ rows.items) }
+    /// These nodes; none where an id stands twice.
+    pub fn of(alloc: Global, rows: Vec<NodeRow>) -> Result<Option<IndexedRows>, AllocError>
+        ensures { IfOk result (λ made. made
+            ≡ (if are_distinct (ids rows.items) then Some rows.items else None)) }
     {
-        let nodes = NodeIndex::of(alloc, rows.as_slice())?;
-        let homes = homes_of(alloc, rows.as_slice())?;
-        Ok(IndexedRows { rows, nodes, homes })
+        match Index::of(alloc, rows.as_slice())? {
+            None => Ok(None),
+            Some(index) => Ok(Some(IndexedRows { rows, index })),
+        }
     }
 
     /// The nodes as a slice.
@@ -68,7 +68,7 @@ impl IndexedRows {
     pub fn place(&self, id: &Id) -> Option<usize>
         ensures { result ≡ position (λ r. bytes_eq r.id id.now) self.now }
     {
-        self.nodes.place(id)
+        self.index.node(id)
     }
 
     /// The row at a place.
@@ -79,22 +79,21 @@ impl IndexedRows {
         &self.rows[place]
     }
 
-    /// Where the resource of an id stands.
-    fn spot(&self, id: &Id) -> Option<&Spot>
-        ensures { option_copied result ≡ spot_of self.now id.now }
+    /// Where the row stands in whose pool the resource of an id is, and its place in the pool.
+    fn spot(&self, id: &Id) -> Option<(usize, usize)>
+        ensures { result ≡ resource_place (shapes_of self.now) id.now }
     {
-        self.homes.get(id)
+        self.index.resource(id)
     }
 
     /// Where the row stands in whose pool the resource of an id is.
     pub(crate) fn home_place(&self, id: &Id) -> Option<usize>
-        requires { IsValid self.now }
         ensures { result ≡ position
             (λ r. list_any (λ x. bytes_eq x.id id.now) r.resources) self.now }
     {
         match self.spot(id) {
             None => None,
-            Some(spot) => self.place(&spot.home),
+            Some((home, _)) => Some(home),
         }
     }
 
@@ -105,10 +104,7 @@ impl IndexedRows {
     {
         match self.spot(id) {
             None => None,
-            Some(spot) => match self.place(&spot.home) {
-                None => None,
-                Some(home) => resource_at(self.at(home), spot.place),
-            },
+            Some((home, place)) => resource_at(self.at(home), place),
         }
     }
 
@@ -116,9 +112,9 @@ impl IndexedRows {
     pub fn home_of(&self, id: &Id) -> Option<&Id>
         ensures { option_copied result ≡ homes.home_of self.now id.now }
     {
-        match self.spot(id) {
+        match self.home_place(id) {
             None => None,
-            Some(spot) => Some(&spot.home),
+            Some(home) => Some(&self.at(home).id),
         }
     }
 
@@ -126,7 +122,7 @@ impl IndexedRows {
     pub(crate) fn has_id(&self, id: &Id) -> bool
         ensures { result ≡ mem id.now (ids self.now) }
     {
-        self.place(id).is_some() || self.spot(id).is_some()
+        self.index.has(id)
     }
 
     /// The row of a node.
@@ -139,6 +135,17 @@ impl IndexedRows {
         }
     }
 
+    /// Where the rows end that stand deeper behind a place.
+    fn run_end(&self, place: usize) -> usize
+        requires { place < length self.now }
+        ensures end { (r : NodeRow) → slice_get self.now place ≡ Some r
+            → result ≡ end_behind self.now place r }
+        ensures within { result ≤ length self.now }
+    {
+        let below = self.index.below(place);
+        place + 1 + below
+    }
+
     /// Where the nodes below a node stand, itself among them: the first row, and the end.
     pub fn subtree(&self, id: &Id) -> Option<(usize, usize)>
         requires { IsValid self.now }
@@ -147,7 +154,7 @@ impl IndexedRows {
     {
         match self.place(id) {
             None => None,
-            Some(from) => Some((from, run_end(self.as_slice(), from))),
+            Some(from) => Some((from, self.run_end(from))),
         }
     }
 
@@ -165,6 +172,51 @@ impl IndexedRows {
         }
     }
 
+    /// Whether the resource of the id is at home at the row at a place, or above it.
+    fn reaches(&self, place: usize, id: &Id) -> bool
+        requires tree { is_outline (depths self.now) ≡ true }
+        requires distinct { are_distinct (ids self.now) ≡ true }
+        ensures { (p : Place) → slice_get (node_places self.now) place ≡ Some p
+            → result ≡ option_map_or (λ h. tree.below h p) (homes.home_of self.now id.now) false }
+    {
+        match self.home_place(id) {
+            None => false,
+            Some(home) => home <= place && place < self.run_end(home),
+        }
+    }
+
+    /// Whether each of these links of the row at a place names a resource that is.
+    fn links_resolve(&self, place: usize, links: &[Link]) -> bool
+        requires tree { is_outline (depths self.now) ≡ true }
+        requires distinct { are_distinct (ids self.now) ≡ true }
+        ensures { (p : Place) → slice_get (node_places self.now) place ≡ Some p
+            → result ≡ list_all (λ l. option_map_or (λ h. tree.below h p)
+            (homes.home_of self.now l.rref) false) links.now }
+    {
+        for link in links {
+            if !self.reaches(place, &link.rref) {
+                return false;
+            }
+        }
+        true
+    }
+
+    /// Whether each link names a resource that is at home at its node or above it.
+    pub fn are_resolved(&self) -> bool
+        requires tree { is_outline (depths self.now) ≡ true }
+        requires distinct { are_distinct (ids self.now) ≡ true }
+        ensures { result ≡ valid.are_resolved self.now }
+    {
+        let rows = self.as_slice();
+        for place in 0..rows.len() {
+            let row = &rows[place];
+            if !self.links_resolve(place, row.links.as_slice()) {
+                return false;
+            }
+        }
+        true
+    }
+
     /// Does an edit that isn't refused, whose place is known. Without memory nothing changes.
     pub(crate) fn change(
         &mut self,
@@ -180,15 +232,7 @@ impl IndexedRows {
         ensures err { OnErr result (self.new ≡ self.old) }
         ensures in_place { grows edit ≡ false → IsOk result }
     {
-        edits::change(
-            alloc,
-            &mut self.rows,
-            &mut self.nodes,
-            &mut self.homes,
-            place,
-            edit,
-            at,
-        )
+        edits::change(alloc, &mut self.rows, &mut self.index, place, edit, at)
     }
 
     /// Puts an audit last at the node at a place. Without memory nothing changes.
@@ -201,9 +245,10 @@ impl IndexedRows {
         at_place::append(&mut self.rows, place, audit)
     }
 
-    /// Puts a row in the place of another of its id, with a pool of the same ids.
+    /// Puts a row in the place of another of its id, as deep and with a pool of the
+    /// same ids.
     pub(crate) fn replace(&mut self, place: usize, row: NodeRow)
-        requires { option_map pool_of (slice_get self.old place) ≡ Some (pool_of row) }
+        requires { option_map shape_of (slice_get self.old place) ≡ Some (shape_of row) }
         ensures { self.new ≡ slice_set self.old place row }
     {
         self.rows[place] = row;
@@ -217,7 +262,7 @@ impl IndexedRows {
             self.old ≡ Some home }
         ensures { self.new ≡ one.replaced_resource resource self.old }
     {
-        let from = self.homes.get(&resource.id).map_or(0, |spot| spot.place);
+        let from = self.index.resource(&resource.id).map_or(0, |spot| spot.1);
         at_place::replace_resource(&mut self.rows, home, from, resource);
     }
 }
@@ -230,8 +275,7 @@ impl Clone for IndexedRows {
     fn clone(&self) -> Result<IndexedRows, AllocError> {
         Ok(IndexedRows {
             rows: copies(*self.rows.allocator(), self.rows.as_slice())?,
-            nodes: self.nodes.clone()?,
-            homes: self.homes.clone()?,
+            index: self.index.clone()?,
         })
     }
 }

@@ -4,13 +4,13 @@
 
 pub mod distinct;
 mod edit;
-mod home_index;
+mod index;
 mod indexed_rows;
-mod node_index;
 pub mod pools;
 pub mod resolved;
 pub mod rows;
 mod rows_iter;
+mod runs;
 mod spot;
 
 pub use edit::{edits, one_row, part_edits};

@@ -142,10 +142,3 @@ pub fn are_resolved_with(
     }
     Ok(true)
 }
-
-/// Whether each link names a resource that is at home at its node or above it.
-pub fn are_resolved(alloc: Global, rows: &[NodeRow]) -> Result<bool, AllocError>
-    ensures { IfOk result (λ resolved. resolved ≡ valid.are_resolved rows.now) }
-{
-    are_resolved_with(alloc, rows, &[], &[])
-}

@@ -94,20 +94,9 @@ fn shallow_place(rows: &[NodeRow], depth: u32) -> Option<usize>
 
 /// How many rows from the front on are deeper than `depth`.
 #[tactic(auto, using(ticket_items::proofs::Places::unwrap_or_position))]
-fn deeper_count(rows: &[NodeRow], depth: u32) -> usize
+pub(crate) fn deeper_count(rows: &[NodeRow], depth: u32) -> usize
     ensures count { result ≡ position_or_len (λ r. nat_le r.depth depth) rows.now }
     ensures within { result ≤ length rows.now }
 {
     shallow_place(rows, depth).unwrap_or(rows.len())
-}
-
-/// Where the rows end that stand deeper behind a place.
-pub(crate) fn run_end(rows: &[NodeRow], place: usize) -> usize
-    requires { place < length rows.now }
-    ensures end { (r : NodeRow) → slice_get rows.now place ≡ Some r
-        → result ≡ place + 1 + position_or_len (λ s. nat_le s.depth r.depth)
-        (drop (place + 1) rows.now) }
-    ensures within { result ≤ length rows.now }
-{
-    place + 1 + deeper_count(&rows[place + 1..], rows[place].depth)
 }

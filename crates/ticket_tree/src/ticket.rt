@@ -2,8 +2,6 @@ use crate::at::At;
 use std::alloc::{AllocError, Global};
 use std::marker::Model;
 use ticket_items::{Audit, Duplicate, Edit, Id, Name, NodeRow, Refusal, Resource};
-use ticket_rows::distinct::are_distinct;
-use ticket_rows::resolved::are_resolved;
 use ticket_rows::{IndexedRows, Rows, edits, one_row, rows};
 
 /// A job's ticket (JDF 1.5, 3.1): the job's id, and its nodes in preorder. Its rows are always a
@@ -59,16 +57,15 @@ impl Ticket {
         if !rows::are_unreserved(rows.as_slice()) {
             return Err(Refusal::ReservedStatus);
         }
-        if !are_distinct(alloc, rows.as_slice())? {
+        let Some(rows) = IndexedRows::of(alloc, rows)? else {
             return Err(Refusal::DuplicateId);
-        }
+        };
         if !rows::are_shallow(rows.as_slice()) {
             return Err(Refusal::TooDeep);
         }
-        if !are_resolved(alloc, rows.as_slice())? {
+        if !rows.are_resolved() {
             return Err(Refusal::UnresolvedLink);
         }
-        let rows = IndexedRows::of(alloc, rows)?;
         Ok(Ticket { job, rows })
     }
 

@@ -1,11 +1,12 @@
 ghost use Rattle.std.specs.Prelude.{◌≡◌, true, false, IfOk, MatchOption};
 ghost use Rattle.worker_core.specs.Numbers.{are_distinct_numbers};
+ghost use Rattle.worker_core.specs.SpawnIndex.{IsSpawnIndex};
 ghost use Rattle.worker_core.specs.Worker as worker;
 
 use crate::entry::Entry;
 use controller::QueueStatus;
-use indexmap::IndexSet;
 use std::alloc::{AllocError, Global};
+use std::collections::BTreeMap;
 use std::marker::Model;
 use ticket_rows::pools;
 use ticket_tree::{Id, Part, SpawnId};
@@ -16,8 +17,9 @@ use ticket_tree::{Id, Part, SpawnId};
 pub struct Entries {
     /// An entry may be changed where it stands, and is of the same spawn then.
     pub(crate) list: Vec<Entry>,
-    /// The spawns of the entries, in the same order.
-    spawns: IndexSet<SpawnId>,
+    /// Where the entry of each spawn stands. They are in order, so that numbers that somebody chose
+    /// are found as fast as others.
+    spawns: BTreeMap<SpawnId, usize>,
 }
 
 impl Model for Entries {
@@ -29,7 +31,7 @@ impl Model for Entries {
 
     ghost view = { λ a. a.list.items };
 
-    ghost invariant = { λ a. IsSpawnIndex a.spawns.keys a.list.items };
+    ghost invariant = { λ a. IsSpawnIndex a.spawns a.list.items };
 }
 
 /// Whether an id is that of a node of a part, of a resource of its pools, or of a copy that may be
@@ -40,16 +42,15 @@ fn has(part: &Part, id: &Id) -> bool
     pools::has_id(part.rows().as_slice(), id) || pools::holds(part.rw(), id)
 }
 
-/// The spawns of entries, in their order. `None` where two entries are of one spawn.
-fn spawns_of(alloc: Global, list: &[Entry]) -> Result<Option<IndexSet<SpawnId>>, AllocError>
+/// Where the entry of each spawn stands. `None` where two entries are of one spawn.
+fn spawns_of(alloc: Global, list: &[Entry]) -> Result<Option<BTreeMap<SpawnId, usize>>, AllocError>
     ensures { IfOk result (λ found. MatchOption found
         (are_distinct_numbers (worker.numbers list.now) ≡ false)
-        (λ spawns. (spawns.keys ≡ worker.numbers list.now)
-        × (are_distinct_numbers (worker.numbers list.now) ≡ true))) }
+        (λ spawns. IsSpawnIndex spawns list.now)) }
 {
-    let mut spawns = IndexSet::with_capacity(alloc, list.len())?;
-    for entry in list {
-        if !spawns.insert(entry.spawn_id)? {
+    let mut spawns = BTreeMap::new(alloc);
+    for (place, entry) in list.iter().enumerate() {
+        if spawns.insert(entry.spawn_id, place)?.is_some() {
             return Ok(None);
         }
     }
@@ -67,7 +68,7 @@ impl Entries {
     {
         Entries {
             list: Vec::new(alloc),
-            spawns: IndexSet::new(alloc),
+            spawns: BTreeMap::new(alloc),
         }
     }
 
@@ -95,7 +96,7 @@ impl Entries {
     pub fn place_of(&self, spawn: SpawnId) -> Option<usize>
         ensures { result ≡ position (worker.is_of spawn) self.now }
     {
-        self.spawns.get_index_of(&spawn)
+        self.spawns.get(&spawn).copied()
     }
 
     /// The entry of a spawn.
@@ -145,10 +146,9 @@ impl Entries {
         ensures ok { OnOk result (self.new ≡ self.old ++ entry ∷ []) }
         ensures err { OnErr result (self.new ≡ self.old) }
     {
-        let spawn = entry.spawn_id;
-        self.spawns.reserve(1)?;
-        self.list.push(entry)?;
-        self.spawns.insert(spawn).unwrap();
+        self.list.reserve(1)?;
+        self.spawns.insert(entry.spawn_id, self.list.len())?;
+        self.list.push(entry).unwrap();
         Ok(())
     }
 

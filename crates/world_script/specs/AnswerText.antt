@@ -1,9 +1,8 @@
 -- The text of an answer.
 use Rattle.std.specs.Prelude.{ℕ, List, [], ◌++◌, codes, decimal, Option, Some, None}
-use Rattle.ticket_items.specs.Refusal.{number_of, name_of}
+use Rattle.ticket_items.specs.Refusal.{holder_of, number_of, name_of}
 use Rattle.ticket_items.specs.SpawnId.{spawn_text}
 use Rattle.ticket_items.specs.declared.refusal.Refusal.{Refusal}
-use Rattle.ticket_items.specs.declared.refusal.Refusal.TheVariants.{NotHeld}
 use Rattle.controller.specs.Reply as replies
 use Rattle.controller.specs.declared.reply.Reply.{Reply}
 use Rattle.world_items.specs.declared.answer.Answer.{Answer}
@@ -20,18 +19,13 @@ spawn_behind (Some s) = codes " " ++ spawn_text s
 abbrev pub reply_text : Reply → List ℕ
 reply_text reply = replies.word_of reply ++ spawn_behind (replies.spawn_told reply)
 
--- the spawn that holds what was to be changed or spawned
-abbrev pub holder_told : Refusal → Option ℕ
-holder_told (NotHeld s) = Some s
-holder_told _ = None
-
 -- `Refused`, and a refusal's number and name
 abbrev pub refusal_words : ℕ → List ℕ → List ℕ
 refusal_words number name = codes "Refused " ++ decimal number ++ codes " " ++ name
 
 -- the words of a refusal, and the spawn that it tells of
 abbrev pub refusal_text : Refusal → List ℕ
-refusal_text e = refusal_words (number_of e) (name_of e) ++ spawn_behind (holder_told e)
+refusal_text e = refusal_words (number_of e) (name_of e) ++ spawn_behind (holder_of e)
 
 -- what came of an event, in a word and what that tells
 abbrev pub word_text : Word → List ℕ

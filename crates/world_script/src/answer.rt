@@ -20,16 +20,6 @@ fn with_spawn(alloc: Global, text: &str, spawn: Option<SpawnId>) -> Result<Strin
     }
 }
 
-/// The spawn that holds what was to be changed or spawned.
-fn holder_told(refusal: &Refusal) -> Option<SpawnId>
-    ensures { result ≡ texts.holder_told refusal.now }
-{
-    match refusal {
-        Refusal::NotHeld(spawn) => Some(*spawn),
-        _ => None,
-    }
-}
-
 /// `Refused`, and a refusal's number and name.
 fn refusal_words(alloc: Global, number: u16, name: &str) -> Result<String, AllocError>
     ensures { IfOk result (λ words. string_bytes words ≡ texts.refusal_words number name.now) }
@@ -42,7 +32,7 @@ fn refusal_text(alloc: Global, refusal: &Refusal) -> Result<String, AllocError>
     ensures { IfOk result (λ text. string_bytes text ≡ texts.refusal_text refusal.now) }
 {
     let words = refusal_words(alloc, refusal.number(), refusal.name())?;
-    with_spawn(alloc, words.as_str(), holder_told(refusal))
+    with_spawn(alloc, words.as_str(), refusal.holder())
 }
 
 /// What came of an event, in a word and what that tells.

@@ -1,8 +1,9 @@
 -- How `check` ends.
 use Rattle.std.specs.Prelude.{◌≡◌, ◌++◌, ◌∷◌, ℕ, Bool, List, [], Option, Some, None, codes}
-use Rattle.streams.specs.Ends.{Ends}
+use Rattle.streams.specs.Ends.{IsFaultOf, IsOutputOf}
 use Rattle.streams.specs.Streams.{IsUntouched, Use}
 use Rattle.fault_finder.specs.declared.kind.Kind.{Kind}
+use Rattle.jdf_commands.specs.Caused.{EndsWithCaused}
 use Rattle.jdf_commands.specs.CheckCommand.Kinds.{kind_said}
 use Rattle.jdf_commands.specs.CheckCommand.Verdict.{IsUnchecked, IsVerdict}
 use Rattle.jdf_commands.specs.Told.{TellsText}
@@ -20,11 +21,13 @@ pub record TellsNoKind (input output told : Use) (status : ℕ) : Type 0 where
   pub text : TellsText no_kind_line told
   pub status_is : status ≡ 2
 
--- how `check` ends where this kind is said, if any: with what is told of its whole input
+-- how `check` ends where this kind is said, if any: with what is told of its whole input, or with
+-- why there is none
 abbrev pub EndsSaid : Option (Option Kind) → Bool → Use → Use → Use → ℕ → Type 0
 EndsSaid None all input output told status = TellsNoKind input output told status
 EndsSaid (Some said) all input output told status =
-    Ends (IsVerdict said all) IsUnchecked input output told status
+    EndsWithCaused (IsOutputOf (IsVerdict said all) input) (IsFaultOf IsUnchecked input) output told
+    status
 
 -- and by the word that says it
 abbrev pub EndsCheck : Option (List ℕ) → Bool → Use → Use → Use → ℕ → Type 0

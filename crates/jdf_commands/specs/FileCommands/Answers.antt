@@ -9,6 +9,7 @@ use Rattle.controller.specs.declared.command.Command.TheVariants.{Abort}
 use Rattle.controller.specs.declared.message.Message.{Message}
 use Rattle.controller.specs.declared.queue_status.QueueStatus.{QueueStatus}
 use Rattle.controller.specs.declared.reply.Reply.{Reply}
+pub use Rattle.jmf_message.specs.Refused.{refusal_told}
 use Rattle.ticket_items.specs.Refusal.{name_of, number_of}
 use Rattle.ticket_items.specs.declared.refusal.Refusal.{Refusal}
 use Rattle.ticket_items.specs.declared.refusal.Refusal.TheVariants.{Declined}
@@ -16,18 +17,8 @@ use Rattle.jdf_commands.specs.FileCommands.Step.{is_refused, reply_text, text_li
 
 -- ---- what it tells
 
--- the number of the refusal that a command was answered with: that a spawn is declined is no
--- refusal where the command asked for it
-abbrev pub refusal_of_command : Command → ℕ → Option ℕ
-refusal_of_command Abort n = if n == number_of Declined then None else Some n
-refusal_of_command asked n = Some n
-
--- the same of the body of a message, which may be no answer
-abbrev pub refusal_told : Body → Option ℕ
-refusal_told (Answer asked spawn (Err n)) = refusal_of_command asked n
-refusal_told body = None
-
--- the same, once it was taken so: of one that wasn't taken none
+-- the number of the refusal that an answer tells, once it was taken so: of one that wasn't taken
+-- none
 abbrev pub refusal_taken : Result Reply Refusal → Body → Option ℕ
 refusal_taken (Ok reply) body = refusal_told body
 refusal_taken (Err e) body = None

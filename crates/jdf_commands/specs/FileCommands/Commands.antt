@@ -1,11 +1,10 @@
 -- What a command on a controller that a keeper holds writes for its input, and why it gives up.
-use Rattle.std.specs.Prelude.{◌≡◌, ◌⊎◌, ℕ, Bool, false, true, List, [], Option, Result}
+use Rattle.std.specs.Prelude.{◌≡◌, ◌⊎◌, ℕ, Bool, false, true, List, [], Option, IfSome, Result}
 use Rattle.std.specs.Prelude.{if◌then◌else◌}
 use Rattle.ticket_items.specs.declared.refusal.Refusal.{Refusal}
-use Rattle.ticket_items.specs.declared.refusal.Refusal.TheVariants.{Memory}
-use Rattle.streams.specs.declared.refused.Refused.TheVariants.{Core, SaveFailed}
+use Rattle.streams.specs.declared.refused.Refused.TheVariants.{SaveFailed}
 use Rattle.streams.specs.declared.fault.Fault.{Fault}
-use Rattle.streams.specs.declared.fault.Fault.TheVariants.{Input, Device}
+use Rattle.streams.specs.declared.fault.Fault.TheVariants.{Device}
 use Rattle.streams.specs.Ends.{IsUnread}
 use Rattle.streams.specs.Streams.{IsInput, IsUntouched, Use}
 use Rattle.stored_state.specs.Held.{Held}
@@ -108,15 +107,19 @@ abbrev pub shown_text : AnyController → List ℕ
 shown_text (of_master m) = master_text m
 shown_text (of_worker w) = worker_text w
 
--- what a controller shows, or its picture
-abbrev pub shown_as : Bool → AnyController → List ℕ
-shown_as picture c = if picture then picture_text c else shown_text c
+-- the moment of a call is the one that is named; any where none is
+abbrev pub IsMoment : Option ℕ → ℕ → Type 0
+IsMoment at now = IfSome at (λ n. now ≡ n)
+
+-- what a controller shows, or its picture at a moment
+abbrev pub shown_as : Bool → ℕ → AnyController → List ℕ
+shown_as picture now c = if picture then picture_text now c else shown_text c
 
 -- `show`: what the controller that was held shows, or its picture, and what it has noted
-pub record Shows {K : Type 0} (picture : Bool) (is_honest : K → Bool) (held place : K → List ℕ)
-    (keep : K) (text : List ℕ) (refused : Bool) (notes : List ℕ) : Type 0 where
+pub record Shows {K : Type 0} (picture : Bool) (now : ℕ) (is_honest : K → Bool)
+    (held place : K → List ℕ) (keep : K) (text : List ℕ) (refused : Bool) (notes : List ℕ) : Type 0 where
   pub opened : Held AnyController K
   pub loaded : IsLoaded is_honest held place keep opened
-  pub shown : text ≡ shown_as picture opened.controller
+  pub shown : text ≡ shown_as picture now opened.controller
   pub accepted : refused ≡ false
   pub noted : notes ≡ notes_of opened.controller

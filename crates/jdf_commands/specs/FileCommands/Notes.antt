@@ -1,5 +1,5 @@
 -- What is noted on standard error beside an output: the parts that are too large to come back soon.
-use Rattle.std.specs.Prelude.{◌≡◌, ◌⊎◌, ℕ, ◌++◌, ◌∷◌, Bool, List, [], codes, decimal, length, nat_le}
+use Rattle.std.specs.Prelude.{◌⊎◌, ℕ, ◌++◌, ◌∷◌, Bool, List, [], codes, decimal, length, nat_le}
 use Rattle.std.specs.Prelude.{Option, Some, None, Result, Ok, if◌then◌else◌}
 use Rattle.std.specs.List.{flat_map}
 use Rattle.serde_json.specs.Written.{compact_text}

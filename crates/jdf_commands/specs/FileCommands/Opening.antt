@@ -18,6 +18,10 @@ pub record IsLoaded {K : Type 0} (is_honest : K → Bool) (held place : K → Li
   pub placed : place opened.keep ≡ place keep
   pub fresh : opened.stale ≡ false
 
+-- the controller is the one whose state a keeper held
+abbrev pub IsHeldBy : {K : Type 0} → (K → Bool) → (K → List ℕ) → K → AnyController → Type 0
+IsHeldBy is_honest held keep c = is_honest keep ≡ true → IsReadAs any_state_read (held keep) (Ok c)
+
 -- why no controller is loaded: the load failed, or what is held is refused, or memory ran out
 abbrev pub IsNotLoaded : {K : Type 0} → (K → Bool) → (K → List ℕ) → (K → K → Type 0) → K → Fault
     → Type 0

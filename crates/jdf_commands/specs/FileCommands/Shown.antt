@@ -5,18 +5,11 @@ use Rattle.serde_json.specs.Written.{compact_text}
 use Rattle.ticket_items.specs.SpawnId.{spawn_text}
 use Rattle.ticket_tree.specs.Part.{Copied}
 use Rattle.json_text.specs.PartWritten.{part_data}
-use Rattle.json_text.specs.Written.{shown_data}
-use Rattle.spawn.specs.Marking.{marks}
-use Rattle.master_core.specs.Master as master
+pub use Rattle.controller_form.specs.ShownMaster.{master_text}
 use Rattle.worker_core.specs.Worker as worker
 use Rattle.worker_core.specs.declared.entry.Entry.{Entry}
 use Rattle.worker_core.specs.declared.stage.Stage.{Stage}
 use Rattle.worker_core.specs.declared.stage.Stage.TheVariants.{Open, Done, Closed, Declined}
-
--- the text of a master's ticket with the marks of what is out, and the end of its line
-abbrev pub master_text : master.Known → List ℕ
-master_text m =
-    compact_text (shown_data (marks m.ticket.rows m.records) m.ticket) ++ 10 ∷ []
 
 -- how far the work on a part is, in words
 abbrev pub stage_words : Stage → List ℕ

@@ -2,20 +2,22 @@
 
 ghost use Rattle.std.specs.Prelude.{◌≡◌, IfErr, IfOk};
 ghost use Rattle.std.specs.Option.{option_map};
-ghost use Rattle.streams.specs.Ends.{Ends, IsFaultOf, IsOutputOf};
+ghost use Rattle.streams.specs.Ends.{IsFaultOf, IsOutputOf};
 ghost use Rattle.streams.specs.Streams.{used};
 ghost use Rattle.jdf_commands.specs.CheckCommand.Run as runs;
+ghost use Rattle.jdf_commands.specs.Caused.{EndsWithCaused};
 ghost use Rattle.jdf_commands.specs.CheckCommand.Run.{EndsCheck};
 ghost use Rattle.jdf_commands.specs.CheckCommand.Verdict.{IsUnchecked, IsVerdict};
 ghost use Rattle.jdf_commands.specs.Told.{TellsText};
 
+use crate::caused::{Caused, give_up_caused};
 use crate::check_command::kinds::kind_said;
 use crate::check_command::verdict::verdict_of;
 use crate::told::tell_text;
 use fault_finder::Kind;
 use std::alloc::Global;
 use std::io::{Read, Write};
-use streams::{Counted, Fault, Output, finish, read_input};
+use streams::{Counted, Fault, Output, Refused, finish, read_input};
 
 /// The exit status for a word that names no kind.
 const NO_KIND: u8 = 2;
@@ -49,6 +51,16 @@ fn check_output<R: Read>(
     Ok(verdict_of(alloc, said, all, input)?)
 }
 
+/// A fault of the input, with where that comes from where a read failed.
+fn input_fault(alloc: Global, fault: Fault) -> Caused
+    ensures { result.fault ≡ fault }
+{
+    match fault {
+        Fault::Device(Refused::ReadFailed) => Caused::at(alloc, fault, "standard input"),
+        _ => Caused::bare(fault),
+    }
+}
+
 /// Reads a document of the kind that is said, and writes what is told of it. Answers the exit
 /// status.
 fn run_said<R: Read, W: Write, F: Write>(
@@ -59,11 +71,14 @@ fn run_said<R: Read, W: Write, F: Write>(
     writer: &mut Counted<W>,
     faults: &mut Counted<F>,
 ) -> u8
-    ensures { Ends (IsVerdict said all) IsUnchecked
-        (used R.remaining reader.old reader.new) (used W.contents writer.old writer.new)
-        (used F.contents faults.old faults.new) result }
+    ensures { EndsWithCaused (IsOutputOf (IsVerdict said all) (used R.remaining reader.old reader.new))
+        (IsFaultOf IsUnchecked (used R.remaining reader.old reader.new))
+        (used W.contents writer.old writer.new) (used F.contents faults.old faults.new) result }
 {
-    finish(check_output(alloc, said, all, reader), writer, faults)
+    match check_output(alloc, said, all, reader) {
+        Ok(output) => finish(Ok(output), writer, faults),
+        Err(fault) => give_up_caused(alloc, input_fault(alloc, fault), faults),
+    }
 }
 
 /// Reads a document, and writes what is told of it: `ok` where its reader takes it; or a line for

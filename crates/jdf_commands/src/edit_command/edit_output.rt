@@ -14,6 +14,7 @@ use json_items::Raw;
 use json_profile::push_ticket_text;
 use json_source::{Scratch, tree_of};
 use std::alloc::{AllocError, Global};
+use std::mem;
 use streams::Output;
 use ticket_tree::{Refusal, Ticket};
 
@@ -99,7 +100,7 @@ fn edited_ticket(alloc: Global, input: Vec<u8>) -> Result<EditedTicket, Refusal>
 
 /// What `edit` writes for an input, or the first refusal of it: `NotJson`, `NotProfile`, `BadId`,
 /// `BadText`, `ReservedStatus`, `DuplicateId`, `TooDeep`, `UnresolvedLink`; `Memory` may come
-/// before any.
+/// before any. The ticket isn't given back.
 pub fn edit_output(alloc: Global, input: Vec<u8>) -> Result<Output, Refusal>
     ensures done { IfOk result (λ o. IsOutput input.items o.text.items o.refused) }
     ensures refused { IfErr result (IsRefusalOf input.items) }
@@ -111,5 +112,7 @@ pub fn edit_output(alloc: Global, input: Vec<u8>) -> Result<Output, Refusal>
     } = edited_ticket(alloc, input)?;
     let mut text = lines;
     push_ticket(alloc, &mut text, &ticket)?;
+    // The process ends behind this, which gives all of it back at once.
+    mem::forget(ticket);
     Ok(Output { text, refused })
 }

@@ -53,7 +53,8 @@ fn edits_in(alloc: Global, tree: Tree<'_>) -> Result<Judged<Items<Edit>>, Refusa
 }
 
 /// What is found of the edits and the ticket of a document, all else of which is given back before,
-/// and the edits before the ticket is looked at. Refuses `NotProfile`, and `Memory`.
+/// the edits before the ticket is looked at, and the ticket node by node. Refuses `NotProfile`, and
+/// `Memory`.
 fn parts_in(alloc: Global, tree: Tree<'_>) -> Result<Judged<(Items<Edit>, RawTicket)>, Refusal>
     ensures { Reads (on_both (list_all edit_has_names) has_names)
         (on_both (list_all edit_has_texts) has_texts) result
@@ -63,7 +64,7 @@ fn parts_in(alloc: Global, tree: Tree<'_>) -> Result<Judged<(Items<Edit>, RawTic
     let (edits, ticket) = members_alone(tree, "Edits", "Ticket");
     let edits = edits_in(alloc, edits.ok_or(Refusal::NotProfile)?)?;
     let ticket = ticket.ok_or(Refusal::NotProfile)?;
-    let ticket = RawTicket::find(alloc, &ticket)?;
+    let ticket = RawTicket::of(alloc, ticket)?;
     Ok(both(edits, ticket))
 }
 

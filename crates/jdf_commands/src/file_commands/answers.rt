@@ -9,7 +9,8 @@ ghost use Rattle.jdf_commands.specs.FileCommands.Answers as answers;
 
 use crate::file_commands::step::{push_text, reply_text};
 use controller::answering::spawn_in;
-use controller::{Body, Command, Message, QueueStatus, Reply};
+use controller::{Body, Message, QueueStatus, Reply};
+use jmf_message::refusal_told;
 use std::alloc::{AllocError, Global};
 use stored_state::TakenBytes;
 use streams::{Fault, Output};
@@ -96,26 +97,6 @@ pub fn refused_by(
 {
     let text = number_text(alloc, number, refusal_numbered(number, spawn))?;
     refusal_line(alloc, text.as_str(), sender.as_str())
-}
-
-/// The number of the refusal that a message is an answer with, but for that by which a withdrawn
-/// spawn is declined: `AbortQueueEntry` asks for that.
-pub fn refusal_told(message: &Message) -> Option<u16>
-    ensures { result ≡ answers.refusal_told message.now.body }
-{
-    match &message.body {
-        Body::Answer { result: Ok(_), .. } => None,
-        Body::Answer {
-            of: Command::Abort,
-            result: Err(38),
-            ..
-        } => None,
-        Body::Answer {
-            result: Err(number),
-            ..
-        } => Some(*number),
-        Body::Submit(_) | Body::Return(_) | Body::Abort(_) => None,
-    }
 }
 
 /// The number of the refusal that an answer tells of, once it was taken so.

@@ -4,7 +4,7 @@ ghost use Rattle.std.specs.Prelude.{◌≡◌, true, IfOk, IfErr};
 ghost use Rattle.stored_state.specs.Opened.{held_in};
 ghost use Rattle.jdf_commands.specs.Calls as calls;
 ghost use Rattle.jdf_commands.specs.Calls.{IsNotOpened};
-ghost use Rattle.jdf_commands.specs.FileCommands.Opening.{IsLoaded, IsNotLoaded};
+ghost use Rattle.jdf_commands.specs.FileCommands.Opening.{IsHeldBy, IsLoaded, IsNotLoaded};
 ghost use Rattle.streams.specs.declared.refused.Refused.TheVariants.{LoadFailed};
 ghost use Rattle.streams.specs.declared.fault.Fault.TheVariants.{Device};
 
@@ -67,9 +67,11 @@ pub(crate) fn locked<'a, R: Locks>(
 }
 
 /// What a keeper holds. What is refused is a fault of the device.
-fn snapshot_in<K: Keep>(alloc: Global, mut keep: K) -> Result<Snapshot, Fault>
+pub(crate) fn snapshot_in<K: Keep>(alloc: Global, mut keep: K) -> Result<Snapshot, Fault>
     ensures text { IfOk result (λ snapshot. K.is_honest keep ≡ true →
         snapshot.text ≡ K.held keep) }
+    ensures controller { IfOk result
+        (λ snapshot. IsHeldBy K.is_honest K.held keep snapshot.controller) }
     ensures refused { IfErr result (IsNotLoaded K.is_honest K.held K.load_fails keep) }
 {
     match Snapshot::of(alloc, &mut keep) {
@@ -80,7 +82,9 @@ fn snapshot_in<K: Keep>(alloc: Global, mut keep: K) -> Result<Snapshot, Fault>
 
 /// What the file of this path holds. The file is locked while it is read, and no longer.
 pub(crate) fn snapshot_of<R: Locks>(rt: &R, alloc: Global, file: &str) -> Result<Snapshot, Fault>
-    ensures { IfErr result (IsNotOpened file.now) }
+    ensures controller { IfOk result (λ snapshot. IsHeldBy calls.is_honest calls.held
+        (calls.kept_in file.now) snapshot.controller) }
+    ensures refused { IfErr result (IsNotOpened file.now) }
 {
     match locked(rt, alloc, file) {
         Ok(keep) => snapshot_in(alloc, keep),

@@ -1,25 +1,35 @@
 //! Orders to the controller in a file.
 
-ghost use Rattle.std.specs.Prelude.{◌≡◌, IfOk, IfErr};
+ghost use Rattle.std.specs.Prelude.{◌≡◌, ◌⊎◌, true, IfOk, IfErr, OnErr};
 ghost use Rattle.std.specs.Option.{option_map};
+ghost use Rattle.journal.specs.Journal.{IsJournaled, IsLeft};
+ghost use Rattle.journal.specs.Line.{who};
+ghost use Rattle.keepers.specs.InFile.{InFile};
+ghost use Rattle.keepers.specs.OnDisk.{OnDisk};
 ghost use Rattle.jdf_commands.specs.Calls as calls;
 ghost use Rattle.jdf_commands.specs.Calls.{DoesNone, DoesNoneOf};
 ghost use Rattle.jdf_commands.specs.FileCommands.Commands.{DoesNoStep, DoesStep, GivesHeld};
 ghost use Rattle.jdf_commands.specs.FileCommands.Commands.{GivesNoting, GivesStepOf};
+ghost use Rattle.jdf_commands.specs.FileCommands.Journaled.{IsOrderLine, OrdersJournaled};
 ghost use Rattle.jdf_commands.specs.FileCommands.Notes.{notes_of_order};
 ghost use Rattle.jdf_commands.specs.FileCommands.Step.{is_refused, step_lines};
+ghost use Rattle.stored_state.specs.Addressee.{name_of};
 ghost use Rattle.stored_state.specs.AnyStep.{IsNoOrder, IsOrdered};
-ghost use Rattle.stored_state.specs.Opened.{held_in};
+ghost use Rattle.stored_state.specs.Held.{Held};
+ghost use Rattle.stored_state.specs.Opened.{controller_in, held_in};
+ghost use Rattle.stored_state.specs.declared.any_controller.AnyController.{AnyController};
 ghost use Rattle.streams.specs.Streams.{used};
 ghost use Rattle.streams.specs.declared.refused.Refused.TheVariants.{Core};
 ghost use Rattle.streams.specs.declared.fault.Fault.TheVariants.{Input};
 ghost use Rattle.ticket_items.specs.declared.refusal.Refusal.TheVariants.{Memory};
 
+use crate::file_commands::journaling::journal_order;
 use crate::file_commands::noted::Noted;
 use crate::file_commands::notes::notes_of_order;
 use crate::file_commands::opening::{locked, opened_again, snapshot_of};
 use crate::file_commands::step::{fault_of, step_output};
 use controller::Reply;
+use journal::{Journal, user_text};
 use keepers::{Keep, Locks};
 use std::alloc::Global;
 use std::io::Read;
@@ -39,34 +49,49 @@ pub struct Ordered {
 }
 
 /// What an order to the controller that a keeper holds gives out, once its step is saved, and the
-/// controller beside its keeper as it is then. The text of a snapshot isn't read once more.
-fn order_held<K: Keep>(
+/// controller beside its keeper as it is then. The text of a snapshot isn't read once more. Behind
+/// the save the line of the step, by this one, is appended to the journal, unless the controller
+/// refused the order.
+fn order_held<K: Keep, J: Journal>(
     alloc: Global,
     keep: K,
     seen: Option<Snapshot>,
     input: &[u8],
     at: u64,
+    by: Option<&str>,
+    journal: &mut J,
 ) -> Result<(OrderBytes, Opened<K>), Fault>
     ensures ok { IfOk result (λ given. GivesHeld K.is_honest K.held K.place (IsOrdered at)
         input.now keep (held_in given.1)
         given.0.reply (option_map (λ b. b.items) given.0.message)) }
     ensures refused { IfErr result (DoesNoStep K.is_honest K.held K.place K.count K.load_fails
         K.save_fails IsNoOrder (IsOrdered at) input.now keep) }
+    ensures journal { IfOk result (λ given. J.is_honest journal.old ≡ true →
+        IsJournaled J.held J.is_missed
+        (IsOrderLine (who by.entry) (name_of (controller_in given.1)) at input.now)
+        given.0.reply journal.old journal.new) }
+    ensures unsaved { OnErr result (J.is_honest journal.old ≡ true →
+        IsLeft J.held J.is_missed journal.old journal.new) }
 {
     let mut opened = opened_again(alloc, keep, seen)?;
     match opened.order(alloc, input, at) {
-        Ok(given) => Ok((given, opened)),
+        Ok(given) => {
+            journal_order(alloc, journal, &opened, by, input, &given.reply, at);
+            Ok((given, opened))
+        }
         Err(refused) => Err(fault_of(refused)),
     }
 }
 
 /// What such an order gives out, and what is noted of it; the keeper is let go.
-fn order_given<K: Keep>(
+fn order_given<K: Keep, J: Journal>(
     alloc: Global,
     keep: K,
     seen: Option<Snapshot>,
     input: &[u8],
     at: u64,
+    by: Option<&str>,
+    journal: &mut J,
 ) -> Result<Ordered, Fault>
     ensures ok { IfOk result (λ given. GivesNoting
         (λ after. GivesHeld K.is_honest K.held K.place (IsOrdered at) input.now keep after
@@ -74,8 +99,17 @@ fn order_given<K: Keep>(
         (notes_of_order given.reply) given.notes.items) }
     ensures refused { IfErr result (DoesNoStep K.is_honest K.held K.place K.count K.load_fails
         K.save_fails IsNoOrder (IsOrdered at) input.now keep) }
+    ensures journal { IfOk result (λ given. J.is_honest journal.old ≡ true →
+        (after : Held AnyController K)
+        × GivesHeld K.is_honest K.held K.place (IsOrdered at) input.now keep after
+        given.reply (option_map (λ b. b.items) given.message)
+        × IsJournaled J.held J.is_missed
+        (IsOrderLine (who by.entry) (name_of after.controller) at input.now)
+        given.reply journal.old journal.new) }
+    ensures unsaved { IfErr result (λ fault. J.is_honest journal.old ≡ true →
+        IsLeft J.held J.is_missed journal.old journal.new ⊎ (fault ≡ Input (Core Memory))) }
 {
-    let (given, opened) = order_held(alloc, keep, seen, input, at)?;
+    let (given, opened) = order_held(alloc, keep, seen, input, at, by, journal)?;
     let notes = notes_of_order(alloc, &given.reply, &opened)?;
     let OrderBytes { reply, message } = given;
     Ok(Ordered {
@@ -87,13 +121,15 @@ fn order_given<K: Keep>(
 
 /// What an order to the controller in a file gives out, once its step is saved. Of a file that
 /// holds the text of the snapshot still, that isn't read once more.
-fn order_locked<R: Locks>(
+fn order_locked<R: Locks, J: Journal>(
     rt: &R,
     alloc: Global,
     file: &str,
     seen: Snapshot,
     input: &[u8],
     at: u64,
+    by: Option<&str>,
+    journal: &mut J,
 ) -> Result<Ordered, Fault>
     ensures ok { IfOk result (λ given. GivesNoting
         (λ after. GivesHeld calls.is_honest calls.held calls.place (IsOrdered at)
@@ -101,10 +137,36 @@ fn order_locked<R: Locks>(
         given.reply (option_map (λ b. b.items) given.message))
         (notes_of_order given.reply) given.notes.items) }
     ensures refused { IfErr result (DoesNoneOf IsNoOrder (IsOrdered at) file.now input.now) }
+    ensures journal { IfOk result (λ given. J.is_honest journal.old ≡ true →
+        (after : Held AnyController (InFile OnDisk))
+        × GivesHeld calls.is_honest calls.held calls.place (IsOrdered at) input.now
+        (calls.kept_in file.now) after given.reply (option_map (λ b. b.items) given.message)
+        × IsJournaled J.held J.is_missed
+        (IsOrderLine (who by.entry) (name_of after.controller) at input.now)
+        given.reply journal.old journal.new) }
+    ensures unsaved { IfErr result (λ fault. J.is_honest journal.old ≡ true →
+        IsLeft J.held J.is_missed journal.old journal.new ⊎ (fault ≡ Input (Core Memory))) }
 {
     match locked(rt, alloc, file) {
-        Ok(keep) => order_given(alloc, keep, Some(seen), input, at),
+        Ok(keep) => order_given(alloc, keep, Some(seen), input, at, by, journal),
         Err(fault) => Err(fault),
+    }
+}
+
+/// Who types, as a line of a journal tells it, where one is wanted and the system tells it.
+fn typed_by<R: Locks, J: Journal>(rt: &R, alloc: Global, journal: &J) -> Option<String> {
+    if journal.is_wanted() {
+        user_text(rt, alloc)
+    } else {
+        None
+    }
+}
+
+/// A text, if there is one.
+fn text_of(text: &Option<String>) -> Option<&str> {
+    match text {
+        Some(text) => Some(text.as_str()),
+        None => None,
     }
 }
 
@@ -112,12 +174,15 @@ fn order_locked<R: Locks>(
 /// of it. The file is looked at first, and where it holds no controller nothing is read. While the
 /// input is read the file isn't locked: a step that somebody else makes meanwhile comes before this
 /// one. It isn't locked any more once this is given out. Refuses as `run_file` says of `order`.
-pub fn order_in_file<R: Locks, I: Read>(
+/// Behind the save, and while the file is locked, the line of the step is appended to the journal,
+/// unless the controller refused the order.
+pub fn order_in_file<R: Locks, I: Read, J: Journal>(
     rt: &R,
     alloc: Global,
     file: &str,
     at: u64,
     reader: &mut Counted<I>,
+    journal: &mut J,
 ) -> Result<Ordered, Fault>
     ensures ok { IfOk result (λ given. GivesNoting
         (λ after. GivesStepOf calls.is_honest calls.held calls.place (IsOrdered at)
@@ -126,10 +191,26 @@ pub fn order_in_file<R: Locks, I: Read>(
         (notes_of_order given.reply) given.notes.items) }
     ensures refused { IfErr result (DoesNone IsNoOrder (IsOrdered at)
         file.now (used I.remaining reader.old reader.new)) }
+    ensures journal { IfOk result (λ given. J.is_honest journal.old ≡ true →
+        OrdersJournaled J.held J.is_missed at (calls.kept_in file.now)
+        (used I.remaining reader.old reader.new) given.reply
+        (option_map (λ b. b.items) given.message) journal.old journal.new) }
+    ensures unsaved { IfErr result (λ fault. J.is_honest journal.old ≡ true →
+        IsLeft J.held J.is_missed journal.old journal.new ⊎ (fault ≡ Input (Core Memory))) }
 {
     let snapshot = snapshot_of(rt, alloc, file)?;
     let input = read_input(alloc, reader)?;
-    order_locked(rt, alloc, file, snapshot, input.as_slice(), at)
+    let by = typed_by(rt, alloc, journal);
+    order_locked(
+        rt,
+        alloc,
+        file,
+        snapshot,
+        input.as_slice(),
+        at,
+        text_of(&by),
+        journal,
+    )
 }
 
 /// What is written and noted of an order's step that gave this out, and has this noted: the line of
@@ -153,12 +234,13 @@ pub fn order_noted(
 }
 
 /// What `order` writes and notes, once the step is saved.
-pub(crate) fn order_output<R: Locks, I: Read>(
+pub(crate) fn order_output<R: Locks, I: Read, J: Journal>(
     rt: &R,
     alloc: Global,
     file: &str,
     at: u64,
     reader: &mut Counted<I>,
+    journal: &mut J,
 ) -> Result<Noted, Fault>
     ensures ok { IfOk result (λ noted. DoesStep calls.is_honest calls.held calls.place (IsOrdered at)
         notes_of_order (calls.kept_in file.now) (used I.remaining reader.old reader.new)
@@ -170,6 +252,6 @@ pub(crate) fn order_output<R: Locks, I: Read>(
         reply,
         message,
         notes,
-    } = order_in_file(rt, alloc, file, at, reader)?;
+    } = order_in_file(rt, alloc, file, at, reader, journal)?;
     order_noted(alloc, reply, &message, notes)
 }

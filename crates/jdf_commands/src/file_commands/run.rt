@@ -7,23 +7,29 @@ ghost use Rattle.stored_state.specs.Held.{Held};
 ghost use Rattle.stored_state.specs.declared.addressee.Addressee.{Addressee};
 ghost use Rattle.stored_state.specs.declared.any_controller.AnyController.{AnyController};
 ghost use Rattle.jdf_commands.specs.Calls as calls;
-ghost use Rattle.jdf_commands.specs.Calls.{EndsCall, EndsNoted, IsFaultOfCall, IsOutputOfCall};
+ghost use Rattle.jdf_commands.specs.Calls.{EndsCall, EndsListing, EndsNoted, IsFaultOfCall};
+ghost use Rattle.jdf_commands.specs.Calls.{IsOutputOfCall};
 ghost use Rattle.jdf_commands.specs.FileCommands.Commands.{Begins, BeginsNone};
 ghost use Rattle.streams.specs.Streams.{used};
 
+use crate::caused::{Caused, give_up_caused};
 use crate::check_command::run_check;
 use crate::edit_command::Edit;
+use crate::explain_command::run_explain;
 use crate::file_commands::beginning::new_noted;
+use crate::file_commands::listing::list_output;
 use crate::file_commands::noted::{Noted, finish_noting};
 use crate::file_commands::ordering::order_output;
 use crate::file_commands::shown::show_output;
 use crate::file_commands::taking::take_output;
 use crate::world_command::WorldCommand;
 use jdf_words::Call;
+use journal::Journal;
 use keepers::{FileKeep, Locks};
 use shop_folder::owner_of;
-use std::alloc::Global;
+use std::alloc::{Alloc, Global};
 use std::io::{Read, Write};
+use std::time::Clock;
 use streams::{Counted, Fault, Refused, output_of};
 
 /// What `new` writes, once the controller is kept in a file that is made for it.
@@ -47,13 +53,14 @@ fn new_in_file<R: Locks, I: Read>(
     new_noted(alloc, keep, is_there, to, reader)
 }
 
-/// What a call writes and notes, of all but `check`, whose status isn't told by that. It refuses,
-/// and holds the file's lock, as `run_file` says.
-pub fn call_output<R: Locks, I: Read>(
+/// What a call writes and notes, of all but `check` and `explain`, whose status isn't told by that.
+/// It refuses, and holds the file's lock, as `run_file` says.
+pub fn call_output<R: Locks + Clock + Alloc + Clone + Drop, I: Read, J: Journal>(
     rt: &R,
     alloc: Global,
     call: Call<'_>,
     reader: &mut Counted<I>,
+    journal: &mut J,
 ) -> Result<Noted, Fault>
     ensures ok { IfOk result (λ noted. IsOutputOfCall call.entry
         (used I.remaining reader.old reader.new)
@@ -65,10 +72,17 @@ pub fn call_output<R: Locks, I: Read>(
         Call::Edit => Ok(Noted::bare(alloc, output_of::<Edit, I>(alloc, reader)?)),
         Call::World => Ok(Noted::bare(alloc, output_of::<WorldCommand, I>(alloc, reader)?)),
         Call::New { file } => new_in_file(rt, alloc, file, reader),
-        Call::Order { file, at } => order_output(rt, alloc, file, at, reader),
-        Call::Take { file, at } => take_output(rt, alloc, file, at, reader),
-        Call::Show { file, picture } => show_output(rt, alloc, file, picture),
+        Call::Order { file, at } => order_output(rt, alloc, file, at, reader, journal),
+        Call::Take { file, at } => take_output(rt, alloc, file, at, reader, journal),
+        Call::Show { file, picture, at } => show_output(rt, alloc, file, picture, at),
+        Call::Listing {
+            file,
+            at,
+            is_open,
+            is_json,
+        } => list_output(rt, alloc, file, is_open, is_json, at),
         Call::Check { .. }
+        | Call::Explain { .. }
         | Call::Loop
         | Call::SendOrder { .. }
         | Call::Serve { .. }
@@ -76,19 +90,47 @@ pub fn call_output<R: Locks, I: Read>(
     }
 }
 
-/// Runs another call than `check`.
-fn run_noted<R: Locks, I: Read, W: Write, F: Write>(
+/// Runs another call than `check`, `explain` and `list`.
+fn run_noted<R: Locks + Clock + Alloc + Clone + Drop, I: Read, W: Write, F: Write, J: Journal>(
     rt: &R,
     alloc: Global,
     call: Call<'_>,
     reader: &mut Counted<I>,
     writer: &mut Counted<W>,
     faults: &mut Counted<F>,
+    journal: &mut J,
 ) -> u8
     ensures { EndsNoted call.entry (used I.remaining reader.old reader.new)
         (used W.contents writer.old writer.new) (used F.contents faults.old faults.new) result }
 {
-    finish_noting(call_output(rt, alloc, call, reader), writer, faults)
+    finish_noting(
+        call_output(rt, alloc, call, reader, journal),
+        writer,
+        faults,
+    )
+}
+
+/// Runs `list` of a path.
+fn run_listing<R: Locks + Clock + Alloc + Clone + Drop, I: Read, W: Write, F: Write, J: Journal>(
+    rt: &R,
+    alloc: Global,
+    call: Call<'_>,
+    path: &str,
+    reader: &mut Counted<I>,
+    writer: &mut Counted<W>,
+    faults: &mut Counted<F>,
+    journal: &mut J,
+) -> u8
+    ensures { EndsListing call.entry (used I.remaining reader.old reader.new)
+        (used W.contents writer.old writer.new) (used F.contents faults.old faults.new) result }
+{
+    match call_output(rt, alloc, call, reader, journal) {
+        Ok(noted) => finish_noting(Ok(noted), writer, faults),
+        Err(fault) => {
+            let caused = Caused::at_path(rt, alloc, fault, path, "");
+            give_up_caused(alloc, caused, faults)
+        }
+    }
 }
 
 /// Runs a call, and writes what comes of it. Answers the exit status: 0, or 1 where an edit, an
@@ -98,7 +140,8 @@ fn run_noted<R: Locks, I: Read, W: Write, F: Write>(
 /// than `MAX_INPUT_BYTES`, 4 where a read or a write failed, where the controller could not be
 /// loaded or saved or what its file holds is refused, and where something is there already that a
 /// new controller is to be kept in. A call over the network is none of files alone: nothing is
-/// read, and it gives up as `NoConnection`, with status 4. `check` ends as `run_check` says.
+/// read, and it gives up as `NoConnection`, with status 4. `check` ends as `run_check` says, and
+/// `explain` as `run_explain` does.
 ///
 /// While it works on the controller in a file it holds the file's lock, and waits for that: of two
 /// calls on one file, one comes after the other. While `order` and `take` wait for their input they
@@ -106,20 +149,31 @@ fn run_noted<R: Locks, I: Read, W: Write, F: Write>(
 /// they step is the controller that it holds once the input is there. A step is saved before
 /// anything of it is written. Behind what `show` and an edit write, each part that a worker keeps
 /// with three quarters of the bytes that a message has at most over HTTP, or more, is noted in
-/// `faults`.
-pub fn run_file<R: Locks, I: Read, W: Write, F: Write>(
+/// `faults`. `show --picture` and `list` are at the time of the clock where none is named, and give
+/// up as `ReadFailed`, with status 4, where that tells none. Of a folder `list` notes each file
+/// that holds no controller of its name, with the status 1. Where `list` can't read what it lists, and
+/// where `check` can't read its input, what the system says of that stands behind the refusal.
+///
+/// The line of each step that `order` and `take` save is appended to the journal behind the save,
+/// while the file is locked, unless the controller refused the order or the message.
+pub fn run_file<R: Locks + Clock + Alloc + Clone + Drop, I: Read, W: Write, F: Write, J: Journal>(
     rt: &R,
     alloc: Global,
     call: &Call<'_>,
     reader: &mut Counted<I>,
     writer: &mut Counted<W>,
     faults: &mut Counted<F>,
+    journal: &mut J,
 ) -> u8
     ensures { EndsCall call.now (used I.remaining reader.old reader.new)
         (used W.contents writer.old writer.new) (used F.contents faults.old faults.new) result }
 {
     match call {
         Call::Check { kind, all } => run_check(alloc, *kind, *all, reader, writer, faults),
-        _ => run_noted(rt, alloc, *call, reader, writer, faults),
+        Call::Explain { number } => run_explain(alloc, number, writer, faults),
+        Call::Listing { file, .. } => {
+            run_listing(rt, alloc, *call, file, reader, writer, faults, journal)
+        }
+        _ => run_noted(rt, alloc, *call, reader, writer, faults, journal),
     }
 }

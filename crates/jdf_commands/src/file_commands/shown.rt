@@ -1,26 +1,28 @@
 //! What `show` writes of a controller.
 
-ghost use Rattle.std.specs.Prelude.{◌≡◌, ◌⊎◌, ◌++◌, string_bytes, IfOk, IfErr, OnOk};
+ghost use Rattle.std.specs.Prelude.{◌≡◌, ◌⊎◌, ◌++◌, ℕ, string_bytes, IfOk, IfErr, None, OnOk};
 ghost use Rattle.stored_state.specs.Opened.{held_in};
 ghost use Rattle.jdf_commands.specs.Calls as calls;
 ghost use Rattle.jdf_commands.specs.Calls.{IsNotOpened};
-ghost use Rattle.jdf_commands.specs.FileCommands.Commands.{Shows, shown_as};
+ghost use Rattle.jdf_commands.specs.FileCommands.Commands.{IsMoment, Shows, shown_as};
 ghost use Rattle.jdf_commands.specs.FileCommands.Opening.{IsNotLoaded};
 ghost use Rattle.jdf_commands.specs.FileCommands.Shown as shown;
-ghost use Rattle.streams.specs.declared.refused.Refused.TheVariants.{Core};
-ghost use Rattle.streams.specs.declared.fault.Fault.TheVariants.{Input};
+ghost use Rattle.streams.specs.declared.refused.Refused.TheVariants.{Core, ReadFailed};
+ghost use Rattle.streams.specs.declared.fault.Fault.TheVariants.{Device, Input};
 ghost use Rattle.ticket_items.specs.declared.refusal.Refusal.TheVariants.{Memory};
 
+use crate::file_commands::moment::moment_of;
 use crate::file_commands::noted::Noted;
 use crate::file_commands::notes::notes_of;
 use crate::file_commands::opening::{locked, opened};
 use crate::file_commands::pictured::{master_picture, worker_picture};
 use crate::file_commands::step::unrefused;
-use crate::shown_master::push_shown;
+use controller_form::push_shown;
 use json_profile::push_part_text;
 use keepers::{Keep, Locks};
 use master_core::Master;
 use std::alloc::{AllocError, Global};
+use std::time::Clock;
 use stored_state::Opened;
 use streams::Fault;
 use ticket_tree::{Part, Refusal};
@@ -38,7 +40,7 @@ fn master_text(alloc: Global, master: &Master) -> Result<Vec<u8>, Refusal>
 }
 
 /// How far the work on a part is, in words.
-pub(super) fn stage_words(stage: Stage) -> &'static str
+fn stage_words(stage: Stage) -> &'static str
     ensures { result.now ≡ shown.stage_words stage }
 {
     match stage {
@@ -103,15 +105,21 @@ pub fn worker_text(alloc: Global, worker: &Worker) -> Result<Vec<u8>, AllocError
     Ok(text)
 }
 
-/// What a controller shows, or its picture. Refuses `Memory` alone.
-fn text_shown<K: Keep>(alloc: Global, opened: &Opened<K>, picture: bool) -> Result<Vec<u8>, Refusal>
+/// What a controller shows, or its picture at a moment in seconds since 1970. Refuses `Memory`
+/// alone.
+fn text_shown<K: Keep>(
+    alloc: Global,
+    opened: &Opened<K>,
+    picture: bool,
+    now: u64,
+) -> Result<Vec<u8>, Refusal>
     ensures ok { IfOk result
-        (λ text. text.items ≡ shown_as picture (held_in opened.now).controller) }
+        (λ text. text.items ≡ shown_as picture now (held_in opened.now).controller) }
     ensures memory { IfErr result (λ e. e ≡ Memory) }
 {
     match opened {
-        Opened::Master(kept) if picture => Ok(master_picture(alloc, kept.controller())?),
-        Opened::Worker(kept) if picture => Ok(worker_picture(alloc, kept.controller())?),
+        Opened::Master(kept) if picture => Ok(master_picture(alloc, kept.controller(), now)?),
+        Opened::Worker(kept) if picture => Ok(worker_picture(alloc, kept.controller(), now)?),
         Opened::Master(kept) => master_text(alloc, kept.controller()),
         Opened::Worker(kept) => Ok(worker_text(alloc, kept.controller())?),
     }
@@ -119,32 +127,62 @@ fn text_shown<K: Keep>(alloc: Global, opened: &Opened<K>, picture: bool) -> Resu
 
 /// What `show` writes of the controller that a keeper holds, which is what that shows or its
 /// picture, and what it notes of it.
-fn kept_shown<K: Keep>(alloc: Global, keep: K, picture: bool) -> Result<Noted, Fault>
-    ensures ok { IfOk result (λ noted. Shows picture K.is_honest K.held K.place keep
+fn kept_shown<K: Keep>(alloc: Global, keep: K, picture: bool, now: u64) -> Result<Noted, Fault>
+    ensures ok { IfOk result (λ noted. Shows picture now K.is_honest K.held K.place keep
         noted.output.text.items noted.output.refused noted.notes.items) }
     ensures refused { IfErr result (λ fault. IsNotLoaded K.is_honest K.held K.load_fails keep fault
         ⊎ (fault ≡ Input (Core Memory))) }
 {
     let opened = opened(alloc, keep)?;
-    let output = unrefused(text_shown(alloc, &opened, picture)?);
+    let output = unrefused(text_shown(alloc, &opened, picture, now)?);
     let notes = notes_of(alloc, &opened)?;
     Ok(Noted { output, notes })
 }
 
-/// The same of the controller in a file. Refuses as `run_file` says of `show`.
-pub(crate) fn show_output<R: Locks>(
+/// The same of the controller in a file.
+fn file_shown<R: Locks>(
     rt: &R,
     alloc: Global,
     file: &str,
     picture: bool,
+    now: u64,
 ) -> Result<Noted, Fault>
-    ensures ok { IfOk result (λ noted. Shows picture calls.is_honest calls.held calls.place
+    ensures ok { IfOk result (λ noted. Shows picture now calls.is_honest calls.held calls.place
         (calls.kept_in file.now) noted.output.text.items noted.output.refused noted.notes.items) }
     ensures refused { IfErr result (λ fault. IsNotOpened file.now fault
         ⊎ (fault ≡ Input (Core Memory))) }
 {
     match locked(rt, alloc, file) {
-        Ok(keep) => kept_shown(alloc, keep, picture),
+        Ok(keep) => kept_shown(alloc, keep, picture, now),
         Err(fault) => Err(fault),
     }
+}
+
+/// The moment of a picture: the one that is named, or that of the clock. Where none is wanted the
+/// clock isn't looked at.
+fn drawn_at<R: Clock>(clock: &R, picture: bool, at: Option<u64>) -> Result<u64, Fault>
+    ensures ok { IfOk result (IsMoment at) }
+    ensures refused { IfErr result (λ fault. (at ≡ None) × (fault ≡ Device ReadFailed)) }
+{
+    if picture {
+        moment_of(clock, at)
+    } else {
+        Ok(at.unwrap_or(0))
+    }
+}
+
+/// What `show` writes of the controller in a file. Refuses as `run_file` says of `show`.
+pub(crate) fn show_output<R: Locks + Clock>(
+    rt: &R,
+    alloc: Global,
+    file: &str,
+    picture: bool,
+    at: Option<u64>,
+) -> Result<Noted, Fault>
+    ensures ok { IfOk result (λ noted. (now : ℕ) × IsMoment at now
+        × Shows picture now calls.is_honest calls.held calls.place (calls.kept_in file.now)
+        noted.output.text.items noted.output.refused noted.notes.items) }
+    ensures refused { IfErr result (calls.IsNotSeen file.now at) }
+{
+    file_shown(rt, alloc, file, picture, drawn_at(rt, picture, at)?)
 }

@@ -7,7 +7,7 @@ ghost use Rattle.world.specs.Showing.{shows};
 ghost use Rattle.jdf_commands.specs.WorldCommand.Run as run;
 ghost use Rattle.world_script.specs.Script.{IsRefusalOf};
 
-use crate::shown_master::push_shown;
+use controller_form::push_shown;
 use std::alloc::{AllocError, Global};
 use ticket_tree::Refusal;
 use world::World;

@@ -6,7 +6,8 @@ ghost use Rattle.jdf_net.specs.LoopCommand.Run.{IsWritten};
 ghost use Rattle.ticket_items.specs.declared.refusal.Refusal.TheVariants.{Memory};
 
 use crate::loop_command::event_line::EventLine;
-use jdf_commands::{push_line, push_shown};
+use controller_form::push_shown;
+use jdf_commands::push_line;
 use master_core::Master;
 use std::alloc::{AllocError, Global};
 use streams::{Output, refused_line};

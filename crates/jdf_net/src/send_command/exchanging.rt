@@ -1,12 +1,13 @@
 //! A message over one connection, and what comes back.
 
+use crate::input_file::{file_of, open_input};
 use crate::send_command::connecting::connect;
 use crate::until::{Until, time_left};
 use http_message::{MAX_BODY_BYTES, Received, receive, send_to};
+use jdf_commands::Caused;
 use peers_file::Destination;
 use std::alloc::Global;
-use std::fs;
-use std::io::{self, Read};
+use std::io::{self, Read, Write};
 use std::net::Net;
 use std::rt::Files;
 use std::time::{Clock, Duration, Instant};
@@ -16,26 +17,41 @@ use streams::{Counted, Fault, Refused, read_input};
 /// no longer than an operator waits.
 const EXCHANGE_SECONDS: u64 = 30;
 
-/// The message that a file holds, or that is what a reader has where no file is named. Gives up as
-/// `Device` with `ReadFailed`, also for a file that isn't there; as `Input` with `TooLarge`, which
-/// are more bytes than a body has at most; and for `Memory`.
+/// The message that a file holds, or that is what a reader has where no file is named or that is
+/// `-`. Gives up as `Device` with `ReadFailed`, also for a file that isn't there; as `Input` with
+/// `TooLarge`, which are more bytes than a body has at most; and for `Memory`.
 pub(crate) fn read_message<R: Files, I: Read>(
     rt: &R,
     alloc: Global,
     file: Option<&str>,
     reader: &mut Counted<I>,
-) -> Result<Vec<u8>, Fault> {
-    let message = match file {
-        None => read_input(alloc, reader)?,
-        Some(path) => match fs::open(rt, path) {
-            Ok(file) => read_input(alloc, &mut Counted::new(file))?,
-            Err(_) => return Err(Fault::Device(Refused::ReadFailed)),
-        },
+) -> Result<Vec<u8>, Caused> {
+    let message = match file_of(file) {
+        Some(path) => {
+            let file = open_input(rt, alloc, path)?;
+            read_named(alloc, path, &mut Counted::new(file))?
+        }
+        None => read_named(alloc, "standard input", reader)?,
     };
     if message.len() > MAX_BODY_BYTES {
-        return Err(Fault::Input(Refused::TooLarge));
+        return Err(Caused::bare(Fault::Input(Refused::TooLarge)));
     }
     Ok(message)
+}
+
+/// What a reader has that goes by this name.
+fn read_named<I: Read>(
+    alloc: Global,
+    name: &str,
+    reader: &mut Counted<I>,
+) -> Result<Vec<u8>, Caused> {
+    match read_input(alloc, reader) {
+        Ok(bytes) => Ok(bytes),
+        Err(fault) if fault == Fault::Device(Refused::ReadFailed) => {
+            Err(Caused::at(alloc, fault, name))
+        }
+        Err(fault) => Err(Caused::bare(fault)),
+    }
 }
 
 /// A connection to the host of a destination, for `EXCHANGE_SECONDS` at most from now on, of which
@@ -59,12 +75,29 @@ pub(crate) fn post<R: Net + Clock>(
     alloc: Global,
     destination: &Destination,
     message: &[u8],
-) -> Result<Received, Refused> {
-    let Ok(stream) = connection(rt, destination) else {
-        return Err(Refused::NoConnection);
+) -> Result<Received, Caused> {
+    let host = destination.authority();
+    let stream = match connection(rt, destination) {
+        Ok(stream) => stream,
+        Err(error) => {
+            let fault = Fault::Device(Refused::NoConnection);
+            return Err(Caused::of_error(alloc, fault, host, &error));
+        }
     };
-    let mut stream = Counted::new(stream);
-    let (host, target) = (destination.authority(), destination.path());
-    send_to(&mut stream, host, target, message)?;
-    receive(alloc, &mut stream)
+    match exchange(alloc, destination, message, &mut Counted::new(stream)) {
+        Ok(received) => Ok(received),
+        Err(Refused::Core(refusal)) => { Err(Caused::bare(Fault::Device(Refused::Core(refusal)))) }
+        Err(refused) => Err(Caused::at(alloc, Fault::Device(refused), host)),
+    }
+}
+
+/// Posts a message over a connection, and reads the response.
+fn exchange<S: Read + Write>(
+    alloc: Global,
+    destination: &Destination,
+    message: &[u8],
+    stream: &mut Counted<S>,
+) -> Result<Received, Refused> {
+    send_to(stream, destination.authority(), destination.path(), message)?;
+    receive(alloc, stream)
 }

@@ -10,10 +10,10 @@ ghost use Rattle.jdf_net.specs.declared.send_command.run.Came.TheVariants.{NoUrl
 ghost use Rattle.streams.specs.Streams.{IsUntouched, used};
 
 use crate::send_command::exchanging::{post, read_message};
-use crate::send_command::send_to::SendTo;
+use crate::send_command::send_to::{SendTo, no_place};
 use controller::answering::spawn_in;
-use jdf_commands::{refusal_told, refused_by};
-use jmf_message::decode;
+use jdf_commands::{Caused, give_up_caused, refused_by};
+use jmf_message::{decode, refusal_told};
 use std::alloc::Global;
 use std::io::{Read, Write};
 use std::net::Net;
@@ -44,26 +44,25 @@ fn sent<R: Files + Net + Clock, I: Read>(
     url: &str,
     file: Option<&str>,
     reader: &mut Counted<I>,
-) -> Result<Came, Fault>
+) -> Result<Came, Caused>
     ensures { IfOk result (λ came. came ≡ NoUrl
         → IsUntouched (used I.remaining reader.old reader.new)) }
 {
-    let to = match SendTo::of(rt, alloc, url)? {
-        Some(to) => to,
-        None => return Ok(Came::NoUrl),
+    let to = match SendTo::of(rt, alloc, url) {
+        Ok(Some(to)) => to,
+        Ok(None) => return Ok(Came::NoUrl),
+        Err(fault) => return Err(no_place(rt, alloc, fault, url)),
     };
     let message = read_message(rt, alloc, file, reader)?;
     let destination = match to.destination(alloc, message.as_slice())? {
         Some(destination) => destination,
         None => return Ok(Came::NoPeer),
     };
-    match post(rt, alloc, destination, message.as_slice()) {
-        Ok(received) if received.status == DONE => {
-            Ok(Came::Answered(Vec::from_slice(alloc, received.body.as_slice())?))
-        }
-        Ok(received) => Ok(Came::Refused(received.status)),
-        Err(refused) => Err(Fault::Device(refused)),
+    let received = post(rt, alloc, destination, message.as_slice())?;
+    if received.status != DONE {
+        return Ok(Came::Refused(received.status));
     }
+    Ok(Came::Answered(Vec::from_slice(alloc, received.body.as_slice())?))
 }
 
 /// The text of an answer on a line, nothing if it has none.
@@ -175,17 +174,18 @@ pub(crate) fn tell_status<F: Write>(status: u16, faults: &mut Counted<F>) -> u8
     1
 }
 
-/// Sends the message that a file holds, or that comes on standard input where no file is named, to
-/// the controller that serves at a URL, `http://host[:port]/path`, or that a peers' file has for its
-/// receiver, whose path stands behind a `@`, and writes the text of its answer on a line, if it has
-/// one. Answers the exit status: 0 where the message was taken; 1 where the answer refuses it, which
+/// Sends the message that a file holds, or that comes on standard input where no file is named or
+/// that is `-`, to the controller that serves at a URL, `http://host[:port]/path`, or that a peers'
+/// file has for its receiver, whose path stands behind a `@`, and writes the text of its answer on
+/// a line, if it has one. Answers the exit status: 0 where the message was taken; 1 where the answer refuses it, which
 /// is told with who refused, but for a spawn that is declined as it was asked to be given up; 1 too
 /// where the status of the response isn't 200 or no URL is known for the receiver, which is told,
 /// and then nothing is written; 3 where what was answered is no message. For a text that is no such
 /// URL it reads and sends nothing, tells that, and answers 2. Where it gives up, it tells why and
 /// answers the status of the fault: 1 where memory ran out, 3 where the message has more bytes than
 /// `MAX_BODY_BYTES`, and it isn't sent; 4 where a file, a stream or the connection failed or the
-/// response isn't one, and then the message may have been taken.
+/// response isn't one, and then the message may have been taken. Behind a fault of a file or of the
+/// connection stands its path or address, and what the system says of it.
 pub fn run_send<R: Files + Net + Clock, I: Read, W: Write, F: Write>(
     rt: &R,
     alloc: Global,
@@ -203,6 +203,6 @@ pub fn run_send<R: Files + Net + Clock, I: Read, W: Write, F: Write>(
         Ok(Came::Refused(status)) => tell_status(status, faults),
         Ok(Came::NoUrl) => tell_no_url(url, faults),
         Ok(Came::NoPeer) => tell_no_peer(faults),
-        Err(fault) => finish(Err(fault), writer, faults),
+        Err(caused) => give_up_caused(alloc, caused, faults),
     }
 }

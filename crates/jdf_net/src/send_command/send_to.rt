@@ -3,7 +3,8 @@
 ghost use Rattle.std.specs.Prelude.{◌≡◌, IfErr, IfOk, option_copied};
 ghost use Rattle.jdf_net.specs.SendCommand.{GoesTo, IsNoPlace, IsPlaceIn, names_peers};
 
-use crate::peers_in_file::peers_in_file;
+use jdf_commands::Caused;
+use jdf_server::{NO_PEERS, peers_in_file};
 use jmf_message::decode;
 use peers_file::{Destination, PeerTable};
 use std::alloc::Global;
@@ -22,6 +23,14 @@ fn names_peers(text: &str) -> bool
     ensures { result ≡ names_peers text.now }
 {
     text.starts_with('@')
+}
+
+/// Why it isn't known where a text says to send to, with what the system says of its peers' file.
+pub(crate) fn no_place<R: Files>(rt: &R, alloc: Global, fault: Fault, text: &str) -> Caused
+    ensures { result.fault ≡ fault }
+{
+    let path = text.strip_prefix('@').unwrap_or("");
+    Caused::at_path(rt, alloc, fault, path, NO_PEERS)
 }
 
 impl SendTo {

@@ -1,67 +1,45 @@
 //! Whether records stand in a ticket.
 
-ghost use Rattle.std.specs.Prelude.{◌≡◌, ◌&&◌, nat_lt, IfOk};
-ghost use Rattle.std.specs.List.{list_all, list_any};
-ghost use Rattle.std.specs.Str.{bytes_eq};
-ghost use Rattle.spawn.specs.IdSet.{IsSetOf, is_in};
+ghost use Rattle.std.specs.Prelude.{◌≡◌, is_some};
+ghost use Rattle.std.specs.List.{list_all};
+ghost use Rattle.ticket_rows.specs.Homes.{has_resource};
+ghost use Rattle.ticket_rows.specs.Place.{node_places, up};
 ghost use Rattle.spawn.specs.Stored.{stands_in};
 
-use crate::claims::id_set::{IdSet, add, add_resources, has, has_all};
 use crate::records::spawn_rec::SpawnRec;
-use std::alloc::{AllocError, Global};
-use std::collections::BTreeSet;
-use ticket_tree::{NodeRow, Resource, Ticket};
+use crate::spawns::refusing::are_resources;
+use ticket_tree::{Id, Resource, Ticket};
 
-/// The ids of the rows' nodes that stand below another.
-fn nodes_below<'a>(alloc: Global, rows: &'a [NodeRow]) -> Result<IdSet<'a>, AllocError>
-    ensures { IfOk result (λ set. IsSetOf
-        (λ x. list_any (λ r. nat_lt 1 r.depth && bytes_eq r.id x) rows.now) set) }
+/// Whether a node of a ticket has this id and stands below another.
+fn has_parent(ticket: &Ticket, node: &Id) -> bool
+    ensures { result ≡ is_some (up (node_places ticket.now.rows) node.now) }
 {
-    let mut nodes = BTreeSet::new(alloc);
-    for row in rows {
-        if 1 < row.depth {
-            add(&mut nodes, &row.id)?;
-        }
+    match ticket.node(node) {
+        None => false,
+        Some(row) => 1 < row.depth,
     }
-    Ok(nodes)
 }
 
-/// Whether the id of each copy is in the set.
-fn has_copies(set: &IdSet<'_>, copies: &[Resource]) -> bool
-    ensures { result ≡ list_all (λ x. is_in set.now x.id) copies.now }
+/// Whether each copy is that of a resource of a ticket.
+fn are_of_resources(ticket: &Ticket, copies: &[Resource]) -> bool
+    ensures { result ≡ list_all (λ x. has_resource ticket.now.rows x.id) copies.now }
 {
-    copies.iter().all(|copy| has(set, &copy.id))
+    copies.iter().all(|copy| ticket.home_of(&copy.id).is_some())
 }
 
-/// Whether the node of a record is among these, and each of its copies is of one of these
-/// resources.
-fn stands(nodes: &IdSet<'_>, resources: &IdSet<'_>, spawn: &SpawnRec) -> bool
-    ensures { result ≡ (is_in nodes.now spawn.now.node
-        && list_all (is_in resources.now) spawn.now.rw
-        && list_all (λ x. is_in resources.now x.id) spawn.now.ro) }
+/// Whether a record stands in a ticket.
+fn stands(ticket: &Ticket, spawn: &SpawnRec) -> bool
+    ensures { result ≡ stands_in ticket.now.rows spawn.now }
 {
-    has(nodes, &spawn.node)
-        && has_all(resources, spawn.rw.as_slice())
-        && has_copies(resources, spawn.ro.as_slice())
-}
-
-/// The same of each record.
-fn all_stand(nodes: &IdSet<'_>, resources: &IdSet<'_>, records: &[SpawnRec]) -> bool
-    ensures { result ≡ list_all (λ r. is_in nodes.now r.node
-        && list_all (is_in resources.now) r.rw
-        && list_all (λ x. is_in resources.now x.id) r.ro) records.now }
-{
-    records.iter().all(|spawn| stands(nodes, resources, spawn))
+    has_parent(ticket, &spawn.node)
+        && are_resources(ticket, spawn.rw.as_slice())
+        && are_of_resources(ticket, spawn.ro.as_slice())
 }
 
 /// Whether each record, also one that was merged or withdrawn, stands in a ticket: its node is one
-/// below another, and its copies are of resources. Refuses for want of memory alone.
-pub fn stand_in(alloc: Global, ticket: &Ticket, records: &[SpawnRec]) -> Result<bool, AllocError>
-    ensures { IfOk result (λ b. b ≡ list_all (stands_in ticket.now.rows) records.now) }
+/// below another, and its copies are of resources. Needs no memory.
+pub fn stand_in(ticket: &Ticket, records: &[SpawnRec]) -> bool
+    ensures { result ≡ list_all (stands_in ticket.now.rows) records.now }
 {
-    let rows = ticket.rows();
-    let nodes = nodes_below(alloc, rows.as_slice())?;
-    let mut resources = BTreeSet::new(alloc);
-    add_resources(&mut resources, rows.as_slice())?;
-    Ok(all_stand(&nodes, &resources, records))
+    records.iter().all(|spawn| stands(ticket, spawn))
 }

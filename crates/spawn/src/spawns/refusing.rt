@@ -41,7 +41,7 @@ fn spawnable<'a>(ticket: &'a Ticket, node: &Id) -> Result<&'a [NodeRow], Refusal
 }
 
 /// Whether each id is a resource's.
-fn are_resources(ticket: &Ticket, ids: &[Id]) -> bool
+pub(crate) fn are_resources(ticket: &Ticket, ids: &[Id]) -> bool
     ensures { result ≡ list_all (has_resource ticket.now.rows) ids.now }
 {
     ids.iter().all(|id| ticket.home_of(id).is_some())

@@ -6,6 +6,7 @@ ghost use Rattle.std.specs.Option.{option_map};
 ghost use Rattle.ticket_rows.specs.OneRow.{appended};
 ghost use Rattle.ticket_rows.specs.Place.{node_places, up};
 ghost use Rattle.ticket_rows.specs.Ticket.{IsValid, has_node};
+ghost use Rattle.spawn.specs.Holdings.{IsFree, IsGiven, IsSame, claims};
 ghost use Rattle.spawn.specs.Parts as parts;
 ghost use Rattle.spawn.specs.Records.{IsGood, is_out};
 ghost use Rattle.spawn.specs.Spawning as spawning;
@@ -16,6 +17,7 @@ use crate::parts::spawned_part::part_for;
 use crate::records::phase::Phase;
 use crate::records::spawn_rec::SpawnRec;
 use crate::spawns::refusing::may_spawn;
+use crate::tables::holders::Holders;
 use std::alloc::{AllocError, Global};
 use ticket_tree::{
     Ancestor, Audit, Duplicate, Id, Ids, Items, Part, Refusal, Resource, SpawnId, Ticket,
@@ -126,12 +128,45 @@ fn send_out(alloc: Global, ticket: &mut Ticket, spawn: &SpawnRec) -> Result<Part
     tell(alloc, ticket, spawn, parent).and(Ok(part))
 }
 
+/// Gives a spawn of a node that stands below another what it claims, and answers its part; the
+/// ticket then tells of the spawn.
+fn hold(
+    alloc: Global,
+    ticket: &mut Ticket,
+    holders: &mut Holders,
+    spawn: &SpawnRec,
+) -> Result<Part, Refusal>
+    requires valid { IsValid ticket.old.rows }
+    requires out { is_out spawn.now ≡ true }
+    requires good { IsGood ticket.old.rows spawn.now }
+    requires known { has_node ticket.old.rows spawn.now.node ≡ true }
+    requires parent { is_some (up (node_places ticket.old.rows) spawn.now.node) ≡ true }
+    requires free { IsFree (claims ticket.old.rows spawn.now) holders.old }
+    ensures ticket { OnOk result (ticket.new ≡ spawning.spawned ticket.old spawn.now) }
+    ensures part { IfOk result (λ p. p ≡ parts.part_for ticket.old spawn.now) }
+    ensures held { OnOk result (IsGiven (claims ticket.old.rows spawn.now) (Some spawn.now.id)
+        holders.old holders.new) }
+    ensures ticket_stays { OnErr result (ticket.new ≡ ticket.old) }
+    ensures holders_stay { OnErr result (IsSame holders.old holders.new) }
+    ensures memory { IfErr result (λ e. e ≡ Refusal.Memory) }
+{
+    holders.take(alloc, ticket, spawn)?;
+    match send_out(alloc, ticket, spawn) {
+        Ok(part) => Ok(part),
+        Err(refusal) => {
+            holders.free(ticket, spawn);
+            Err(refusal)
+        }
+    }
+}
+
 /// Puts the record of a spawn of a node that stands below another last among the records, and its
-/// audit last at the parent, and answers its part.
+/// audit last at the parent, gives it what it claims, and answers its part.
 fn enter(
     alloc: Global,
     ticket: &mut Ticket,
     records: &mut Vec<SpawnRec>,
+    holders: &mut Holders,
     id: SpawnId,
     node: Id,
     worker: Id,
@@ -140,8 +175,13 @@ fn enter(
 ) -> Result<Part, Refusal>
     requires known { has_node ticket.old.rows node ≡ true }
     requires parent { is_some (up (node_places ticket.old.rows) node) ≡ true }
+    requires free { IsFree (claims ticket.old.rows
+        (spawning.new_record ticket.old.rows id node worker rw.now at)) holders.old }
     ensures ticket { OnOk result (ticket.new ≡ spawning.spawned ticket.old
         (spawning.new_record ticket.old.rows id node worker rw.now at)) }
+    ensures held { OnOk result (IsGiven (claims ticket.old.rows
+        (spawning.new_record ticket.old.rows id node worker rw.now at)) (Some id)
+        holders.old holders.new) }
     ensures records { OnOk result (records.new.items ≡ records.old.items
         ++ spawning.new_record ticket.old.rows id node worker rw.now at ∷ []) }
     ensures part { IfOk result (λ p. p ≡ parts.part_for ticket.old
@@ -149,11 +189,12 @@ fn enter(
     ensures valid { OnOk result (IsValid ticket.old.rows) }
     ensures ticket_stays { OnErr result (ticket.new ≡ ticket.old) }
     ensures records_stay { OnErr result (records.new.items ≡ records.old.items) }
+    ensures holders_stay { OnErr result (IsSame holders.old holders.new) }
     ensures memory { IfErr result (λ e. e ≡ Refusal.Memory) }
 {
     let before = records.len();
     records.push(new_record(alloc, ticket, id, node, worker, rw, at)?)?;
-    match send_out(alloc, ticket, &records[before]) {
+    match hold(alloc, ticket, holders, &records[before]) {
         Ok(part) => Ok(part),
         Err(refusal) => {
             records.truncate(before);
@@ -162,19 +203,22 @@ fn enter(
     }
 }
 
-/// Spawns a node that nothing is against, as `spawn` does. Refuses `Memory` alone, and then changes
-/// nothing.
+/// Spawns a node that nothing is against, as `spawn` does, and gives the spawn what it claims, which
+/// none holds. Refuses `Memory` alone, and then changes nothing.
 pub(crate) fn spawn_free(
     alloc: Global,
     ticket: &mut Ticket,
     records: &mut Vec<SpawnRec>,
+    holders: &mut Holders,
     number: u32,
     node: Id,
     worker: Id,
     rw: Ids,
     at: u64,
 ) -> Result<(SpawnId, Part), Refusal>
-    requires { spawn_refusal ticket.old.rows records.old.items number node rw ≡ None }
+    requires refusal { spawn_refusal ticket.old.rows records.old.items number node rw ≡ None }
+    requires free { IsFree (claims ticket.old.rows
+        (spawning.new_record ticket.old.rows number node worker rw at)) holders.old }
     ensures ticket { OnOk result (ticket.new
         ≡ spawning.spawned ticket.old
         (spawning.new_record ticket.old.rows number node worker rw at)) }
@@ -186,12 +230,26 @@ pub(crate) fn spawn_free(
         (spawning.new_record ticket.old.rows number node worker rw at)) }
     ensures good { OnOk result (IsGood ticket.new.rows
         (spawning.new_record ticket.old.rows number node worker rw at)) }
+    ensures held { OnOk result (IsGiven (claims ticket.old.rows
+        (spawning.new_record ticket.old.rows number node worker rw at)) (Some number)
+        holders.old holders.new) }
     ensures memory { IfErr result (λ e. e ≡ Refusal.Memory) }
     ensures ticket_stays { OnErr result (ticket.new ≡ ticket.old) }
     ensures records_stay { OnErr result (records.new.items ≡ records.old.items) }
+    ensures holders_stay { OnErr result (IsSame holders.old holders.new) }
 {
     let id = SpawnId::new(number)?;
-    let part = enter(alloc, ticket, records, id, node, worker, rw.as_slice(), at)?;
+    let part = enter(
+        alloc,
+        ticket,
+        records,
+        holders,
+        id,
+        node,
+        worker,
+        rw.as_slice(),
+        at,
+    )?;
     Ok((id, part))
 }
 
@@ -230,5 +288,17 @@ pub fn spawn(
     ensures records_stay { OnErr result (records.new.items ≡ records.old.items) }
 {
     may_spawn(ticket, records.as_slice(), number, &node, rw.as_slice())?;
-    spawn_free(alloc, ticket, records, number, node, worker, rw, at)
+    // Nobody asks these who holds what.
+    let mut holders = Holders::new(alloc);
+    spawn_free(
+        alloc,
+        ticket,
+        records,
+        &mut holders,
+        number,
+        node,
+        worker,
+        rw,
+        at,
+    )
 }

@@ -9,13 +9,11 @@ ghost use Rattle.ticket_rows.specs.Place.{places};
 ghost use Rattle.ticket_rows.specs.Ticket.{has_node, ids, ids_of};
 ghost use Rattle.spawn.specs.Claim as claim;
 ghost use Rattle.spawn.specs.Claim.{linked_outside};
-ghost use Rattle.spawn.specs.FirstHeld as held;
 ghost use Rattle.spawn.specs.FirstHeld.{IsKnown, asked, first_answer};
 ghost use Rattle.spawn.specs.Spawning.{holding_claimed};
 ghost use Rattle.spawn.specs.Table as table;
 
 use crate::records::spawn_rec::SpawnRec;
-use crate::tables::holder::Holder;
 use crate::tables::holders::Holders;
 use crate::tables::table::holder_of;
 use ticket_items::is_among;
@@ -30,30 +28,22 @@ pub struct Known<'a> {
 }
 
 impl Known<'_> {
-    /// Who holds an id.
-    fn holder_of(&self, id: &Id) -> Option<Holder>
-        requires { IsKnown self.now }
-        ensures { result ≡ table.holder_of self.now.ticket.now.rows self.now.records.now id.now }
-    {
-        match self.holders {
-            None => holder_of(self.ticket, self.records, id),
-            Some(holders) => holders.get(id),
-        }
-    }
-
     /// The spawn that holds an id, if one does.
     fn spawn_with(&self, id: &Id) -> Option<SpawnId>
         requires { IsKnown self.now }
-        ensures { result ≡ held.spawn_with self.now.ticket.now.rows self.now.records.now id.now }
+        ensures { result ≡ table.spawn_with self.now.ticket.now.rows self.now.records.now id.now }
     {
-        self.holder_of(id)?.as_spawn()
+        match self.holders {
+            None => holder_of(self.ticket, self.records, id)?.as_spawn(),
+            Some(holders) => holders.get(id),
+        }
     }
 
     /// Whether a spawn holds one of these ids.
     fn has_spawn_with(&self, ids: &[Id]) -> bool
         requires { IsKnown self.now }
         ensures { result ≡ list_any
-            (λ x. is_some (held.spawn_with self.now.ticket.now.rows self.now.records.now x))
+            (λ x. is_some (table.spawn_with self.now.ticket.now.rows self.now.records.now x))
             ids.now }
     {
         ids.iter().any(|id| self.spawn_with(id).is_some())

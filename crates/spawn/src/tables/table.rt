@@ -2,7 +2,8 @@
 
 ghost use Rattle.std.specs.Prelude.{◌≡◌};
 ghost use Rattle.std.specs.Option.{option_copied};
-ghost use Rattle.ticket_rows.specs.Ticket.{IsValid};
+ghost use Rattle.ticket_items.specs.Ids.{mem};
+ghost use Rattle.ticket_rows.specs.Ticket.{IsValid, ids};
 ghost use Rattle.spawn.specs.Table as table;
 
 use crate::records::spawn_rec::SpawnRec;
@@ -19,6 +20,13 @@ fn stand_of<'a>(ticket: &'a Ticket, id: &'a Id) -> Option<&'a Id>
         Some(_) => Some(id),
         None => ticket.home_of(id),
     }
+}
+
+/// Whether an id stands in a ticket.
+pub(crate) fn stands(ticket: &Ticket, id: &Id) -> bool
+    ensures { result ≡ mem id.now (ids ticket.now.rows) }
+{
+    stand_of(ticket, id).is_some()
 }
 
 /// Who holds a node or a resource: the first spawn that is out and claims it, or else the master.

@@ -5,7 +5,7 @@ ghost use Rattle.std.specs.Prelude.{IsOk, MatchResult};
 ghost use Rattle.ticket_rows.specs.ChangedRow as changed;
 ghost use Rattle.ticket_items.specs.Edit.{grows};
 ghost use Rattle.ticket_rows.specs.Edit.{edited_rows, refusal_of};
-ghost use Rattle.ticket_rows.specs.Spots.{IsIndex};
+ghost use Rattle.ticket_rows.specs.Index.{IsIndex};
 ghost use Rattle.ticket_rows.specs.Ticket.{IsValid};
 
 use crate::edit::at_place::{append, set_attr, set_resource_attr, set_resource_status, set_status};
@@ -13,9 +13,8 @@ use crate::edit::growing_edits::{add_link, add_node, add_resource};
 use crate::edit::known_rows::{
     known_home, known_node, open_to_child, open_to_link, open_to_resource, open_to_status,
 };
-use crate::home_index::HomeIndex;
+use crate::index::Index;
 use crate::indexed_rows::IndexedRows;
-use crate::node_index::NodeIndex;
 use std::alloc::{AllocError, Global};
 use ticket_items::{Audit, Edit, NodeRow, Refusal};
 
@@ -58,19 +57,18 @@ pub fn check(rows: &IndexedRows, edit: &Edit) -> Result<(), Refusal>
 pub(crate) fn change(
     alloc: Global,
     rows: &mut Vec<NodeRow>,
-    nodes: &mut NodeIndex,
-    homes: &mut HomeIndex,
+    index: &mut Index,
     place: usize,
     edit: Edit,
     at: u64,
 ) -> Result<(), AllocError>
     requires valid { IsValid rows.old.items }
-    requires index { IsIndex rows.old.items nodes.old homes.old }
+    requires index { IsIndex rows.old.items index.old }
     requires open { refusal_of edit rows.old.items ≡ None }
     requires place { changed.changed_place edit rows.old.items ≡ Some place }
     ensures ok { OnOk result (rows.new.items ≡ edited_rows edit at rows.old.items) }
     ensures err { OnErr result (rows.new.items ≡ rows.old.items) }
-    ensures index { IsIndex rows.new.items nodes.new homes.new }
+    ensures index { IsIndex rows.new.items index.new }
     ensures in_place { grows edit ≡ false → IsOk result }
 {
     match edit {
@@ -95,8 +93,8 @@ pub(crate) fn change(
             job_part,
             status,
             ..
-        } => add_node(alloc, rows, nodes, place, id, kind, job_part, status),
-        Edit::AddResource { resource, .. } => add_resource(rows, homes, place, resource),
+        } => add_node(alloc, rows, index, place, id, kind, job_part, status),
+        Edit::AddResource { resource, .. } => add_resource(rows, index, place, resource),
         Edit::AddLink { link, .. } => add_link(rows, place, link),
     }
 }

@@ -5,8 +5,8 @@ pub returns-in-Ok-Complete-clause-head : goal.returns-in-Ok-Complete-clause-head
 returns-in-Ok-Complete-clause-head c =
     let bytes = c.args.bytes.now in
     let spans = c.parse_request.new.headers in
-    whole_request c.args.most bytes spans c.in-Ok-Complete.field-0 c.in-Ok-Complete.head c.of.result.now c.as_str.result.now
-    c.as_bytes.result.now c.eq.result c.says.result c.expects_continue.result
+    whole_request c.args.methods c.args.most bytes spans c.in-Ok-Complete.field-0 c.in-Ok-Complete.head c.of.result.now
+    c.taken-method.result c.says.result c.expects_continue.result
     c.in-Ok-Complete.field-0-is c.parse_request.auto.headers c.in-Ok-Complete.ensures.within
-    c.in-Ok-Complete.ensures.complete c.of.ensures c.as_str.ensures.value c.as_bytes.ensures.value c.eq.ensures
+    c.in-Ok-Complete.ensures.complete c.of.ensures c.taken-method.ensures
     c.says.ensures.value c.expects_continue.ensures

@@ -1,35 +1,28 @@
-use Rattle.std.proofs.Common.{◌≡◌, ◌∙◌, ◌+◌, ◌++◌, ◌∷◌, [], nat_eq, true, false, sym, ap, take}
-use Rattle.std.proofs.lemmas.Bool.{not-false, not-true}
-use Rattle.std.specs.List.{list_any}
-use Rattle.indexmap.specs.IndexSet.{insert_key}
-use Rattle.worker_core.proofs.AtNumber.{distinct-push}
-use Rattle.worker_core.proofs.KeptStored.{entries_twice, front_more, numbers_more}
-use Rattle.worker_core.proofs.SpawnIndex.{any_turned, new_last}
-use Rattle.worker_core.specs.Numbers.{are_distinct_numbers, has_number}
-use Rattle.worker_core.specs.Worker.{numbers}
+use Rattle.std.proofs.Common.{◌≡◌, ◌∙◌, ◌+◌, true, is_some, sym, ap, take}
+use Rattle.std.specs.List.{position}
+use Rattle.worker_core.proofs.KeptStored.{entries_twice, front_more}
+use Rattle.worker_core.proofs.SpawnIndex.{front_length, index_more, known_number, none_of}
+use Rattle.worker_core.specs.Worker.{is_of}
 use Rattle.worker_core.proofs.entries.spawns_of.Goals as goal
 
-pub returns-then-not-branch : goal.returns-then-not-branch
-returns-then-not-branch c =
+pub returns-then-is_some : goal.returns-then-is_some
+returns-then-is_some c =
     let entries = c.args.list.now in
-    let i = c.loop-entry.entry-index in
-    let e = c.entry-item.result in
-    let seen : has_number e.spawn_id (numbers (take i entries)) ≡ true =
-    sym (ap (list_any (nat_eq e.spawn_id)) c.loop-entry.invariant.seen ∙ any_turned e.spawn_id (numbers (take i entries)))
-    ∙ not-false _ (sym c.in_ok-insert.ensures.added ∙ c.if-not-branch.true) in
-    entries_twice entries i e c.loop-entry-test.true c.entry-item.is seen
+    let i = c.loop-place.place in
+    let e = c.index-list-place.result in
+    let s = e.spawn_id in
+    let there : is_some (position (is_of s) (take i entries)) ≡ true =
+    sym (ap is_some (c.in_ok-insert.ensures.old ∙ c.loop-place.invariant.places s))
+    ∙ sym c.is_some.ensures ∙ c.if-is_some.true in
+    entries_twice entries i e c.loop-place-test.true c.index-list-place.is (sym (known_number s (take i entries)) ∙ there)
 
-pub loop-entry-preserved : goal.loop-entry-preserved
-loop-entry-preserved c =
+pub loop-place-preserved : goal.loop-place-preserved
+loop-place-preserved c =
     let entries = c.args.list.now in
-    let i = c.loop-entry.entry-index in
-    let e = c.entry-item.result in
-    let so_far = numbers (take i entries) in
-    let more : numbers (take (i + 1) entries) ≡ so_far ++ e.spawn_id ∷ [] = ap numbers (front_more entries i e c.loop-entry-test.true c.entry-item.is) ∙ numbers_more (take i entries) e in
-    let new : has_number e.spawn_id so_far ≡ false =
-    sym (ap (list_any (nat_eq e.spawn_id)) c.loop-entry.invariant.seen ∙ any_turned e.spawn_id so_far)
-    ∙ not-true _ (sym c.in_ok-insert.ensures.added ∙ c.if-not-branch.false) in
-    record {
-      seen = c.in_ok-insert.ensures.keys ∙ ap (λ ns. insert_key nat_eq ns e.spawn_id) c.loop-entry.invariant.seen ∙ new_last e.spawn_id so_far new ∙ sym more;
-      apart = ap are_distinct_numbers more ∙ distinct-push e.spawn_id so_far c.loop-entry.invariant.apart new;
-    }
+    let i = c.loop-place.place in
+    let e = c.index-list-place.result in
+    let s = e.spawn_id in
+    let known = sym (c.in_ok-insert.ensures.old ∙ c.loop-place.invariant.places s) in
+    let none = none_of (position (is_of s) (take i entries)) (ap is_some known ∙ sym c.is_some.ensures ∙ c.if-is_some.false) in
+    index_more c.loop-place.spawns c.insert.new.self (take i entries) (take (i + 1) entries) e i c.loop-place.invariant none c.in_ok-insert.ensures.updates
+    (front_length entries i c.loop-place-test.true) (front_more entries i e c.loop-place-test.true c.index-list-place.is)

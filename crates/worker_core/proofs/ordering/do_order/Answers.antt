@@ -79,8 +79,8 @@ free : (c : goal.Joined-order) → order_refusal c.args.order c.entries.inside.l
 free c = ap (order_refusal c.args.order) c.entries.view_is ∙ c.in-Ok.ensures.refusal
 
 -- the index with an entry of the same spawn in its place
-index : (c : goal.Joined-order) (y : Entry) → y.spawn_id ≡ c.index_mut-entry.result.now.spawn_id → IsSpawnIndex c.entries.inside.spawns.keys (slice_set c.entries.inside.list.items c.in-Ok.place y)
-index c y same = index_kept c.entries.inside.spawns.keys c.entries.inside.list.items c.in-Ok.place c.index_mut-entry.result.now y c.entries.invariant c.index_mut-entry.ensures.value same
+index : (c : goal.Joined-order) (y : Entry) → y.spawn_id ≡ c.index_mut-entry.result.now.spawn_id → IsSpawnIndex c.entries.inside.spawns (slice_set c.entries.inside.list.items c.in-Ok.place y)
+index c y same = index_kept c.entries.inside.spawns c.entries.inside.list.items c.in-Ok.place c.index_mut-entry.result.now y c.entries.invariant c.index_mut-entry.ensures.value same
 
 pub invariant_of-entries : goal.invariant_of-entries
 invariant_of-entries c =

@@ -24,7 +24,7 @@ invariant_of-entries c =
     let at = c.args.at in
     let x = c.index_mut.result.now in
     let y = c.abort.new.entry in
-    index_kept c.entries.inside.spawns.keys c.entries.inside.list.items c.in-Some.place x y c.entries.invariant c.index_mut.ensures.value
+    index_kept c.entries.inside.spawns c.entries.inside.list.items c.in-Some.place x y c.entries.invariant c.index_mut.ensures.value
     (spawn_stays c.abort.result (aborted_entry at) x y (aborted_number at) c.abort.ensures.ok c.abort.ensures.err)
 
 pub returns-in-Some-clause-ok : goal.returns-in-Some-clause-ok

@@ -3,7 +3,7 @@ use Rattle.json.specs.Value.{members_view, value_view}
 use Rattle.json_source.specs.Read.{has_only}
 use Rattle.json_source.specs.Tree.{data_of, names_among}
 use Rattle.json_source.proofs.Finding.{has_only_object}
-use Rattle.json_source.proofs.Ranges.{tree-Object}
+use Rattle.json_source.proofs.Objects.{tree-Object}
 use Rattle.json_source.proofs.tree_source.TreeSource.has_only.Goals as goal
 
 pub returns-in-Object : goal.returns-in-Object

@@ -3,12 +3,12 @@ use Rattle.json.specs.Value.{members_view, value_view}
 use Rattle.serde_json.specs.Data.{no_members}
 use Rattle.json_source.specs.Read.{Gives, attrs_draft, lent_pairs, text_pairs}
 use Rattle.json_source.specs.Tree.{data_of, members_data}
-use Rattle.json_source.proofs.Ranges.{tree-Object}
+use Rattle.json_source.proofs.Objects.{tree-Object}
 use Rattle.json_source.proofs.tree_source.TreeSource.texts.Goals as goal
 
-pub returns-in_ok-by_name-in-Object-clause-texts : goal.returns-in_ok-by_name-in-Object-clause-texts
-returns-in_ok-by_name-in-Object-clause-texts c =
-    subst (Gives (λ pairs. lent_pairs pairs.items) c.texts_of.result)
-    (ap text_pairs c.in_ok-by_name-in-Object.ensures ∙ ap (λ ms. text_pairs (members_data (members_view ms) no_members)) c.as_slice.ensures.value
+pub returns-in-Object-clause-texts : goal.returns-in-Object-clause-texts
+returns-in-Object-clause-texts c =
+    subst (Gives (λ pairs. lent_pairs pairs.items) c.texts_in_order.result)
+    (ap (λ ms. text_pairs (members_data (members_view ms) no_members)) c.as_slice.ensures.value
     ∙ sym (ap (λ j. attrs_draft (data_of j)) (ap value_view c.in-Object.is ∙ tree-Object c.in-Object.members)))
-    c.texts_of.ensures.texts
+    c.texts_in_order.ensures.texts

@@ -1,10 +1,14 @@
-use Rattle.std.proofs.Common.{◌≡◌, ◌∙◌, ◌<◌, true, length, sym, ap, subst}
+use Rattle.std.proofs.Common.{◌≡◌, ◌∙◌, ◌<◌, None, true, length, sym, ap, subst}
+use Rattle.ticket_rows.specs.Ticket.{Job}
+use Rattle.spawn.specs.Holdings.{IsGiven, claims}
 use Rattle.master_core.proofs.InStep.{free_in_step}
 use Rattle.master_core.proofs.Merging.{free_is, free_there}
 use Rattle.master_core.proofs.Passing.{went}
 use Rattle.master_core.proofs.RecordPlaces.{OutThere, out_read, out_there}
 use Rattle.master_core.specs.Master.{is_spawn_out, known}
 use Rattle.master_core.specs.Messages.{declined}
+use Rattle.merge.specs.Withdrawal.{withdrawn}
+use Rattle.spawn.specs.declared.records.spawn_rec.SpawnRec.{SpawnRec}
 use Rattle.master_core.proofs.master.Master.free.Goals as goal
 use Rattle.master_core.proofs.master.Master.free.Goals.{After-index_mut-record}
 
@@ -33,7 +37,9 @@ invariant_of-self-2 c =
     let here = own (goal.at.invariant_of-self-2 c).After-index_mut-record in
     let ticket = went c.withdraw.result c.or.result _ _ c.or.ensures c.in_ok-or.was c.withdraw.ensures.withdrawn in
     let phase = went c.withdraw.result c.or.result _ _ c.or.ensures c.in_ok-or.was c.withdraw.ensures.phase in
-    rw (c.set.ensures, ticket, phase) (free_in_step w c.self.inside.holders c.args.spawn c.args.at c.place_of.result c.index_mut-record.result.now c.self.invariant here)
+    let given = subst (λ (t : Job). IsGiven (claims t.rows c.withdraw.new.spawn) None c.self.inside.holders c.free.new.self) ticket c.free.ensures.given in
+    rw (ticket, phase) (free_in_step w c.self.inside.holders c.free.new.self c.args.spawn c.args.at c.place_of.result c.index_mut-record.result.now c.self.invariant here
+    (subst (λ (r : SpawnRec). IsGiven (claims (withdrawn w.ticket c.index_mut-record.result.now c.args.at).rows r) None c.self.inside.holders c.free.new.self) phase given))
 
 pub returns-clause-ok : goal.returns-clause-ok
 returns-clause-ok c =

@@ -1,8 +1,12 @@
-use Rattle.std.proofs.Common.{◌≡◌, ◌∙◌, ◌<◌, true, length, slice_set, sym, ap, subst}
+use Rattle.std.proofs.Common.{◌≡◌, ◌∙◌, ◌<◌, None, true, length, slice_set, sym, ap, subst}
+use Rattle.ticket_rows.specs.Ticket.{Job}
+use Rattle.spawn.specs.Holdings.{IsGiven, claims}
 use Rattle.std.proofs.lemmas.List.{set-get_or}
 use Rattle.merge.proofs.Fitting.{part_fits}
 use Rattle.merge.specs.Alike.{is_fit}
+use Rattle.merge.specs.Put.{put}
 use Rattle.merge.specs.Shape.{Fits}
+use Rattle.spawn.specs.declared.records.spawn_rec.SpawnRec.{SpawnRec}
 use Rattle.master_core.proofs.InStep.{put_in_step}
 use Rattle.master_core.proofs.Merging.{put_is, put_there}
 use Rattle.master_core.proofs.Passing.{failed, went}
@@ -57,7 +61,9 @@ invariant_of-self-2 c =
     let at = (goal.at.invariant_of-self-2 c).After-index_mut-record in
     let ticket = went c.merge_fitting.result c.or.result _ _ c.or.ensures c.in_ok-or.was c.merge_fitting.ensures.merged in
     let phase = went c.merge_fitting.result c.or.result _ _ c.or.ensures c.in_ok-or.was c.merge_fitting.ensures.phase in
-    rw (c.set.ensures, ticket, phase) (put_in_step w c.self.inside.holders c.args.part c.args.at c.place_of.result c.index_mut-record.result.now c.self.invariant (own at) (fitting at) c.spawn_id-spawn.ensures.valid)
+    let given = subst (λ (t : Job). IsGiven (claims t.rows c.merge_fitting.new.spawn) None c.self.inside.holders c.free.new.self) ticket c.free.ensures.given in
+    rw (ticket, phase) (put_in_step w c.self.inside.holders c.free.new.self c.args.part c.args.at c.place_of.result c.index_mut-record.result.now c.self.invariant (own at) (fitting at) c.spawn_id-spawn.ensures.valid
+    (subst (λ (r : SpawnRec). IsGiven (claims (put w.ticket c.index_mut-record.result.now c.args.part c.args.at).rows r) None c.self.inside.holders c.free.new.self) phase given))
 
 pub returns-clause-ok : goal.returns-clause-ok
 returns-clause-ok c =

@@ -1,24 +1,25 @@
-use Rattle.std.proofs.Common.{◌≡◌, ◌∙◌, ◌++◌, ◌∷◌, [], None, ap, subst, sym}
-use Rattle.ticket_rows.specs.Ticket.{Job}
-use Rattle.spawn.proofs.HoldingsKept.{spawn_keeps_table}
-use Rattle.spawn.specs.Holdings.{IsTable, claim_given}
+use Rattle.std.proofs.Common.{◌≡◌, ◌∙◌, None, ap, refl, sym}
+use Rattle.spawn.proofs.HoldingsKept.{claim_is_free, tried_keeps_table}
+use Rattle.spawn.specs.Holdings.{IsFree, claims}
 use Rattle.spawn.specs.Spawning.{new_record, spawn_refusal}
-use Rattle.spawn.specs.declared.tables.holder.Holder.TheVariants.{Spawn}
 use Rattle.spawn.proofs.spawns.by_table.spawn_by_table.Goals as goal
+use Rattle.spawn.proofs.spawns.by_table.spawn_by_table.Goals.{In_ok-check_spawn}
+
+-- nothing is against it
+none : (c : In_ok-check_spawn) → spawn_refusal c.args.ticket.now.rows c.args.records.now.items c.args.number c.args.node c.args.rw ≡ None
+none c =
+    let rows = c.args.ticket.now.rows in
+    ap (λ rs. spawn_refusal rows rs c.args.number c.args.node c.args.rw) (sym c.as_slice-others.ensures.value) ∙ ap (spawn_refusal rows c.as_slice-others.result.now c.args.number c.args.node) (sym c.as_slice.ensures) ∙ c.in_ok-check_spawn.ensures
+
+free : (c : In_ok-check_spawn) → IsFree (claims c.args.ticket.now.rows (new_record c.args.ticket.now.rows c.args.number c.args.node c.args.worker c.args.rw c.args.at)) c.args.holders.now
+free c = claim_is_free c.args.ticket.now.rows c.args.records.now.items c.args.number c.args.node c.args.worker c.args.rw c.args.at c.args.holders.now (none c) c.requires.table
+
+pub spawn_free-requires-clause-free : goal.spawn_free-requires-clause-free
+spawn_free-requires-clause-free c = free (goal.at.spawn_free-requires-clause-free c).In_ok-check_spawn
 
 pub returns-clause-table : goal.returns-clause-table
 returns-clause-table c =
     let t = c.args.ticket.now in
-    let recs = c.args.records.now.items in
-    let number = c.args.number in
-    let n = c.args.node in
-    let copies = c.args.rw in
-    let held = c.args.holders.now in
-    let r = new_record t.rows number n c.args.worker copies c.args.at in
-    let none : spawn_refusal t.rows recs number n copies ≡ None =
-    ap (λ rs. spawn_refusal t.rows rs number n copies) (sym c.as_slice-others.ensures.value) ∙ ap (spawn_refusal t.rows c.as_slice-others.result.now number n) (sym c.as_slice.ensures) ∙ c.in_ok-check_spawn.ensures in
-    let given = c.give_last.ensures recs r (c.as_slice-2.ensures.value ∙ c.in_ok-spawned.ensures.records) in
-    let kept = spawn_keeps_table t recs number n c.args.worker copies c.args.at held c.requires.valid none c.requires.table in
-    subst (λ h. IsTable c.spawn_free.new.ticket.rows c.spawn_free.new.records.items h) (sym given)
-    (subst (λ rs. IsTable c.spawn_free.new.ticket.rows rs (claim_given c.spawn_free.new.ticket.rows r (Spawn number) held)) (sym c.in_ok-spawned.ensures.records)
-    (subst (λ (j : Job). IsTable j.rows (recs ++ r ∷ []) (claim_given j.rows r (Spawn number) held)) (sym c.in_ok-spawned.ensures.ticket) kept))
+    let e = c.spawn_free.ensures in
+    tried_keeps_table c.spawn_free.result t c.spawn_free.new.ticket c.args.records.now.items c.spawn_free.new.records.items (new_record t.rows c.args.number c.args.node c.args.worker c.args.rw c.args.at) c.args.holders.now c.spawn_free.new.holders refl c.requires.table (free (goal.at.returns-clause-table c).In_ok-check_spawn)
+    e.ticket e.records e.held e.ticket_stays e.records_stay e.holders_stay

@@ -1,17 +1,33 @@
-use Rattle.std.proofs.Common.{arith, ◌≡◌, ◌∙◌, get_or, sym, ap, subst}
+use Rattle.std.proofs.Common.{arith, ◌≡◌, ◌∙◌, Some, get_or, sym, ap, subst}
 use Rattle.std.proofs.lemmas.List.{get_or_push}
 use Rattle.spawn.proofs.NewRecord.{new_is_good}
+use Rattle.spawn.specs.Holdings.{IsFree, IsGiven, claims}
 use Rattle.spawn.specs.Parts.{part_for}
 use Rattle.spawn.specs.Records.{IsGood}
 use Rattle.spawn.specs.Spawning.{new_record, spawned}
+use Rattle.spawn.specs.declared.records.spawn_rec.SpawnRec.{SpawnRec}
 use Rattle.spawn.proofs.spawns.spawning.enter.Goals as goal
 
-pub send_out-requires-clause-good : goal.send_out-requires-clause-good
-send_out-requires-clause-good c =
+pub hold-requires-clause-good : goal.hold-requires-clause-good
+hold-requires-clause-good c =
     let rows = c.args.ticket.now.rows in
     let s = c.index.result.now in
     let made : s ≡ new_record rows c.args.id c.args.node c.args.worker c.args.rw.now c.args.at = c.index.ensures ∙ ap (λ rs. get_or rs c.len-before.result s) c.in_ok-push.ensures.items ∙ get_or_push c.args.records.now.items c.in_ok-new_record.field-0 s c.len-before.result (omega arith) ∙ c.in_ok-new_record.ensures.ok in
     subst (IsGood rows) (sym made) (new_is_good rows c.args.id c.args.node c.args.worker c.args.rw.now c.args.at c.in_ok-new_record.ensures.valid c.requires.known c.requires.parent)
+
+pub hold-requires-clause-free : goal.hold-requires-clause-free
+hold-requires-clause-free c =
+    let rows = c.args.ticket.now.rows in
+    let s = c.index.result.now in
+    let made : s ≡ new_record rows c.args.id c.args.node c.args.worker c.args.rw.now c.args.at = c.index.ensures ∙ ap (λ rs. get_or rs c.len-before.result s) c.in_ok-push.ensures.items ∙ get_or_push c.args.records.now.items c.in_ok-new_record.field-0 s c.len-before.result (omega arith) ∙ c.in_ok-new_record.ensures.ok in
+    subst (λ r. IsFree (claims rows r) c.args.holders.now) (sym made) c.requires.free
+
+pub returns-in-Ok-clause-held : goal.returns-in-Ok-clause-held
+returns-in-Ok-clause-held c =
+    let rows = c.args.ticket.now.rows in
+    let s = c.index.result.now in
+    let made : s ≡ new_record rows c.args.id c.args.node c.args.worker c.args.rw.now c.args.at = c.index.ensures ∙ ap (λ rs. get_or rs c.len-before.result s) c.in_ok-push.ensures.items ∙ get_or_push c.args.records.now.items c.in_ok-new_record.field-0 s c.len-before.result (omega arith) ∙ c.in_ok-new_record.ensures.ok in
+    subst (λ (r : SpawnRec). IsGiven (claims rows r) (Some r.id) c.args.holders.now c.hold.new.holders) made c.in-Ok.ensures.held
 
 pub returns-in-Ok-clause-ticket : goal.returns-in-Ok-clause-ticket
 returns-in-Ok-clause-ticket c =

@@ -11,14 +11,12 @@ use Rattle.ticket_items.specs.declared.resource.Resource.{Resource}
 use Rattle.ticket_rows.proofs.AtHome.{holds}
 use Rattle.ticket_rows.proofs.AtPlaces.{map-at_place, row_at_place, then_ok}
 use Rattle.ticket_rows.proofs.Below.{run_length}
-use Rattle.ticket_rows.proofs.IndexFollows.{index_same, index_stays, index_with_node}
-use Rattle.ticket_rows.proofs.IndexFollows.{index_with_resource, pools-with_resource}
+use Rattle.ticket_rows.proofs.IndexFollows.{index_same, index_stays, shapes-with_resource}
 use Rattle.ticket_rows.proofs.NewNode.{inserted_child, room_at}
-use Rattle.ticket_rows.proofs.NodePlaces.{no_node_id}
 use Rattle.ticket_rows.proofs.Reasons.{child_new, resource_new}
 use Rattle.ticket_rows.specs.ChangedRow.{at_place, changed_place, end_behind}
 use Rattle.ticket_rows.specs.Edit.{bare_row, edited_rows, refusal_of}
-use Rattle.ticket_rows.specs.Spots.{pool_of, pools_of}
+use Rattle.ticket_rows.specs.Index.{shape_of, shapes_of}
 use Rattle.ticket_rows.specs.Ticket.{max_depth}
 use Rattle.ticket_rows.proofs.edit.edits.change.Goals as goal
 
@@ -48,8 +46,8 @@ returns-in-Note-clause-ok c =
     (row_at_place c.in-Note.node (λ (r : NodeRow). record r { audits = r.audits ++ Notification c.args.at c.in-Note.text ∷ [] }) c.args.rows.now.items c.args.place c.requires.valid.distinct (ap (λ e. changed_place e c.args.rows.now.items) (sym c.in-Note.is) ∙ c.requires.place)
     ∙ ap (λ e. edited_rows e c.args.at c.args.rows.now.items) (sym c.in-Note.is))
 
-pub add_resource-requires : goal.add_resource-requires
-add_resource-requires c = below_length (λ r. bytes_eq r.id c.in-AddResource.node) c.args.rows.now.items c.args.place (ap (λ e. changed_place e c.args.rows.now.items) (sym c.in-AddResource.is) ∙ c.requires.place)
+pub add_resource-requires-clause-within : goal.add_resource-requires-clause-within
+add_resource-requires-clause-within c = below_length (λ r. bytes_eq r.id c.in-AddResource.node) c.args.rows.now.items c.args.place (ap (λ e. changed_place e c.args.rows.now.items) (sym c.in-AddResource.is) ∙ c.requires.place)
 
 pub returns-in-AddResource-clause-ok : goal.returns-in-AddResource-clause-ok
 returns-in-AddResource-clause-ok c =
@@ -92,7 +90,7 @@ pub add_node-requires-clause-new : goal.add_node-requires-clause-new
 add_node-requires-clause-new c =
     let rows = c.args.rows.now.items in
     let none = ap (λ e. refusal_of e rows) (sym c.in-AddNode.is) ∙ c.requires.open in
-    no_node_id c.in-AddNode.id rows (child_new rows c.in-AddNode.node c.in-AddNode.id c.in-AddNode.status none).2
+    (child_new rows c.in-AddNode.node c.in-AddNode.id c.in-AddNode.status none).2
 
 pub returns-in-AddNode-clause-ok : goal.returns-in-AddNode-clause-ok
 returns-in-AddNode-clause-ok c =
@@ -109,46 +107,34 @@ returns-in-AddNode-clause-ok c =
 
 pub returns-in-SetStatus-clause-index : goal.returns-in-SetStatus-clause-index
 returns-in-SetStatus-clause-index c =
-    index_same c.args.rows.now.items _ c.args.nodes.now c.args.homes.now (ap pools_of c.set_status.ensures ∙ map-at_place pool_of (λ (r : NodeRow). record r { status = c.in-SetStatus.status }) c.args.rows.now.items c.args.place (λ r. refl)) c.requires.index
+    index_same c.args.rows.now.items _ c.args.index.now (ap shapes_of c.set_status.ensures ∙ map-at_place shape_of (λ (r : NodeRow). record r { status = c.in-SetStatus.status }) c.args.rows.now.items c.args.place (λ r. refl)) c.requires.index
 
 pub returns-in-SetAttr-clause-index : goal.returns-in-SetAttr-clause-index
 returns-in-SetAttr-clause-index c =
     let f = λ (r : NodeRow). record r { attrs = with_attr c.in-SetAttr.name c.in-SetAttr.value r.attrs } in
-    index_stays c.set_attr.result c.args.rows.now.items _ (at_place c.args.place f c.args.rows.now.items) c.args.nodes.now c.args.homes.now c.requires.index c.set_attr.ensures.ok (map-at_place pool_of f c.args.rows.now.items c.args.place (λ r. refl)) c.set_attr.ensures.err
+    index_stays c.set_attr.result c.args.rows.now.items _ (at_place c.args.place f c.args.rows.now.items) c.args.index.now c.requires.index c.set_attr.ensures.ok (map-at_place shape_of f c.args.rows.now.items c.args.place (λ r. refl)) c.set_attr.ensures.err
 
 pub returns-in-Note-clause-index : goal.returns-in-Note-clause-index
 returns-in-Note-clause-index c =
     let f = λ (r : NodeRow). record r { audits = r.audits ++ Notification c.args.at c.in-Note.text ∷ [] } in
-    index_stays c.append.result c.args.rows.now.items _ (at_place c.args.place f c.args.rows.now.items) c.args.nodes.now c.args.homes.now c.requires.index c.append.ensures.ok (map-at_place pool_of f c.args.rows.now.items c.args.place (λ r. refl)) c.append.ensures.err
+    index_stays c.append.result c.args.rows.now.items _ (at_place c.args.place f c.args.rows.now.items) c.args.index.now c.requires.index c.append.ensures.ok (map-at_place shape_of f c.args.rows.now.items c.args.place (λ r. refl)) c.append.ensures.err
 
 pub returns-clause-index : goal.returns-clause-index
 returns-clause-index c =
     let f = λ (r : NodeRow). record r { links = r.links ++ c.in-AddLink.link ∷ [] } in
-    index_stays c.add_link.result c.args.rows.now.items _ (at_place c.args.place f c.args.rows.now.items) c.args.nodes.now c.args.homes.now c.requires.index c.add_link.ensures.ok (map-at_place pool_of f c.args.rows.now.items c.args.place (λ r. refl)) c.add_link.ensures.err
+    index_stays c.add_link.result c.args.rows.now.items _ (at_place c.args.place f c.args.rows.now.items) c.args.index.now c.requires.index c.add_link.ensures.ok (map-at_place shape_of f c.args.rows.now.items c.args.place (λ r. refl)) c.add_link.ensures.err
 
 pub returns-in-SetResStatus-clause-index : goal.returns-in-SetResStatus-clause-index
 returns-in-SetResStatus-clause-index c =
-    index_same c.args.rows.now.items _ c.args.nodes.now c.args.homes.now (ap pools_of c.set_resource_status.ensures ∙ pools-with_resource _ (λ (y : Resource). record y { status = c.in-SetResStatus.status }) c.args.rows.now.items (λ y. refl)) c.requires.index
+    index_same c.args.rows.now.items _ c.args.index.now (ap shapes_of c.set_resource_status.ensures ∙ shapes-with_resource _ (λ (y : Resource). record y { status = c.in-SetResStatus.status }) c.args.rows.now.items (λ y. refl)) c.requires.index
 
 pub returns-in-SetResAttr-clause-index : goal.returns-in-SetResAttr-clause-index
 returns-in-SetResAttr-clause-index c =
-    index_stays c.set_resource_attr.result c.args.rows.now.items _ _ c.args.nodes.now c.args.homes.now c.requires.index c.set_resource_attr.ensures.ok
-    (pools-with_resource _ (λ (y : Resource). record y { attrs = with_attr c.in-SetResAttr.name c.in-SetResAttr.value y.attrs }) c.args.rows.now.items (λ y. refl)) c.set_resource_attr.ensures.err
+    index_stays c.set_resource_attr.result c.args.rows.now.items _ _ c.args.index.now c.requires.index c.set_resource_attr.ensures.ok
+    (shapes-with_resource _ (λ (y : Resource). record y { attrs = with_attr c.in-SetResAttr.name c.in-SetResAttr.value y.attrs }) c.args.rows.now.items (λ y. refl)) c.set_resource_attr.ensures.err
 
-pub add_node-requires-clause-index : goal.add_node-requires-clause-index
-add_node-requires-clause-index c = c.requires.index.keys
-
-pub returns-in-AddNode-clause-index : goal.returns-in-AddNode-clause-index
-returns-in-AddNode-clause-index c =
+pub add_resource-requires-clause-new : goal.add_resource-requires-clause-new
+add_resource-requires-clause-new c =
     let rows = c.args.rows.now.items in
-    let there = found_at_position (λ s. bytes_eq s.id c.in-AddNode.node) rows c.args.place (ap (λ e. changed_place e c.args.rows.now.items) (sym c.in-AddNode.is) ∙ c.requires.place) in
-    let s : NodeRow = there.0 in
-    index_with_node c.add_node.result rows _ (end_behind rows c.args.place s) (bare_row c.in-AddNode.id c.in-AddNode.kind c.in-AddNode.job_part c.in-AddNode.status (suc s.depth)) c.args.nodes.now _ c.args.homes.now refl c.requires.index (c.add_node.ensures.ok s there.2) c.add_node.ensures.err c.add_node.ensures.index c.add_node.ensures.index_stays
-
-pub returns-in-AddResource-clause-index : goal.returns-in-AddResource-clause-index
-returns-in-AddResource-clause-index c =
-    let rows = c.args.rows.now.items in
-    let x = c.in-AddResource.resource in
-    let there = found_at_position (λ s. bytes_eq s.id c.in-AddResource.node) rows c.args.place (ap (λ e. changed_place e c.args.rows.now.items) (sym c.in-AddResource.is) ∙ c.requires.place) in
     let none = ap (λ e. refusal_of e rows) (sym c.in-AddResource.is) ∙ c.requires.open in
-    index_with_resource c.add_resource.result rows _ c.args.place there.0 x c.args.nodes.now c.args.homes.now _ there.2 (resource_new rows c.in-AddResource.node x none) c.requires.index c.add_resource.ensures.ok c.add_resource.ensures.err (c.add_resource.ensures.homes there.0 there.2) c.add_resource.ensures.homes_stay
+    resource_new rows c.in-AddResource.node c.in-AddResource.resource none

@@ -1,23 +1,32 @@
-use Rattle.std.proofs.Common.{◌≡◌, ◌∙◌, Some, OnOk, cond, length, sym, ap, subst, slice_get}
+use Rattle.std.proofs.Common.{◌≡◌, ◌∙◌, Some, sym, ap, subst, slice_get}
 use Rattle.std.proofs.lemmas.Option.{slice_get-get_or}
-use Rattle.std.specs.Map.{lookup}
-use Rattle.std.specs.Str.{bytes_eq}
-use Rattle.indexmap.specs.IndexMap.{Updates, get}
-use Rattle.ticket_items.proofs.Places.{same_found}
-use Rattle.ticket_items.specs.declared.node_row.NodeRow.{NodeRow}
-use Rattle.ticket_rows.specs.Spots.{spot_at}
+use Rattle.ticket_items.specs.Ids.{mem}
+use Rattle.ticket_rows.proofs.IndexFollows.{index_again, index_pushed, index_unpushed}
+use Rattle.ticket_rows.specs.ChangedRow.{at_place}
+use Rattle.ticket_rows.specs.Index.{Finds, runs_of, shapes_of, with_more}
+use Rattle.ticket_rows.specs.Ticket.{depths, ids}
 use Rattle.ticket_rows.proofs.edit.growing_edits.add_resource.Goals as goal
 
-pub returns-clause-homes : goal.returns-clause-homes
-returns-clause-homes c r at x =
+pub returns-in-Ok-clause-index : goal.returns-in-Ok-clause-index
+returns-in-Ok-clause-index c =
     let rows = c.args.rows.now.items in
     let k = c.args.place in
-    let s = c.index.result.now in
-    let id = c.args.resource.id in
-    let grown = c.reserve.new.self in
-    let spot = c.in_ok-spot.spot in
-    let same : s ≡ r = same_found s r (slice_get rows k) (slice_get-get_or rows k s c.requires ∙ ap Some (sym c.index.ensures)) at in
-    let put = subst (λ o. OnOk o (Updates bytes_eq grown c.insert.new.self c.in_ok-key.key (Some spot))) c.unwrap.ensures c.insert.ensures.updates in
-    put.0 x ∙ ap (λ i. cond (bytes_eq i x) (Some spot) (get bytes_eq grown x)) c.in_ok-key.ensures.cases
-    ∙ ap (λ t. cond (bytes_eq id x) (Some t) (get bytes_eq grown x)) (c.in_ok-spot.ensures ∙ ap (λ (t : NodeRow). spot_at t.id (length t.resources)) same)
-    ∙ ap (λ es. cond (bytes_eq id x) (Some (spot_at r.id (length r.resources))) (lookup (bytes_eq x) es)) c.in_ok-reserve.ensures.entries
+    let r = c.index_mut.result.now in
+    let x = c.args.resource in
+    let index = c.add_resource.new.self in
+    let at : slice_get rows k ≡ Some r = slice_get-get_or rows k r c.requires.within ∙ ap Some (sym c.index_mut.ensures.value) in
+    let named = subst (λ y. Finds (at_place k (with_more y) (shapes_of c.as_slice.result.now)) index.spots index.places.items) c.in_ok-id.ensures.cases c.in_ok-add_resource.ensures.ok in
+    index_pushed rows k r x c.push.new.self index at c.in-Ok.ensures.ok
+    (subst (λ rs. Finds (at_place k (with_more x.id) (shapes_of rs)) index.spots index.places.items) c.as_slice.ensures.value named)
+    (c.in_ok-add_resource.ensures.runs ∙ ap (λ rs. runs_of (depths rs)) c.as_slice.ensures.value)
+
+pub returns-clause-index : goal.returns-clause-index
+returns-clause-index c =
+    let rows = c.args.rows.now.items in
+    let k = c.args.place in
+    let r = c.index_mut.result.now in
+    let at : slice_get rows k ≡ Some r = slice_get-get_or rows k r c.requires.within ∙ ap Some (sym c.index_mut.ensures.value) in
+    index_unpushed rows k r c.push.new.self c.take_out.new.self at c.in-Err.ensures.err
+    (index_again rows c.in_ok-id.id c.args.index.now c.add_resource.new.self c.take_out.new.self c.requires.index (ap (λ i. mem i (ids rows)) c.in_ok-id.ensures.cases ∙ c.requires.new)
+    c.in_ok-add_resource.ensures.others c.take_out.ensures.spots (c.take_out.ensures.places ∙ c.in_ok-add_resource.ensures.places)
+    (c.take_out.ensures.runs ∙ c.in_ok-add_resource.ensures.runs ∙ ap (λ rs. runs_of (depths rs)) c.as_slice.ensures.value))

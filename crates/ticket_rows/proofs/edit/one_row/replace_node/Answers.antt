@@ -1,12 +1,12 @@
 use Rattle.std.proofs.Common.{◌∙◌, refl, sym, subst}
 use Rattle.ticket_items.proofs.AtKey.{unwritten}
 use Rattle.ticket_rows.proofs.Changes.{change_at}
-use Rattle.ticket_rows.proofs.OneRows.{IsValid-replaced_node, pool_at_position}
+use Rattle.ticket_rows.proofs.OneRows.{IsValid-replaced_node, shape_at_position}
 use Rattle.ticket_rows.specs.Ticket.{IsValid}
 use Rattle.ticket_rows.proofs.edit.one_row.replace_node.Goals as goal
 
 pub replace-requires : goal.replace-requires
-replace-requires c = pool_at_position c.args.rows.now c.args.row c.in-Some.place c.requires.may (sym c.in-Some.ensures)
+replace-requires c = shape_at_position c.args.rows.now c.args.row c.in-Some.place c.at.result.now c.requires.may (sym c.in-Some.ensures) c.at.ensures
 
 pub returns-in-Some-clause-rows : goal.returns-in-Some-clause-rows
 returns-in-Some-clause-rows c =

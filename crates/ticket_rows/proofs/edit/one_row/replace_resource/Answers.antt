@@ -1,6 +1,6 @@
 use Rattle.std.proofs.Common.{◌≡◌, ◌∙◌, None, sym, subst}
 use Rattle.ticket_rows.proofs.OneRows.{IsValid-replaced_resource}
-use Rattle.ticket_rows.proofs.SpotsFound.{resource_missing}
+use Rattle.ticket_rows.proofs.Shapes.{resource_missing}
 use Rattle.ticket_rows.specs.Homes.{resource_of}
 use Rattle.ticket_rows.specs.Ticket.{IsValid}
 use Rattle.ticket_rows.proofs.edit.one_row.replace_resource.Goals as goal

@@ -2,18 +2,18 @@ use Rattle.std.proofs.Common.{rules, ◌≡◌, ◌∙◌, Some, refl, ap}
 use Rattle.std.specs.List.{position}
 use Rattle.ticket_items.specs.declared.resource.Resource.{Resource}
 use Rattle.ticket_rows.proofs.AtHome.{holds}
-use Rattle.ticket_rows.proofs.IndexFollows.{index_same, pools-with_resource}
+use Rattle.ticket_rows.proofs.IndexFollows.{index_same, shapes-with_resource}
 use Rattle.ticket_rows.proofs.OneRows.{with_resource-same}
 use Rattle.ticket_rows.specs.OneRow.{replaced_resource}
-use Rattle.ticket_rows.specs.Spots.{pools_of}
+use Rattle.ticket_rows.specs.Index.{shapes_of}
 use Rattle.ticket_rows.proofs.indexed_rows.IndexedRows.replace_resource.Goals as goal
 
 pub invariant_of-self : goal.invariant_of-self
 invariant_of-self c =
     let rows = c.self.inside.rows.items in
     let x = c.args.resource in
-    index_same rows _ c.self.inside.nodes c.self.inside.homes
-    (ap pools_of (c.replace_resource.ensures ∙ with_resource-same x rows) ∙ pools-with_resource x.id (λ (y : Resource). record x { id = y.id }) rows (λ y. refl)) c.self.invariant
+    index_same rows _ c.self.inside.index
+    (ap shapes_of (c.replace_resource.ensures ∙ with_resource-same x rows) ∙ shapes-with_resource x.id (λ (y : Resource). record x { id = y.id }) rows (λ y. refl)) c.self.invariant
 
 pub replace_resource-requires-clause-home : goal.replace_resource-requires-clause-home
 replace_resource-requires-clause-home c =

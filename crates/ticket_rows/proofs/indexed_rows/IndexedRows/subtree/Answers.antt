@@ -1,5 +1,4 @@
-use Rattle.std.proofs.Common.{◌∙◌, ◌+◌, drop, is_some, refl, sym, ap, subst, slice_get}
-use Rattle.std.specs.List.{position}
+use Rattle.std.proofs.Common.{◌+◌, drop, is_some, refl, sym, ap, subst}
 use Rattle.std.specs.Str.{bytes_eq}
 use Rattle.ticket_items.proofs.Places.{none_at_position, found_at_position, below_length}
 use Rattle.ticket_rows.proofs.Below.{bounds, run_length}
@@ -11,8 +10,7 @@ pub returns-in-None-clause-known : goal.returns-in-None-clause-known
 returns-in-None-clause-known c = sym (ap is_some (none_at_position (λ r. bytes_eq r.id c.args.id.now) c.args.self.now (sym c.in-None.ensures)))
 
 pub run_end-requires : goal.run_end-requires
-run_end-requires c =
-    below_length (λ r. bytes_eq r.id c.args.id.now) c.as_slice.result.now c.in-Some.from (ap (position (λ r. bytes_eq r.id c.args.id.now)) c.as_slice.ensures ∙ sym c.in-Some.ensures)
+run_end-requires c = below_length (λ r. bytes_eq r.id c.args.id.now) c.args.self.now c.in-Some.from (sym c.in-Some.ensures)
 
 pub returns-in-Some-clause-found : goal.returns-in-Some-clause-found
 returns-in-Some-clause-found c =
@@ -21,8 +19,8 @@ returns-in-Some-clause-found c =
     let k = c.in-Some.from in
     let at = found_at_position (λ r. bytes_eq r.id x) rows k (sym c.in-Some.ensures) in
     let s = at.0 in
-    let end = c.run_end.ensures.end s (ap (λ rs. slice_get rs k) c.as_slice.ensures ∙ at.2) ∙ ap (λ rs. k + 1 + run_length s.depth (drop (k + 1) rs)) c.as_slice.ensures in
-    subst (BoundsNodesBelow rows x k) (sym end) (bounds rows (drop (k + 1) rows) x k (run_length s.depth (drop (k + 1) rows)) s refl c.requires (sym c.in-Some.ensures) at.2 refl (run_within s.depth (drop (k + 1) rows)))
+    let later = drop (k + 1) rows in
+    subst (BoundsNodesBelow rows x k) (sym (c.run_end.ensures.end s at.2)) (bounds rows later x k (run_length s.depth later) s refl c.requires.tree c.requires.distinct (sym c.in-Some.ensures) at.2 refl (run_within s.depth later))
 
 pub returns-in-Some-clause-known : goal.returns-in-Some-clause-known
 returns-in-Some-clause-known c = sym (ap is_some (found_at_position (λ r. bytes_eq r.id c.args.id.now) c.args.self.now c.in-Some.from (sym c.in-Some.ensures)).1)

@@ -10,7 +10,7 @@ use Rattle.worker_core.proofs.entries.Entries.close.Goals as goal
 pub invariant_of-self : goal.invariant_of-self
 invariant_of-self c =
     let x = c.index_mut.result.now in
-    index_kept c.self.inside.spawns.keys c.self.inside.list.items c.in-Some.place x c.close.new.self c.self.invariant c.index_mut.ensures.value (ap number_of c.close.ensures ∙ closed_number x)
+    index_kept c.self.inside.spawns c.self.inside.list.items c.in-Some.place x c.close.new.self c.self.invariant c.index_mut.ensures.value (ap number_of c.close.ensures ∙ closed_number x)
 
 pub returns-in-Some : goal.returns-in-Some
 returns-in-Some c =

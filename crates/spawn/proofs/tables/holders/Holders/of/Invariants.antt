@@ -1,7 +1,13 @@
-use Rattle.std.proofs.Common.{◌≡◌, drop}
-use Rattle.spawn.specs.Holdings.{table}
+use Rattle.std.proofs.Common.{◌≡◌, true, take}
+use Rattle.ticket_rows.specs.Place.{places}
+use Rattle.spawn.specs.Holdings.{IsTable}
+use Rattle.spawn.specs.Stored.{are_apart}
 use Rattle.spawn.proofs.tables.holders.Holders.of.Given as goal
 
--- the table of the records from here on
-abbrev pub invariant-loop-place : goal.invariant-loop-place
-invariant-loop-place l = l.holders ≡ table l.ticket.rows (drop l.place l.records)
+-- what the spawns so far claim is apart, and these are the holders by them
+abbrev pub invariant-loop-spawn : goal.invariant-loop-spawn
+invariant-loop-spawn l =
+    record {
+      table : IsTable l.ticket.rows (take l.spawn-index l.records) l.holders;
+      apart : are_apart (places l.ticket.rows) (take l.spawn-index l.records) ≡ true;
+    }

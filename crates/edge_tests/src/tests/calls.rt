@@ -1,0 +1,83 @@
+use super::dripping::Dripping;
+use peers::{Call, CallLimits, CallTurn};
+use std::alloc::{AllocError, Global};
+use std::io::ErrorKind;
+use std::test::Fail;
+
+const REQUEST: &[u8] = b"POST /jmf HTTP/1.1\r\nContent-Length: 2\r\n\r\n{}";
+
+/// A head of 38 bytes, and a body of two.
+const RESPONSE: &[u8] = b"HTTP/1.1 200 OK\r\nContent-Length: 2\r\n\r\n{}";
+
+const REFUSAL: &[u8] = b"HTTP/1.1 413 Too Large\r\nContent-Length: 0\r\n\r\n";
+
+/// A call that begins at 100, for ten seconds.
+fn begun(alloc: Global, stream: Dripping) -> Result<Call<Dripping>, AllocError> {
+    let request = Vec::from_slice(alloc, REQUEST)?;
+    let limits = CallLimits {
+        time: 10_000,
+        body: 2,
+    };
+    Ok(Call::new(alloc, request, limits, stream, 100))
+}
+
+/// What comes of turns of a call, but for those in which nothing came to an end.
+fn turns(alloc: Global, call: Call<Dripping>, now: u64) -> CallTurn<Dripping> {
+    let mut call = call;
+    for _ in 0..1_000 {
+        match call.advance(alloc, &mut [0; 8], now) {
+            CallTurn::Wait(next) | CallTurn::Again(next) => call = next,
+            turn => return turn,
+        }
+    }
+    CallTurn::Wait(call)
+}
+
+/// The status of a response, or why there is none.
+fn told(turn: CallTurn<Dripping>) -> (u16, &'static str) {
+    match turn {
+        CallTurn::Wait(_) | CallTurn::Again(_) => (0, "nothing"),
+        CallTurn::Came(received) => (received.status, "a response"),
+        CallTurn::Failed(refused) => (0, refused.name()),
+    }
+}
+
+#[test]
+fn a_call_comes_to_its_response_or_fails(rt: HostRuntime) -> Result<(), Fail> {
+    for (text, end, room, status, wanted) in [
+        (RESPONSE, None, 1_000, 200, "a response"),
+        (b"", None, 1_000, 0, "BadHead"),
+        (&RESPONSE[..37], None, 1_000, 0, "BadHead"),
+        (&RESPONSE[..38], None, 1_000, 0, "CutShort"),
+        (
+            &RESPONSE[..39],
+            Some(ErrorKind::ConnectionReset),
+            1_000,
+            0,
+            "ReadFailed",
+        ),
+        // Who takes no more of a request may tell why.
+        (REFUSAL, None, 7, 413, "a response"),
+    ] {
+        let mut stream = Dripping::new(rt.alloc(), text);
+        stream.end = end;
+        stream.room = room;
+        let turn = turns(rt.alloc(), begun(rt.alloc(), stream)?, 200);
+        assert_eq!(rt; told(turn), (status, wanted));
+    }
+    Ok(())
+}
+
+#[test]
+fn a_call_that_nobody_answers_fails_in_time(rt: HostRuntime) -> Result<(), Fail> {
+    let mut stream = Dripping::new(rt.alloc(), &RESPONSE[..39]);
+    stream.end = Some(ErrorKind::WouldBlock);
+    let call = begun(rt.alloc(), stream)?;
+    assert_eq!(rt; call.deadline(), 10_100);
+    let CallTurn::Wait(call) = turns(rt.alloc(), call, 10_099) else {
+        return Err(Fail::new("it doesn't wait"));
+    };
+    assert_eq!(rt; call.stream().taken.as_slice(), REQUEST);
+    assert_eq!(rt; told(turns(rt.alloc(), call, 10_100)), (0, "ReadFailed"));
+    Ok(())
+}

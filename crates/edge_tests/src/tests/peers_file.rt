@@ -1,0 +1,132 @@
+use peers_file::{Destination, PeerTable, peers_of};
+use std::alloc::{AllocError, Global};
+use std::test::Fail;
+use ticket_items::Refusal;
+
+/// A press, all presses, those of the second hall, and the others.
+const TABLE: &str =
+    r#"{"*":"http://rest/","press":"http://one/","press*":"http://all/","press-2*":"http://hall/"}"#;
+
+/// Where the messages for a name go, and nothing for a name that nobody knows.
+fn host_of<'a>(table: &'a PeerTable, name: &str) -> &'a str {
+    match table.url_of(name) {
+        Some(destination) => destination.authority(),
+        None => "",
+    }
+}
+
+#[test]
+fn the_longest_front_wins(rt: HostRuntime) -> Result<(), Fail> {
+    let table = peers_of(rt.alloc(), TABLE.as_bytes())?;
+    for (name, host) in [
+        ("press", "one"),
+        ("press-1", "all"),
+        ("press-2", "hall"),
+        ("press-20.b", "hall"),
+        ("pres", "rest"),
+        ("Press", "rest"),
+    ] {
+        assert_eq!(rt; host_of(&table, name), host, "{name}");
+    }
+    Ok(())
+}
+
+#[test]
+fn a_name_that_nobody_knows_has_no_url(rt: HostRuntime) -> Result<(), Fail> {
+    let text = r#"{"bind":"http://bind/","press*":"http://press/"}"#;
+    let table = peers_of(rt.alloc(), text.as_bytes())?;
+    for (name, host) in [
+        ("bind", "bind"),
+        ("binder", ""),
+        ("bin", ""),
+        ("press", "press"),
+        ("pres", ""),
+        ("", ""),
+    ] {
+        assert_eq!(rt; host_of(&table, name), host, "{name}");
+        assert_eq!(rt; table.knows(name), !host.is_empty(), "{name}");
+    }
+    Ok(())
+}
+
+/// Why bytes are no table.
+fn refusal_of(alloc: Global, text: &str) -> Option<Refusal> {
+    peers_of(alloc, text.as_bytes()).err()
+}
+
+#[test]
+fn a_table_with_one_wrong_row_is_none(rt: HostRuntime) {
+    assert_eq!(rt; refusal_of(rt.alloc(), "{}"), None);
+    assert_eq!(rt;
+        refusal_of(rt.alloc(), r#"{"a":"http://h/"#),
+        Some(Refusal::NotJson)
+    );
+    for text in [
+        r#"["http://h/"]"#,
+        r#"{"a":"http://h/","b":7}"#,
+        r#"{"a":"http://h/","b":"https://h/"}"#,
+        r#"{"a":"http://h/","1":"http://h/"}"#,
+        r#"{"a":"http://h/","b*c":"http://h/"}"#,
+        r#"{"a":"http://h/","b**":"http://h/"}"#,
+        r#"{"a":"http://h/","":"http://h/"}"#,
+    ] {
+        assert_eq!(rt;
+            refusal_of(rt.alloc(), text),
+            Some(Refusal::NotProfile),
+            "{text}"
+        );
+    }
+}
+
+/// Whether a text is a URL of this head's `Host`, port and path.
+fn leads_to(
+    alloc: Global,
+    text: &str,
+    authority: &str,
+    port: u16,
+    path: &str,
+) -> Result<bool, AllocError> {
+    let Some(found) = Destination::of(alloc, text)? else {
+        return Ok(false);
+    };
+    Ok(found.authority() == authority && found.port() == port && found.path() == path)
+}
+
+#[test]
+fn a_url_tells_the_host_the_port_and_the_path(rt: HostRuntime) -> Result<(), Fail> {
+    for (text, authority, port, path) in [
+        ("http://press.test", "press.test", 80, "/"),
+        ("http://Press.Test:80/jmf", "press.test", 80, "/jmf"),
+        (
+            "HTTP://10.0.0.7:8080/a/../jmf",
+            "10.0.0.7:8080",
+            8080,
+            "/jmf",
+        ),
+        (
+            "http://[0:0::1]:81/two words",
+            "[::1]:81",
+            81,
+            "/two%20words",
+        ),
+    ] {
+        assert!(rt;
+            leads_to(rt.alloc(), text, authority, port, path)?,
+            "{text}"
+        );
+    }
+    for text in [
+        "https://press.test/jmf",
+        "ftp://press.test/jmf",
+        "press.test:80/jmf",
+        "/jmf",
+        "",
+        "http://user@press.test/jmf",
+        "http://press.test/jmf?a=b",
+        "http://press.test/jmf#a",
+        "http://press.test:65536/jmf",
+    ] {
+        assert!(rt; Destination::of(rt.alloc(), text)?.is_none(), "{text}");
+    }
+    Ok(())
+}

@@ -1,0 +1,4 @@
+mod GivenBack
+mod JournalLines
+mod LinesJoined
+mod NamedFiles

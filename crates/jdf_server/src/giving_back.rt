@@ -1,0 +1,167 @@
+//! What those who wait in lines are told.
+
+ghost use Rattle.std.specs.Prelude.{◌≡◌, None, Some, IfOk, OnOk};
+ghost use Rattle.slab.specs.Slab.{Updates};
+ghost use Rattle.jdf_server.specs.Clients.{AreGivenBack, AreLetGo, AreMissed, IsMissed, TellsMissing};
+ghost use Rattle.jdf_server.specs.Lines.{IsParted, is_late};
+ghost use Rattle.jdf_server.specs.Steps.{RefusesLate};
+
+use crate::clients::Clients;
+use crate::note::Note;
+use crate::telling::GONE;
+use http_edge::Served;
+use http_message::missing_bytes;
+use mio::net::TcpStream;
+use rounds::{Answered, Errand, Room, Waiting, refuse_errands};
+use std::alloc::{AllocError, Global};
+use std::io::Write;
+use std::time::Clock;
+use streams::Refused;
+
+/// Some of a line, and the others.
+type Parted = (Vec<Errand<TcpStream>>, Vec<Errand<TcpStream>>);
+
+/// Those of a line who may wait on, and those who waited as long as they may.
+fn parted_late(
+    alloc: Global,
+    errands: Vec<Errand<TcpStream>>,
+    now: u64,
+) -> Result<Parted, AllocError>
+    ensures { IfOk result (λ parted. IsParted (is_late now) errands.items parted.0.items
+        parted.1.items) }
+{
+    let mut left = Vec::with_capacity(alloc, errands.len())?;
+    let mut late = Vec::with_capacity(alloc, errands.len())?;
+    for one in errands {
+        if one.waiting.asked.deadline() <= now {
+            late.push(one)?;
+        } else {
+            left.push(one)?;
+        }
+    }
+    Ok((left, late))
+}
+
+/// The number of the client with an errand.
+fn key_of(errand: Errand<TcpStream>) -> usize
+    ensures { result ≡ errand.waiting.key }
+{
+    errand.waiting.key
+}
+
+/// Who waits with an errand.
+fn waiting_of(errand: Errand<TcpStream>) -> Waiting<TcpStream>
+    ensures { result ≡ errand.waiting }
+{
+    errand.waiting
+}
+
+/// A client with the response that no such controller is there.
+fn missing(
+    alloc: Global,
+    waiting: Waiting<TcpStream>,
+    now: u64,
+) -> Result<Answered<TcpStream>, AllocError>
+    ensures { IfOk result (TellsMissing now waiting) }
+{
+    let Waiting { key, asked } = waiting;
+    let response = missing_bytes(alloc)?;
+    Ok(Answered {
+        key,
+        client: asked.answer(response.as_slice(), now).ok(),
+        told: Served {
+            status: 404,
+            refusal: None,
+        },
+        taken: None,
+    })
+}
+
+impl<'a, R: Clock, F: Write + Drop> Clients<'a, R, F> {
+    /// Answers a client whose request is for no controller that is there.
+    pub(crate) fn miss(&mut self, waiting: Waiting<TcpStream>) -> Result<(), AllocError>
+        ensures clients { OnOk result (IsMissed self.old.now waiting self.old.all
+            self.new.all) }
+        ensures moment { self.new.now ≡ self.old.now }
+    {
+        let answered = missing(self.alloc, waiting, self.now)?;
+        self.give_back(answered, None)
+    }
+
+    /// Answers each of these so.
+    pub(crate) fn miss_all(&mut self, errands: Vec<Errand<TcpStream>>) -> Result<(), AllocError>
+        ensures clients { OnOk result (AreMissed self.old.now errands.items self.old.all
+            self.new.all) }
+        ensures moment { self.new.now ≡ self.old.now }
+    {
+        for one in errands {
+            self.miss(waiting_of(one))?;
+        }
+        Ok(())
+    }
+
+    /// Lets go of a client that went before its response.
+    fn pass_over(&mut self, key: usize, path: String)
+        ensures clients { Updates self.old.all self.new.all key None }
+        ensures moment { self.new.now ≡ self.old.now }
+    {
+        let note = Note {
+            path: Some(path),
+            told: Served {
+                status: GONE,
+                refusal: None,
+            },
+            taken: None,
+        };
+        self.note_down(key, note);
+        self.let_go(key);
+    }
+
+    /// Lets go of each of these clients.
+    pub(crate) fn pass_over_all(
+        &mut self,
+        gone: Vec<Errand<TcpStream>>,
+        path: &str,
+    ) -> Result<(), AllocError>
+        ensures clients { OnOk result (AreLetGo gone.items self.old.all self.new.all) }
+        ensures moment { self.new.now ≡ self.old.now }
+    {
+        for one in gone {
+            self.pass_over(key_of(one), String::from_str(self.alloc, path)?);
+        }
+        Ok(())
+    }
+
+    /// Refuses those of a line who waited as long as they may, and gives the rest.
+    pub(crate) fn refuse_late(
+        &mut self,
+        errands: Vec<Errand<TcpStream>>,
+        path: &str,
+    ) -> Result<Vec<Errand<TcpStream>>, AllocError>
+        ensures clients { IfOk result (λ left. RefusesLate path.now self.old.now errands.items
+            left.items self.old.all self.new.all) }
+        ensures moment { self.new.now ≡ self.old.now }
+    {
+        let (left, late) = parted_late(self.alloc, errands, self.now)?;
+        let room = Room::new(self.alloc, late.len())?;
+        let answered = refuse_errands(self.alloc, late, room, Refused::LoadFailed, self.now);
+        self.give_back_all(answered, path)?;
+        Ok(left)
+    }
+
+    /// Puts clients back that have their responses.
+    pub(crate) fn give_back_all(
+        &mut self,
+        answered: Vec<Answered<TcpStream>>,
+        path: &str,
+    ) -> Result<(), AllocError>
+        ensures clients { OnOk result (AreGivenBack (Some path.now) answered.items self.old.all
+            self.new.all) }
+        ensures moment { self.new.now ≡ self.old.now }
+    {
+        for one in answered {
+            self.give_back(one, Some(String::from_str(self.alloc, path)?))?;
+        }
+        Ok(())
+    }
+}

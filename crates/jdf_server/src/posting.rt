@@ -1,0 +1,493 @@
+//! What goes out by itself: which parts are out, and whose turn it is.
+
+ghost use Rattle.std.specs.Prelude.{◌≡◌, ◌<◌, ◌≤◌, length, IfOk, IfSome};
+
+use crate::line::Line;
+use crate::own::{Own, Parcel, Task};
+use crate::post::Post;
+use crate::server::Server;
+use crate::stepping::{OwnStepped, step_own_in_file};
+use crate::watched::{Shown, Watched};
+use deliveries::Flight;
+use indexmap::IndexMap;
+use journal::FileJournal;
+use keepers::Locks;
+use peers_file::Destination;
+use shop_folder::Owner;
+use std::alloc::{AllocError, Global};
+use std::io::Write;
+use std::net::Net;
+use std::time::Clock;
+use stored_state::{AnyController, Coming, Saved, TakenBytes};
+use ticket_tree::{Id, Refusal, SpawnId};
+
+/// How much goes out in one round at most.
+const MAX_FLIGHTS: usize = 64;
+
+/// The order to send the part of a spawn once more.
+fn resend_text(alloc: Global, spawn: SpawnId) -> Result<Vec<u8>, AllocError> {
+    let number = spawn.number();
+    let text = format!(in alloc; "{{\"Order\":\"Resend\",\"SpawnID\":\"S{number}\"}}")?;
+    Ok(text.into_bytes())
+}
+
+impl Post {
+    /// The number of the destination of a name, if it has one.
+    fn line_of(&mut self, alloc: Global, name: &Id, now: u64) -> Result<Option<usize>, AllocError>
+        ensures there { IfOk result (λ found. IfSome found (λ line.
+            line < length self.new.deliveries.destinations)) }
+        ensures stay { length self.old.deliveries.destinations
+            ≤ length self.new.deliveries.destinations }
+    {
+        let Some(found) = self.peers.url_of(name.as_str()) else {
+            return Ok(None);
+        };
+        let url = format!(in alloc; "{}{}", found.authority(), found.path())?;
+        match self.targets.get_index_of(url.as_str()) {
+            Some(line) if line < self.deliveries.destinations() => Ok(Some(line)),
+            Some(_) => Ok(None),
+            None => self.add_target(alloc, url, now),
+        }
+    }
+
+    /// The number of one destination more.
+    fn add_target(
+        &mut self,
+        alloc: Global,
+        url: String,
+        now: u64,
+    ) -> Result<Option<usize>, AllocError>
+        ensures there { IfOk result (λ found. IfSome found (λ line.
+            line < length self.new.deliveries.destinations)) }
+        ensures stay { length self.old.deliveries.destinations
+            ≤ length self.new.deliveries.destinations }
+    {
+        let text = format!(in alloc; "http://{url}")?;
+        let Some(destination) = Destination::of(alloc, text.as_str())? else {
+            return Ok(None);
+        };
+        self.targets.reserve(1)?;
+        let line = self.deliveries.add_destination(alloc, now)?;
+        self.targets.insert(url, destination)?;
+        Ok(Some(line))
+    }
+
+    /// The next moment at which something is to be done for what goes out.
+    pub(crate) fn next_moment(&self) -> u64 {
+        if !self.ready.is_empty() {
+            return 0;
+        }
+        let mut next = self.deliveries.wake().unwrap_or(u64::MAX);
+        for (_, flying) in self.calls.iter() {
+            if let Some(call) = &flying.call {
+                next = u64::min(next, call.deadline());
+            }
+        }
+        next
+    }
+
+    /// What is in flight failed.
+    fn fail_all(&mut self, now: u64) {
+        for line in 0..self.deliveries.destinations() {
+            if self.deliveries.flies(line) {
+                self.deliveries.failed(line, now);
+            }
+        }
+    }
+
+    /// Goes on behind a round in which memory ran out: no call goes on.
+    pub(crate) fn recover(&mut self, now: u64) {
+        self.calls.clear();
+        self.ready.clear();
+        self.fail_all(now);
+    }
+
+    /// Sees what a controller has out now.
+    pub(crate) fn see(
+        &mut self,
+        alloc: Global,
+        number: usize,
+        controller: &AnyController,
+        now: u64,
+    ) -> Result<(), AllocError> {
+        let all = controller.out(alloc)?;
+        let mut out = Vec::with_capacity(alloc, all.len())?;
+        for (spawn, name) in all {
+            if let Some(line) = self.line_of(alloc, name, now)? {
+                out.push((spawn, line))?;
+            }
+        }
+        self.deliveries.look(alloc, number, out.as_slice())
+    }
+}
+
+/// Puts something to be done in the line of the controller in the file of this path.
+fn join_own(
+    alloc: Global,
+    lines: &mut IndexMap<String, Line>,
+    watched: &Watched,
+    path: String,
+    own: Own,
+) -> Result<(), AllocError> {
+    if let Some(line) = lines.get_mut(path.as_str()) {
+        line.own.push(own)?;
+        return Ok(());
+    }
+    let to = match watched.controllers.get(path.as_str()) {
+        Some(seat) => seat.owner.copy(alloc)?,
+        None => Owner::Any,
+    };
+    let mut line = Line::new(alloc, to);
+    line.own.push(own)?;
+    lines.insert(path, line)?;
+    Ok(())
+}
+
+/// What is to be done so that what is in flight goes out.
+fn send_own(alloc: Global, flight: &Flight, until: u64) -> Result<Own, AllocError> {
+    Ok(Own {
+        parcel: Parcel {
+            spawn: flight.spawn,
+            line: flight.line,
+        },
+        task: Task::Send(resend_text(alloc, flight.spawn)?),
+        until,
+    })
+}
+
+impl<'a, R: Locks + Net + Clock, F: Write + Drop> Server<'a, R, F> {
+    /// Until which moment what is to be done now waits for a file that is locked.
+    pub(crate) fn own_until(&self) -> u64 {
+        self.clients
+            .now
+            .saturating_add(self.clients.listener.limits.step)
+    }
+
+    /// Puts something to be done in the line of a controller.
+    pub(crate) fn join_own(&mut self, path: String, own: Own) -> Result<(), AllocError>
+        ensures { self.new.clients.all ≡ self.old.clients.all }
+    {
+        join_own(self.alloc, &mut self.lines, &self.watched, path, own)
+    }
+
+    /// What is to be sent now, if anything is.
+    fn next_flight(&mut self) -> Option<Flight> {
+        match &mut self.post {
+            Some(post) => post.deliveries.next(self.clients.now),
+            None => None,
+        }
+    }
+
+    /// The path of the file of a controller.
+    fn path_of(&self, number: usize) -> Result<Option<String>, AllocError> {
+        match self.watched.controllers.get_index(number) {
+            Some((path, _)) => Ok(Some(path.clone()?)),
+            None => Ok(None),
+        }
+    }
+
+    /// Has a controller send what is in flight, if it is there.
+    fn dispatch_one(&mut self, flight: &Flight) -> Result<(), AllocError> {
+        match self.path_of(flight.controller)? {
+            Some(path) => {
+                let own = send_own(self.alloc, flight, self.own_until())?;
+                self.join_own(path, own)
+            }
+            None => {
+                self.withdraw(flight.line);
+                Ok(())
+            }
+        }
+    }
+
+    /// Has each controller send what is to be sent from it now.
+    pub(crate) fn dispatch(&mut self) -> Result<(), AllocError> {
+        for _ in 0..MAX_FLIGHTS {
+            let Some(flight) = self.next_flight() else {
+                return Ok(());
+            };
+            self.dispatch_one(&flight)?;
+        }
+        Ok(())
+    }
+
+    /// Does behind a step for something that goes out what is to be done. An answer that its
+    /// controller refuses tells nothing.
+    fn follow_own(
+        &mut self,
+        path: &str,
+        mark: &Mark,
+        came: Result<TakenBytes, Refusal>,
+    ) -> Result<(), AllocError>
+        ensures { self.new.clients.all ≡ self.old.clients.all }
+    {
+        let Some((is_taken, sent)) = given_by(came) else {
+            self.fail(path, &mark.parcel);
+            return Ok(());
+        };
+        if mark.is_answer {
+            drop(sent);
+            if is_taken {
+                self.settle(path, &mark.parcel, mark.refusal);
+            } else {
+                self.fail(path, &mark.parcel);
+            }
+            return Ok(());
+        }
+        match sent {
+            Some(text) => self.call(path, &mark.parcel, text.as_slice()),
+            None => {
+                self.withdraw(mark.parcel.line);
+                Ok(())
+            }
+        }
+    }
+
+    /// Does behind these steps what is to be done.
+    fn follow_all(
+        &mut self,
+        path: &str,
+        marks: &[Mark],
+        given: Vec<Result<TakenBytes, Refusal>>,
+    ) -> Result<(), AllocError>
+        ensures { self.new.clients.all ≡ self.old.clients.all }
+    {
+        for (mark, came) in marks.iter().zip(given) {
+            self.follow_own(path, mark, came)?;
+        }
+        Ok(())
+    }
+
+    /// This can't be done now, since the file can't be had: it is seen again later, and holds up
+    /// nothing else meanwhile.
+    fn put_off(&mut self, path: &str, mark: &Mark)
+        ensures { self.new.clients.all ≡ self.old.clients.all }
+    {
+        if mark.is_answer {
+            self.tell_parcel(path, &mark.parcel, "not taken");
+        }
+        self.withdraw(mark.parcel.line);
+        self.watched.read_again(path);
+    }
+
+    /// The same of all of these.
+    fn put_off_all(&mut self, path: &str, marks: &[Mark])
+        ensures { self.new.clients.all ≡ self.old.clients.all }
+    {
+        for mark in marks {
+            self.put_off(path, mark);
+        }
+    }
+
+    /// Has this wait on for a file that somebody else has locked, if it may.
+    fn keep_one(&mut self, path: &str, mark: &Mark, coming: Coming) -> Result<(), AllocError>
+        ensures { self.new.clients.all ≡ self.old.clients.all }
+    {
+        match joined(mark, coming) {
+            Some(own) if mark.until > self.clients.now => {
+                self.join_own(String::from_str(self.alloc, path)?, own)
+            }
+            own => {
+                drop(own);
+                self.put_off(path, mark);
+                Ok(())
+            }
+        }
+    }
+
+    /// The same of all of these.
+    fn keep_own(
+        &mut self,
+        path: &str,
+        marks: &[Mark],
+        comings: Vec<Coming>,
+    ) -> Result<(), AllocError>
+        ensures { self.new.clients.all ≡ self.old.clients.all }
+    {
+        for (mark, coming) in marks.iter().zip(comings) {
+            self.keep_one(path, mark, coming)?;
+        }
+        Ok(())
+    }
+
+    /// Has a controller do what is to be done for what goes out from it.
+    pub(crate) fn step_own(
+        &mut self,
+        path: &str,
+        to: &Owner,
+        own: Vec<Own>,
+    ) -> Result<(), AllocError>
+        ensures { self.new.clients.all ≡ self.old.clients.all }
+    {
+        if own.is_empty() {
+            return Ok(());
+        }
+        let (marks, comings) = all_parted(self.alloc, own)?;
+        self.step_marked(path, to, marks.as_slice(), comings)
+    }
+
+    fn step_marked(
+        &mut self,
+        path: &str,
+        to: &Owner,
+        marks: &[Mark],
+        comings: Vec<Coming>,
+    ) -> Result<(), AllocError>
+        ensures { self.new.clients.all ≡ self.old.clients.all }
+    {
+        let last = self.saved.take(path);
+        let mut journal = FileJournal::at(self.rt, self.journal);
+        let stepped = step_own_in_file(
+            self.rt,
+            self.alloc,
+            path,
+            last,
+            to.as_addressee(),
+            comings,
+            &mut journal,
+        );
+        self.clients.tell_missed(&journal);
+        match stepped {
+            OwnStepped::Stepped(given, saved) => {
+                let kept = self.keep_saved(path, to, saved);
+                self.follow_all(path, marks, given)?;
+                kept
+            }
+            OwnStepped::LockedOut(comings, last) => {
+                self.keep_last(path, last)?;
+                self.is_locked_out = true;
+                self.keep_own(path, marks, comings)
+            }
+            OwnStepped::Failed => {
+                self.put_off_all(path, marks);
+                Ok(())
+            }
+        }
+    }
+
+    /// Sees what a controller has out now, and what a page tells of it.
+    pub(crate) fn see_controller(
+        &mut self,
+        number: usize,
+        controller: &AnyController,
+    ) -> Result<(), AllocError>
+        ensures { self.new.clients.all ≡ self.old.clients.all }
+    {
+        if self.is_shown() {
+            let shown = Shown::of(self.alloc, controller)?;
+            self.watched.show(number, Some(shown));
+        }
+        match &mut self.post {
+            Some(post) => post.see(self.alloc, number, controller, self.clients.now),
+            None => Ok(()),
+        }
+    }
+
+    /// Sees what a controller has out now, as it was saved.
+    fn see_saved(&mut self, path: &str, to: &Owner, saved: &Saved) -> Result<(), AllocError>
+        ensures { self.new.clients.all ≡ self.old.clients.all }
+    {
+        if !self.watches() {
+            return Ok(());
+        }
+        let number = self.watched.seat_of(self.alloc, path, to)?;
+        self.see_controller(number, saved.controller())
+    }
+
+    /// Keeps a controller as it was saved, and sees what it has out now.
+    pub(crate) fn keep_saved(
+        &mut self,
+        path: &str,
+        to: &Owner,
+        saved: Option<Saved>,
+    ) -> Result<(), AllocError>
+        ensures { self.new.clients.all ≡ self.old.clients.all }
+    {
+        let Some(saved) = saved else {
+            return Ok(());
+        };
+        self.clients.counts.note_save();
+        let seen = self.see_saved(path, to, &saved);
+        let path = String::from_str(self.alloc, path)?;
+        self.saved.keep(path, saved)?;
+        seen
+    }
+}
+
+/// What is kept of something to be done while its step is made.
+#[derive(Clone, Copy)]
+struct Mark {
+    parcel: Parcel,
+    is_answer: bool,
+    refusal: Option<u16>,
+    until: u64,
+}
+
+/// Whether a step was accepted, and the text that goes out; none where no step was made.
+fn given_by(came: Result<TakenBytes, Refusal>) -> Option<(bool, Option<Vec<u8>>)> {
+    match came {
+        Ok(taken) => {
+            let TakenBytes {
+                sender,
+                reply,
+                answer,
+            } = taken;
+            drop(sender);
+            Some((reply.is_ok(), answer))
+        }
+        Err(_) => None,
+    }
+}
+
+/// What is to be done, of what was kept of it and what its controller is told.
+fn joined(mark: &Mark, coming: Coming) -> Option<Own> {
+    let task = match coming {
+        Coming::Order(text) => Task::Send(text),
+        Coming::Message(message) => Task::Take(message, mark.refusal),
+        Coming::Neither(_) => return None,
+    };
+    Some(Own {
+        parcel: mark.parcel,
+        task,
+        until: mark.until,
+    })
+}
+
+fn parted(own: Own) -> (Mark, Coming) {
+    let Own {
+        parcel,
+        task,
+        until,
+    } = own;
+    match task {
+        Task::Send(text) => (
+            Mark {
+                parcel,
+                is_answer: false,
+                refusal: None,
+                until,
+            },
+            Coming::Order(text),
+        ),
+        Task::Take(message, refusal) => (
+            Mark {
+                parcel,
+                is_answer: true,
+                refusal,
+                until,
+            },
+            Coming::Message(message),
+        ),
+    }
+}
+
+fn all_parted(alloc: Global, own: Vec<Own>) -> Result<(Vec<Mark>, Vec<Coming>), AllocError> {
+    let mut marks = Vec::with_capacity(alloc, own.len())?;
+    let mut comings = Vec::with_capacity(alloc, own.len())?;
+    for one in own {
+        let (mark, coming) = parted(one);
+        marks.push(mark)?;
+        comings.push(coming)?;
+    }
+    Ok((marks, comings))
+}

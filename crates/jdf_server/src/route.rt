@@ -1,0 +1,155 @@
+//! The controller of a place to which a message leads.
+
+ghost use Rattle.std.specs.Prelude.{◌≡◌, None, Some, string_bytes, IfOk, IfSome, IfNone};
+ghost use Rattle.shop_folder.specs.Routes as routes;
+ghost use Rattle.jdf_server.specs.Orders.{IsWorkerFile, LeadsByName, LeadsInFolder, LeadsToNamed};
+ghost use Rattle.jdf_server.specs.Requests.{LeadsNowhere, LeadsTo, owner_for};
+
+use crate::telling::name_of;
+use controller::Message;
+use shop_folder::{Lies, Owner, Place, file_for, in_folder};
+use std::alloc::{AllocError, Global};
+use std::rt::Files;
+use ticket_tree::{Duplicate, Id};
+
+/// The file of a controller, and which one it is for.
+#[derive(Drop)]
+pub(crate) struct Route {
+    pub path: String,
+    pub to: Owner,
+}
+
+/// The controller of a folder to which a message leads, by what lies there.
+fn route_by(
+    alloc: Global,
+    folder: &str,
+    lies: Lies,
+    message: &Message,
+) -> Result<Option<Route>, AllocError>
+    ensures some { IfOk result (λ route. IfSome route (λ r.
+        routes.file_for folder.now lies message.now.receiver message.now.sender
+        ≡ Some (string_bytes r.path))) }
+    ensures owner { IfOk result (λ route. IfSome route (λ r. r.to ≡ owner_for lies message.now)) }
+    ensures none { IfOk result (λ route. IfNone route
+        (routes.file_for folder.now lies message.now.receiver message.now.sender ≡ None)) }
+{
+    let receiver = message.receiver.as_str();
+    let sender = message.sender.as_str();
+    let Some(path) = file_for(alloc, folder, lies, receiver, sender)? else {
+        return Ok(None);
+    };
+    let name = message.receiver.copy(alloc)?;
+    let to = match lies {
+        Lies::Folder => Owner::WorkerOf(name, message.sender.copy(alloc)?),
+        Lies::File | Lies::Nothing => Owner::Named(name),
+    };
+    Ok(Some(Route { path, to }))
+}
+
+/// The controller of a place to which a message leads: the one that is served, or the one of the
+/// folder to whose file its receiver and its sender lead.
+pub(crate) fn route_of<R: Files>(
+    rt: &R,
+    alloc: Global,
+    place: &Place<'_>,
+    message: &Message,
+) -> Result<Option<Route>, AllocError>
+    ensures some { IfOk result (λ route. IfSome route (LeadsTo place.now message.now)) }
+    ensures none { IfOk result (λ route. IfNone route (LeadsNowhere place.now message.now)) }
+{
+    match place {
+        Place::File(file) => Ok(Some(Route {
+            path: String::from_str(alloc, file)?,
+            to: Owner::Any,
+        })),
+        Place::Folder(folder) => {
+            let under = in_folder(alloc, folder, message.receiver.as_str())?;
+            route_by(alloc, folder, Lies::at(rt, under.as_str()), message)
+        }
+    }
+}
+
+/// The file of a controller of this name in a folder.
+fn named_file(alloc: Global, folder: &str, name: &str) -> Result<Option<Route>, AllocError>
+    ensures some { IfOk result (λ route. IfSome route (LeadsToNamed folder.now name.now)) }
+    ensures none { IfOk result (λ route. IfNone route
+        (routes.file_for folder.now Lies.File name.now name.now ≡ None)) }
+{
+    let file = file_for(alloc, folder, Lies::File, name, name)?;
+    match file {
+        Some(path) => {
+            let to = Owner::Named(Id::known(alloc, name)?);
+            Ok(Some(Route { path, to }))
+        }
+        None => Ok(None),
+    }
+}
+
+/// The file of a worker for this master in the folder of its name.
+fn named_worker(
+    alloc: Global,
+    folder: &str,
+    worker: &str,
+    master: &str,
+) -> Result<Option<Route>, AllocError>
+    ensures some { IfOk result (λ route. IfSome route
+        (IsWorkerFile folder.now worker.now master.now)) }
+    ensures none { IfOk result (λ route. IfNone route
+        (routes.file_for folder.now Lies.Folder worker.now master.now ≡ None)) }
+{
+    let file = file_for(alloc, folder, Lies::Folder, worker, master)?;
+    match file {
+        Some(path) => {
+            let name = Id::known(alloc, worker)?;
+            let to = Owner::WorkerOf(name, Id::known(alloc, master)?);
+            Ok(Some(Route { path, to }))
+        }
+        None => Ok(None),
+    }
+}
+
+/// The file of a name as that of a controller in a folder is told: `job-17`, or `press/job-17`.
+fn named_in(alloc: Global, folder: &str, name: &str) -> Result<Option<Route>, AllocError>
+    ensures { IfOk result (λ route. IfSome route (LeadsInFolder folder.now name.now)) }
+{
+    match name.split_once('/') {
+        Some((worker, master)) => named_worker(alloc, folder, worker, master),
+        None => named_file(alloc, folder, name),
+    }
+}
+
+/// A route, if its file is there.
+fn if_there<R: Files>(rt: &R, route: Route) -> Option<Route>
+    ensures { IfSome result (λ r. r ≡ route) }
+{
+    match Lies::at(rt, route.path.as_str()) {
+        Lies::File => Some(route),
+        Lies::Folder | Lies::Nothing => None,
+    }
+}
+
+/// The controller of this name in what is served, as the log tells names, if its file is there.
+pub(crate) fn named_route<R: Files>(
+    rt: &R,
+    alloc: Global,
+    place: &Place<'_>,
+    name: &str,
+) -> Result<Option<Route>, AllocError>
+    ensures { IfOk result (λ route. IfSome route (LeadsByName place.now name.now)) }
+{
+    match place {
+        Place::File(file) => {
+            if name_of(place, file) != name {
+                return Ok(None);
+            }
+            Ok(Some(Route {
+                path: String::from_str(alloc, file)?,
+                to: Owner::Any,
+            }))
+        }
+        Place::Folder(folder) => match named_in(alloc, folder, name)? {
+            Some(route) => Ok(if_there(rt, route)),
+            None => Ok(None),
+        },
+    }
+}

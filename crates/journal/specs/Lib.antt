@@ -1,0 +1,4 @@
+pub mod InMemory
+pub mod Journal
+pub mod Line
+pub mod What

@@ -1,0 +1,33 @@
+ghost use Rattle.std.specs.Prelude.{◌≡◌, ℕ, List, Bool, true, MatchBool};
+ghost use Rattle.journal.specs.Journal.{IsAppended, IsLeft, IsMissed, Misses};
+
+/// What keeps lines (our own). All that is promised of it holds where it is honest; no contract can
+/// tell that of a file.
+pub trait Journal: Drop {
+    /// Whether anything is promised of it.
+    ghost is_honest: { Self → Bool };
+
+    /// What it holds.
+    ghost held: { Self → List ℕ };
+
+    /// Whether a line isn't in it that was to be.
+    ghost is_missed: { Self → Bool };
+
+    /// Whether lines are to be appended at all.
+    fn is_wanted(&self) -> bool
+        ensures { is_honest self.now ≡ true → result ≡ true };
+
+    /// Appends whole lines, on a line of their own where what is held has no end of its last line.
+    /// Answers whether they are kept: on a disk they are synced then. Else it is missed, and a front
+    /// of them may be held.
+    fn append(&mut self, lines: &[u8]) -> bool
+        ensures lines { is_honest self.old ≡ true → MatchBool result
+            (IsAppended held is_missed lines.now self.old self.new)
+            (IsMissed held is_missed lines.now self.old self.new) }
+        ensures honest { is_honest self.new ≡ is_honest self.old };
+
+    /// A line can't be made for want of memory.
+    fn miss(&mut self)
+        ensures missed { is_honest self.old ≡ true → Misses held is_missed self.old self.new }
+        ensures honest { is_honest self.new ≡ is_honest self.old };
+}

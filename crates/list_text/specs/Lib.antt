@@ -1,0 +1,4 @@
+pub mod JsonLine
+pub mod Lists
+pub mod Sizes
+pub mod TabLine

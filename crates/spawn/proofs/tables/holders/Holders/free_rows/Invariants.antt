@@ -1,0 +1,9 @@
+use Rattle.std.proofs.Common.{None, take}
+use Rattle.ticket_items.specs.Ids.{mem}
+use Rattle.ticket_rows.specs.Ticket.{ids}
+use Rattle.spawn.specs.Holdings.{IsGiven}
+use Rattle.spawn.proofs.tables.holders.Holders.free_rows.Given as goal
+
+-- what stands in the rows so far was taken
+abbrev pub invariant-loop-row : goal.invariant-loop-row
+invariant-loop-row l = IsGiven (λ x. mem x (ids (take l.row-index l.rows))) None l.fn.self l.self

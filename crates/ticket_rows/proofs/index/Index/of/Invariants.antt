@@ -1,0 +1,7 @@
+use Rattle.std.proofs.Common.{true, take}
+use Rattle.ticket_rows.specs.Index.{Tells, shapes_of}
+use Rattle.ticket_rows.proofs.index.Index.of.Given as goal
+
+-- the rows so far are in
+abbrev pub invariant-loop-node : goal.invariant-loop-node
+invariant-loop-node l = Tells (shapes_of (take l.node l.rows)) true l.spots l.places.items
