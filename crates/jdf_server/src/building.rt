@@ -2,16 +2,9 @@
 
 use crate::accepting::LISTENER;
 use crate::clients::Clients;
-use crate::guests::Guests;
 use crate::health::Health;
-use crate::listener::Listener;
-use crate::log::Log;
-use crate::message_listener::MessageListener;
-use crate::moments::Moments;
-use crate::order_listener::OrderListener;
 use crate::orders::ORDERS;
 use crate::page::PAGE;
-use crate::page_listener::PageListener;
 use crate::post::Post;
 use crate::server::{MAX_EVENTS, Server};
 use crate::service::Service;
@@ -19,6 +12,7 @@ use crate::watched::Watched;
 use http_message::Methods;
 use indexmap::IndexMap;
 use keepers::Locks;
+use listeners::{Guests, Listener, Log, MessageListener, Moments, OrderListener, PageListener};
 use mio::net::TcpListener;
 use mio::{Events, Poll};
 use peers::Limits;

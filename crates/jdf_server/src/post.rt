@@ -1,15 +1,14 @@
 ghost use Rattle.std.specs.Prelude.{IfErr};
-ghost use Rattle.jdf_server.specs.PeersInFile.{IsNoTable};
+ghost use Rattle.peers_file.specs.PeersInFile.{IsNoTable};
 
 use crate::houses::Houses;
 use crate::own::Parcel;
-use crate::peers_table::peers_in_file;
 use crate::watching::changed_at;
 use deliveries::Deliveries;
 use indexmap::IndexMap;
 use mio::net::TcpStream;
 use peers::Call;
-use peers_file::{Destination, PeerTable};
+use peers_file::{Destination, PeerTable, peers_in_file};
 use slab::Slab;
 use std::alloc::Global;
 use std::rt::Files;
