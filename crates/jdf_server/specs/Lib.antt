@@ -1,3 +1,4 @@
+pub mod Beginning
 pub mod Clients
 pub mod Journaled
 pub mod Lines

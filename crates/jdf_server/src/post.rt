@@ -1,4 +1,4 @@
-ghost use Rattle.std.specs.Prelude.{IfErr};
+ghost use Rattle.std.specs.Prelude.{◌≡◌, IfErr, IfOk};
 ghost use Rattle.peers_file.specs.PeersInFile.{IsNoTable};
 
 use crate::houses::Houses;
@@ -37,7 +37,8 @@ impl Post {
     /// What goes out to whom the peers' file of this path names; nothing does yet. Refuses
     /// `LoadFailed` where that can't be read or is none, and `Memory`.
     pub fn of<R: Files>(rt: &R, alloc: Global, file: String) -> Result<Post, Refused>
-        ensures { IfErr result IsNoTable }
+        ensures file { IfOk result (λ post. post.file ≡ file) }
+        ensures refused { IfErr result IsNoTable }
     {
         let read_at = changed_at(rt, file.as_str());
         let peers = peers_in_file(rt, alloc, file.as_str())?;
