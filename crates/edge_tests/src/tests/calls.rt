@@ -42,30 +42,46 @@ fn told(turn: CallTurn<Dripping>) -> (u16, &'static str) {
     }
 }
 
+/// What comes of a call over a stream that gives this and ends so, and takes so many bytes.
+fn came(
+    alloc: Global,
+    text: &'static [u8],
+    end: Option<ErrorKind>,
+    room: usize,
+) -> Result<(u16, &'static str), AllocError> {
+    let mut stream = Dripping::new(alloc, text);
+    stream.end = end;
+    stream.room = room;
+    Ok(told(turns(alloc, begun(alloc, stream)?, 200)))
+}
+
 #[test]
 fn a_call_comes_to_its_response_or_fails(rt: HostRuntime) -> Result<(), Fail> {
+    let reset = Some(ErrorKind::ConnectionReset);
     for (text, end, room, status, wanted) in [
         (RESPONSE, None, 1_000, 200, "a response"),
         (b"", None, 1_000, 0, "BadHead"),
         (&RESPONSE[..37], None, 1_000, 0, "BadHead"),
         (&RESPONSE[..38], None, 1_000, 0, "CutShort"),
-        (
-            &RESPONSE[..39],
-            Some(ErrorKind::ConnectionReset),
-            1_000,
-            0,
-            "ReadFailed",
-        ),
+        (&RESPONSE[..39], reset, 1_000, 0, "ReadFailed"),
         // Who takes no more of a request may tell why.
         (REFUSAL, None, 7, 413, "a response"),
     ] {
-        let mut stream = Dripping::new(rt.alloc(), text);
-        stream.end = end;
-        stream.room = room;
-        let turn = turns(rt.alloc(), begun(rt.alloc(), stream)?, 200);
-        assert_eq!(rt; told(turn), (status, wanted));
+        assert_eq!(rt; came(rt.alloc(), text, end, room)?, (status, wanted));
     }
     Ok(())
+}
+
+/// Whether a call waits that has sent its request, whose response is cut and goes on; and what
+/// comes of it at its deadline.
+fn waited(alloc: Global, call: Call<Dripping>) -> (bool, &'static str) {
+    match turns(alloc, call, 10_099) {
+        CallTurn::Wait(call) => {
+            let has_sent = call.stream().taken.as_slice() == REQUEST;
+            (has_sent, told(turns(alloc, call, 10_100)).1)
+        }
+        turn => (false, told(turn).1),
+    }
 }
 
 #[test]
@@ -73,11 +89,8 @@ fn a_call_that_nobody_answers_fails_in_time(rt: HostRuntime) -> Result<(), Fail>
     let mut stream = Dripping::new(rt.alloc(), &RESPONSE[..39]);
     stream.end = Some(ErrorKind::WouldBlock);
     let call = begun(rt.alloc(), stream)?;
-    assert_eq!(rt; call.deadline(), 10_100);
-    let CallTurn::Wait(call) = turns(rt.alloc(), call, 10_099) else {
-        return Err(Fail::new("it doesn't wait"));
-    };
-    assert_eq!(rt; call.stream().taken.as_slice(), REQUEST);
-    assert_eq!(rt; told(turns(rt.alloc(), call, 10_100)), (0, "ReadFailed"));
+    let deadline = call.deadline();
+    let (waits, ends) = waited(rt.alloc(), call);
+    assert_eq!(rt; (deadline, waits, ends), (10_100, true, "ReadFailed"));
     Ok(())
 }

@@ -1,7 +1,7 @@
 use super::dripping::Dripping;
-use http_message::Methods;
-use peers::{Client, Limits, Turn};
-use std::alloc::Global;
+use http_message::{Methods, Received};
+use peers::{Asked, Client, Limits, Turn};
+use std::alloc::{AllocError, Global};
 use std::test::Fail;
 
 const LIMITS: Limits = Limits {
@@ -17,6 +17,11 @@ const LIMITS: Limits = Limits {
 /// A head of 76 bytes, and a body of two.
 const REQUEST: &[u8] =
     b"POST /jmf HTTP/1.1\r\nHost: press\r\nContent-Length: 2\r\nExpect: 100-continue\r\n\r\n{}";
+
+const RESPONSE: &[u8] = b"HTTP/1.1 204 None\r\n\r\n";
+
+/// What goes to a client that waits to be told to go on, and then has the response.
+const TAKEN: &[u8] = b"HTTP/1.1 100 Continue\r\n\r\nHTTP/1.1 204 None\r\n\r\n";
 
 /// What comes of turns of a client that was accepted, or has a response, but for those in which
 /// nothing came to an end.
@@ -36,28 +41,6 @@ fn accepted(alloc: Global, stream: Dripping) -> Client<Dripping> {
     Client::new(alloc, LIMITS, stream, 100)
 }
 
-#[test]
-fn a_client_is_answered(rt: HostRuntime) -> Result<(), Fail> {
-    let client = accepted(rt.alloc(), Dripping::new(rt.alloc(), REQUEST));
-    assert_eq!(rt; client.deadline(), 10_100);
-    let Turn::Request(asked, request) = turns(rt.alloc(), client, 200) else {
-        return Err(Fail::new("no request came"));
-    };
-    assert_eq!(rt; request.target.as_slice(), b"/jmf".as_slice());
-    assert_eq!(rt; request.body.as_slice(), b"{}".as_slice());
-    assert_eq!(rt; asked.deadline(), 60_200);
-    let client = asked.answer(b"HTTP/1.1 204 None\r\n\r\n", 300)?;
-    assert_eq!(rt; client.deadline(), 30_300);
-    let Turn::Written(client) = turns(rt.alloc(), client, 400) else {
-        return Err(Fail::new("not written"));
-    };
-    let taken = b"HTTP/1.1 100 Continue\r\n\r\nHTTP/1.1 204 None\r\n\r\n";
-    assert_eq!(rt; client.stream().taken.as_slice(), taken.as_slice());
-    assert_eq!(rt; client.deadline(), 2_400);
-    assert!(rt; matches!(turns(rt.alloc(), client, 500), Turn::Closed));
-    Ok(())
-}
-
 /// What comes of a client.
 fn told(turn: &Turn<Dripping>) -> &'static str {
     match turn {
@@ -67,6 +50,70 @@ fn told(turn: &Turn<Dripping>) -> &'static str {
         Turn::Written(_) => "all is written",
         Turn::Closed => "its end",
     }
+}
+
+/// Whether a request is the one that was sent, and waits for its response as long as it may.
+fn is_sent(asked: &Asked<Dripping>, request: &Received) -> bool {
+    request.target.as_slice() == b"/jmf".as_slice()
+        && request.body.as_slice() == b"{}".as_slice()
+        && asked.deadline() == 60_200
+}
+
+/// Whether a client has its response, and lingers as long as it may.
+fn has_response(client: &Client<Dripping>) -> bool {
+    client.stream().taken.as_slice() == TAKEN && client.deadline() == 2_400
+}
+
+/// What comes of a client that has its response.
+fn ended(alloc: Global, client: Client<Dripping>) -> &'static str {
+    if !has_response(&client) {
+        return "another response";
+    }
+    match turns(alloc, client, 500) {
+        Turn::Closed => "its response, and its end",
+        turn => told(&turn),
+    }
+}
+
+/// What comes of a client whose response is to be written.
+fn written(alloc: Global, client: Client<Dripping>) -> &'static str {
+    if client.deadline() != 30_300 {
+        return "another time for its response";
+    }
+    match turns(alloc, client, 400) {
+        Turn::Written(client) => ended(alloc, client),
+        turn => told(&turn),
+    }
+}
+
+/// What comes of a client whose request came, and which is answered at 300.
+fn answered(alloc: Global, turn: Turn<Dripping>) -> Result<&'static str, AllocError> {
+    match turn {
+        Turn::Request(asked, request) => {
+            if !is_sent(&asked, &request) {
+                return Ok("another request");
+            }
+            drop(request);
+            Ok(written(alloc, asked.answer(RESPONSE, 300)?))
+        }
+        turn => Ok(told(&turn)),
+    }
+}
+
+#[test]
+fn a_client_is_answered(rt: HostRuntime) -> Result<(), Fail> {
+    let client = accepted(rt.alloc(), Dripping::new(rt.alloc(), REQUEST));
+    let deadline = client.deadline();
+    let turn = turns(rt.alloc(), client, 200);
+    let came = answered(rt.alloc(), turn)?;
+    assert_eq!(rt; (deadline, came), (10_100, "its response, and its end"));
+    Ok(())
+}
+
+/// What comes of a request that is cut behind so many bytes.
+fn cut(alloc: Global, end: usize) -> &'static str {
+    let stream = Dripping::new(alloc, &REQUEST[..usize::min(end, REQUEST.len())]);
+    told(&turns(alloc, accepted(alloc, stream), 200))
 }
 
 #[test]
@@ -79,29 +126,30 @@ fn a_request_that_is_cut_is_refused(rt: HostRuntime) {
         (77, "CutShort"),
         (78, "a request"),
     ] {
-        let stream = Dripping::new(rt.alloc(), &REQUEST[..end]);
-        let turn = turns(rt.alloc(), accepted(rt.alloc(), stream), 200);
-        assert_eq!(rt; told(&turn), wanted, "cut at {end}");
+        assert_eq!(rt; cut(rt.alloc(), end), wanted, "cut at {end}");
+    }
+}
+
+/// What comes of the first turn of a client whose stream never blocks.
+fn first_turn(alloc: Global) -> &'static str {
+    let mut stream = Dripping::new(alloc, REQUEST);
+    stream.blocks = false;
+    match accepted(alloc, stream).advance(alloc, &mut [0; 8], 200) {
+        Turn::Again(_) => "another turn",
+        turn => told(&turn),
     }
 }
 
 #[test]
 fn a_stream_that_never_blocks_leaves_turns_to_others(rt: HostRuntime) {
-    let mut stream = Dripping::new(rt.alloc(), REQUEST);
-    stream.blocks = false;
-    let turn = accepted(rt.alloc(), stream).advance(rt.alloc(), &mut [0; 8], 200);
-    assert!(rt; matches!(turn, Turn::Again(_)));
+    assert_eq!(rt; first_turn(rt.alloc()), "another turn");
 }
 
 #[test]
 fn a_client_that_takes_no_response_is_closed(rt: HostRuntime) -> Result<(), Fail> {
     let mut stream = Dripping::new(rt.alloc(), REQUEST);
     stream.room = 30;
-    let client = accepted(rt.alloc(), stream);
-    let Turn::Request(asked, _) = turns(rt.alloc(), client, 200) else {
-        return Err(Fail::new("no request came"));
-    };
-    let client = asked.answer(b"HTTP/1.1 204 None\r\n\r\n", 300)?;
-    assert_eq!(rt; told(&turns(rt.alloc(), client, 400)), "its end");
+    let turn = turns(rt.alloc(), accepted(rt.alloc(), stream), 200);
+    assert_eq!(rt; answered(rt.alloc(), turn)?, "its end");
     Ok(())
 }

@@ -12,13 +12,28 @@ enum End {
     Withdrawn,
 }
 
-/// No deliveries, to two destinations.
-fn two_destinations(alloc: Global) -> Result<Deliveries, Refusal> {
-    let mut deliveries = Deliveries::new(alloc);
-    let _first = deliveries.add_destination(alloc, 0)?;
-    let _second = deliveries.add_destination(alloc, 0)?;
-    Ok(deliveries)
+/// What is done, and what is to come of it.
+#[derive(Clone, Copy)]
+enum Step {
+    /// A controller has these spawns out now, each to the destination beside it.
+    Look(usize, &'static [(u32, usize)]),
+    /// What is given at a moment: to which destination, of which controller, and of which spawn.
+    Given(u64, Option<(usize, usize, u32)>),
+    /// What is in flight to a destination ends so, at a moment.
+    Ends(usize, End, u64),
+    /// What is sent to the first destination fails, at each of these moments.
+    AllFail(&'static [u64]),
+    /// The next moment at which something is to be given.
+    Wake(u64),
+    /// A destination is heard from at a moment.
+    Heard(usize, u64),
+    /// How a spawn of a controller fares.
+    Fares(usize, u32, Option<Progress>),
+    /// A spawn of a controller goes once more, whether it is out or not.
+    Again(usize, u32, bool),
 }
+
+use Step::{Again, AllFail, Ends, Fares, Given, Heard, Look, Wake};
 
 /// A controller has these spawns out now, each to the destination beside it.
 fn look(
@@ -60,54 +75,6 @@ fn ends(deliveries: &mut Deliveries, line: usize, end: End, now: u64) {
     }
 }
 
-#[test]
-fn one_is_in_flight_to_each_destination(rt: HostRuntime) -> Result<(), Fail> {
-    let mut all = two_destinations(rt.alloc())?;
-    look(rt.alloc(), &mut all, 0, &[(1, 0), (2, 0), (3, 1), (4, 0)])?;
-    assert_eq!(rt; given(&mut all, 0), Some((0, 0, 1)));
-    assert_eq!(rt; given(&mut all, 0), Some((1, 0, 3)));
-    assert_eq!(rt; given(&mut all, 9_999_999), None);
-    ends(&mut all, 0, End::Taken, 10);
-    assert_eq!(rt; given(&mut all, 10), Some((0, 0, 2)));
-    ends(&mut all, 1, End::Taken, 11);
-    assert_eq!(rt; given(&mut all, 11), None);
-    ends(&mut all, 0, End::Withdrawn, 12);
-    assert_eq!(rt; given(&mut all, 12), Some((0, 0, 4)));
-    Ok(())
-}
-
-#[test]
-fn what_failed_goes_behind_and_waits(rt: HostRuntime) -> Result<(), Fail> {
-    let mut all = two_destinations(rt.alloc())?;
-    look(rt.alloc(), &mut all, 0, &[(1, 0), (2, 0)])?;
-    for (spawn, at, wake) in [
-        (1, 0, 1_000),
-        (2, 1_000, 3_000),
-        (1, 3_000, 7_000),
-        (2, 7_000, 15_000),
-        (1, 15_000, 31_000),
-        (2, 31_000, 63_000),
-        (1, 63_000, 123_000),
-        (2, 123_000, 183_000),
-    ] {
-        assert_eq!(rt; given(&mut all, at), Some((0, 0, spawn)), "at {at}");
-        ends(&mut all, 0, End::Failed, at);
-        assert_eq!(rt; all.wake(), Some(wake));
-        assert_eq!(rt;
-            given(&mut all, wake.saturating_sub(1)),
-            None,
-            "before {wake}"
-        );
-    }
-    // An answer ends the waiting: the next one goes at once, and waits a second again.
-    assert_eq!(rt; given(&mut all, 183_000), Some((0, 0, 1)));
-    ends(&mut all, 0, End::Taken, 183_100);
-    assert_eq!(rt; given(&mut all, 183_100), Some((0, 0, 2)));
-    ends(&mut all, 0, End::Failed, 183_200);
-    assert_eq!(rt; all.wake(), Some(184_200));
-    Ok(())
-}
-
 /// What is sent to the first destination at these moments fails.
 fn all_fail(deliveries: &mut Deliveries, moments: &[u64]) {
     for at in moments {
@@ -116,74 +83,177 @@ fn all_fail(deliveries: &mut Deliveries, moments: &[u64]) {
     }
 }
 
+/// Whether a step comes to what it is to come to.
+fn comes_so(alloc: Global, deliveries: &mut Deliveries, step: &Step) -> Result<bool, Refusal> {
+    match step {
+        Look(controller, out) => look(alloc, deliveries, *controller, out)?,
+        Given(now, wanted) => return Ok(given(deliveries, *now) == *wanted),
+        Ends(line, end, now) => ends(deliveries, *line, *end, *now),
+        AllFail(moments) => all_fail(deliveries, moments),
+        Wake(at) => return Ok(deliveries.wake() == Some(*at)),
+        Heard(line, now) => deliveries.heard(*line, *now),
+        Fares(controller, spawn, wanted) => {
+            return Ok(deliveries.progress(*controller, SpawnId::new(*spawn)?) == *wanted);
+        }
+        Again(controller, spawn, is_out) => {
+            return Ok(deliveries.again(*controller, SpawnId::new(*spawn)?)? == *is_out);
+        }
+    }
+    Ok(true)
+}
+
+/// How many of these steps, to two destinations, come to what they are to come to, up to the first
+/// that doesn't.
+fn as_wanted(alloc: Global, steps: &[Step]) -> Result<usize, Refusal> {
+    let mut deliveries = Deliveries::new(alloc);
+    let _first = deliveries.add_destination(alloc, 0)?;
+    let _second = deliveries.add_destination(alloc, 0)?;
+    for (number, step) in steps.iter().enumerate() {
+        if !comes_so(alloc, &mut deliveries, step)? {
+            return Ok(number);
+        }
+    }
+    Ok(steps.len())
+}
+
+#[test]
+fn one_is_in_flight_to_each_destination(rt: HostRuntime) -> Result<(), Fail> {
+    let steps = [
+        Look(0, &[(1, 0), (2, 0), (3, 1), (4, 0)]),
+        Given(0, Some((0, 0, 1))),
+        Given(0, Some((1, 0, 3))),
+        Given(9_999_999, None),
+        Ends(0, End::Taken, 10),
+        Given(10, Some((0, 0, 2))),
+        Ends(1, End::Taken, 11),
+        Given(11, None),
+        Ends(0, End::Withdrawn, 12),
+        Given(12, Some((0, 0, 4))),
+    ];
+    assert_eq!(rt; as_wanted(rt.alloc(), &steps)?, steps.len());
+    Ok(())
+}
+
+#[test]
+fn what_failed_goes_behind_and_waits(rt: HostRuntime) -> Result<(), Fail> {
+    let steps = [
+        Look(0, &[(1, 0), (2, 0)]),
+        Given(0, Some((0, 0, 1))),
+        Ends(0, End::Failed, 0),
+        Wake(1_000),
+        Given(999, None),
+        Given(1_000, Some((0, 0, 2))),
+        Ends(0, End::Failed, 1_000),
+        Wake(3_000),
+        Given(2_999, None),
+        Given(3_000, Some((0, 0, 1))),
+        Ends(0, End::Failed, 3_000),
+        Wake(7_000),
+        Given(6_999, None),
+        Given(7_000, Some((0, 0, 2))),
+        Ends(0, End::Failed, 7_000),
+        Wake(15_000),
+        Given(14_999, None),
+        Given(15_000, Some((0, 0, 1))),
+        Ends(0, End::Failed, 15_000),
+        Wake(31_000),
+        Given(30_999, None),
+        Given(31_000, Some((0, 0, 2))),
+        Ends(0, End::Failed, 31_000),
+        Wake(63_000),
+        Given(62_999, None),
+        Given(63_000, Some((0, 0, 1))),
+        Ends(0, End::Failed, 63_000),
+        Wake(123_000),
+        Given(122_999, None),
+        Given(123_000, Some((0, 0, 2))),
+        Ends(0, End::Failed, 123_000),
+        Wake(183_000),
+        Given(182_999, None),
+        // An answer ends the waiting: the next one goes at once, and waits a second again.
+        Given(183_000, Some((0, 0, 1))),
+        Ends(0, End::Taken, 183_100),
+        Given(183_100, Some((0, 0, 2))),
+        Ends(0, End::Failed, 183_200),
+        Wake(184_200),
+    ];
+    assert_eq!(rt; as_wanted(rt.alloc(), &steps)?, steps.len());
+    Ok(())
+}
+
 #[test]
 fn what_waits_goes_as_its_destination_is_heard_from(rt: HostRuntime) -> Result<(), Fail> {
-    let mut all = two_destinations(rt.alloc())?;
-    look(rt.alloc(), &mut all, 0, &[(1, 0)])?;
-    all_fail(&mut all, &[0, 1_000, 3_000, 7_000, 15_000, 31_000, 63_000]);
-    assert_eq!(rt; all.wake(), Some(123_000));
-    // What comes from another, or from one that isn't there, ends no waiting.
-    all.heard(1, 70_000);
-    all.heard(2, 70_000);
-    assert_eq!(rt; given(&mut all, 70_000), None);
-    // Behind what comes from it the next goes at once, and waits a second again, and then two.
-    all.heard(0, 70_000);
-    assert_eq!(rt; all.wake(), Some(70_000));
-    assert_eq!(rt; given(&mut all, 70_000), Some((0, 0, 1)));
-    assert_eq!(rt; given(&mut all, 70_000), None);
-    ends(&mut all, 0, End::Failed, 70_100);
-    assert_eq!(rt; given(&mut all, 71_099), None);
-    all_fail(&mut all, &[71_100]);
-    assert_eq!(rt; all.wake(), Some(73_100));
-    // It comes while something is in flight: if that fails, a second is waited, and not four.
-    assert_eq!(rt; given(&mut all, 73_100), Some((0, 0, 1)));
-    all.heard(0, 73_200);
-    assert_eq!(rt; given(&mut all, 73_200), None);
-    ends(&mut all, 0, End::Failed, 73_300);
-    assert_eq!(rt; all.wake(), Some(74_300));
-    // Where the moment has come already, it stays what it was.
-    all.heard(0, 80_000);
-    assert_eq!(rt; all.wake(), Some(74_300));
+    let steps = [
+        Look(0, &[(1, 0)]),
+        AllFail(&[0, 1_000, 3_000, 7_000, 15_000, 31_000, 63_000]),
+        Wake(123_000),
+        // What comes from another, or from one that isn't there, ends no waiting.
+        Heard(1, 70_000),
+        Heard(2, 70_000),
+        Given(70_000, None),
+        // Behind what comes from it the next goes at once, and waits a second again, and then two.
+        Heard(0, 70_000),
+        Wake(70_000),
+        Given(70_000, Some((0, 0, 1))),
+        Given(70_000, None),
+        Ends(0, End::Failed, 70_100),
+        Given(71_099, None),
+        AllFail(&[71_100]),
+        Wake(73_100),
+        // It comes while something is in flight: if that fails, a second is waited, and not four.
+        Given(73_100, Some((0, 0, 1))),
+        Heard(0, 73_200),
+        Given(73_200, None),
+        Ends(0, End::Failed, 73_300),
+        Wake(74_300),
+        // Where the moment has come already, it stays what it was.
+        Heard(0, 80_000),
+        Wake(74_300),
+    ];
+    assert_eq!(rt; as_wanted(rt.alloc(), &steps)?, steps.len());
     Ok(())
 }
 
 #[test]
 fn what_was_answered_comes_no_more(rt: HostRuntime) -> Result<(), Fail> {
-    let mut all = two_destinations(rt.alloc())?;
-    let (first, second) = (SpawnId::new(1)?, SpawnId::new(2)?);
-    look(rt.alloc(), &mut all, 0, &[(1, 0), (2, 0)])?;
-    for end in [End::Taken, End::Refused(21)] {
-        assert!(rt; given(&mut all, 0).is_some());
-        ends(&mut all, 0, end, 0);
-    }
-    look(rt.alloc(), &mut all, 0, &[(1, 0), (2, 1)])?;
-    assert_eq!(rt; given(&mut all, 0), None);
-    assert_eq!(rt; all.progress(0, first), Some(Progress::Taken));
-    assert_eq!(rt; all.progress(0, second), Some(Progress::Refused(21)));
-    // By hand it goes once more, and what was away and is out anew goes as ever.
-    assert!(rt; all.again(0, second)?);
-    assert_eq!(rt; given(&mut all, 0), Some((1, 0, 2)));
-    look(rt.alloc(), &mut all, 0, &[])?;
-    assert_eq!(rt; all.progress(0, first), None);
-    assert!(rt; !all.again(0, first)?);
-    look(rt.alloc(), &mut all, 0, &[(1, 0)])?;
-    assert_eq!(rt; given(&mut all, 0), Some((0, 0, 1)));
+    let steps = [
+        Look(0, &[(1, 0), (2, 0)]),
+        Given(0, Some((0, 0, 1))),
+        Ends(0, End::Taken, 0),
+        Given(0, Some((0, 0, 2))),
+        Ends(0, End::Refused(21), 0),
+        Look(0, &[(1, 0), (2, 1)]),
+        Given(0, None),
+        Fares(0, 1, Some(Progress::Taken)),
+        Fares(0, 2, Some(Progress::Refused(21))),
+        // By hand it goes once more, and what was away and is out anew goes as ever.
+        Again(0, 2, true),
+        Given(0, Some((1, 0, 2))),
+        Look(0, &[]),
+        Fares(0, 1, None),
+        Again(0, 1, false),
+        Look(0, &[(1, 0)]),
+        Given(0, Some((0, 0, 1))),
+    ];
+    assert_eq!(rt; as_wanted(rt.alloc(), &steps)?, steps.len());
     Ok(())
 }
 
 #[test]
 fn controllers_share_a_destination(rt: HostRuntime) -> Result<(), Fail> {
-    let mut all = two_destinations(rt.alloc())?;
-    look(rt.alloc(), &mut all, 7, &[(1, 0)])?;
-    look(rt.alloc(), &mut all, 3, &[(1, 0), (2, 0)])?;
-    assert_eq!(rt; given(&mut all, 0), Some((0, 7, 1)));
-    assert_eq!(rt; given(&mut all, 0), None);
-    ends(&mut all, 0, End::Failed, 0);
-    assert_eq!(rt; given(&mut all, 1_000), Some((0, 3, 1)));
-    ends(&mut all, 0, End::Taken, 1_000);
-    assert_eq!(rt; all.progress(7, SpawnId::new(1)?), Some(Progress::Waiting));
-    // What is out no longer is passed over.
-    look(rt.alloc(), &mut all, 3, &[(1, 0)])?;
-    assert_eq!(rt; given(&mut all, 1_000), Some((0, 7, 1)));
+    let steps = [
+        Look(7, &[(1, 0)]),
+        Look(3, &[(1, 0), (2, 0)]),
+        Given(0, Some((0, 7, 1))),
+        Given(0, None),
+        Ends(0, End::Failed, 0),
+        Given(1_000, Some((0, 3, 1))),
+        Ends(0, End::Taken, 1_000),
+        Fares(7, 1, Some(Progress::Waiting)),
+        // What is out no longer is passed over.
+        Look(3, &[(1, 0)]),
+        Given(1_000, Some((0, 7, 1))),
+    ];
+    assert_eq!(rt; as_wanted(rt.alloc(), &steps)?, steps.len());
     Ok(())
 }
