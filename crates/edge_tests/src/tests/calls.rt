@@ -9,6 +9,9 @@ const REQUEST: &[u8] = b"POST /jmf HTTP/1.1\r\nContent-Length: 2\r\n\r\n{}";
 /// A head of 38 bytes, and a body of two.
 const RESPONSE: &[u8] = b"HTTP/1.1 200 OK\r\nContent-Length: 2\r\n\r\n{}";
 
+/// The same without its last byte.
+const CUT: &[u8] = b"HTTP/1.1 200 OK\r\nContent-Length: 2\r\n\r\n{";
+
 const REFUSAL: &[u8] = b"HTTP/1.1 413 Too Large\r\nContent-Length: 0\r\n\r\n";
 
 /// A call that begins at 100, for ten seconds.
@@ -55,18 +58,40 @@ fn came(
     Ok(told(turns(alloc, begun(alloc, stream)?, 200)))
 }
 
+/// The bytes of a response that come, how they end, how many bytes of the request are taken, and
+/// the status that comes, or why none does.
+const CAME: [(&[u8], Option<ErrorKind>, usize, u16, &str); 6] = [
+    (RESPONSE, None, 1_000, 200, "a response"),
+    (b"", None, 1_000, 0, "BadHead"),
+    (
+        b"HTTP/1.1 200 OK\r\nContent-Length: 2\r\n\r",
+        None,
+        1_000,
+        0,
+        "BadHead",
+    ),
+    (
+        b"HTTP/1.1 200 OK\r\nContent-Length: 2\r\n\r\n",
+        None,
+        1_000,
+        0,
+        "CutShort",
+    ),
+    (
+        CUT,
+        Some(ErrorKind::ConnectionReset),
+        1_000,
+        0,
+        "ReadFailed",
+    ),
+    // Who takes no more of a request may tell why.
+    (REFUSAL, None, 7, 413, "a response"),
+];
+
 #[test]
 fn a_call_comes_to_its_response_or_fails(rt: HostRuntime) -> Result<(), Fail> {
-    let reset = Some(ErrorKind::ConnectionReset);
-    for (text, end, room, status, wanted) in [
-        (RESPONSE, None, 1_000, 200, "a response"),
-        (b"", None, 1_000, 0, "BadHead"),
-        (&RESPONSE[..37], None, 1_000, 0, "BadHead"),
-        (&RESPONSE[..38], None, 1_000, 0, "CutShort"),
-        (&RESPONSE[..39], reset, 1_000, 0, "ReadFailed"),
-        // Who takes no more of a request may tell why.
-        (REFUSAL, None, 7, 413, "a response"),
-    ] {
+    for row in CAME.iter() {
+        let (text, end, room, status, wanted) = *row;
         assert_eq!(rt; came(rt.alloc(), text, end, room)?, (status, wanted));
     }
     Ok(())
@@ -86,7 +111,7 @@ fn waited(alloc: Global, call: Call<Dripping>) -> (bool, &'static str) {
 
 #[test]
 fn a_call_that_nobody_answers_fails_in_time(rt: HostRuntime) -> Result<(), Fail> {
-    let mut stream = Dripping::new(rt.alloc(), &RESPONSE[..39]);
+    let mut stream = Dripping::new(rt.alloc(), CUT);
     stream.end = Some(ErrorKind::WouldBlock);
     let call = begun(rt.alloc(), stream)?;
     let deadline = call.deadline();

@@ -116,16 +116,20 @@ fn cut(alloc: Global, end: usize) -> &'static str {
     told(&turns(alloc, accepted(alloc, stream), 200))
 }
 
+/// Behind how many bytes a request is cut, and what comes of it.
+const CUTS: [(usize, &str); 6] = [
+    (0, "its end"),
+    (1, "BadHead"),
+    (75, "BadHead"),
+    (76, "CutShort"),
+    (77, "CutShort"),
+    (78, "a request"),
+];
+
 #[test]
 fn a_request_that_is_cut_is_refused(rt: HostRuntime) {
-    for (end, wanted) in [
-        (0, "its end"),
-        (1, "BadHead"),
-        (75, "BadHead"),
-        (76, "CutShort"),
-        (77, "CutShort"),
-        (78, "a request"),
-    ] {
+    for row in CUTS.iter() {
+        let (end, wanted) = *row;
         assert_eq!(rt; cut(rt.alloc(), end), wanted, "cut at {end}");
     }
 }

@@ -3,7 +3,7 @@
 use super::dripping::Dripping;
 use http_message::{Method, Methods};
 use peers::{Client, Limits, Turn};
-use std::alloc::Global;
+use std::alloc::{AllocError, Global};
 use std::test::Fail;
 
 /// Those of a listener of these methods.
@@ -72,44 +72,69 @@ fn told(turn: &Turn<Dripping>) -> &'static str {
     }
 }
 
+/// What comes of a request to a listener of messages, to one of orders, and to the page's.
+const TOLD: [(&[u8], &str, &str, &str); 10] = [
+    (POST, "POST", "POST", REFUSED),
+    (NO_LENGTH, "NoLength", "NoLength", REFUSED),
+    (GET, REFUSED, "GET", "GET"),
+    (NO_HOST, "BadHead", "BadHead", "BadHead"),
+    (OLD_GET, REFUSED, "GET", "GET"),
+    (HEAD, REFUSED, REFUSED, "HEAD"),
+    (LONG_GET, REFUSED, "TooLarge", "TooLarge"),
+    (CODED_GET, REFUSED, "Coding", "Coding"),
+    (LOWER_GET, REFUSED, REFUSED, REFUSED),
+    (PUT, REFUSED, REFUSED, REFUSED),
+];
+
+const REFUSED: &str = "NotPost";
+
 #[test]
 fn a_listener_takes_its_methods(rt: HostRuntime) {
-    let refused = "NotPost";
-    for (bytes, messages, orders, pages) in [
-        (POST, "POST", "POST", refused),
-        (NO_LENGTH, "NoLength", "NoLength", refused),
-        (GET, refused, "GET", "GET"),
-        (NO_HOST, "BadHead", "BadHead", "BadHead"),
-        (OLD_GET, refused, "GET", "GET"),
-        (HEAD, refused, refused, "HEAD"),
-        (LONG_GET, refused, "TooLarge", "TooLarge"),
-        (CODED_GET, refused, "Coding", "Coding"),
-        (LOWER_GET, refused, refused, refused),
-        (PUT, refused, refused, refused),
-    ] {
-        for (methods, wanted) in [
-            (Methods::Post, messages),
-            (Methods::PostOrGet, orders),
-            (Methods::GetOrHead, pages),
-        ] {
-            let turn = came(rt.alloc(), methods, bytes);
-            assert_eq!(rt; told(&turn), wanted);
+    for row in TOLD.iter() {
+        let (bytes, messages, orders, pages) = *row;
+        assert_eq!(rt; told(&came(rt.alloc(), Methods::Post, bytes)), messages);
+        assert_eq!(rt; told(&came(rt.alloc(), Methods::PostOrGet, bytes)), orders);
+        assert_eq!(rt; told(&came(rt.alloc(), Methods::GetOrHead, bytes)), pages);
+    }
+}
+
+/// Two requests, one behind the other.
+const TWO: &[u8] = b"GET /a HTTP/1.1\r\nHost: press\r\n\r\nGET /b HTTP/1.1\r\nHost: press\r\n\r\n";
+
+/// What comes of a client that has its response.
+fn ended(alloc: Global, client: Client<Dripping>) -> &'static str {
+    match turns(alloc, client) {
+        Turn::Closed => "its end",
+        turn => told(&turn),
+    }
+}
+
+/// What comes of a client whose response is to be written.
+fn written(alloc: Global, client: Client<Dripping>) -> &'static str {
+    match turns(alloc, client) {
+        Turn::Written(client) => ended(alloc, client),
+        turn => told(&turn),
+    }
+}
+
+/// What comes of a client that asked for `/a`, and is answered.
+fn answered(alloc: Global, turn: Turn<Dripping>) -> Result<&'static str, AllocError> {
+    match turn {
+        Turn::Request(asked, request) => {
+            let is_first = request.target.as_slice() == b"/a".as_slice();
+            if !is_first || !request.body.as_slice().is_empty() {
+                return Ok("another request");
+            }
+            drop(request);
+            Ok(written(alloc, asked.answer(b"HTTP/1.1 204 None\r\n\r\n", 200)?))
         }
+        turn => Ok(told(&turn)),
     }
 }
 
 #[test]
 fn what_comes_behind_a_request_is_no_other(rt: HostRuntime) -> Result<(), Fail> {
-    let bytes = b"GET /a HTTP/1.1\r\nHost: press\r\n\r\nGET /b HTTP/1.1\r\nHost: press\r\n\r\n";
-    let Turn::Request(asked, request) = came(rt.alloc(), Methods::GetOrHead, bytes) else {
-        return Err(Fail::new("no request came"));
-    };
-    assert_eq!(rt; request.target.as_slice(), b"/a".as_slice());
-    assert_eq!(rt; request.body.as_slice(), b"".as_slice());
-    let client = asked.answer(b"HTTP/1.1 204 None\r\n\r\n", 200)?;
-    let Turn::Written(client) = turns(rt.alloc(), client) else {
-        return Err(Fail::new("not written"));
-    };
-    assert!(rt; matches!(turns(rt.alloc(), client), Turn::Closed));
+    let turn = came(rt.alloc(), Methods::GetOrHead, TWO);
+    assert_eq!(rt; answered(rt.alloc(), turn)?, "its end");
     Ok(())
 }

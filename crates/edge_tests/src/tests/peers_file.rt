@@ -15,37 +15,48 @@ fn host_of<'a>(table: &'a PeerTable, name: &str) -> &'a str {
     }
 }
 
+/// How many of these names lead to the host beside them, and are known where there is one, up to
+/// the first that doesn't.
+fn lead(table: &PeerTable, rows: &[(&str, &str)]) -> usize {
+    for (number, row) in rows.iter().enumerate() {
+        let (name, host) = *row;
+        if host_of(table, name) != host || table.knows(name) == host.is_empty() {
+            return number;
+        }
+    }
+    rows.len()
+}
+
+const FRONTS: [(&str, &str); 6] = [
+    ("press", "one"),
+    ("press-1", "all"),
+    ("press-2", "hall"),
+    ("press-20.b", "hall"),
+    ("pres", "rest"),
+    ("Press", "rest"),
+];
+
 #[test]
 fn the_longest_front_wins(rt: HostRuntime) -> Result<(), Fail> {
     let table = peers_of(rt.alloc(), TABLE.as_bytes())?;
-    for (name, host) in [
-        ("press", "one"),
-        ("press-1", "all"),
-        ("press-2", "hall"),
-        ("press-20.b", "hall"),
-        ("pres", "rest"),
-        ("Press", "rest"),
-    ] {
-        assert_eq!(rt; host_of(&table, name), host, "{name}");
-    }
+    assert_eq!(rt; lead(&table, &FRONTS), FRONTS.len());
     Ok(())
 }
+
+const NAMES: [(&str, &str); 6] = [
+    ("bind", "bind"),
+    ("binder", ""),
+    ("bin", ""),
+    ("press", "press"),
+    ("pres", ""),
+    ("", ""),
+];
 
 #[test]
 fn a_name_that_nobody_knows_has_no_url(rt: HostRuntime) -> Result<(), Fail> {
     let text = r#"{"bind":"http://bind/","press*":"http://press/"}"#;
     let table = peers_of(rt.alloc(), text.as_bytes())?;
-    for (name, host) in [
-        ("bind", "bind"),
-        ("binder", ""),
-        ("bin", ""),
-        ("press", "press"),
-        ("pres", ""),
-        ("", ""),
-    ] {
-        assert_eq!(rt; host_of(&table, name), host, "{name}");
-        assert_eq!(rt; table.knows(name), !host.is_empty(), "{name}");
-    }
+    assert_eq!(rt; lead(&table, &NAMES), NAMES.len());
     Ok(())
 }
 
@@ -54,6 +65,17 @@ fn refusal_of(alloc: Global, text: &str) -> Option<Refusal> {
     peers_of(alloc, text.as_bytes()).err()
 }
 
+/// Tables of which one row is wrong.
+const WRONG: [&str; 7] = [
+    r#"["http://h/"]"#,
+    r#"{"a":"http://h/","b":7}"#,
+    r#"{"a":"http://h/","b":"https://h/"}"#,
+    r#"{"a":"http://h/","1":"http://h/"}"#,
+    r#"{"a":"http://h/","b*c":"http://h/"}"#,
+    r#"{"a":"http://h/","b**":"http://h/"}"#,
+    r#"{"a":"http://h/","":"http://h/"}"#,
+];
+
 #[test]
 fn a_table_with_one_wrong_row_is_none(rt: HostRuntime) {
     assert_eq!(rt; refusal_of(rt.alloc(), "{}"), None);
@@ -61,15 +83,7 @@ fn a_table_with_one_wrong_row_is_none(rt: HostRuntime) {
         refusal_of(rt.alloc(), r#"{"a":"http://h/"#),
         Some(Refusal::NotJson)
     );
-    for text in [
-        r#"["http://h/"]"#,
-        r#"{"a":"http://h/","b":7}"#,
-        r#"{"a":"http://h/","b":"https://h/"}"#,
-        r#"{"a":"http://h/","1":"http://h/"}"#,
-        r#"{"a":"http://h/","b*c":"http://h/"}"#,
-        r#"{"a":"http://h/","b**":"http://h/"}"#,
-        r#"{"a":"http://h/","":"http://h/"}"#,
-    ] {
+    for text in WRONG.iter() {
         assert_eq!(rt;
             refusal_of(rt.alloc(), text),
             Some(Refusal::NotProfile),
@@ -92,41 +106,51 @@ fn leads_to(
     Ok(found.authority() == authority && found.port() == port && found.path() == path)
 }
 
+const URLS: [(&str, &str, u16, &str); 4] = [
+    ("http://press.test", "press.test", 80, "/"),
+    ("http://Press.Test:80/jmf", "press.test", 80, "/jmf"),
+    (
+        "HTTP://10.0.0.7:8080/a/../jmf",
+        "10.0.0.7:8080",
+        8080,
+        "/jmf",
+    ),
+    (
+        "http://[0:0::1]:81/two words",
+        "[::1]:81",
+        81,
+        "/two%20words",
+    ),
+];
+
+const NO_URLS: [&str; 9] = [
+    "https://press.test/jmf",
+    "ftp://press.test/jmf",
+    "press.test:80/jmf",
+    "/jmf",
+    "",
+    "http://user@press.test/jmf",
+    "http://press.test/jmf?a=b",
+    "http://press.test/jmf#a",
+    "http://press.test:65536/jmf",
+];
+
+/// Whether a text is a URL that a message can be sent to.
+fn is_url(alloc: Global, text: &str) -> Result<bool, AllocError> {
+    Ok(Destination::of(alloc, text)?.is_some())
+}
+
 #[test]
 fn a_url_tells_the_host_the_port_and_the_path(rt: HostRuntime) -> Result<(), Fail> {
-    for (text, authority, port, path) in [
-        ("http://press.test", "press.test", 80, "/"),
-        ("http://Press.Test:80/jmf", "press.test", 80, "/jmf"),
-        (
-            "HTTP://10.0.0.7:8080/a/../jmf",
-            "10.0.0.7:8080",
-            8080,
-            "/jmf",
-        ),
-        (
-            "http://[0:0::1]:81/two words",
-            "[::1]:81",
-            81,
-            "/two%20words",
-        ),
-    ] {
+    for row in URLS.iter() {
+        let (text, authority, port, path) = *row;
         assert!(rt;
             leads_to(rt.alloc(), text, authority, port, path)?,
             "{text}"
         );
     }
-    for text in [
-        "https://press.test/jmf",
-        "ftp://press.test/jmf",
-        "press.test:80/jmf",
-        "/jmf",
-        "",
-        "http://user@press.test/jmf",
-        "http://press.test/jmf?a=b",
-        "http://press.test/jmf#a",
-        "http://press.test:65536/jmf",
-    ] {
-        assert!(rt; Destination::of(rt.alloc(), text)?.is_none(), "{text}");
+    for text in NO_URLS.iter() {
+        assert!(rt; !is_url(rt.alloc(), text)?, "{text}");
     }
     Ok(())
 }
