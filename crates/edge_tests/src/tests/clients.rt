@@ -59,14 +59,14 @@ fn is_sent(asked: &Asked<Dripping>, request: &Received) -> bool {
         && asked.deadline() == 60_200
 }
 
-/// Whether a client has its response, and lingers as long as it may.
-fn has_response(client: &Client<Dripping>) -> bool {
-    client.stream().taken.as_slice() == TAKEN && client.deadline() == 2_400
+/// Whether a client has taken this, and lingers as long as it may.
+fn has_taken(client: &Client<Dripping>, taken: &[u8]) -> bool {
+    client.stream().taken.as_slice() == taken && client.deadline() == 2_400
 }
 
 /// What comes of a client that has its response.
-fn ended(alloc: Global, client: Client<Dripping>) -> &'static str {
-    if !has_response(&client) {
+fn ended(alloc: Global, client: Client<Dripping>, taken: &[u8]) -> &'static str {
+    if !has_taken(&client, taken) {
         return "another response";
     }
     match turns(alloc, client, 500) {
@@ -76,25 +76,25 @@ fn ended(alloc: Global, client: Client<Dripping>) -> &'static str {
 }
 
 /// What comes of a client whose response is to be written.
-fn written(alloc: Global, client: Client<Dripping>) -> &'static str {
+fn written(alloc: Global, client: Client<Dripping>, taken: &[u8]) -> &'static str {
     if client.deadline() != 30_300 {
         return "another time for its response";
     }
     match turns(alloc, client, 400) {
-        Turn::Written(client) => ended(alloc, client),
+        Turn::Written(client) => ended(alloc, client, taken),
         turn => told(&turn),
     }
 }
 
-/// What comes of a client whose request came, and which is answered at 300.
-fn answered(alloc: Global, turn: Turn<Dripping>) -> Result<&'static str, AllocError> {
+/// What comes of a client whose request came, and which is answered at 300, and is to take this.
+fn answered(alloc: Global, turn: Turn<Dripping>, taken: &[u8]) -> Result<&'static str, AllocError> {
     match turn {
         Turn::Request(asked, request) => {
             if !is_sent(&asked, &request) {
                 return Ok("another request");
             }
             drop(request);
-            Ok(written(alloc, asked.answer(RESPONSE, 300)?))
+            Ok(written(alloc, asked.answer(RESPONSE, 300)?, taken))
         }
         turn => Ok(told(&turn)),
     }
@@ -105,7 +105,7 @@ fn a_client_is_answered(rt: HostRuntime) -> Result<(), Fail> {
     let client = accepted(rt.alloc(), Dripping::new(rt.alloc(), REQUEST));
     let deadline = client.deadline();
     let turn = turns(rt.alloc(), client, 200);
-    let came = answered(rt.alloc(), turn)?;
+    let came = answered(rt.alloc(), turn, TAKEN)?;
     assert_eq!(rt; (deadline, came), (10_100, "its response, and its end"));
     Ok(())
 }
@@ -154,6 +154,19 @@ fn a_client_that_takes_no_response_is_closed(rt: HostRuntime) -> Result<(), Fail
     let mut stream = Dripping::new(rt.alloc(), REQUEST);
     stream.room = 30;
     let turn = turns(rt.alloc(), accepted(rt.alloc(), stream), 200);
-    assert_eq!(rt; answered(rt.alloc(), turn)?, "its end");
+    assert_eq!(rt; answered(rt.alloc(), turn, TAKEN)?, "its end");
+    Ok(())
+}
+
+/// Two requests, one behind the other.
+const TWO: &[u8] = b"POST /jmf HTTP/1.1\r\nHost: press\r\nContent-Length: 2\r\n\r\n{}\
+    POST /b HTTP/1.1\r\nHost: press\r\nContent-Length: 2\r\n\r\n{}";
+
+#[test]
+fn what_comes_behind_a_request_is_no_other(rt: HostRuntime) -> Result<(), Fail> {
+    let client = accepted(rt.alloc(), Dripping::new(rt.alloc(), TWO));
+    let turn = turns(rt.alloc(), client, 200);
+    let came = answered(rt.alloc(), turn, RESPONSE)?;
+    assert_eq!(rt; came, "its response, and its end");
     Ok(())
 }

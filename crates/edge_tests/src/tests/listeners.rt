@@ -3,8 +3,7 @@
 use super::dripping::Dripping;
 use http_message::{Method, Methods};
 use peers::{Client, Limits, Turn};
-use std::alloc::{AllocError, Global};
-use std::test::Fail;
+use std::alloc::Global;
 
 /// Those of a listener of these methods.
 fn limits(methods: Methods) -> Limits {
@@ -88,53 +87,21 @@ const TOLD: [(&[u8], &str, &str, &str); 10] = [
 
 const REFUSED: &str = "NotPost";
 
+/// What is told of a request to a listener of these methods.
+fn said(alloc: Global, methods: Methods, bytes: &'static [u8]) -> &'static str {
+    told(&came(alloc, methods, bytes))
+}
+
+/// Whether the request of a row comes to what is told of it.
+fn is_told(alloc: Global, row: &(&'static [u8], &str, &str, &str)) -> bool {
+    said(alloc, Methods::Post, row.0) == row.1
+        && said(alloc, Methods::PostOrGet, row.0) == row.2
+        && said(alloc, Methods::GetOrHead, row.0) == row.3
+}
+
 #[test]
 fn a_listener_takes_its_methods(rt: HostRuntime) {
-    for row in TOLD.iter() {
-        let (bytes, messages, orders, pages) = *row;
-        assert_eq!(rt; told(&came(rt.alloc(), Methods::Post, bytes)), messages);
-        assert_eq!(rt; told(&came(rt.alloc(), Methods::PostOrGet, bytes)), orders);
-        assert_eq!(rt; told(&came(rt.alloc(), Methods::GetOrHead, bytes)), pages);
+    for (number, row) in TOLD.iter().enumerate() {
+        assert!(rt; is_told(rt.alloc(), row), "row {number}");
     }
-}
-
-/// Two requests, one behind the other.
-const TWO: &[u8] = b"GET /a HTTP/1.1\r\nHost: press\r\n\r\nGET /b HTTP/1.1\r\nHost: press\r\n\r\n";
-
-/// What comes of a client that has its response.
-fn ended(alloc: Global, client: Client<Dripping>) -> &'static str {
-    match turns(alloc, client) {
-        Turn::Closed => "its end",
-        turn => told(&turn),
-    }
-}
-
-/// What comes of a client whose response is to be written.
-fn written(alloc: Global, client: Client<Dripping>) -> &'static str {
-    match turns(alloc, client) {
-        Turn::Written(client) => ended(alloc, client),
-        turn => told(&turn),
-    }
-}
-
-/// What comes of a client that asked for `/a`, and is answered.
-fn answered(alloc: Global, turn: Turn<Dripping>) -> Result<&'static str, AllocError> {
-    match turn {
-        Turn::Request(asked, request) => {
-            let is_first = request.target.as_slice() == b"/a".as_slice();
-            if !is_first || !request.body.as_slice().is_empty() {
-                return Ok("another request");
-            }
-            drop(request);
-            Ok(written(alloc, asked.answer(b"HTTP/1.1 204 None\r\n\r\n", 200)?))
-        }
-        turn => Ok(told(&turn)),
-    }
-}
-
-#[test]
-fn what_comes_behind_a_request_is_no_other(rt: HostRuntime) -> Result<(), Fail> {
-    let turn = came(rt.alloc(), Methods::GetOrHead, TWO);
-    assert_eq!(rt; answered(rt.alloc(), turn)?, "its end");
-    Ok(())
 }
