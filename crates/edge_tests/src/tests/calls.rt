@@ -60,7 +60,7 @@ fn came(
 
 /// The bytes of a response that come, how they end, how many bytes of the request are taken, and
 /// the status that comes, or why none does.
-const CAME: [(&[u8], Option<ErrorKind>, usize, u16, &str); 6] = [
+static CAME: [(&'static [u8], Option<ErrorKind>, usize, u16, &'static str); 6] = [
     (RESPONSE, None, 1_000, 200, "a response"),
     (b"", None, 1_000, 0, "BadHead"),
     (

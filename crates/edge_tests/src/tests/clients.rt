@@ -117,7 +117,7 @@ fn cut(alloc: Global, end: usize) -> &'static str {
 }
 
 /// Behind how many bytes a request is cut, and what comes of it.
-const CUTS: [(usize, &str); 6] = [
+static CUTS: [(usize, &'static str); 6] = [
     (0, "its end"),
     (1, "BadHead"),
     (75, "BadHead"),

@@ -72,7 +72,7 @@ fn told(turn: &Turn<Dripping>) -> &'static str {
 }
 
 /// What comes of a request to a listener of messages, to one of orders, and to the page's.
-const TOLD: [(&[u8], &str, &str, &str); 10] = [
+static TOLD: [(&'static [u8], &'static str, &'static str, &'static str); 10] = [
     (POST, "POST", "POST", REFUSED),
     (NO_LENGTH, "NoLength", "NoLength", REFUSED),
     (GET, REFUSED, "GET", "GET"),

@@ -27,7 +27,7 @@ fn lead(table: &PeerTable, rows: &[(&str, &str)]) -> usize {
     rows.len()
 }
 
-const FRONTS: [(&str, &str); 6] = [
+static FRONTS: [(&'static str, &'static str); 6] = [
     ("press", "one"),
     ("press-1", "all"),
     ("press-2", "hall"),
@@ -43,7 +43,7 @@ fn the_longest_front_wins(rt: HostRuntime) -> Result<(), Fail> {
     Ok(())
 }
 
-const NAMES: [(&str, &str); 6] = [
+static NAMES: [(&'static str, &'static str); 6] = [
     ("bind", "bind"),
     ("binder", ""),
     ("bin", ""),
@@ -66,7 +66,7 @@ fn refusal_of(alloc: Global, text: &str) -> Option<Refusal> {
 }
 
 /// Tables of which one row is wrong.
-const WRONG: [&str; 7] = [
+static WRONG: [&'static str; 7] = [
     r#"["http://h/"]"#,
     r#"{"a":"http://h/","b":7}"#,
     r#"{"a":"http://h/","b":"https://h/"}"#,
@@ -106,7 +106,7 @@ fn leads_to(
     Ok(found.authority() == authority && found.port() == port && found.path() == path)
 }
 
-const URLS: [(&str, &str, u16, &str); 4] = [
+static URLS: [(&'static str, &'static str, u16, &'static str); 4] = [
     ("http://press.test", "press.test", 80, "/"),
     ("http://Press.Test:80/jmf", "press.test", 80, "/jmf"),
     (
@@ -123,7 +123,7 @@ const URLS: [(&str, &str, u16, &str); 4] = [
     ),
 ];
 
-const NO_URLS: [&str; 9] = [
+static NO_URLS: [&'static str; 9] = [
     "https://press.test/jmf",
     "ftp://press.test/jmf",
     "press.test:80/jmf",

@@ -12,23 +12,35 @@ fn leads_to(alloc: Global, lies: Lies, receiver: &str, sender: &str) -> Result<S
     }
 }
 
+/// What lies under the receiver's name, who the message is for and whose it is, and the file to
+/// which it leads, if it leads to one.
+static LEADS: [(Lies, &'static str, &'static str, &'static str); 11] = [
+    (Lies::File, "press", "job-17", "shop/press"),
+    (Lies::File, "press", "job.17", "shop/press"),
+    (Lies::File, "press.new", "job-17", ""),
+    (Lies::File, PEERS, "job-17", ""),
+    (Lies::File, "..", "job-17", ""),
+    (Lies::File, "bind/job-17", "job-17", ""),
+    (Lies::Folder, "bind", "job-17", "shop/bind/job-17"),
+    (Lies::Folder, "bind", "job.17", ""),
+    (Lies::Folder, "bind", "../press", ""),
+    (Lies::Folder, "bind.new", "job-17", ""),
+    (Lies::Nothing, "press", "job-17", ""),
+];
+
+/// Whether the message of a row leads there.
+fn leads_there(
+    alloc: Global,
+    row: &(Lies, &'static str, &'static str, &'static str),
+) -> Result<bool, AllocError> {
+    let found = leads_to(alloc, row.0, row.1, row.2)?;
+    Ok(found.as_str() == row.3)
+}
+
 #[test]
 fn a_message_leads_to_a_file(rt: HostRuntime) -> Result<(), Fail> {
-    for (lies, receiver, sender, path) in [
-        (Lies::File, "press", "job-17", "shop/press"),
-        (Lies::File, "press", "job.17", "shop/press"),
-        (Lies::File, "press.new", "job-17", ""),
-        (Lies::File, PEERS, "job-17", ""),
-        (Lies::File, "..", "job-17", ""),
-        (Lies::File, "bind/job-17", "job-17", ""),
-        (Lies::Folder, "bind", "job-17", "shop/bind/job-17"),
-        (Lies::Folder, "bind", "job.17", ""),
-        (Lies::Folder, "bind", "../press", ""),
-        (Lies::Folder, "bind.new", "job-17", ""),
-        (Lies::Nothing, "press", "job-17", ""),
-    ] {
-        let found = leads_to(rt.alloc(), lies, receiver, sender)?;
-        assert_eq!(rt; found.as_str(), path, "{receiver} {sender}");
+    for (number, row) in LEADS.iter().enumerate() {
+        assert!(rt; leads_there(rt.alloc(), row)?, "row {number}");
     }
     Ok(())
 }
@@ -42,26 +54,43 @@ fn names_of<'a>(owner: Addressee<'a>) -> (&'a str, &'a str) {
     }
 }
 
+/// The path of a file, and the names of the controller that it is for.
+static OWNED: [(&'static str, &'static str, &'static str); 8] = [
+    ("owned/press", "press", "*"),
+    ("owned/press.new", "", "*"),
+    ("owned/peers.json", "", "*"),
+    ("owned/bind/job-17", "bind", "job-17"),
+    ("owned/bind/job.17", "bind", ""),
+    ("owned/bind.new/job-17", "", "job-17"),
+    ("owned/bind/deep/job-17", "*", "*"),
+    ("press", "*", "*"),
+];
+
+/// Whether the file of a path is for the controller of these names.
+fn is_for(rt: &HostRuntime, path: &str, name: &str, master: &str) -> Result<bool, AllocError> {
+    let owner = owner_of(rt, rt.alloc(), path)?;
+    Ok(names_of(owner) == (name, master))
+}
+
+/// Makes a folder with a peers' file.
+fn make_served(rt: &HostRuntime, folder: &str) -> Result<(), Fail> {
+    let peers = in_folder(rt.alloc(), folder, PEERS)?;
+    fs::write(rt, peers.as_str(), "{}")?;
+    Ok(())
+}
+
 #[test]
 fn a_file_is_for_the_controller_of_its_name(rt: HostRuntime) -> Result<(), Fail> {
     let _ = fs::remove_dir_all(&rt, "owned");
     fs::create_dir(&rt, "owned")?;
-    let peers = in_folder(rt.alloc(), "owned", PEERS)?;
-    let bind = owner_of(&rt, rt.alloc(), "owned/bind/job-17")?;
-    assert_eq!(rt; names_of(bind), ("*", "*"), "before it has a peers' file");
-    fs::write(&rt, peers.as_str(), "{}")?;
-    for (path, name, master) in [
-        ("owned/press", "press", "*"),
-        ("owned/press.new", "", "*"),
-        ("owned/peers.json", "", "*"),
-        ("owned/bind/job-17", "bind", "job-17"),
-        ("owned/bind/job.17", "bind", ""),
-        ("owned/bind.new/job-17", "", "job-17"),
-        ("owned/bind/deep/job-17", "*", "*"),
-        ("press", "*", "*"),
-    ] {
-        let owner = owner_of(&rt, rt.alloc(), path)?;
-        assert_eq!(rt; names_of(owner), (name, master), "{path}");
+    assert!(rt;
+        is_for(&rt, "owned/bind/job-17", "*", "*")?,
+        "before it has a peers' file"
+    );
+    make_served(&rt, "owned")?;
+    for row in OWNED.iter() {
+        let (path, name, master) = *row;
+        assert!(rt; is_for(&rt, path, name, master)?, "{path}");
     }
     let _ = fs::remove_dir_all(&rt, "owned");
     Ok(())
@@ -77,38 +106,62 @@ fn is_at(files: &[FolderFile], place: usize, path: &str, name: &str, master: &st
     }
 }
 
+static FOLDERS: [&'static str; 4] = [
+    "listed",
+    "listed/bind",
+    "listed/bind/deep",
+    "listed/cut.old",
+];
+
+static FILES: [&'static str; 10] = [
+    "listed/press",
+    "listed/mis",
+    "listed/mis.new",
+    "listed/2nd",
+    "listed/peers.json",
+    "listed/bind/job-2",
+    "listed/bind/job-1",
+    "listed/bind/job-1.new",
+    "listed/bind/deep/job-1",
+    "listed/cut.old/job-1",
+];
+
+/// The files of the folder, in their order, each with the names of the controller that it is for.
+static LISTED: [(&'static str, &'static str, &'static str); 4] = [
+    ("listed/bind/job-1", "bind", "job-1"),
+    ("listed/bind/job-2", "bind", "job-2"),
+    ("listed/mis", "mis", "*"),
+    ("listed/press", "press", "*"),
+];
+
+/// Makes the folder with all that lies there.
+fn make_listed(rt: &HostRuntime) -> Result<(), Fail> {
+    for folder in FOLDERS.iter() {
+        fs::create_dir(rt, folder)?;
+    }
+    for path in FILES.iter() {
+        fs::write(rt, path, "{}")?;
+    }
+    Ok(())
+}
+
+/// Whether these are the files of the folder.
+fn are_listed(files: &[FolderFile]) -> bool {
+    for (place, row) in LISTED.iter().enumerate() {
+        let (path, name, master) = *row;
+        if !is_at(files, place, path, name, master) {
+            return false;
+        }
+    }
+    files.len() == LISTED.len()
+}
+
 #[test]
 fn a_folder_has_these_files(rt: HostRuntime) -> Result<(), Fail> {
     let _ = fs::remove_dir_all(&rt, "listed");
-    for folder in [
-        "listed",
-        "listed/bind",
-        "listed/bind/deep",
-        "listed/cut.old",
-    ] {
-        fs::create_dir(&rt, folder)?;
-    }
-    for path in [
-        "listed/press",
-        "listed/mis",
-        "listed/mis.new",
-        "listed/2nd",
-        "listed/peers.json",
-        "listed/bind/job-2",
-        "listed/bind/job-1",
-        "listed/bind/job-1.new",
-        "listed/bind/deep/job-1",
-        "listed/cut.old/job-1",
-    ] {
-        fs::write(&rt, path, "{}")?;
-    }
+    make_listed(&rt)?;
     let found = files_in(&rt, rt.alloc(), "listed")?;
-    let files = found.as_slice();
-    assert_eq!(rt; files.len(), 4);
-    assert_eq!(rt; is_at(files, 0, "listed/bind/job-1", "bind", "job-1"), true);
-    assert_eq!(rt; is_at(files, 1, "listed/bind/job-2", "bind", "job-2"), true);
-    assert_eq!(rt; is_at(files, 2, "listed/mis", "mis", "*"), true);
-    assert_eq!(rt; is_at(files, 3, "listed/press", "press", "*"), true);
+    assert!(rt; are_listed(found.as_slice()), "in this order");
     let _ = fs::remove_dir_all(&rt, "listed");
     Ok(())
 }
