@@ -6,15 +6,16 @@ use Rattle.jdf_server.specs.declared.server.Server.{Server}
 use Rattle.jdf_server.specs.declared.service.Service.{Service}
 
 -- clients of what lies there, as many as are asked for
-pub record AreClientsOf {R F : Type 0} (service : Service) (place : Place) (c : Clients R F)
+pub record AreClientsOf {R F : Type 0} (service : Service) (served : Place) (c : Clients R F)
     : Type 0 where
-  pub place : c.place ≡ place
+  pub place : c.place ≡ served
   pub left : c.left ≡ service.requests
 
 -- a server of what lies there, as it is asked for, from which nothing goes out
-pub record IsBegun {R F : Type 0} (service : Service) (place : Place) (s : Server R F) : Type 0 where
-  pub place : s.place ≡ place
-  pub clients : AreClientsOf service place s.clients
+pub record IsBegun {R F : Type 0} (service : Service) (served : Place) (s : Server R F)
+    : Type 0 where
+  pub place : s.place ≡ served
+  pub clients : AreClientsOf service served s.clients
   pub sender_field : s.sender_field ≡ service.sender_field
   pub journal : s.journal ≡ service.journal
   pub post : s.post ≡ None
