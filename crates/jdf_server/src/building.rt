@@ -61,7 +61,7 @@ fn clients<'a, R, F: Write + Drop>(
     listener: MessageListener,
     log: Log<F>,
 ) -> Clients<'a, R, F>
-    ensures { AreClientsOf service.now place result }
+    ensures { AreClientsOf service.now place.entry result }
 {
     Clients {
         rt,
@@ -99,7 +99,7 @@ fn server<'a, R: Locks + Net + Clock + Alloc + Clone + Drop, F: Write + Drop>(
     listener: TcpListener,
     log: Log<F>,
 ) -> io::Result<Server<'a, R, F>>
-    ensures { IfOk result (IsBegun service.now place) }
+    ensures { IfOk result (IsBegun service.now place.entry) }
 {
     let poll = Poll::new(rt)?;
     let moments = Moments::begin(rt)?;
@@ -142,7 +142,7 @@ impl<'a, R: Locks + Net + Clock + Alloc + Clone + Drop, F: Write + Drop> Server<
         listener: TcpListener,
         writer: F,
     ) -> io::Result<Server<'a, R, F>>
-        ensures { IfOk result (IsBegun service.now place) }
+        ensures { IfOk result (IsBegun service.now place.entry) }
     {
         let log = Log::new(rt, alloc, writer)?;
         server(rt, alloc, service, place, listener, log)
