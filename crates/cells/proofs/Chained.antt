@@ -1,8 +1,8 @@
 -- What many holders add to the values of a cell is one chain.
-use Rattle.std.proofs.Common.{◌≡◌, ◌≢◌, ◌⊎◌, inl, inr, ⊎_elim, ◌<◌, ◌≤◌, ℕ, ◌==◌, Bool, true, false, cond, List, [], ◌∷◌, ◌++◌, length, get_or, set, refl, sym, ◌∙◌, ap, subst, arith}
+use Rattle.std.proofs.Common.{◌≡◌, ◌≢◌, ◌⊎◌, inl, inr, ⊎_elim, ◌<◌, ◌≤◌, ℕ, ◌==◌, Bool, true, false, cond, List, [], ◌∷◌, ◌++◌, length, length-append, take, get_or, set, ◌+◌, refl, sym, ◌∙◌, ap, subst, arith}
 use Rattle.std.specs.Prelude.{Option, Some, None, ⊤, unwrap_or}
 use Rattle.std.proofs.lemmas.Bool.{cases_eq, eq-eqb, ne_eqb}
-use Rattle.std.proofs.lemmas.List.{get_or-set_same, get_or-set_other, length-set}
+use Rattle.std.proofs.lemmas.List.{get_or-set_same, get_or-set_other, get_or_read, length-set, take_more}
 use Rattle.keepers.specs.Crash.{IsWithin}
 use Rattle.cells.specs.Calls.{Sends}
 use Rattle.cells.specs.Chain.{Grows, IsMadeBy, Links, Makes, Swap, Version, View, held, nothing}
@@ -83,14 +83,23 @@ links_of_holders history X (b ∷ added) old rises sent links =
 
 -- ---- one call more
 
-asked_of : (act : Act) (holding : Holding) (s : Swap) → asked act holding ≡ Some s → (a : Version) × (holding.has ≡ Some a) × IsAskedOf act a s
-asked_of Read holding s is = absurd (cc is)
-asked_of (Swaps bytes) record { has = Some a; is_open = false } s is = (a, refl, ap (λ (s : Swap). s.over) (sym (cc is)), ap (λ (s : Swap). s.bytes) (sym (cc is)))
-asked_of (Swaps bytes) record { has = Some a; is_open = true } s is = absurd (cc is)
-asked_of (Swaps bytes) record { has = None; is_open = open } s is = absurd (cc is)
-asked_of Touch record { has = Some a; is_open = true } s is = (a, refl, ap (λ (s : Swap). s.over) (sym (cc is)), ap (λ (s : Swap). s.bytes) (sym (cc is)))
-asked_of Touch record { has = Some a; is_open = false } s is = absurd (cc is)
-asked_of Touch record { has = None; is_open = open } s is = absurd (cc is)
+abbrev AskedOf : Act → Option Version → Swap → Type 0
+AskedOf act has s = (a : Version) × (has ≡ Some a) × IsAskedOf act a s
+
+same_swap : (s t : Swap) → Some s ≡ Some t → s ≡ t
+same_swap s t same = cc same
+
+asked_of_parts : (act : Act) (has : Option Version) (o : Bool) (s : Swap) → asked act record { has = has; is_open = o } ≡ Some s → AskedOf act has s
+asked_of_parts Read has o s is = absurd (cc is)
+asked_of_parts (Swaps bytes) (Some a) false s is = let same = same_swap _ _ is in (a, refl, (ap (λ (s : Swap). s.over) (sym same), ap (λ (s : Swap). s.bytes) (sym same)))
+asked_of_parts (Swaps bytes) (Some a) true s is = absurd (cc is)
+asked_of_parts (Swaps bytes) None o s is = absurd (cc is)
+asked_of_parts Touch (Some a) true s is = let same = same_swap _ _ is in (a, refl, (ap (λ (s : Swap). s.over) (sym same), ap (λ (s : Swap). s.bytes) (sym same)))
+asked_of_parts Touch (Some a) false s is = absurd (cc is)
+asked_of_parts Touch None o s is = absurd (cc is)
+
+asked_of : (act : Act) (holding : Holding) (s : Swap) → asked act holding ≡ Some s → AskedOf act holding.has s
+asked_of act holding = asked_of_parts act holding.has holding.is_open
 
 pub record IsSound (history : List Done) (start : List Version) (v : View) (holders : List Holding) : Type 0 where
   pub grows : Grows (IsOfHolder history) start v.chain
@@ -160,7 +169,7 @@ sound_next history start v w holders h act new within sound acts =
       rises = subst IsRising (sym g.is) (rising_more X g.added v.chain sound.rises g.links);
       sent = λ s may. subst (λ c. IsSent _ c s) (sym g.is) (sent_more _ g.added v.chain s (is_sent s (acts.sends.sent s may)));
       has = λ k inside. has_next history holders h act new k within (subst (λ n. k < n) (length-set holders h new) inside) sound.has;
-      was = λ k a is. was_next history h act new k a w.chain is was_new (λ earlier. more a (sound.was k a earlier));
+      was = λ k a is. was_next history h act new k a w.chain is (was_new a) (λ earlier. more a (sound.was k a earlier));
     }
 
 -- ---- all calls
@@ -174,3 +183,18 @@ history_more before [] [] call has same = refl
 history_more before [] (t ∷ told) call has same = absurd (cc same)
 history_more before (c ∷ calls) [] call has same = absurd (cc same)
 history_more before (c ∷ calls) (t ∷ told) call has same = history_more (done_call c t ∷ before) calls told call has (cc same)
+
+pub told_more : (calls : List Call) (i : ℕ) (call : Call) (told : List (Option Version)) (has : Option Version) → i < length calls → length told ≡ length (take i calls) → length (told ++ has ∷ []) ≡ length (take (i + 1) calls)
+told_more calls i call told has within same = length-append told (has ∷ []) ∙ (ap (λ n. n + 1) same ∙ sym (ap length (take_more calls i call within) ∙ length-append (take i calls) (get_or calls i call ∷ [])))
+
+history_next : (calls : List Call) (i : ℕ) (call : Call) (told : List (Option Version)) (has : Option Version) → i < length calls → call ≡ get_or calls i call → length told ≡ length (take i calls) → history_of (take (i + 1) calls) (told ++ has ∷ []) ≡ done_call call has ∷ history_of (take i calls) told
+history_next calls i call told has within is same =
+    ap (λ cs. history_of cs (told ++ has ∷ [])) (take_more calls i call within ∙ ap (λ c. take i calls ++ c ∷ []) (sym is))
+    ∙ history_more [] (take i calls) told call has same
+
+-- one call more adds to the chain
+pub run_next : (calls : List Call) (i : ℕ) (call : Call) (start : List Version) (v w : View) (told : List (Option Version)) (holders : List Holding) (old new : Holding) → i < length calls → call ≡ get_or calls i call → call.holder < length holders → old ≡ get_or holders call.holder old → length told ≡ length (take i calls) → IsSound (history_of (take i calls) told) start v holders → Acts call.act old new v w → IsSound (history_of (take (i + 1) calls) (told ++ new.has ∷ [])) start w (set holders call.holder new)
+run_next calls i call start v w told holders old new within is inside at same sound acts =
+    subst (λ h. IsSound h start w (set holders call.holder new)) (sym (history_next calls i call told new.has within is same))
+    (sound_next (history_of (take i calls) told) start v w holders call.holder call.act new inside sound
+    (subst (λ (x : Holding). Acts call.act x new v w) (get_or_read holders call.holder old inside at idle) acts))

@@ -11,7 +11,7 @@ use Rattle.cells.specs.declared.swapped.Swapped.TheVariants.{Made, Other, Unknow
 abbrev Comes : Type 1
 Comes = Version → Version → Type 0
 
-abbrev Sent : Type 1
+abbrev pub Sent : Type 1
 Sent = Swap → Type 0
 
 -- values that come so come otherwise too
@@ -58,7 +58,7 @@ grows_stay X old new g same = g.is ∙ links_stay X g.added old g.links (ap (λ 
 
 -- ---- from view to view
 
-made_more : (X Y : Sent) (each : (s : Swap) → X s → Y s) (a b : Version) → IsMadeBy X a b → IsMadeBy Y a b
+pub made_more : (X Y : Sent) (each : (s : Swap) → X s → Y s) (a b : Version) → IsMadeBy X a b → IsMadeBy Y a b
 made_more X Y each a b made = (made.0, each made.0 made.1, made.2)
 
 pub sends_not : (v : View) (X : Sent) → Sends v X v
@@ -81,11 +81,11 @@ sends_join old X mid new first second =
 -- what was made was sent
 pub made_sends : (old : View) (s : Swap) (new : View) (revision : ℕ) → IsMade old s new revision → MayMake old s new
 made_sends old s new revision made = record {
-  grows = subst (Grows _ old.chain) (sym made.is) (grows_join _ old.chain made.before (made.value ∷ made.before) (grows_widen _ _ (made_more _ _ (λ _. inl)) old.chain made.before made.landed) (grows_one _ made.before made.value (s, (inr refl, made.makes))));
+  grows = subst (Grows _ old.chain) (sym made.is) (grows_join _ old.chain made.before (made.value ∷ made.before) (grows_widen _ _ (made_more _ _ (λ _. inl)) old.chain made.before made.landed) (grows_one _ made.before made.value (s, inr refl, made.makes)));
   sent = λ o may. inl (made.sent o may);
 }
 
-none_sent : (old : View) (s : Swap) (new : View) → Goes old new → MayMake old s new
+pub none_sent : (old : View) (s : Swap) (new : View) → Goes old new → MayMake old s new
 none_sent old s new goes = sends_more old _ _ new (λ o (none : ⊥). absurd none) goes
 
 -- whatever the answer to a swap is, that was sent and no other

@@ -1,10 +1,13 @@
 -- A keeper over a cell: what its calls leave.
 use Rattle.std.specs.Prelude.{◌≡◌, ◌⊎◌, ◌<◌, ◌≤◌, ◌++◌, ◌∷◌, ℕ, List, Bool, true, false}
-use Rattle.std.specs.Prelude.{Option, Some, IfSome, ◌&&◌, not, bytes_eq, option_map_or}
+use Rattle.std.specs.Prelude.{Option, Some, IfSome, ◌&&◌, not, bytes_eq, ⊤}
+use Rattle.std.specs.Option.{option_map_or}
 use Rattle.keepers.specs.Crash.{IsWithin}
-use Rattle.cells.specs.Calls.{IsMade}
+use Rattle.cells.specs.Calls.{IsMade, IsNot}
 use Rattle.cells.specs.Chain.{Swap, Version, View, held}
-use Rattle.cells.specs.Keeping.{Holding, swap_of, touch_of}
+use Rattle.cells.specs.Keeping.{Holding, has_read, swap_of, touch_of}
+use Rattle.cells.specs.declared.swapped.Swapped.{Swapped}
+use Rattle.cells.specs.declared.swapped.Swapped.TheVariants.{Made, Other, Unknown}
 
 -- the cell and what is known of it, whether the last save was a conflict, and how many calls failed
 pub record Kept (C : Type 0) : Type 0 where
@@ -37,6 +40,15 @@ pub record IsSettled (holding : Holding) (old new : View) : Type 0 where
 abbrev pub IsSwapped : Holding → List ℕ → View → View → Type 0
 IsSwapped holding bytes old new =
     (v : Version) × (holding.has ≡ Some v) × ((revision : ℕ) × IsMade old (swap_of v bytes) new revision)
+
+-- what the answer to a save by these bytes tells, and what it has then: they were swapped; or
+-- another came first, and they never will be
+abbrev pub SavesAs : Holding → List ℕ → View → View → Holding → Swapped → Type 0
+SavesAs holding bytes old new after (Made revision) =
+    IsSwapped holding bytes old new × (after ≡ has_read (held new.chain))
+SavesAs holding bytes old new after Other =
+    IfSome holding.has (λ v. IsNot old (swap_of v bytes) new)
+SavesAs holding bytes old new after Unknown = ⊤
 
 -- the values held at one time are among those held later
 abbrev pub IsPartOf : List Version → List Version → Type 0

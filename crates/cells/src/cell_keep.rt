@@ -1,5 +1,6 @@
 use crate::cell::Cell;
 use crate::holder::Holder;
+use crate::sharing;
 use crate::swapped::Swapped;
 use keepers::{Keep, KeepFault};
 use std::alloc::Global;
@@ -31,13 +32,10 @@ impl<C: Cell> Model for CellKeep<C> {
 }
 
 impl<C: Cell> CellKeep<C> {
-    ghost use Rattle.std.specs.Prelude.{◌≡◌, ◌<◌, ◌≤◌, ℕ, false, true, Ok, IfOk, IfSome, OnOk};
-    ghost use Rattle.cells.specs.Calls.{Goes, IsNot, Sends};
-    ghost use Rattle.cells.specs.Chain.{held};
-    ghost use Rattle.cells.specs.Chain as chain;
-    ghost use Rattle.cells.specs.Keeping.{has_read, idle, swap_of};
-    ghost use Rattle.cells.specs.declared.swapped.Swapped.TheVariants.{Made, Other};
-    ghost use Rattle.cells.specs.Kept.{IsOfLoad, IsOfSave, IsSettled, IsSwapped, holds};
+    ghost use Rattle.std.specs.Prelude.{◌≡◌, ◌≤◌, false};
+    ghost use Rattle.cells.specs.Chain.{nothing};
+    ghost use Rattle.cells.specs.Keeping.{has_read, idle};
+    ghost use Rattle.cells.specs.Kept.{holds};
     ghost use Rattle.keepers.specs.Keeper.{CountRose};
 
     /// A keeper over this cell, of which no call failed yet. It loads before it saves.
@@ -57,7 +55,7 @@ impl<C: Cell> CellKeep<C> {
     pub fn over_new(alloc: Global, cell: C) -> CellKeep<C>
         ensures { result ≡ record {
           cell = cell;
-          holding = has_read chain.nothing;
+          holding = has_read nothing;
           is_conflict = false;
           count = 0;
         } }
@@ -103,62 +101,6 @@ impl<C: Cell> CellKeep<C> {
             Some(version) => version.bytes() == bytes && !self.holder.is_open(),
             None => false,
         }
-    }
-
-    /// Touches what it has, where a swap of it is open.
-    fn settle(&mut self)
-        ensures sends { C.is_honest ≡ true →
-            Sends (C.view self.old.cell) (IsOfLoad self.old.holding) (C.view self.new.cell) }
-        ensures settled { C.is_honest ≡ true → self.new.holding.is_open ≡ false →
-            IsSettled self.old.holding (C.view self.old.cell) (C.view self.new.cell) }
-        ensures same { self.new ≡ record self.old {
-          cell = self.new.cell;
-          holding = self.new.holding;
-        } }
-    {
-        let _ = self.holder.touch(&mut self.cell);
-    }
-
-    /// Reads what the cell holds. Refuses `Failed` where that is nothing too.
-    fn read(&mut self) -> Result<Vec<u8>, KeepFault>
-        ensures goes { C.is_honest ≡ true → Goes (C.view self.old.cell) (C.view self.new.cell) }
-        ensures value { C.is_honest ≡ true → IfOk result (λ bytes.
-            (bytes.items ≡ (held (C.view self.new.cell).chain).bytes)
-            × (0 < (held (C.view self.new.cell).chain).revision)) }
-        ensures has { C.is_honest ≡ true →
-            OnOk result (self.new.holding ≡ has_read (held (C.view self.new.cell).chain)) }
-        ensures closed { OnOk result (self.old.holding.is_open ≡ false) }
-        ensures same { self.new ≡ record self.old {
-          cell = self.new.cell;
-          holding = self.new.holding;
-        } }
-    {
-        self.holder.read(&mut self.cell)?;
-        match self.holder.has() {
-            Some(version) if version.revision() > 0 => Ok(version.copy_bytes()?),
-            _ => Err(KeepFault::Failed),
-        }
-    }
-
-    /// Swaps what it has by these bytes, and touches where no answer comes.
-    fn swap(&mut self, bytes: &[u8]) -> Result<Swapped, KeepFault>
-        ensures sends { C.is_honest ≡ true → Sends (C.view self.old.cell)
-            (IsOfSave self.old.holding bytes.now) (C.view self.new.cell) }
-        ensures made { C.is_honest ≡ true → (revision : ℕ) → result ≡ Ok (Made revision) →
-            IsSwapped self.old.holding bytes.now (C.view self.old.cell) (C.view self.new.cell)
-            × (self.new.holding ≡ has_read (held (C.view self.new.cell).chain)) }
-        ensures other { C.is_honest ≡ true → result ≡ Ok Other → IfSome self.old.holding.has
-            (λ v. IsNot (C.view self.old.cell) (swap_of v bytes.now) (C.view self.new.cell)) }
-        ensures same { self.new ≡ record self.old {
-          cell = self.new.cell;
-          holding = self.new.holding;
-        } }
-    {
-        let answer = self.holder.swap(&mut self.cell, bytes)?;
-        if answer == Swapped::Unknown {
-            self.settle();
-        }
-        Ok(answer)
     }
 }
 
@@ -214,8 +156,7 @@ impl<C: Cell> Keep for CellKeep<C> {
         if self.failures == u64::MAX {
             return Err(KeepFault::Failed);
         }
-        self.settle();
-        match self.read() {
+        match sharing::load(&mut self.cell, &mut self.holder) {
             Ok(bytes) => Ok(bytes),
             Err(KeepFault::Failed) => Err(self.fail()),
             Err(KeepFault::Memory) => Err(KeepFault::Memory),
@@ -247,7 +188,7 @@ impl<C: Cell> Keep for CellKeep<C> {
         if self.holds(bytes) {
             return Ok(());
         }
-        match self.swap(bytes) {
+        match sharing::save(&mut self.cell, &mut self.holder, bytes) {
             Ok(Swapped::Made(_)) => Ok(()),
             Ok(Swapped::Other) => {
                 self.is_conflict = true;

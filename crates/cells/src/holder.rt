@@ -95,6 +95,7 @@ impl Holder {
     pub fn swap<C: Cell>(&mut self, cell: &mut C, bytes: &[u8]) -> Result<Swapped, KeepFault>
         ensures err { OnErr result ((self.new ≡ self.old) × (cell.new ≡ cell.old)) }
         ensures failed { (result ≡ Err Failed) ↔ (can_swap self.old ≡ false) }
+        ensures sent { OnOk result (can_swap self.old ≡ true) }
         ensures swaps { C.is_honest ≡ true → IfOk result (λ answer. IfSome self.old.has (λ v.
             Swaps (C.view cell.old) (swap_of v bytes.now) (C.view cell.new) answer)) }
         ensures after { IfOk result (λ answer. self.new ≡ after_swap answer bytes.now self.old) }

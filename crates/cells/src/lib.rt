@@ -12,6 +12,7 @@ mod delayed;
 mod holder;
 mod runs;
 mod scripted_cell;
+mod sharing;
 mod step;
 mod swapped;
 mod versioned;

@@ -1,6 +1,6 @@
 //! Many holders of one cell.
 
-ghost use Rattle.std.specs.Prelude.{◌≡◌, ◌<◌, true, length, replicate, All, IfOk};
+ghost use Rattle.std.specs.Prelude.{◌≡◌, ◌<◌, true, length, All, IfOk};
 ghost use Rattle.cells.specs.Chain.{Grows, Swap};
 ghost use Rattle.cells.specs.Keeping.{idle};
 ghost use Rattle.cells.specs.Runs.{Acts, IsOfHolder, IsRising, history_of};
@@ -42,7 +42,8 @@ fn copy_of(holder: &Holder) -> Result<Option<Versioned>, AllocError>
 
 /// So many holders.
 fn idle_holders(alloc: Global, count: usize) -> Result<Vec<Holder>, AllocError>
-    ensures { IfOk result (λ holders. holders.items ≡ replicate count idle) }
+    ensures count { IfOk result (λ holders. length holders.items ≡ count) }
+    ensures idle { IfOk result (λ holders. All (λ h. h ≡ idle) holders.items) }
 {
     let mut holders = Vec::new(alloc);
     for _ in 0..count {
@@ -58,17 +59,17 @@ fn idle_holders(alloc: Global, count: usize) -> Result<Vec<Holder>, AllocError>
 pub fn run<C: Cell>(
     alloc: Global,
     cell: &mut C,
-    holders: usize,
+    count: usize,
     calls: &[Call],
 ) -> Result<Vec<Option<Versioned>>, AllocError>
-    requires { All (λ call. call.holder < holders) calls.now }
+    requires { All (λ call. call.holder < count) calls.now }
     ensures told { IfOk result (λ told. length told.items ≡ length calls.now) }
     ensures chain { C.is_honest ≡ true → IfOk result (λ told. IsRising (C.view cell.old).chain
         → ((s : Swap) → (C.view cell.old).may_land s → ⊥)
         → Grows (IsOfHolder (history_of calls.now told.items))
         (C.view cell.old).chain (C.view cell.new).chain) }
 {
-    let mut holders = idle_holders(alloc, holders)?;
+    let mut holders = idle_holders(alloc, count)?;
     let mut told = Vec::new(alloc);
     for call in calls {
         let holder = &mut holders[call.holder];

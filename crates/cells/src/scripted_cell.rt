@@ -31,7 +31,7 @@ impl Model for ScriptedCell {
 }
 
 impl ScriptedCell {
-    ghost use Rattle.std.specs.Prelude.{◌≡◌, ◌≢◌, ◌+◌, ◌∷◌, [], true, false, Some};
+    ghost use Rattle.std.specs.Prelude.{◌≡◌, ◌≢◌, ◌+◌, ◌-◌, ◌∷◌, [], true, false, Some, length};
     ghost use Rattle.std.specs.Prelude.{IfOk, OnErr, option_map};
     ghost use Rattle.cells.specs.Calls.{Goes, MayMake, Swaps};
     ghost use Rattle.cells.specs.Chain.{Grows, IsMadeBy, Makes, Version, held};
@@ -114,14 +114,25 @@ impl ScriptedCell {
         self.script.remove(0)
     }
 
-    /// What was delayed comes, the first that was sent first.
+    /// What was delayed comes, the last that was sent first.
     fn land(&mut self)
         ensures goes { Goes (view_of self.old) (view_of self.new) }
     {
         while !self.delayed.is_empty() {
-            let (over, bytes) = self.delayed.remove(0).into_parts();
-            let _ = self.make(over, bytes);
+            self.land_last();
         }
+    }
+
+    /// The last of what was delayed comes, if there is any.
+    fn land_last(&mut self)
+        ensures goes { Goes (view_of self.old) (view_of self.new) }
+        ensures fewer { length self.new.delayed ≡ length self.old.delayed - 1 }
+    {
+        let Some(delayed) = self.delayed.pop() else {
+            return;
+        };
+        let (over, bytes) = delayed.into_parts();
+        let _ = self.make(over, bytes);
     }
 
     /// Another's swap comes, in place of whatever is held.
