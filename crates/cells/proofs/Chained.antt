@@ -150,7 +150,8 @@ sound_next history start v w holders h act new within sound acts =
     let old = get_or holders h idle in
     let had_it = sound.has h within in
     let X : Sent = λ s. v.may_land s ⊎ (asked act old ≡ Some s) in
-    let is_sent : (s : Swap) → X s → IsSent (done_of h act new ∷ history) v.chain s = λ s.
+    let next : List Done = done_of h act new ∷ history in
+    let is_sent : (s : Swap) → X s → IsSent next v.chain s = λ s.
         ⊎_elim (λ (may : v.may_land s). inr (sound.sent s may)) (λ (is : asked act old ≡ Some s).
             let of = asked_of act old s is in
             let had_of : had history h ≡ Some of.0 = sym had_it ∙ of.1 in
@@ -163,11 +164,11 @@ sound_next history start v w holders h act new within sound acts =
             (λ (now : new.has ≡ Some (held w.chain)). subst (λ b. WasHeld b w.chain) (some_same _ _ (sym now ∙ is)) (is_held w.chain)))
         acts.has in
     record {
-      grows = grows_join _ start v.chain w.chain
-          (grows_widen _ _ (λ a b. inr) start v.chain sound.grows)
-          record { added = g.added; is = g.is; links = links_of_holders _ X g.added v.chain sound.rises is_sent g.links };
+      grows = grows_join (IsOfHolder next) start v.chain w.chain
+          (grows_widen (IsOfHolder history) (IsOfHolder next) (λ a b. inr) start v.chain sound.grows)
+          record { added = g.added; is = g.is; links = links_of_holders next X g.added v.chain sound.rises is_sent g.links };
       rises = subst IsRising (sym g.is) (rising_more X g.added v.chain sound.rises g.links);
-      sent = λ s may. subst (λ c. IsSent _ c s) (sym g.is) (sent_more _ g.added v.chain s (is_sent s (acts.sends.sent s may)));
+      sent = λ s may. subst (λ (c : List Version). IsSent next c s) (sym g.is) (sent_more next g.added v.chain s (is_sent s (acts.sends.sent s may)));
       has = λ k inside. has_next history holders h act new k within (subst (λ n. k < n) (length-set holders h new) inside) sound.has;
       was = λ k a is. was_next history h act new k a w.chain is (was_new a) (λ earlier. more a (sound.was k a earlier));
     }
