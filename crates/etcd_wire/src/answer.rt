@@ -1,7 +1,7 @@
 //! What answers tell.
 
 ghost use Rattle.std.specs.Prelude.{◌≡◌, ◌<◌, ◌^◌, ◌⊎◌, ◌↔◌, ℕ, false, true};
-ghost use Rattle.std.specs.Prelude.{None, Some, Err, IfOk, IfSome, IsNone, decimal};
+ghost use Rattle.std.specs.Prelude.{None, Some, Err, IfOk, IfSome, IsNone, bytes_eq, decimal};
 ghost use Rattle.std.specs.Str.{IsUtf8};
 ghost use Rattle.json.specs.Json.{document};
 ghost use Rattle.json.specs.Value.{value_view};
@@ -17,6 +17,14 @@ use itoa::Buffer;
 use json::{Error, Scratch, Value};
 use std::alloc::{AllocError, Global};
 
+/// Whether a text is that of a number.
+fn is_decimal(text: &str, number: u64) -> bool
+    ensures { result ≡ bytes_eq (decimal number) text.now }
+{
+    let mut buffer = Buffer::new();
+    buffer.format(number) == text
+}
+
 /// The number that a text is in decimal, as it is printed.
 fn number_of(text: &str) -> Option<u64>
     ensures some { IfSome result (λ n. (n < 2 ^ 64) × (text.now ≡ decimal n)) }
@@ -25,11 +33,11 @@ fn number_of(text: &str) -> Option<u64>
     let Ok(number) = text.parse::<u64>() else {
         return None;
     };
-    let mut buffer = Buffer::new();
-    if buffer.format(number) != text {
-        return None;
+    if is_decimal(text, number) {
+        Some(number)
+    } else {
+        None
     }
-    Some(number)
 }
 
 /// The number that stands under a name, as a text.

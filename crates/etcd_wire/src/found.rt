@@ -54,18 +54,22 @@ fn version_in(alloc: Global, pair: &Value<'_>) -> Result<Versioned, NoAnswer>
     let Some(revision) = number_under(pair, "mod_revision") else {
         return Err(NoAnswer::Unknown);
     };
-    let bytes = value_in(alloc, pair)?;
-    Ok(Versioned::new(revision, bytes))
+    match value_in(alloc, pair) {
+        Ok(bytes) => Ok(Versioned::new(revision, bytes)),
+        Err(fault) => Err(fault),
+    }
 }
 
 /// The item of a list of one.
+#[tactic(auto, using(crate::proofs::Told::one_of, crate::proofs::Told::none_of, crate::proofs::Told::more_of))]
 fn only<'t, 'a>(list: &'t Value<'a>) -> Option<&'t Value<'a>>
     ensures some { IfSome result (λ item. value_view list.now ≡ one (value_view item.now)) }
     ensures none { IsNone result → (item : Json) → value_view list.now ≡ one item → ⊥ }
 {
-    match list {
-        Value::Array(items) if items.len() == 1 => items.first(),
-        _ => None,
+    let item = list.at(0)?;
+    match list.at(1) {
+        Some(_) => None,
+        None => Some(item),
     }
 }
 
@@ -78,9 +82,12 @@ fn found_in(alloc: Global, answer: &Value<'_>) -> Result<Option<Versioned>, NoAn
     let Some(list) = answer.get("kvs") else {
         return Ok(None);
     };
-    match only(list) {
-        Some(pair) => Ok(Some(version_in(alloc, pair)?)),
-        None => Err(NoAnswer::Unknown),
+    let Some(pair) = only(list) else {
+        return Err(NoAnswer::Unknown);
+    };
+    match version_in(alloc, pair) {
+        Ok(version) => Ok(Some(version)),
+        Err(fault) => Err(fault),
     }
 }
 
@@ -97,8 +104,8 @@ pub fn held_of(alloc: Global, status: u16, body: &[u8]) -> Result<Option<Version
     }
     let mut scratch = Scratch::new(alloc);
     let answer = parsed(alloc, body, &mut scratch)?;
-    if revision_of(&answer).is_none() {
+    let Some(_) = revision_of(&answer) else {
         return Err(NoAnswer::Unknown);
-    }
+    };
     found_in(alloc, &answer)
 }

@@ -9,7 +9,7 @@ use std::alloc::{AllocError, Global};
 
 /// A list of one.
 pub(crate) fn one<'a>(alloc: Global, item: Value<'a>) -> Result<Value<'a>, AllocError>
-    ensures { IfOk result (λ v. value_view v ≡ form.one (value_view item)) }
+    ensures { IfOk result (λ v. value_view v ≡ form.one (value_view item.entry)) }
 {
     let mut items = Vec::new(alloc);
     items.push(item)?;
@@ -22,7 +22,7 @@ pub(crate) fn single<'a>(
     name: &'a str,
     value: Value<'a>,
 ) -> Result<Value<'a>, AllocError>
-    ensures { IfOk result (λ v. value_view v ≡ form.single name.now (value_view value)) }
+    ensures { IfOk result (λ v. value_view v ≡ form.single name.now (value_view value.entry)) }
 {
     let mut members = Vec::new(alloc);
     members.push((name, value))?;
@@ -35,8 +35,8 @@ pub(crate) fn pair<'a>(
     first: (&'a str, Value<'a>),
     second: (&'a str, Value<'a>),
 ) -> Result<Value<'a>, AllocError>
-    ensures { IfOk result (λ v. value_view v ≡ form.pair first.0.now (value_view first.1)
-        second.0.now (value_view second.1)) }
+    ensures { IfOk result (λ v. value_view v ≡ form.pair first.entry.0.now (value_view first.entry.1)
+        second.entry.0.now (value_view second.entry.1)) }
 {
     let mut members = Vec::new(alloc);
     members.push(first)?;
@@ -51,8 +51,8 @@ pub(crate) fn triple<'a>(
     second: (&'a str, Value<'a>),
     third: (&'a str, Value<'a>),
 ) -> Result<Value<'a>, AllocError>
-    ensures { IfOk result (λ v. value_view v ≡ form.triple first.0.now (value_view first.1)
-        second.0.now (value_view second.1) third.0.now (value_view third.1)) }
+    ensures { IfOk result (λ v. value_view v ≡ form.triple first.entry.0.now (value_view first.entry.1)
+        second.entry.0.now (value_view second.entry.1) third.entry.0.now (value_view third.entry.1)) }
 {
     let mut members = Vec::new(alloc);
     members.push(first)?;

@@ -38,14 +38,8 @@ pub fn swap_request(
 {
     let key = STANDARD.encode(alloc, key)?;
     let bytes = STANDARD.encode(alloc, bytes)?;
-    let put = pair(
-        alloc,
-        ("key", Value::String(key.as_str())),
-        ("value", Value::String(bytes.as_str())),
-    )?;
     let mut buffer = Buffer::new();
-    let revision = buffer.format(revision);
-    transaction(alloc, key.as_str(), revision, single(alloc, "request_put", put)?)
+    swap_body(alloc, key.as_str(), buffer.format(revision), bytes.as_str())
 }
 
 /// The body that asks for a later revision of what is under a key, where it has this one.
@@ -55,14 +49,49 @@ pub fn touch_request(alloc: Global, key: &[u8], revision: u64) -> Result<Vec<u8>
         document body.items ≡ Some (form.touch key.now revision)) }
 {
     let key = STANDARD.encode(alloc, key)?;
+    let mut buffer = Buffer::new();
+    touch_body(alloc, key.as_str(), buffer.format(revision))
+}
+
+/// The body of a swap, by the texts of what it names.
+fn swap_body<'a>(
+    alloc: Global,
+    key: &'a str,
+    revision: &'a str,
+    bytes: &'a str,
+) -> Result<Vec<u8>, AllocError>
+    ensures text { IfOk result (λ body. body.items
+        ≡ text_of (form.transaction key.now revision.now (form.put key.now bytes.now))) }
+    ensures again { IfOk result (λ body. document body.items
+        ≡ Some (form.transaction key.now revision.now (form.put key.now bytes.now))) }
+{
     let put = pair(
         alloc,
-        ("key", Value::String(key.as_str())),
+        ("key", Value::String(key)),
+        ("value", Value::String(bytes)),
+    )?;
+    let success = single(alloc, "request_put", put)?;
+    transaction(alloc, key, revision, success)
+}
+
+/// The body of a touch, by the texts of what it names.
+fn touch_body<'a>(
+    alloc: Global,
+    key: &'a str,
+    revision: &'a str,
+) -> Result<Vec<u8>, AllocError>
+    ensures text { IfOk result (λ body. body.items
+        ≡ text_of (form.transaction key.now revision.now (form.put_again key.now))) }
+    ensures again { IfOk result (λ body. document body.items
+        ≡ Some (form.transaction key.now revision.now (form.put_again key.now))) }
+{
+    let put = pair(
+        alloc,
+        ("key", Value::String(key)),
         ("ignore_value", Value::Bool(true)),
     )?;
-    let mut buffer = Buffer::new();
-    let revision = buffer.format(revision);
-    transaction(alloc, key.as_str(), revision, single(alloc, "request_put", put)?)
+    let success = single(alloc, "request_put", put)?;
+    transaction(alloc, key, revision, success)
 }
 
 /// The one comparison, of the revision of what is under the key with this.
@@ -92,9 +121,9 @@ fn transaction<'a>(
     requires numbers { HasNumbers (value_view success) }
     requires depth { depth (value_view success) ≤ 2 }
     ensures text { IfOk result (λ body. body.items
-        ≡ text_of (form.transaction key.now revision.now (value_view success))) }
+        ≡ text_of (form.transaction key.now revision.now (value_view success.entry))) }
     ensures again { IfOk result (λ body. document body.items
-        ≡ Some (form.transaction key.now revision.now (value_view success))) }
+        ≡ Some (form.transaction key.now revision.now (value_view success.entry))) }
 {
     let compare = comparison(alloc, key, revision)?;
     let range = single(alloc, "key", Value::String(key))?;
