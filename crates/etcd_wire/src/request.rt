@@ -65,12 +65,7 @@ fn swap_body<'a>(
     ensures again { IfOk result (λ body. document body.items
         ≡ Some (form.transaction key.now revision.now (form.put key.now bytes.now))) }
 {
-    let put = pair(
-        alloc,
-        ("key", Value::String(key)),
-        ("value", Value::String(bytes)),
-    )?;
-    let success = single(alloc, "request_put", put)?;
+    let success = put(alloc, key, bytes)?;
     transaction(alloc, key, revision, success)
 }
 
@@ -85,13 +80,39 @@ fn touch_body<'a>(
     ensures again { IfOk result (λ body. document body.items
         ≡ Some (form.transaction key.now revision.now (form.put_again key.now))) }
 {
+    let success = put_again(alloc, key)?;
+    transaction(alloc, key, revision, success)
+}
+
+/// What is under a key.
+fn range_at<'a>(alloc: Global, key: &'a str) -> Result<Value<'a>, AllocError>
+    ensures { IfOk result (λ v. value_view v ≡ form.range_at key.now) }
+{
+    single(alloc, "key", Value::String(key))
+}
+
+/// These bytes come under the key.
+fn put<'a>(alloc: Global, key: &'a str, bytes: &'a str) -> Result<Value<'a>, AllocError>
+    ensures { IfOk result (λ v. value_view v ≡ form.put key.now bytes.now) }
+{
+    let put = pair(
+        alloc,
+        ("key", Value::String(key)),
+        ("value", Value::String(bytes)),
+    )?;
+    single(alloc, "request_put", put)
+}
+
+/// The bytes that are under the key come there again.
+fn put_again<'a>(alloc: Global, key: &'a str) -> Result<Value<'a>, AllocError>
+    ensures { IfOk result (λ v. value_view v ≡ form.put_again key.now) }
+{
     let put = pair(
         alloc,
         ("key", Value::String(key)),
         ("ignore_value", Value::Bool(true)),
     )?;
-    let success = single(alloc, "request_put", put)?;
-    transaction(alloc, key, revision, success)
+    single(alloc, "request_put", put)
 }
 
 /// The one comparison, of the revision of what is under the key with this.
@@ -126,7 +147,7 @@ fn transaction<'a>(
         ≡ Some (form.transaction key.now revision.now (value_view success.entry))) }
 {
     let compare = comparison(alloc, key, revision)?;
-    let range = single(alloc, "key", Value::String(key))?;
+    let range = range_at(alloc, key)?;
     let look = single(alloc, "request_range", range)?;
     let whole = triple(
         alloc,
