@@ -40,7 +40,7 @@ fn of_two_that_read_the_same_one_swaps(rt: HostRuntime) -> Result<(), Fail> {
     let told = run(rt.alloc(), &mut cell, 2, calls.as_slice())?;
     assert_eq!(rt; told.len(), 7);
     assert!(rt; told[3].is_none());
-    assert_eq!(rt; chain_of(rt.alloc(), &cell)?.as_slice(), b"da");
+    assert_eq!(rt; chain_of(rt.alloc(), &cell)?.as_slice(), b"da".as_slice());
     Ok(())
 }
 

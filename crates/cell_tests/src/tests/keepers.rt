@@ -45,7 +45,7 @@ fn held<'a>(keep: &'a CellKeep<ScriptedCell>) -> &'a [u8] {
 fn a_save_of_what_was_loaded_swaps_nothing(rt: HostRuntime) -> Result<(), Fail> {
     let mut keep = CellKeep::over(rt.alloc(), cell(rt.alloc(), Vec::new(rt.alloc()))?);
     assert_eq!(rt; keep.save(b"a"), Err(KeepFault::Failed));
-    assert_eq!(rt; keep.load()?.as_slice(), b"a");
+    assert_eq!(rt; keep.load()?.as_slice(), b"a".as_slice());
     assert_eq!(rt; keep.save(b"a"), Ok(()));
     assert_eq!(rt; keep.cell().chain().len(), 1);
     assert_eq!(rt; keep.save(b"b"), Ok(()));
@@ -61,7 +61,7 @@ fn a_step_is_made_anew_on_what_is_held(rt: HostRuntime) -> Result<(), Fail> {
     script.push(Deed::Interrupt(Vec::from_slice(rt.alloc(), b"xyz")?))?;
     let mut keep = CellKeep::over(rt.alloc(), cell(rt.alloc(), script)?);
     assert_eq!(rt; step_anew(rt.alloc(), &mut keep, &Add(b'b')), Ok(3));
-    assert_eq!(rt; held(&keep), b"xyzb");
+    assert_eq!(rt; held(&keep), b"xyzb".as_slice());
     Ok(())
 }
 
@@ -111,7 +111,7 @@ fn nothing_is_loaded_while_a_swap_is_open(rt: HostRuntime) -> Result<(), Fail> {
     assert_eq!(rt; step_anew(rt.alloc(), &mut keep, &Add(b'b')), Err(KeepFault::Failed));
     assert_eq!(rt; keep.load().err(), Some(KeepFault::Failed));
     assert_eq!(rt; keep.failures(), 2);
-    assert_eq!(rt; keep.load()?.as_slice(), b"a");
+    assert_eq!(rt; keep.load()?.as_slice(), b"a".as_slice());
     Ok(())
 }
 
@@ -123,7 +123,7 @@ fn what_is_there_is_not_made_again(rt: HostRuntime) -> Result<(), Fail> {
     let empty = ScriptedCell::new(rt.alloc(), Vec::new(rt.alloc()));
     let mut keep = CellKeep::over_new(rt.alloc(), empty);
     assert_eq!(rt; keep.save(b"n"), Ok(()));
-    assert_eq!(rt; held(&keep), b"n");
+    assert_eq!(rt; held(&keep), b"n".as_slice());
     Ok(())
 }
 
