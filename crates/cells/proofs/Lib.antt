@@ -1,0 +1,5 @@
+mod Acting
+mod Chained
+mod Following
+mod Growing
+mod Keeping

@@ -1,0 +1,13 @@
+//! The bytes of etcd's JSON gateway: what a value under a key is asked by, and what an answer tells.
+#![tactic(auto)]
+
+mod answer;
+mod found;
+mod no_answer;
+mod parts;
+mod request;
+
+pub use answer::swapped_of;
+pub use found::held_of;
+pub use no_answer::NoAnswer;
+pub use request::{range_request, swap_request, touch_request};
