@@ -16,6 +16,7 @@ use crate::pools::print_pool;
 use json::Writer;
 use std::alloc::{AllocError, Global};
 use ticket_items::{Marks, NodeRow};
+use ticket_rows::Rows;
 
 /// Prints the members of a node in front of its children.
 pub fn print_front(out: &mut Writer, row: &NodeRow) -> Result<(), AllocError>
@@ -46,7 +47,7 @@ pub fn print_last(
 }
 
 /// The row at an index, if there is one and it stands deeper than `depth`.
-fn deeper_at(rows: &[NodeRow], at: usize, depth: u32) -> Option<&NodeRow>
+fn deeper_at<'a>(rows: &Rows<'a>, at: usize, depth: u32) -> Option<&'a NodeRow>
     ensures { MatchOption result
         (is_front_deeper depth (drop at rows.now) ≡ false)
         (λ r. IsDeeperAt depth rows.now at r.now) }
@@ -62,7 +63,7 @@ fn print_node(
     alloc: Global,
     out: &mut Writer,
     row: &NodeRow,
-    rows: &[NodeRow],
+    rows: &Rows<'_>,
     from: usize,
     marks: &Marks,
 ) -> Result<usize, AllocError>
@@ -87,7 +88,7 @@ pub fn print_children(
     alloc: Global,
     out: &mut Writer,
     depth: u32,
-    rows: &[NodeRow],
+    rows: &Rows<'_>,
     from: usize,
     marks: &Marks,
 ) -> Result<usize, AllocError>

@@ -2,6 +2,7 @@ pub mod Alike
 pub mod AtHome
 pub mod AtPlaces
 pub mod Below
+pub mod Boxed
 pub mod Building
 pub mod Changes
 pub mod Copies

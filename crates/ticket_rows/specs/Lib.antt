@@ -10,3 +10,4 @@ pub mod Copies
 pub mod OneRow
 pub mod ChangedRow
 pub mod Index
+pub mod Boxed

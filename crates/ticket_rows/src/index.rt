@@ -1,7 +1,6 @@
 ghost use Rattle.std.specs.Prelude.{◌≡◌, ◌<◌, ℕ, List, Some, not, is_some, if◌then◌else◌, slice_get};
 ghost use Rattle.std.specs.Prelude.{◌∷◌, ◌++◌, [], length, true, IfOk, OnErr, OnOk};
 ghost use Rattle.std.specs.Option.{option_map};
-ghost use Rattle.std.specs.Vec.{vec_capacity};
 ghost use Rattle.std.specs.Str.{bytes_eq};
 ghost use Rattle.ticket_items.specs.Ids.{are_distinct};
 ghost use Rattle.ticket_rows.specs.Index.{Finds, Shape, Tells, ids_in, raised, shape_of, spot_under};
@@ -61,12 +60,11 @@ fn moved(place: usize, from: usize, end: usize) -> usize
 
 /// Moves the places from one on, all of which are below an end, by one. Each is written, so that
 /// the processor has nothing to guess.
-fn raise(places: &mut Vec<usize>, from: usize, end: usize)
-    requires { (n k : ℕ) → slice_get places.old.items n ≡ Some k → k < end }
-    ensures len { length places.new.items ≡ length places.old.items }
-    ensures room { vec_capacity places.new ≡ vec_capacity places.old }
-    ensures moved { (n : ℕ) → slice_get places.new.items n
-        ≡ option_map (raised from) (slice_get places.old.items n) }
+fn raise(places: &mut [usize], from: usize, end: usize)
+    requires { (n k : ℕ) → slice_get places.old n ≡ Some k → k < end }
+    ensures len { length places.new ≡ length places.old }
+    ensures moved { (n : ℕ) → slice_get places.new n
+        ≡ option_map (raised from) (slice_get places.old n) }
 {
     for n in 0..places.len() {
         places[n] = moved(places[n], from, end);
@@ -81,6 +79,7 @@ impl Index {
     ghost use Rattle.std.specs.Str.{bytes_eq};
     ghost use Rattle.ticket_items.specs.Ids.{are_distinct, mem};
     ghost use Rattle.ticket_items.specs.declared.node_row.NodeRow.{NodeRow};
+    ghost use Rattle.ticket_rows.specs.Boxed.{contents};
     ghost use Rattle.ticket_rows.specs.ChangedRow.{at_place, end_behind};
     ghost use Rattle.ticket_rows.specs.Index.{Finds, IsIndex, node_at, resource_at, runs_of};
     ghost use Rattle.ticket_rows.specs.Index.{shapes_of, spot_under, with_more};
@@ -149,23 +148,28 @@ impl Index {
 
     /// Puts the id of a new node in, which is to stand last below the one at a place; where it will
     /// stand. Without memory nothing changes.
-    pub fn add_node(&mut self, rows: &[NodeRow], place: usize, id: Id) -> Result<usize, AllocError>
-        requires index { IsIndex rows.now self.old }
-        requires within { place < length rows.now }
-        requires new { mem id (ids rows.now) ≡ false }
-        ensures end { (r : NodeRow) → slice_get rows.now place ≡ Some r
-            → IfOk result (λ end. end ≡ end_behind rows.now place r) }
-        ensures ok { (r new : NodeRow) → slice_get rows.now place ≡ Some r → new.id ≡ id
+    pub fn add_node(
+        &mut self,
+        rows: &[Box<NodeRow>],
+        place: usize,
+        id: Id,
+    ) -> Result<usize, AllocError>
+        requires index { IsIndex (contents rows.now) self.old }
+        requires within { place < length (contents rows.now) }
+        requires new { mem id (ids (contents rows.now)) ≡ false }
+        ensures end { (r : NodeRow) → slice_get (contents rows.now) place ≡ Some r
+            → IfOk result (λ end. end ≡ end_behind (contents rows.now) place r) }
+        ensures ok { (r new : NodeRow) → slice_get (contents rows.now) place ≡ Some r → new.id ≡ id
             → new.resources ≡ [] → new.depth ≡ suc r.depth
-            → IfOk result (λ end. IsIndex (insert rows.now end new) self.new) }
-        ensures err { OnErr result (IsIndex rows.now self.new) }
+            → IfOk result (λ end. IsIndex (insert (contents rows.now) end new) self.new) }
+        ensures err { OnErr result (IsIndex (contents rows.now) self.new) }
     {
         let end = place + 1 + self.runs[place];
         self.places.reserve(1)?;
         self.runs.reserve(1)?;
         let node = self.places.len();
         self.spots.insert(id, Spot::OfNode { node })?;
-        raise(&mut self.places, end, rows.len());
+        raise(self.places.as_mut_slice(), end, rows.len());
         self.places.push(end).unwrap();
         lengthen(&mut self.runs, place, rows.len());
         self.runs.insert(end, 0).unwrap();
@@ -188,23 +192,24 @@ impl Index {
     /// Without memory nothing changes.
     pub fn add_resource(
         &mut self,
-        rows: &[NodeRow],
+        rows: &[Box<NodeRow>],
         place: usize,
         id: &Id,
     ) -> Result<(), AllocError>
-        requires index { IsIndex rows.now self.old }
-        requires distinct { are_distinct (ids rows.now) ≡ true }
-        requires within { place < length rows.now }
-        requires new { mem id.now (ids rows.now) ≡ false }
-        ensures ok { OnOk result (Finds (at_place place (with_more id.now) (shapes_of rows.now))
+        requires index { IsIndex (contents rows.now) self.old }
+        requires distinct { are_distinct (ids (contents rows.now)) ≡ true }
+        requires within { place < length (contents rows.now) }
+        requires new { mem id.now (ids (contents rows.now)) ≡ false }
+        ensures ok { OnOk result (Finds
+            (at_place place (with_more id.now) (shapes_of (contents rows.now)))
             self.new.spots self.new.places.items) }
-        ensures runs { self.new.runs.items ≡ runs_of (depths rows.now) }
+        ensures runs { self.new.runs.items ≡ runs_of (depths (contents rows.now)) }
         ensures others { OnOk result ((x : List ℕ) → bytes_eq id.now x ≡ false
             → spot_under self.new.spots x ≡ spot_under self.old.spots x) }
         ensures places { self.new.places.items ≡ self.old.places.items }
-        ensures err { OnErr result (IsIndex rows.now self.new) }
+        ensures err { OnErr result (IsIndex (contents rows.now) self.new) }
     {
-        let row = &rows[place];
+        let row = rows[place].as_ref();
         let home = self.came(&row.id);
         let spot = Spot::InPool {
             home,

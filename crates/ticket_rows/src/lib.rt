@@ -2,6 +2,7 @@
 //! them, and the edits of them.
 #![tactic(auto)]
 
+mod boxes;
 pub mod distinct;
 mod edit;
 mod index;
