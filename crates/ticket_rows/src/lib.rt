@@ -7,6 +7,7 @@ pub mod distinct;
 mod edit;
 mod index;
 mod indexed_rows;
+mod places;
 pub mod pools;
 pub mod resolved;
 pub mod rows;

@@ -48,6 +48,7 @@ pub fn add_node(
     requires shallow { (r : NodeRow) → slice_get (contents rows.old.items) place ≡ Some r
         → r.depth < max_depth }
     requires index { IsIndex (contents rows.old.items) index.old }
+    requires distinct { are_distinct (ids (contents rows.old.items)) ≡ true }
     requires new { mem id (ids (contents rows.old.items)) ≡ false }
     ensures ok { (r : NodeRow) → slice_get (contents rows.old.items) place ≡ Some r
         → OnOk result (contents rows.new.items

@@ -3,7 +3,7 @@ use Rattle.std.proofs.lemmas.Option.{slice_get-get_or}
 use Rattle.ticket_items.specs.Ids.{mem}
 use Rattle.ticket_items.specs.declared.node_row.NodeRow.{NodeRow}
 use Rattle.ticket_rows.proofs.Boxed.{at_in, count, set_boxed, set_in, stays_boxed}
-use Rattle.ticket_rows.proofs.IndexFollows.{index_again, index_pushed, index_unpushed}
+use Rattle.ticket_rows.proofs.IndexFollows.{index_again, index_pushed, index_unpushed, parents_kept}
 use Rattle.ticket_rows.specs.Boxed.{contents}
 use Rattle.ticket_rows.specs.ChangedRow.{at_place}
 use Rattle.ticket_rows.specs.Index.{Finds, IsIndex, runs_of, shapes_of, with_more}
@@ -40,6 +40,7 @@ returns-in-Ok-clause-index c =
     subst (λ rs. IsIndex rs index) (sym (set_in boxes k _ ∙ ap (λ (s : NodeRow). set rows k (record s { resources = pool })) c.deref_mut.ensures.value))
     (index_pushed rows k r x pool index at (c.in-Ok.ensures.ok ∙ ap (λ (s : NodeRow). s.resources ++ x ∷ []) c.deref_mut.ensures.value)
     (subst (λ rs. Finds (at_place k (with_more x.id) (shapes_of rs)) index.spots index.places.items) view named)
+    (parents_kept rows c.args.index.now index c.requires.index c.in_ok-add_resource.ensures.places c.in_ok-add_resource.ensures.parents)
     (c.in_ok-add_resource.ensures.runs ∙ ap (λ rs. runs_of (depths rs)) view))
 
 pub returns-clause-index : goal.returns-clause-index
@@ -57,4 +58,5 @@ returns-clause-index c =
     (index_unpushed rows k r pool index at (c.in-Err.ensures.err ∙ ap (λ (s : NodeRow). s.resources) c.deref_mut.ensures.value)
     (index_again rows c.in_ok-id.id c.args.index.now c.add_resource.new.self index c.requires.index (ap (λ i. mem i (ids rows)) c.in_ok-id.ensures.cases ∙ c.requires.new)
     c.in_ok-add_resource.ensures.others c.take_out.ensures.spots (c.take_out.ensures.places ∙ c.in_ok-add_resource.ensures.places)
+    (c.take_out.ensures.parents ∙ c.in_ok-add_resource.ensures.parents)
     (c.take_out.ensures.runs ∙ c.in_ok-add_resource.ensures.runs ∙ ap (λ rs. runs_of (depths rs)) view)))
