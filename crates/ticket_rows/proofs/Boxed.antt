@@ -1,5 +1,5 @@
 -- Rows in boxes: what becomes of them where a box changes, or comes in between.
-use Rattle.std.proofs.Common.{◌≡◌, ◌<◌, ◌++◌, ◌∷◌, ◌∙◌, ℕ, zero, suc, List, [], Box, length, map}
+use Rattle.std.proofs.Common.{◌≡◌, ◌<◌, ◌∷◌, ◌∙◌, ℕ, zero, suc, List, [], Box, length, map}
 use Rattle.std.proofs.Common.{Err, Ok, OnErr, Result, slice_get}
 use Rattle.std.proofs.Common.{Some, arith, ap, drop, get_or, insert, refl, set, sym, take, true}
 use Rattle.std.proofs.lemmas.List.{drop-map, get_or-map, length-map, take-map}

@@ -1,7 +1,7 @@
 -- Labels that rise from place to place: where one stands, and what a new one changes.
 use Rattle.std.proofs.Common.{◌≡◌, ℕ, zero, suc, ◌+◌, ◌*◌, ◌<◌, ◌≤◌, Bool, true, false, cond, not}
 use Rattle.std.proofs.Common.{List, [], ◌∷◌, ◌++◌, length, map, insert, Option, Some, None, refl, sym}
-use Rattle.std.proofs.Common.{ap, ◌∙◌, leb, get_or, slice_get, subst, arith, ◌⊎◌, inl, inr}
+use Rattle.std.proofs.Common.{ap, ◌∙◌, leb, get_or, slice_get, arith, ◌⊎◌, inl, inr}
 use Rattle.std.proofs.Math.Nat.{mul-le-mul_left}
 use Rattle.std.proofs.lemmas.Bool.{leb-true, leb-false, le-leb, lt-leb}
 use Rattle.std.proofs.lemmas.List.{length-map, map-append, length-append}

@@ -2,12 +2,12 @@
 use Rattle.std.proofs.Common.{◌≡◌, ℕ, zero, suc, ◌+◌, ◌<◌, ◌≤◌, ◌&&◌, Bool, true, false, cond, List}
 use Rattle.std.proofs.Common.{[], ◌∷◌, ◌++◌, length, insert, Option, Some, None, refl, sym, ap, ◌∙◌}
 use Rattle.std.proofs.Common.{leb, slice_get, subst, arith, ◌⊎◌, inl, inr}
-use Rattle.std.proofs.lemmas.Bool.{leb-true, leb-false, le-leb, lt-leb}
+use Rattle.std.proofs.lemmas.Bool.{leb-true, leb-false}
 use Rattle.std.proofs.lemmas.List.{length-append}
 use Rattle.std.specs.Option.{option_map}
-use Rattle.ticket_rows.proofs.InLists.{get_front, get_last, get_there, get_within, raised-front}
+use Rattle.ticket_rows.proofs.InLists.{get_front, get_there, get_within, raised-front}
 use Rattle.ticket_rows.proofs.InLists.{raised-behind}
-use Rattle.ticket_rows.proofs.Labels.{Side, get_end, insert_at, insert_front, insert_behind, none_at}
+use Rattle.ticket_rows.proofs.Labels.{Side, get_end, insert_at, insert_front, insert_behind}
 use Rattle.ticket_rows.proofs.Labels.{length-numbers, numbers_at, side}
 use Rattle.ticket_rows.proofs.RunsGrow.{deeper, length-runs, pass, stop}
 use Rattle.ticket_rows.specs.Index.{lengthened, raised, runs_of}
@@ -474,6 +474,8 @@ parents_grown old new places next parents p n e node h run is grown a came moved
         by (inr s) (inl t) =
             let within : m < length next = get_within next m k t in
             absurd (omega (arith, s.0, a.count, long))
-        by (inr s) (inr t) =
-            (raised e p, ap (slice_get (next ++ e ∷ [])) (sym s.1) ∙ now node p came,
-            subst (λ i. IsAbove new i (raised e p)) t.1 (subst (IsAbove new e) (sym (raised-front e p (omega (arith, is)))) (above_new old new p n e h run is grown)))
+        by (inr s) (inr t) = (
+          raised e p,
+          ap (slice_get (next ++ e ∷ [])) (sym s.1) ∙ now node p came,
+          subst (λ i. IsAbove new i (raised e p)) t.1 (subst (IsAbove new e) (sym (raised-front e p (omega (arith, is)))) (above_new old new p n e h run is grown)),
+        )

@@ -155,7 +155,12 @@ impl Index {
         self.runs.reserve(1)?;
         let node = self.places.len();
         self.spots.insert(id, Spot::OfNode { node })?;
-        lengthen(&mut self.runs, &self.places, self.parents.as_slice(), parent);
+        lengthen(
+            &mut self.runs,
+            &self.places,
+            self.parents.as_slice(),
+            parent,
+        );
         self.places.insert(end);
         self.parents.push(parent).unwrap();
         self.runs.insert(end, 0).unwrap();

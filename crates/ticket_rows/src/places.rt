@@ -27,9 +27,9 @@ impl Model for Places {
     ghost Value = { Told };
 
     ghost view = { λ a. record {
-        items = places_of a.labels.items a.order.items;
-        has_room = nat_lt (length a.labels.items) (vec_capacity a.labels)
-            && nat_lt (length a.order.items) (vec_capacity a.order);
+      items = places_of a.labels.items a.order.items;
+      has_room = nat_lt (length a.labels.items) (vec_capacity a.labels)
+          && nat_lt (length a.order.items) (vec_capacity a.order);
     } };
 
     ghost invariant = { λ a. AreLabels a.labels.items a.order.items };
@@ -93,7 +93,11 @@ fn label_from(order: &[u64], place: usize) -> u64
     requires { Rise order.now }
     ensures { (k l : ℕ) → place ≤ k → slice_get order.now k ≡ Some l → result ≤ l }
 {
-    if place < order.len() { order[place] } else { u64::MAX }
+    if place < order.len() {
+        order[place]
+    } else {
+        u64::MAX
+    }
 }
 
 /// A label for a new node at a place, if there is one.
@@ -202,7 +206,11 @@ impl Places {
     pub fn get(&self, node: usize) -> Option<usize>
         ensures { result ≡ slice_get self.now.items node }
     {
-        if node < self.len() { Some(self.at(node)) } else { None }
+        if node < self.len() {
+            Some(self.at(node))
+        } else {
+            None
+        }
     }
 
     /// Makes room for one more.

@@ -1,4 +1,4 @@
-use Rattle.std.proofs.Common.{◌≡◌, ◌∙◌, ◌+◌, ◌<◌, ◌≤◌, Some, get_or, length, refl, sym, ap, arith, slice_get}
+use Rattle.std.proofs.Common.{◌≡◌, ◌∙◌, ◌<◌, Some, get_or, length, refl, sym, ap, arith, slice_get}
 use Rattle.std.proofs.lemmas.Option.{slice_get-get_or}
 use Rattle.ticket_rows.proofs.Climbed.{climb_first, climb_more}
 use Rattle.ticket_rows.proofs.InLists.{get_within}
@@ -17,9 +17,13 @@ loop-above-init c =
     let low : node < length parents = omega (arith, c.requires.came, c.requires.parents.count) in
     let is : slice_get parents node ≡ Some parent = at_or parents node 0 low in
     let h = c.requires.parents.above node parent p is c.at-place.ensures in
-    let there : slice_get runs p ≡ Some v = slice_get-get_or runs p v (c.requires.within node p c.at-place.ensures) ∙ ap Some (sym c.index_mut.ensures.value) in
-    (p, c.at-place.ensures, climb_first runs places parents node p parent c.at-above.result v c.requires.parents c.at-place.ensures is c.at-above.ensures there,
-    omega (arith, get_within places parent h.0 h.1, c.requires.parents.count), refl)
+    let there : slice_get runs p ≡ Some v = slice_get-get_or runs p v (c.requires.within node p c.at-place.ensures) ∙ ap Some (sym c.index_mut.ensures.value) in (
+      p,
+      c.at-place.ensures,
+      climb_first runs places parents node p parent c.at-above.result v c.requires.parents c.at-place.ensures is c.at-above.ensures there,
+      omega (arith, get_within places parent h.0 h.1, c.requires.parents.count),
+      refl,
+    )
 
 pub at-above-requires-in-loop-above : goal.at-above-requires-in-loop-above
 at-above-requires-in-loop-above c =
@@ -55,7 +59,10 @@ loop-above-preserved c =
     let low : above < length runs = omega (arith, c.requires.within parent above inv.stands, inv.climbed.long) in
     let there : slice_get runs above ≡ Some v = slice_get-get_or runs above v low ∙ ap Some (sym c.index_mut-in-loop-above.ensures.value) in
     let is : slice_get parents parent ≡ Some next = at_or parents parent 0 c.loop-above.invariant.3 in
-    let h = c.requires.parents.above parent next above is inv.stands in
-    (c.loop-above.invariant.0, c.loop-above.invariant.1,
-    climb_more c.loop-above.invariant.0 old runs places parents parent c.loop-above.place above v next c.at-above-in-loop-above.result c.requires.runs c.requires.parents inv c.loop-above-test.true there is c.at-above-in-loop-above.ensures,
-    omega (arith, get_within places next h.0 h.1, c.requires.parents.count), c.loop-above.invariant.4)
+    let h = c.requires.parents.above parent next above is inv.stands in (
+      c.loop-above.invariant.0,
+      c.loop-above.invariant.1,
+      climb_more c.loop-above.invariant.0 old runs places parents parent c.loop-above.place above v next c.at-above-in-loop-above.result c.requires.runs c.requires.parents inv c.loop-above-test.true there is c.at-above-in-loop-above.ensures,
+      omega (arith, get_within places next h.0 h.1, c.requires.parents.count),
+      c.loop-above.invariant.4,
+    )

@@ -1,4 +1,4 @@
-use Rattle.std.proofs.Common.{rules, ◌≡◌, ◌∙◌, ◌+◌, ◌++◌, ◌∷◌, [], Some, drop, get_or, refl, suc, sym, ap, slice_get}
+use Rattle.std.proofs.Common.{rules, ◌≡◌, ◌∙◌, ◌+◌, ◌++◌, ◌∷◌, [], Some, drop, get_or, refl, sym, ap, slice_get}
 use Rattle.std.proofs.lemmas.Bool.{ltb-true}
 use Rattle.std.proofs.lemmas.Option.{slice_get-get_or}
 use Rattle.std.specs.List.{position}
@@ -15,7 +15,7 @@ use Rattle.ticket_rows.proofs.IndexFollows.{index_same, index_stays, shapes-with
 use Rattle.ticket_rows.proofs.NewNode.{inserted_child, room_at}
 use Rattle.ticket_rows.proofs.Reasons.{child_new, resource_new}
 use Rattle.ticket_rows.specs.Boxed.{contents}
-use Rattle.ticket_rows.specs.ChangedRow.{at_place, changed_place, end_behind}
+use Rattle.ticket_rows.specs.ChangedRow.{at_place, changed_place}
 use Rattle.ticket_rows.specs.Edit.{bare_row, edited_rows, refusal_of}
 use Rattle.ticket_rows.specs.Index.{shape_of, shapes_of}
 use Rattle.ticket_rows.specs.Ticket.{max_depth}

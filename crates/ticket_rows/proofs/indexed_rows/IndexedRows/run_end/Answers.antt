@@ -1,4 +1,4 @@
-use Rattle.std.proofs.Common.{◌≡◌, ◌∙◌, ◌<◌, ◌≤◌, Some, length, ap, arith, slice_get}
+use Rattle.std.proofs.Common.{◌∙◌, ◌<◌, length, ap, arith, slice_get}
 use Rattle.ticket_rows.specs.Boxed.{contents}
 use Rattle.ticket_rows.proofs.Boxed.{count}
 use Rattle.ticket_rows.proofs.IndexFollows.{end_told, runs_end, runs_long}

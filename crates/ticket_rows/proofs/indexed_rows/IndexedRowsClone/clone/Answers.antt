@@ -1,4 +1,4 @@
-use Rattle.std.proofs.Common.{◌∙◌, sym, ap}
+use Rattle.std.proofs.Common.{◌∙◌, ap}
 use Rattle.ticket_rows.specs.Boxed.{contents}
 use Rattle.ticket_rows.proofs.IndexFollows.{index_alike}
 use Rattle.ticket_rows.proofs.indexed_rows.IndexedRowsClone.clone.Goals as goal
