@@ -1,7 +1,7 @@
 -- What the tests tell: a test holds exactly where what it compares is the same.
 use Rattle.std.specs.Cmp.Lexicographic.{pointwise}
 use Rattle.std.proofs.Common.{◌≡◌, ◌∙◌, ℕ, ◌-◌, ◌&&◌, Bool, List, [], ◌∷◌, length, map, take}
-use Rattle.std.proofs.Common.{◌+◌, ◌<◌, Decides, ap, drop, false, get_or, refl, suc, sym, true, ⊥}
+use Rattle.std.proofs.Common.{◌+◌, ◌<◌, Decides, ap, drop, false, get_or, refl, suc, sym, true}
 use Rattle.std.proofs.lemmas.List.{drop_more}
 use Rattle.std.proofs.lemmas.Bool.Decides.{Decides-and, Decides-eqb, Decides-like}
 use Rattle.std.proofs.lemmas.Slice.Eq.{bytes_eq-Decides, slice_eq-Decides}
