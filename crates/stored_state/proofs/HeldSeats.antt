@@ -1,5 +1,5 @@
 -- A controller beside an honest keeper, as it is started again.
-use Rattle.std.proofs.Common.{◌≡◌, ◌∙◌, ◌⊎◌, ℕ, Bool, true, false, List, Option, Some, Result, Ok, Err, IfErr, OnOk, OnErr, ap, inl, inr, refl, subst, sym, unwrap_or, option_and_then, ⊎_elim}
+use Rattle.std.proofs.Common.{◌≡◌, ◌∙◌, ◌⊎◌, ℕ, Bool, true, false, List, Some, Result, Ok, Err, IfErr, OnOk, OnErr, ap, inl, inr, refl, subst, sym, unwrap_or, option_and_then, ⊎_elim}
 use Rattle.std.proofs.lemmas.Bool.{true≢false}
 use Rattle.std.specs.Result.{result_ok}
 use Rattle.controller.specs.Step.{Step}

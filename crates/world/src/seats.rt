@@ -37,7 +37,7 @@ impl<M: Seat<Master>, W: Seat<Worker>> Model for Seats<M, W> {
 impl<M: Seat<Master>, W: Seat<Worker>> Seats<M, W> {
     ghost use Rattle.std.specs.Prelude.{◌≡◌, ◌↔◌, ◌⊎◌, ◌∷◌, true, false, OnOk, OnErr, IfOk, IfErr};
     ghost use Rattle.std.specs.Prelude.{◌<◌, ℕ, Err, List, length, map, take, IfSome, IsErrOf};
-    ghost use Rattle.std.specs.Prelude.{IsOk, is_some};
+    ghost use Rattle.std.specs.Prelude.{[], IsOk, is_some, option_map};
     ghost use Rattle.std.specs.List.{position};
     ghost use Rattle.std.specs.Option.{option_copied};
     ghost use Rattle.ticket_items.specs.Ids.{are_distinct};

@@ -1,4 +1,5 @@
-ghost use Rattle.std.specs.Prelude.{◌≡◌, [], map, true, Ok, IfSome, OnOk};
+ghost use Rattle.std.specs.Prelude.{◌≡◌, ◌<◌, [], ◌∷◌, ◌++◌, length, map, true, Ok, IfSome, OnOk};
+ghost use Rattle.std.specs.Prelude.{vec_capacity, vec_len};
 ghost use Rattle.std.specs.Prelude.{option_and_then, option_copied, option_map};
 ghost use Rattle.jmf_message.specs.Decoded.{IsDecodedAs};
 ghost use Rattle.stored_state.specs.Message.{IsMessageText, message_in, message_text, messages_in};
@@ -16,6 +17,16 @@ fn numbered(texts: &[Vec<u8>], number: u64) -> Option<&Vec<u8>>
         None => None,
         Some(place) => texts.get(place as usize),
     }
+}
+
+/// Puts a text last, where there is room for it, and tells how many there are.
+fn put(texts: &mut Vec<Vec<u8>>, text: Vec<u8>) -> u64
+    requires { vec_len texts.old < vec_capacity texts.old }
+    ensures items { texts.new.items ≡ texts.old.items ++ text ∷ [] }
+    ensures count { result ≡ length texts.new.items }
+{
+    let _ = texts.push(text);
+    texts.len() as u64
 }
 
 /// Every message that was sent, in the order in which they went out, each as its text.
@@ -85,10 +96,9 @@ impl Sent {
         ensures messages { self.new.messages ≡ settling.with_sent self.old.messages
             (option_and_then message_in (option_map (λ t. t.items) sent)) }
     {
-        let text = sent?;
-        match self.texts.push(text) {
-            Ok(()) => Some(self.texts.len() as u64),
-            Err(_) => None,
+        match sent {
+            None => None,
+            Some(text) => Some(put(&mut self.texts, text)),
         }
     }
 }

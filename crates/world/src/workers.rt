@@ -1,8 +1,8 @@
 //! The workers of a shop, by their names.
 
 ghost use Rattle.std.specs.Prelude.{◌≡◌, false, map, IfOk, IfErr};
-ghost use Rattle.std.specs.List.{position};
-ghost use Rattle.std.specs.Option.{option_copied, option_map};
+ghost use Rattle.std.specs.List.{find, position};
+ghost use Rattle.std.specs.Option.{option_copied};
 ghost use Rattle.ticket_items.specs.Ids.{mem};
 ghost use Rattle.world.specs.State as state;
 
@@ -32,15 +32,15 @@ pub fn new_workers(
 
 /// The seat of the worker of a name.
 pub fn seat_of<'a, W: Seat<Worker>>(workers: &'a [W], name: &Id) -> Option<&'a W>
-    ensures { option_map W.kept (option_copied result)
-        ≡ state.worker_of (map W.kept workers.now) name.now }
+    ensures { option_copied result
+        ≡ find (λ seat. state.is_named name.now (W.kept seat)) workers.now }
 {
     workers.iter().find(|seat| seat.name() == name)
 }
 
 /// Where the worker of a name stands.
 pub fn place_of<W: Seat<Worker>>(workers: &[W], name: &Id) -> Option<usize>
-    ensures { result ≡ position (state.is_named name.now) (map W.kept workers.now) }
+    ensures { result ≡ position (λ seat. state.is_named name.now (W.kept seat)) workers.now }
 {
     workers.iter().position(|seat| seat.name() == name)
 }

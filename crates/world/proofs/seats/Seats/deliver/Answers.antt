@@ -3,6 +3,7 @@ use Rattle.std.proofs.lemmas.Bool.{true≢false}
 use Rattle.std.specs.List.{position}
 use Rattle.world.proofs.AlwaysKept.{message_there}
 use Rattle.world.proofs.Answered.{on_err}
+use Rattle.world.proofs.Seated.{place_seen}
 use Rattle.world.proofs.Unknown.{err_by, not_made}
 use Rattle.world.proofs.Unmade.{comes, no_message}
 use Rattle.world.specs.Happening.{delivery_step}
@@ -26,7 +27,7 @@ tell_worker-requires g c =
     let w : State = c.args.self.now in
     let name = c.in-Some.message.receiver in
     let found : message_at w.messages c.args.number ≡ Some c.in-Some.message = sym c.in_ok-message.ensures.ok ∙ c.in-Some.is in
-    let place : position (is_named name) w.controllers.workers ≡ c.place_of-place.result = sym (c.place_of-place.ensures ∙ ap (position (is_named name)) (ap (map g.W.Seat.kept) c.as_slice.ensures.value ∙ ap (λ (v : State). v.controllers.workers) c.self.view_is)) in
+    let place : position (is_named name) w.controllers.workers ≡ c.place_of-place.result = sym (c.place_of-place.ensures ∙ place_seen g.W.Seat.kept name c.as_slice.result.now ∙ ap (position (is_named name)) (ap (map g.W.Seat.kept) c.as_slice.ensures.value ∙ ap (λ (v : State). v.controllers.workers) c.self.view_is)) in
     (name, place, (message_there w.messages c.args.number c.in-Some.message found, refl))
 
 pub returns-then-eq-clause-unmade : goal.returns-then-eq-clause-unmade

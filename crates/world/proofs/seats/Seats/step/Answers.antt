@@ -3,6 +3,7 @@ use Rattle.std.specs.List.{position}
 use Rattle.world.proofs.Changing.{alone, by_holders, kept_then}
 use Rattle.world.proofs.Replayed.{said_so, shown_so}
 use Rattle.world.proofs.Stopped.{stop_so, stopped_so}
+use Rattle.world.proofs.Seated.{place_seen}
 use Rattle.world.proofs.Unknown.{err_by, unknown_same}
 use Rattle.world.proofs.Unmade.{unplaced}
 use Rattle.ticket_items.specs.declared.refusal.Refusal.TheVariants.{UnknownWorker}
@@ -23,18 +24,18 @@ returns-in-MasterOrder-clause-shown g c = shown_so c.tell_master.result c.args.e
 
 pub returns-in-WorkerOrder-clause-said : goal.returns-in-WorkerOrder-clause-said
 returns-in-WorkerOrder-clause-said g c =
-    let place = sym (c.place_of-place.ensures ∙ ap (position (is_named c.in-WorkerOrder.name)) (ap (map g.W.Seat.kept) c.as_slice.ensures.value ∙ ap (λ (v : State). v.controllers.workers) c.self.view_is)) in
+    let place = sym (c.place_of-place.ensures ∙ place_seen g.W.Seat.kept c.in-WorkerOrder.name c.as_slice.result.now ∙ ap (position (is_named c.in-WorkerOrder.name)) (ap (map g.W.Seat.kept) c.as_slice.ensures.value ∙ ap (λ (v : State). v.controllers.workers) c.self.view_is)) in
     said_so c.tell_worker.result c.args.event (WorkerOrder c.in-WorkerOrder.name c.in-WorkerOrder.order) c.args.self.now c.tell_worker.ensures.kept c.in-WorkerOrder.is (c.tell_worker.ensures.answer c.in-WorkerOrder.name place)
 
 pub returns-in-WorkerOrder-clause-shown : goal.returns-in-WorkerOrder-clause-shown
 returns-in-WorkerOrder-clause-shown g c =
-    let place = sym (c.place_of-place.ensures ∙ ap (position (is_named c.in-WorkerOrder.name)) (ap (map g.W.Seat.kept) c.as_slice.ensures.value ∙ ap (λ (v : State). v.controllers.workers) c.self.view_is)) in
+    let place = sym (c.place_of-place.ensures ∙ place_seen g.W.Seat.kept c.in-WorkerOrder.name c.as_slice.result.now ∙ ap (position (is_named c.in-WorkerOrder.name)) (ap (map g.W.Seat.kept) c.as_slice.ensures.value ∙ ap (λ (v : State). v.controllers.workers) c.self.view_is)) in
     shown_so c.tell_worker.result c.args.event (WorkerOrder c.in-WorkerOrder.name c.in-WorkerOrder.order) c.args.self.now c.tell_worker.new.self c.tell_worker.ensures.kept c.in-WorkerOrder.is (c.tell_worker.ensures.state c.in-WorkerOrder.name place)
 
 pub returns-in-WorkerOrder-clause-unmade : goal.returns-in-WorkerOrder-clause-unmade
 returns-in-WorkerOrder-clause-unmade g c =
     let w : State = c.args.self.now in
-    let place = sym (c.place_of-place.ensures ∙ ap (position (is_named c.in-WorkerOrder.name)) (ap (map g.W.Seat.kept) c.as_slice.ensures.value ∙ ap (λ (v : State). v.controllers.workers) c.self.view_is)) in
+    let place = sym (c.place_of-place.ensures ∙ place_seen g.W.Seat.kept c.in-WorkerOrder.name c.as_slice.result.now ∙ ap (position (is_named c.in-WorkerOrder.name)) (ap (map g.W.Seat.kept) c.as_slice.ensures.value ∙ ap (λ (v : State). v.controllers.workers) c.self.view_is)) in
     λ unmade. c.tell_worker.ensures.unmade (unplaced c.in-WorkerOrder.name (Refused UnknownWorker) (Order c.in-WorkerOrder.order) c.args.event.at w c.place_of-place.result place (ap (λ what. is_reached (step_of what c.args.event.at w)) (sym c.in-WorkerOrder.is) ∙ unmade))
 
 pub returns-in-Deliver-clause-said : goal.returns-in-Deliver-clause-said
@@ -59,12 +60,12 @@ returns-in-MasterOrder-clause-held g c = by_holders c.tell_master.new.self (kept
 
 pub returns-in-WorkerOrder-clause-alone : goal.returns-in-WorkerOrder-clause-alone
 returns-in-WorkerOrder-clause-alone g c =
-    let place = sym (c.place_of-place.ensures ∙ ap (position (is_named c.in-WorkerOrder.name)) (ap (map g.W.Seat.kept) c.as_slice.ensures.value ∙ ap (λ (v : State). v.controllers.workers) c.self.view_is)) in
+    let place = sym (c.place_of-place.ensures ∙ place_seen g.W.Seat.kept c.in-WorkerOrder.name c.as_slice.result.now ∙ ap (position (is_named c.in-WorkerOrder.name)) (ap (map g.W.Seat.kept) c.as_slice.ensures.value ∙ ap (λ (v : State). v.controllers.workers) c.self.view_is)) in
     alone c.tell_worker.new.self (kept_then c.tell_worker.result (WorkerOrder c.in-WorkerOrder.name c.in-WorkerOrder.order) c.args.event.at c.args.event.stop c.args.self.now c.tell_worker.new.self c.tell_worker.ensures.kept (c.tell_worker.ensures.state c.in-WorkerOrder.name place) (c.tell_worker.ensures.err c.in-WorkerOrder.name place))
 
 pub returns-in-WorkerOrder-clause-held : goal.returns-in-WorkerOrder-clause-held
 returns-in-WorkerOrder-clause-held g c =
-    let place = sym (c.place_of-place.ensures ∙ ap (position (is_named c.in-WorkerOrder.name)) (ap (map g.W.Seat.kept) c.as_slice.ensures.value ∙ ap (λ (v : State). v.controllers.workers) c.self.view_is)) in
+    let place = sym (c.place_of-place.ensures ∙ place_seen g.W.Seat.kept c.in-WorkerOrder.name c.as_slice.result.now ∙ ap (position (is_named c.in-WorkerOrder.name)) (ap (map g.W.Seat.kept) c.as_slice.ensures.value ∙ ap (λ (v : State). v.controllers.workers) c.self.view_is)) in
     by_holders c.tell_worker.new.self (kept_then c.tell_worker.result (WorkerOrder c.in-WorkerOrder.name c.in-WorkerOrder.order) c.args.event.at c.args.event.stop c.args.self.now c.tell_worker.new.self c.tell_worker.ensures.kept (c.tell_worker.ensures.state c.in-WorkerOrder.name place) (c.tell_worker.ensures.err c.in-WorkerOrder.name place))
 
 pub returns-in-Deliver-clause-alone : goal.returns-in-Deliver-clause-alone
@@ -89,12 +90,12 @@ returns-in-MasterOrder-clause-cut g c = stop_so c.tell_master.result c.args.even
 
 pub returns-in-WorkerOrder-clause-err : goal.returns-in-WorkerOrder-clause-err
 returns-in-WorkerOrder-clause-err g c =
-    let place = sym (c.place_of-place.ensures ∙ ap (position (is_named c.in-WorkerOrder.name)) (ap (map g.W.Seat.kept) c.as_slice.ensures.value ∙ ap (λ (v : State). v.controllers.workers) c.self.view_is)) in
+    let place = sym (c.place_of-place.ensures ∙ place_seen g.W.Seat.kept c.in-WorkerOrder.name c.as_slice.result.now ∙ ap (position (is_named c.in-WorkerOrder.name)) (ap (map g.W.Seat.kept) c.as_slice.ensures.value ∙ ap (λ (v : State). v.controllers.workers) c.self.view_is)) in
     stopped_so c.tell_worker.result c.args.event (WorkerOrder c.in-WorkerOrder.name c.in-WorkerOrder.order) c.args.self.now c.tell_worker.new.self c.in-WorkerOrder.is (c.tell_worker.ensures.err c.in-WorkerOrder.name place)
 
 pub returns-in-WorkerOrder-clause-cut : goal.returns-in-WorkerOrder-clause-cut
 returns-in-WorkerOrder-clause-cut g c =
-    let place = sym (c.place_of-place.ensures ∙ ap (position (is_named c.in-WorkerOrder.name)) (ap (map g.W.Seat.kept) c.as_slice.ensures.value ∙ ap (λ (v : State). v.controllers.workers) c.self.view_is)) in
+    let place = sym (c.place_of-place.ensures ∙ place_seen g.W.Seat.kept c.in-WorkerOrder.name c.as_slice.result.now ∙ ap (position (is_named c.in-WorkerOrder.name)) (ap (map g.W.Seat.kept) c.as_slice.ensures.value ∙ ap (λ (v : State). v.controllers.workers) c.self.view_is)) in
     stop_so c.tell_worker.result c.args.event (WorkerOrder c.in-WorkerOrder.name c.in-WorkerOrder.order) c.args.self.now c.tell_worker.new.self c.tell_worker.ensures.kept c.in-WorkerOrder.is (c.tell_worker.ensures.err c.in-WorkerOrder.name place)
 
 pub returns-in-Deliver-clause-err : goal.returns-in-Deliver-clause-err

@@ -7,14 +7,14 @@ use Rattle.world.specs.Showing.{shows}
 use Rattle.world.specs.State.{IsKept, new_worker, opening, state}
 use Rattle.world.proofs.world.World.new.Goals as goal
 
-pub new-in-Ok-requires : goal.new-in-Ok-requires
-new-in-Ok-requires c =
+pub new-requires-in-Ok : goal.new-requires-in-Ok
+new-requires-in-Ok c =
     let named = c.in-Ok.ensures.ok ∙ ap (λ n. map (new_worker n) c.workers-2.result.now) (c.name-2.ensures ∙ ap (λ (m : Known). m.name) c.controller-begun.ensures) ∙ ap (map (new_worker c.in_ok-master.master.name)) (c.workers-2.ensures ∙ ap (λ (m : Known). m.workers) c.controller-begun.ensures) in
     subst (λ ws. IsKept (state c.in_ok-master.master ws [])) (sym (map-id c.in-Ok.workers.items))
     (opening_kept c.in_ok-master.master c.in-Ok.workers.items [] (subst master.IsKept (sym c.in_ok-master.ensures) c.in_ok-core.ensures.kept) named refl (ap (λ (m : Known). m.records) (c.in_ok-master.ensures ∙ c.in_ok-core.ensures.ok)))
 
 pub invariant_of-result : goal.invariant_of-result
-invariant_of-result c = subst IsKept (sym c.new-in-Ok.ensures) (new-in-Ok-requires c)
+invariant_of-result c = subst IsKept (sym c.new-in-Ok.ensures) (new-requires-in-Ok c)
 
 pub returns-in-Ok-clause-ok : goal.returns-in-Ok-clause-ok
 returns-in-Ok-clause-ok c =
