@@ -66,8 +66,7 @@ module _ {C K : Type 0} (name : C → List ℕ) (reads : Data → Result C Refus
       let after = subst (λ b. IsReadAs reads b (Ok new.controller)) (sym (holds is.honest)) before in
       (fresh_seat new (same ∙ is.honest) after, kept_so new new.controller after ∙ sym (kept_so old new.controller before))
   read_again (Err e) old new is same holds read shown stale =
-      let after = subst (λ b. IsReadAs reads b (Ok (kept_in reads held old))) (sym (holds is.honest)) is.again in
-      (
+      let after = subst (λ b. IsReadAs reads b (Ok (kept_in reads held old))) (sym (holds is.honest)) is.again in (
         seat_of new (kept_in reads held old) (same ∙ is.honest) after (λ so. shown ∙ is.fresh (sym stale ∙ so)) (ap name shown ∙ is.named),
         kept_so new (kept_in reads held old) after,
       )
@@ -87,8 +86,7 @@ module _ {C K : Type 0} (name : C → List ℕ) (reads : Data → Result C Refus
   stale_left : (old new : Held C K) (next : C) → IsOne old → name next ≡ name old.controller → honest new.keep ≡ honest old.keep → HoldsOldOrNext reads (held old.keep) next (held new.keep) → name new.controller ≡ name old.controller → new.stale ≡ true
       → IsOne new × ((kept_in reads held new ≡ kept_in reads held old) ⊎ (kept_in reads held new ≡ next))
   stale_left old new next is named same (inl holds) shown stale =
-      let after = subst (λ b. IsReadAs reads b (Ok (kept_in reads held old))) (sym holds) is.again in
-      (
+      let after = subst (λ b. IsReadAs reads b (Ok (kept_in reads held old))) (sym holds) is.again in (
         seat_of new (kept_in reads held old) (same ∙ is.honest) after (λ so. absurd (true≢false (sym stale ∙ so))) (shown ∙ is.named),
         inl (kept_so new (kept_in reads held old) after),
       )

@@ -196,13 +196,7 @@ impl<C: Stored> Station<C> {
 
     /// Stores what a step led to. The controller that it was makes the same step, and is the second
     /// value then; where memory runs out there is none.
-    fn store(
-        &mut self,
-        alloc: Global,
-        next: Option<Station<C>>,
-        cause: Cause<C::Order>,
-        at: u64,
-    )
+    fn store(&mut self, alloc: Global, next: Option<Station<C>>, cause: Cause<C::Order>, at: u64)
         requires { (caused C.order_step C.take_step cause at self.old).next
             ≡ unwrap_or next self.old }
         ensures { self.new ≡ unwrap_or next self.old }
