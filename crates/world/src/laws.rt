@@ -9,8 +9,8 @@ pub fn what_was_sent_is_taken()
     ensures { law.SentIsTaken }
 {}
 
-/// A step that can't be saved, so that the old state is held or the new one, is as if its controller
-/// had stopped before its state was stored, or before its message was sent.
+/// A step that can't be saved, so that the old state is held or the new one, is as if its
+/// controller had stopped before its state was stored, or before its message was sent.
 pub fn failed_save_is_stop()
     ensures { law.FailedSaveIsStop }
 {}
