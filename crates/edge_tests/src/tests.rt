@@ -1,8 +1,8 @@
 mod calls;
 mod clients;
-mod deliveries;
+mod delivery_steps;
 mod dripping;
-mod journal;
+mod folder_files;
+mod journal_lines;
 mod listeners;
-mod peers_file;
-mod shop_folder;
+mod peer_tables;
