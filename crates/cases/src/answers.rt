@@ -1,9 +1,7 @@
 //! From a case to what comes of it.
 
-use crate::case::Case;
-use crate::exchanges::exchange_answer;
-use crate::other::other_answer;
 use crate::program::program_answer;
+use case_words::{Case, exchange_answer, other_answer};
 use keepers::Locks;
 use std::alloc::{Alloc, AllocError, Global};
 use std::net::Net;

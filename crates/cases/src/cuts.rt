@@ -1,7 +1,7 @@
 //! Inputs that are cut off.
 
 use crate::answers::answer;
-use crate::case::Case;
+use case_words::Case;
 use keepers::Locks;
 use std::alloc::{Alloc, AllocError, Global};
 use std::net::Net;

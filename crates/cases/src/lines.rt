@@ -1,8 +1,8 @@
 //! From the lines of the input to what comes of them.
 
 use crate::answers::answer;
-use crate::case::Case;
 use crate::cuts::cut_answers;
+use case_words::Case;
 use keepers::Locks;
 use std::alloc::{Alloc, AllocError, Global};
 use std::io::{self, Read, Write};

@@ -5,28 +5,14 @@
 //! status on a line of its own. Files are those of the folder where this runs. Lines that are empty
 //! or begin with `#` are written as they are; the latter say what the cases below them are about.
 //!
-//! A few words more call what the program never does by itself; `other.rt`, `calls.rt` and
-//! `exchanges.rt` list them. `cuts` before the words of a case stands for that case with each cut
-//! of its input.
+//! A few words more call what the program never does by itself; `case_words` lists them. `cuts` before
+//! the words of a case stands for that case with each cut of its input.
 #![tactic(auto)]
 
 mod answers;
-mod calls;
-mod case;
-mod changers;
 mod cuts;
-mod escapes;
-mod exchanges;
-mod files;
-mod forms;
 mod lines;
-mod masters;
-mod other;
-mod places;
 mod program;
-mod states;
-mod trees;
-mod worlds;
 
 use crate::lines::write_answers;
 use std::io;

@@ -1,6 +1,6 @@
 //! The program over a reader and writers in memory.
 
-use crate::case::Case;
+use case_words::Case;
 use jdf_net::run_words;
 use keepers::Locks;
 use std::alloc::{Alloc, AllocError, Global};

@@ -1,9 +1,2 @@
-mod AllEvents
-mod Answered
 mod AnyCalls
-mod EventLines
-mod ShopKept
-mod ShopOpened
-mod ShopWorkers
-mod ShopOrders
 mod WordsAnswered

@@ -1,7 +1,6 @@
 -- How the words of the command line end.
 use Rattle.std.specs.Prelude.{◌≡◌, ◌≢◌, ◌⊎◌, ℕ, Bool, List, [], map, String, string_bytes}
-use Rattle.std.specs.Prelude.{Option, Some, None, codes, option_map, if◌then◌else◌, false, true}
-use Rattle.std.specs.Str.{bytes_eq}
+use Rattle.std.specs.Prelude.{Option, Some, None, option_map, false, true}
 use Rattle.std.specs.declared.alloc.Global.{Global}
 use Rattle.clap.specs.Words.{IsAmong, fault_of, subcommand_of, takes}
 use Rattle.clap.specs.declared.error.kind.ErrorKind.{ErrorKind}
@@ -17,9 +16,10 @@ use Rattle.jdf_words.specs.declared.call.Call.TheVariants.{Loop, Send, SendOrder
 use Rattle.jdf_words.specs.declared.invocation.Invocation.{Invocation}
 use Rattle.jdf_commands.specs.Calls.{EndsCall}
 use Rattle.jdf_commands.specs.Caused.{GivesUpCaused}
-use Rattle.jdf_net.specs.LoopCommand.Run.{EndsLoop}
-use Rattle.jdf_net.specs.OrderCommand.{EndsSendOrder}
-use Rattle.jdf_net.specs.SendCommand.{EndsSend}
+use Rattle.jdf_loop.specs.Run.{EndsLoop}
+use Rattle.jdf_send.specs.InputFile.{file_of}
+use Rattle.jdf_send.specs.OrderCommand.{EndsSendOrder}
+use Rattle.jdf_send.specs.SendCommand.{EndsSend}
 use Rattle.jdf_net.specs.ServeCommand.{EndsServe}
 use Rattle.jdf_net.specs.declared.words.TheConstants.{NO_CALL}
 
@@ -85,11 +85,6 @@ abbrev pub EndsFromFile : Option (List ℕ) → Call → Use → Use → ℕ →
 EndsFromFile journal call output told status =
     ((file : Use) × IsFresh file.before × EndsJournaled journal call file output told status)
     ⊎ GivesUpCaused (Device ReadFailed) output told status
-
--- the file that a path names: none where it is `-`, which stands for standard input
-abbrev pub file_of : Option (List ℕ) → Option (List ℕ)
-file_of None = None
-file_of (Some path) = if bytes_eq path (codes "-") then None else Some path
 
 -- how a call ends whose input comes from this file, and not from standard input, where one is named
 abbrev pub EndsFrom : (from journal : Option (List ℕ)) → Call → Use → Use → Use → ℕ → Type 0

@@ -5,9 +5,10 @@ ghost use Rattle.jdf_net.specs.ServeCommand.{EndsServe, IsUnserved};
 ghost use Rattle.streams.specs.declared.refused.Refused.TheVariants.{NoConnection, WriteFailed};
 
 use jdf_commands::{Caused, give_up_caused};
-use jdf_server::{NO_PEERS, Post, Server, Service, check_file};
+use jdf_server::{Post, Server, Service, check_file};
 use keepers::Locks;
 use mio::net::TcpListener;
+use peers_file::NO_PEERS;
 use shop_folder::{Lies, PEERS, Place, in_folder};
 use std::alloc::{Alloc, AllocError, Global};
 use std::io::{self, ErrorKind, Write};

@@ -6,17 +6,15 @@ ghost use Rattle.ticket_items.specs.declared.refusal.Refusal.TheVariants.{Memory
 ghost use Rattle.streams.specs.declared.fault.Fault.TheVariants.{Input};
 ghost use Rattle.streams.specs.declared.refused.Refused.TheVariants.{Core};
 ghost use Rattle.jdf_words.specs.Calls as calls;
-ghost use Rattle.jdf_net.specs.Words as ends;
+ghost use Rattle.jdf_send.specs.InputFile.{file_of as file_in};
 ghost use Rattle.jdf_net.specs.Words.{EndsAnswer, EndsAnyCall, EndsFrom, EndsFromFile, EndsJournaled};
 ghost use Rattle.jdf_net.specs.Words.{EndsWithJournal, EndsWords};
 ghost use Rattle.streams.specs.Streams.{used};
 
-use crate::input_file::{file_of, open_input};
-use crate::loop_command::run_loop;
-use crate::order_command::{SendOrder, run_send_order};
-use crate::send_command::run_send;
 use crate::serve_command::run_serve;
 use jdf_commands::{Caused, give_up_caused, run_file};
+use jdf_loop::run_loop;
+use jdf_send::{SendOrder, file_of, open_input, run_send, run_send_order};
 use jdf_server::Service;
 use jdf_words::{Call, CallFault, Invocation, command_of, is_asked};
 use journal::FileJournal;
@@ -210,7 +208,7 @@ fn run_invocation<R: Locks + Net + Clock + Alloc + Clone + Drop, I: Read, W: Wri
     writer: &mut Counted<W>,
     faults: &mut Counted<F>,
 ) -> u8
-    ensures { EndsFrom (ends.file_of (option_map (λ path. path.now) invocation.now.from))
+    ensures { EndsFrom (file_in (option_map (λ path. path.now) invocation.now.from))
         (option_map (λ path. path.now) invocation.now.journal)
         invocation.now.call (used I.remaining reader.old reader.new)
         (used W.contents writer.old writer.new) (used F.contents faults.old faults.new) result }

@@ -1,7 +1,7 @@
+pub mod Beginning
 pub mod Clients
 pub mod Journaled
 pub mod Lines
 pub mod Orders
-pub mod PeersInFile
 pub mod Requests
 pub mod Steps

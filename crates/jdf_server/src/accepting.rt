@@ -2,7 +2,7 @@
 
 use crate::clients::Clients;
 use crate::entry::Entry;
-use crate::listener::Listener;
+use listeners::Listener;
 use mio::net::TcpStream;
 use mio::{Interest, Registry, Token};
 use peers::Client;

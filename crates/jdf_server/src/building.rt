@@ -1,17 +1,13 @@
 //! A server in its beginning.
 
+ghost use Rattle.std.specs.Prelude.{◌≡◌, IfOk};
+ghost use Rattle.jdf_server.specs.Beginning.{AreClientsOf, IsBegun, ServesOn};
+
 use crate::accepting::LISTENER;
 use crate::clients::Clients;
-use crate::guests::Guests;
 use crate::health::Health;
-use crate::listener::Listener;
-use crate::log::Log;
-use crate::message_listener::MessageListener;
-use crate::moments::Moments;
-use crate::order_listener::OrderListener;
 use crate::orders::ORDERS;
 use crate::page::PAGE;
-use crate::page_listener::PageListener;
 use crate::post::Post;
 use crate::server::{MAX_EVENTS, Server};
 use crate::service::Service;
@@ -19,6 +15,7 @@ use crate::watched::Watched;
 use http_message::Methods;
 use indexmap::IndexMap;
 use keepers::Locks;
+use listeners::{Guests, Listener, Log, MessageListener, Moments, OrderListener, PageListener};
 use mio::net::TcpListener;
 use mio::{Events, Poll};
 use peers::Limits;
@@ -63,7 +60,9 @@ fn clients<'a, R, F: Write + Drop>(
     place: Place<'a>,
     listener: MessageListener,
     log: Log<F>,
-) -> Clients<'a, R, F> {
+) -> Clients<'a, R, F>
+    ensures { AreClientsOf service.now place.entry result }
+{
     Clients {
         rt,
         alloc,
@@ -99,7 +98,9 @@ fn server<'a, R: Locks + Net + Clock + Alloc + Clone + Drop, F: Write + Drop>(
     place: Place<'a>,
     listener: TcpListener,
     log: Log<F>,
-) -> io::Result<Server<'a, R, F>> {
+) -> io::Result<Server<'a, R, F>>
+    ensures { IfOk result (IsBegun service.now place.entry) }
+{
     let poll = Poll::new(rt)?;
     let moments = Moments::begin(rt)?;
     let events = Events::with_capacity(alloc, MAX_EVENTS)?;
@@ -140,7 +141,9 @@ impl<'a, R: Locks + Net + Clock + Alloc + Clone + Drop, F: Write + Drop> Server<
         place: Place<'a>,
         listener: TcpListener,
         writer: F,
-    ) -> io::Result<Server<'a, R, F>> {
+    ) -> io::Result<Server<'a, R, F>>
+        ensures { IfOk result (IsBegun service.now place.entry) }
+    {
         let log = Log::new(rt, alloc, writer)?;
         server(rt, alloc, service, place, listener, log)
     }
@@ -153,20 +156,29 @@ impl<'a, R: Files + Net, F> Server<'a, R, F> {
     }
 
     /// Has it show its page to those who come to this listener.
-    pub fn open_page(&mut self, listener: TcpListener) -> io::Result<()> {
+    pub fn open_page(&mut self, listener: TcpListener) -> io::Result<()>
+        ensures serves { ServesOn self.old self.new }
+        ensures post { self.new.post ≡ self.old.post }
+    {
         let listener = PageListener { listener };
         self.readers.open(self.poll.registry(), listener)
     }
 
     /// Has it take orders over a local socket of this path. Refuses where somebody listens there,
     /// and where something else lies there.
-    pub fn open_orders(&mut self, path: &str) -> io::Result<()> {
+    pub fn open_orders(&mut self, path: &str) -> io::Result<()>
+        ensures serves { ServesOn self.old self.new }
+        ensures post { self.new.post ≡ self.old.post }
+    {
         let listener = OrderListener::at(self.rt, path)?;
         self.operators.open(self.poll.registry(), listener)
     }
 
     /// Has what is out go to its receivers by itself, where it is known where they are.
-    pub fn send_by(&mut self, post: Option<Post>) {
+    pub fn send_by(&mut self, post: Option<Post>)
+        ensures serves { ServesOn self.old self.new }
+        ensures post { self.new.post ≡ post }
+    {
         self.post = post;
     }
 }

@@ -6,9 +6,8 @@ ghost use Rattle.slab.specs.Slab.{Updates};
 ghost use Rattle.jdf_server.specs.Clients.{Changes, IsGivenBack, IsRefused, with_client};
 
 use crate::entry::Entry;
-use crate::log::Log;
-use crate::message_listener::MessageListener;
 use crate::note::Note;
+use listeners::{Log, MessageListener};
 use mio::net::TcpStream;
 use peers::{Client, Turn};
 use rounds::{Answered, Waiting, refuse};

@@ -1,7 +1,7 @@
 //! The addresses of the hosts that messages go to.
 
-use crate::moments::Moments;
 use indexmap::IndexMap;
+use listeners::Moments;
 use peers_file::{Destination, PeerTable};
 use std::alloc::{AllocError, Global};
 use std::io;

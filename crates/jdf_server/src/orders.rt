@@ -1,12 +1,12 @@
 //! Orders over a local socket: those who give them, and look at what is where.
 
-use crate::guests::Wanted;
 use crate::line::Line;
 use crate::page::PAGES_TIME;
 use crate::route::{Route, named_route};
 use crate::server::Server;
 use http_message::{Body, Method, Received, missing_bytes, path_of};
 use keepers::Locks;
+use listeners::Wanted;
 use mio::net::UnixStream;
 use rounds::{Errand, Waiting};
 use std::alloc::{Alloc, AllocError, Global};

@@ -1,9 +1,9 @@
 //! The readers of the page: those who look, and change nothing.
 
-use crate::guests::Wanted;
 use crate::server::Server;
 use http_message::{Method, path_of};
 use keepers::Locks;
+use listeners::Wanted;
 use mio::net::TcpStream;
 use std::alloc::{Alloc, AllocError};
 use std::io::Write;

@@ -1,15 +1,14 @@
-ghost use Rattle.std.specs.Prelude.{IfErr};
-ghost use Rattle.jdf_server.specs.PeersInFile.{IsNoTable};
+ghost use Rattle.std.specs.Prelude.{◌≡◌, IfErr, IfOk};
+ghost use Rattle.peers_file.specs.PeersInFile.{IsNoTable};
 
 use crate::houses::Houses;
 use crate::own::Parcel;
-use crate::peers_table::peers_in_file;
 use crate::watching::changed_at;
 use deliveries::Deliveries;
 use indexmap::IndexMap;
 use mio::net::TcpStream;
 use peers::Call;
-use peers_file::{Destination, PeerTable};
+use peers_file::{Destination, PeerTable, peers_in_file};
 use slab::Slab;
 use std::alloc::Global;
 use std::rt::Files;
@@ -38,7 +37,8 @@ impl Post {
     /// What goes out to whom the peers' file of this path names; nothing does yet. Refuses
     /// `LoadFailed` where that can't be read or is none, and `Memory`.
     pub fn of<R: Files>(rt: &R, alloc: Global, file: String) -> Result<Post, Refused>
-        ensures { IfErr result IsNoTable }
+        ensures file { IfOk result (λ post. post.file ≡ file) }
+        ensures refused { IfErr result IsNoTable }
     {
         let read_at = changed_at(rt, file.as_str());
         let peers = peers_in_file(rt, alloc, file.as_str())?;

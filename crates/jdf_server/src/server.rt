@@ -1,13 +1,10 @@
 use crate::clients::Clients;
-use crate::guests::Guests;
 use crate::health::Health;
 use crate::line::Line;
-use crate::moments::Moments;
-use crate::order_listener::OrderListener;
-use crate::page_listener::PageListener;
 use crate::post::Post;
 use crate::watched::Watched;
 use indexmap::IndexMap;
+use listeners::{Guests, Moments, OrderListener, PageListener};
 use mio::{Events, Poll};
 use rounds::SavedStates;
 use shop_folder::Place;

@@ -2,11 +2,11 @@
 
 use crate::houses::Houses;
 use crate::lines::keep_in;
-use crate::peers_table::peers_in_file;
 use crate::post::Post;
 use crate::server::Server;
 use crate::stepping::{Look, look_in_file};
 use keepers::Locks;
+use peers_file::peers_in_file;
 use shop_folder::{FolderFile, Owner, Place, files_in};
 use std::alloc::{Alloc, AllocError, Global};
 use std::io::{self, Write};

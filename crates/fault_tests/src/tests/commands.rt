@@ -2,7 +2,9 @@
 
 use super::fakes::{Sink, Source};
 use super::texts::{NO_ENTRY, OPEN_ENTRY, SUBMIT};
-use jdf_net::run_words;
+use jdf_commands::run_file;
+use jdf_words::command_of;
+use journal::FileJournal;
 use std::alloc::{AllocError, Global};
 use std::fs;
 use std::io::ErrorKind;
@@ -117,13 +119,18 @@ fn ends_so(rt: &HostRuntime, case: &Case) -> Result<bool, AllocError> {
     let mut writer = Counted::new(Sink::new(rt.alloc(), case.room, Some(ErrorKind::Other)));
     let mut faults = Counted::new(Sink::new(rt.alloc(), 1_000, None));
     let words = words_in(rt.alloc(), case.words)?;
-    let status = run_words(
+    let Ok(asked) = command_of(rt.alloc(), words.as_slice()) else {
+        return Ok(false);
+    };
+    let mut journal = FileJournal::at(rt, None);
+    let status = run_file(
         rt,
         rt.alloc(),
-        words.as_slice(),
+        &asked.call,
         &mut reader,
         &mut writer,
         &mut faults,
+        &mut journal,
     );
     let told = faults.into_inner().taken;
     Ok(

@@ -1,0 +1,6 @@
+mod AllEvents
+mod EventLines
+mod ShopKept
+mod ShopOpened
+mod ShopWorkers
+mod ShopOrders

@@ -1,0 +1,15 @@
+//! The command `loop`: what happens in a shop, with each message handed over by an exchange over
+//! HTTP, from this program to itself.
+#![tactic(auto)]
+
+mod command;
+mod delivery;
+mod event_line;
+mod handing;
+mod loopback;
+mod pushing;
+mod sent_texts;
+mod shop;
+mod written;
+
+pub use command::run_loop;

@@ -1,6 +1,0 @@
-use Rattle.jdf_net.specs.LoopCommand.Shop.{StepsAll}
-use Rattle.jdf_net.proofs.loop_command.command.run_events.Given as goal
-
--- the events so far have happened in turn, and the lines tell of them
-abbrev pub invariant-loop-event : goal.invariant-loop-event
-invariant-loop-event g l = StepsAll l.yielded l.initial.shop l.shop l.lines.items

@@ -1,5 +1,0 @@
-use Rattle.jdf_net.proofs.EventLines.{IsSoFar}
-use Rattle.jdf_net.proofs.loop_command.written.push_event_lines.Given as goal
-
-abbrev pub invariant-loop-line : goal.invariant-loop-line
-invariant-loop-line l = IsSoFar l.lines l.line-index l.fn.text.items l.text.items

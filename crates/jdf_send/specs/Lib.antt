@@ -1,0 +1,3 @@
+pub mod InputFile
+pub mod SendCommand
+pub mod OrderCommand

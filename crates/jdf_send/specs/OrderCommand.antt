@@ -1,0 +1,131 @@
+-- How `order` with `--send` ends.
+use Rattle.std.specs.Prelude.{◌≡◌, ◌≢◌, ◌⊎◌, ◌≤◌, ℕ, Bool, false, List, [], Option, Some, None}
+use Rattle.std.specs.Prelude.{Result, Ok}
+use Rattle.std.specs.Borrow.{Bor}
+use Rattle.ticket_items.specs.declared.refusal.Refusal.{Refusal}
+use Rattle.ticket_items.specs.declared.refusal.Refusal.TheVariants.{Memory}
+use Rattle.controller.specs.declared.reply.Reply.{Reply}
+use Rattle.controller.specs.declared.message.Message.{Message}
+use Rattle.jmf_message.specs.Decoded.{IsDecodedAs}
+use Rattle.keepers.specs.InFile.{InFile}
+use Rattle.keepers.specs.OnDisk.{OnDisk}
+use Rattle.stored_state.specs.AnyStep.{IsHanded, IsNoOrder, IsOrdered}
+use Rattle.stored_state.specs.Held.{Held}
+use Rattle.stored_state.specs.declared.any_controller.AnyController.{AnyController}
+use Rattle.streams.specs.Ends.{GivesOut, GivesUp}
+use Rattle.streams.specs.Streams.{IsUntouched, Stream, Use}
+use Rattle.streams.specs.declared.fault.Fault.{Fault}
+use Rattle.streams.specs.declared.fault.Fault.TheVariants.{Input}
+use Rattle.streams.specs.declared.refused.Refused.TheVariants.{Core}
+use Rattle.jdf_send.specs.SendCommand.{IsNoPlace}
+use Rattle.jdf_send.specs.declared.order_command.run.Came.{Came}
+use Rattle.jdf_send.specs.declared.order_command.run.Came.TheVariants.{Answered, NoPeer, Refused}
+use Rattle.jdf_commands.specs.Calls.{DoesNone, held, is_honest, kept_in, place}
+use Rattle.jdf_commands.specs.Caused.{EndsWithCaused, GivesUpCaused}
+use Rattle.jdf_commands.specs.FileCommands.Answers.{IsOfAnswer}
+use Rattle.jdf_commands.specs.FileCommands.Commands.{GivesHeld, GivesNoting, GivesStepOf}
+use Rattle.jdf_commands.specs.FileCommands.Notes.{GivesOutNoting, notes_of_order}
+use Rattle.jdf_commands.specs.FileCommands.Step.{is_refused, reply_line, step_lines}
+
+-- an end: what was written and told until then, and the exit status
+abbrev pub Ending : Type 1
+Ending = Use → Use → ℕ → Type 0
+
+-- one end behind another, which had status 0
+abbrev pub Behind : Ending → Ending → Ending
+Behind First Second output told status =
+    (written tells : Stream)
+    × First (record { before = output.before; after = written })
+    (record { before = told.before; after = tells }) 0
+    × Second (record { before = written; after = output.after })
+    (record { before = tells; after = told.after }) status
+
+-- the line of the reply is given out, or there is no memory for it
+abbrev pub GivesLine : Result Reply Refusal → Ending
+GivesLine reply output told status =
+    GivesOut (reply_line reply) (is_refused reply) output told status
+    ⊎ GivesUp (Input (Core Memory)) output told status
+
+-- the controller in the file has taken the answer, and that is written
+pub record TakesAnswer (file : Bor (List ℕ)) (at : ℕ) (answer text : List ℕ) (refused : Bool)
+    : Type 0 where
+  pub reply : Result Reply Refusal
+  pub sent : Option (List ℕ)
+  pub after : Held AnyController (InFile OnDisk)
+  pub given : GivesHeld is_honest held place (IsHanded at) answer (kept_in file.now) after reply sent
+  pub message : Message
+  pub decoded : IsDecodedAs answer (Ok message)
+  pub written : IsOfAnswer message reply sent text refused
+
+-- what is written of the answer to a message, which the controller in the file has taken; and
+-- nothing where there is none
+abbrev pub IsWrittenOf : Bor (List ℕ) → ℕ → List ℕ → List ℕ → Bool → Type 0
+IsWrittenOf file at answer text refused =
+    ((answer ≡ []) × (text ≡ []) × (refused ≡ false)) ⊎ TakesAnswer file at answer text refused
+
+-- the same of some answer
+abbrev pub IsOfSome : Bor (List ℕ) → ℕ → List ℕ → Bool → Type 0
+IsOfSome file at text refused = (answer : List ℕ) × IsWrittenOf file at answer text refused
+
+-- the same of what came of a message
+abbrev pub IsCome : Bor (List ℕ) → ℕ → Came → Type 0
+IsCome file at (Refused status) = Unit {0}
+IsCome file at NoPeer = Unit {0}
+IsCome file at (Answered output) = IsOfSome file at output.text.items output.refused
+
+-- a message is sent on, and that is given out, or nothing where it gave up, another status came or
+-- its receiver has no URL, which is told
+abbrev pub SendsOn : Bor (List ℕ) → ℕ → Ending
+SendsOn file at output told status =
+    EndsWithCaused (IsOfSome file at) (λ _. Unit {0}) output told status
+    ⊎ (IsUntouched output × (status ≡ 1))
+
+-- the line of the reply is given out; and where that was done and nothing was refused, the message
+-- is sent on, and what comes of that is given out behind it
+abbrev pub GivesOn : Bor (List ℕ) → ℕ → Result Reply Refusal → Ending
+GivesOn file at reply output told status =
+    (GivesLine reply output told status × (status ≢ 0))
+    ⊎ Behind (GivesLine reply) (SendsOn file at) output told status
+
+-- the line of the reply is given out, and this is noted; or there is no memory for it
+abbrev pub GivesNoted : Result Reply Refusal → List ℕ → Ending
+GivesNoted reply notes output told status =
+    GivesOutNoting (step_lines reply None) (is_refused reply) notes output told status
+    ⊎ GivesUp (Input (Core Memory)) output told status
+
+-- what an order gives out that has this noted: its message is sent on, if one goes out
+abbrev pub GivesOrder : Bor (List ℕ) → ℕ → Result Reply Refusal → Option (List ℕ) → List ℕ → Ending
+GivesOrder file at reply None notes output told status = GivesNoted reply notes output told status
+GivesOrder file at reply (Some message) notes output told status =
+    GivesOn file at reply output told status
+
+-- the order's step is saved, and given out so
+abbrev pub OrdersAndSends : Bor (List ℕ) → ℕ → Use → Ending
+OrdersAndSends file at input output told status =
+    (reply : Result Reply Refusal) × (sent : Option (List ℕ)) × (notes : List ℕ)
+    × GivesNoting
+    (λ after. GivesStepOf is_honest held place (IsOrdered at) (kept_in file.now) input after reply
+    sent)
+    (notes_of_order reply) notes
+    × GivesOrder file at reply sent notes output told status
+
+-- the text is no URL to send to, or that isn't known, and nothing is read or written
+abbrev pub IsNowhere : List ℕ → Use → Ending
+IsNowhere url input output told status =
+    IsUntouched input
+    × ((IsUntouched output × (status ≡ 2))
+    ⊎ ((fault : Fault) × IsNoPlace url fault × GivesUpCaused fault output told status))
+
+-- the order is given, or it isn't, for this
+abbrev pub Orders : Bor (List ℕ) → ℕ → List ℕ → Use → Ending
+Orders file at url input output told status =
+    OrdersAndSends file at input output told status
+    ⊎ (((fault : Fault) × DoesNone IsNoOrder (IsOrdered at) file.now input fault
+    × GivesUpCaused fault output told status)
+    ⊎ IsNowhere url input output told status)
+
+-- the same, and the status is that of `order`, `send` or `take`
+pub record EndsSendOrder (file : Bor (List ℕ)) (at : ℕ) (url : List ℕ) (input output told : Use)
+    (status : ℕ) : Type 0 where
+  pub given : Orders file at url input output told status
+  pub known : status ≤ 4

@@ -1,0 +1,52 @@
+//! Inputs that come from a file.
+
+ghost use Rattle.std.specs.Prelude.{◌≡◌, IfErr, codes, option_map};
+ghost use Rattle.std.specs.Str.{bytes_eq};
+ghost use Rattle.streams.specs.declared.refused.Refused.TheVariants.{ReadFailed};
+ghost use Rattle.streams.specs.declared.fault.Fault.TheVariants.{Device};
+ghost use Rattle.jdf_send.specs.InputFile as input_file;
+
+use jdf_commands::Caused;
+use std::alloc::Global;
+use std::rt::Files;
+use std::{fs, io};
+use streams::{Fault, Refused};
+
+/// Whether a path is `-`, which stands for standard input.
+fn is_dash(path: &str) -> bool
+    ensures { result ≡ bytes_eq path.now (codes "-") }
+{
+    path == "-"
+}
+
+/// The path of the file that is named, and not standard input.
+pub fn file_of(path: Option<&str>) -> Option<&str>
+    ensures { option_map (λ p. p.now) result ≡ input_file.file_of (option_map (λ p. p.now) path.entry) }
+{
+    let path = path?;
+    if is_dash(path) {
+        return None;
+    }
+    Some(path)
+}
+
+/// The file of a path, open. A folder, which can't be read, isn't opened.
+fn opened<R: Files>(rt: &R, path: &str) -> io::Result<R::File> {
+    if fs::metadata(rt, path)?.is_dir() {
+        return Err(io::Error::other("it is a folder"));
+    }
+    fs::open(rt, path)
+}
+
+/// The file of a path, open. Refuses `ReadFailed` with what the system says of the path.
+pub fn open_input<R: Files>(rt: &R, alloc: Global, path: &str) -> Result<R::File, Caused>
+    ensures { IfErr result (λ caused. caused.fault ≡ Device ReadFailed) }
+{
+    match opened(rt, path) {
+        Ok(file) => Ok(file),
+        Err(error) => {
+            let fault = Fault::Device(Refused::ReadFailed);
+            Err(Caused::of_error(alloc, fault, path, &error))
+        }
+    }
+}

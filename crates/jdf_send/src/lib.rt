@@ -1,0 +1,12 @@
+//! The commands that send to a controller which serves over HTTP: `send`, and `order` with `--send`;
+//! and the file that an input comes from.
+#![tactic(auto)]
+
+mod input_file;
+mod order_command;
+mod send_command;
+mod until;
+
+pub use input_file::{file_of, open_input};
+pub use order_command::{SendOrder, run_send_order};
+pub use send_command::run_send;

@@ -1,0 +1,216 @@
+//! The command, from a file and a URL to its exit status.
+
+ghost use Rattle.std.specs.Prelude.{◌≤◌, IfOk};
+ghost use Rattle.std.specs.Option.{option_map};
+ghost use Rattle.jdf_send.specs.OrderCommand.{EndsSendOrder, GivesOn, GivesOrder, IsCome};
+ghost use Rattle.jdf_send.specs.OrderCommand.{IsWrittenOf, SendsOn};
+ghost use Rattle.streams.specs.Streams.{used};
+
+use crate::order_command::send_order::SendOrder;
+use crate::send_command::{DONE, SendTo, no_place, post, tell_no_peer, tell_no_url, tell_status};
+use http_message::MAX_BODY_BYTES;
+use jdf_commands::{
+    Caused, Ordered, answer_output, finish_noting, give_up_caused, order_in_file, order_noted,
+    step_output, take_in_file,
+};
+use jmf_message::{Reply, decode};
+use journal::Journal;
+use keepers::Locks;
+use std::alloc::Global;
+use std::io::{Read, Write};
+use std::net::Net;
+use std::time::Clock;
+use streams::{Counted, Fault, Output, Refused, finish};
+use ticket_tree::Refusal;
+
+/// What came of a message that was sent on.
+#[derive(Drop)]
+enum Came {
+    /// The other controller refused it with this status.
+    Refused(u16),
+    /// The table of peers has no URL for its receiver.
+    NoPeer,
+    /// It answered, and this is what is written of the answer.
+    Answered(Output),
+}
+
+/// What is written of an answer, which it hands to the controller in the file; nothing of none.
+fn taken<R: Locks, J: Journal>(
+    rt: &R,
+    alloc: Global,
+    order: &SendOrder<'_>,
+    answer: &[u8],
+    journal: &mut J,
+) -> Result<Output, Fault>
+    ensures { IfOk result (λ output. IsWrittenOf order.now.file order.now.at answer.now
+        output.text.items output.refused) }
+{
+    if answer.is_empty() {
+        return Ok(Output {
+            text: Vec::new(alloc),
+            refused: false,
+        });
+    }
+    let given = take_in_file(rt, alloc, order.file, None, answer, order.at, journal)?;
+    let message = decode(alloc, answer)?;
+    answer_output(alloc, &given, &message)
+}
+
+/// Posts a message to where it is sent, and has the controller in the file take the answer, if there
+/// is one. Gives up as `send` and `take` do.
+fn answered<R: Locks + Net + Clock, J: Journal>(
+    rt: &R,
+    alloc: Global,
+    order: &SendOrder<'_>,
+    to: &SendTo,
+    message: &[u8],
+    journal: &mut J,
+) -> Result<Came, Caused>
+    ensures { IfOk result (IsCome order.now.file order.now.at) }
+{
+    if message.len() > MAX_BODY_BYTES {
+        return Err(Caused::bare(Fault::Input(Refused::TooLarge)));
+    }
+    let destination = match to.destination(alloc, message)? {
+        Some(destination) => destination,
+        None => return Ok(Came::NoPeer),
+    };
+    let received = post(rt, alloc, destination, message)?;
+    if received.status != DONE {
+        return Ok(Came::Refused(received.status));
+    }
+    match taken(rt, alloc, order, received.body.as_slice(), journal) {
+        Ok(output) => Ok(Came::Answered(output)),
+        Err(fault) => Err(Caused::at_path(rt, alloc, fault, order.file, "")),
+    }
+}
+
+/// Sends a message on, and writes what comes of it. Answers the exit status.
+fn send_on<R: Locks + Net + Clock, W: Write, F: Write, J: Journal>(
+    rt: &R,
+    alloc: Global,
+    order: &SendOrder<'_>,
+    to: &SendTo,
+    message: &[u8],
+    writer: &mut Counted<W>,
+    faults: &mut Counted<F>,
+    journal: &mut J,
+) -> u8
+    ensures sent { SendsOn order.now.file order.now.at (used W.contents writer.old writer.new)
+        (used F.contents faults.old faults.new) result }
+    ensures known { result ≤ 4 }
+{
+    match answered(rt, alloc, order, to, message, journal) {
+        Ok(Came::Answered(output)) => finish(Ok(output), writer, faults),
+        Ok(Came::Refused(status)) => tell_status(status, faults),
+        Ok(Came::NoPeer) => tell_no_peer(faults),
+        Err(caused) => give_up_caused(alloc, caused, faults),
+    }
+}
+
+/// Writes the line of an order's reply, and sends on the message that goes out. Where the line
+/// can't be written nothing is sent. Answers the exit status.
+fn give_on<R: Locks + Net + Clock, W: Write, F: Write, J: Journal>(
+    rt: &R,
+    alloc: Global,
+    order: &SendOrder<'_>,
+    to: &SendTo,
+    reply: Result<Reply, Refusal>,
+    message: &[u8],
+    writer: &mut Counted<W>,
+    faults: &mut Counted<F>,
+    journal: &mut J,
+) -> u8
+    ensures given { GivesOn order.now.file order.now.at reply
+        (used W.contents writer.old writer.new) (used F.contents faults.old faults.new) result }
+    ensures known { result ≤ 4 }
+{
+    let status = finish(step_output(alloc, reply, &None), writer, faults);
+    if status != 0 {
+        return status;
+    }
+    send_on(rt, alloc, order, to, message, writer, faults, journal)
+}
+
+/// Gives out what an order gives out. Answers the exit status.
+fn give_out<R: Locks + Net + Clock, W: Write, F: Write, J: Journal>(
+    rt: &R,
+    alloc: Global,
+    order: &SendOrder<'_>,
+    to: &SendTo,
+    given: Ordered,
+    writer: &mut Counted<W>,
+    faults: &mut Counted<F>,
+    journal: &mut J,
+) -> u8
+    ensures given { GivesOrder order.now.file order.now.at given.reply
+        (option_map (λ b. b.items) given.message) given.notes.items
+        (used W.contents writer.old writer.new) (used F.contents faults.old faults.new) result }
+    ensures known { result ≤ 4 }
+{
+    let Ordered {
+        reply,
+        message,
+        notes,
+    } = given;
+    match message {
+        Some(message) => {
+            drop(notes);
+            give_on(
+                rt,
+                alloc,
+                order,
+                to,
+                reply,
+                message.as_slice(),
+                writer,
+                faults,
+                journal,
+            )
+        }
+        None => finish_noting(order_noted(alloc, reply, &None, notes), writer, faults),
+    }
+}
+
+/// Gives the controller in a file the order that the input is, as `order` does, and writes the line
+/// of its reply. A message that goes out is posted to where `send` would send it, in place of being
+/// written; the answer is handed to the controller in the file, as
+/// `take` does at the same time, and what came of it is written: the reply, with the Status of the
+/// queue entry behind it where the message was taken, and where it was refused a line more that
+/// tells who refused. Each step is saved before its line is written; the file is locked for each
+/// step alone. Answers the exit status: 0; 1 where the order, the message or the answer was
+/// refused, or no URL is known for its receiver; for a text that is no such URL 2, and then nothing
+/// is read; else that of the fault,
+/// which is told, as of `order`, `send` or `take`, with the path or the address that it comes from
+/// and what the system says of that. The message may have been taken then; it can be
+/// sent once more by `Resend`. The lines of both steps are appended to the journal as `order` and
+/// `take` append them.
+pub fn run_send_order<R: Locks + Net + Clock, I: Read, W: Write, F: Write, J: Journal>(
+    rt: &R,
+    alloc: Global,
+    order: &SendOrder<'_>,
+    reader: &mut Counted<I>,
+    writer: &mut Counted<W>,
+    faults: &mut Counted<F>,
+    journal: &mut J,
+) -> u8
+    ensures { EndsSendOrder order.now.file order.now.at order.now.url.now
+        (used I.remaining reader.old reader.new) (used W.contents writer.old writer.new)
+        (used F.contents faults.old faults.new) result }
+{
+    let to = match SendTo::of(rt, alloc, order.url) {
+        Ok(Some(to)) => to,
+        Ok(None) => return tell_no_url(order.url, faults),
+        Err(fault) => {
+            let caused = no_place(rt, alloc, fault, order.url);
+            return give_up_caused(alloc, caused, faults);
+        }
+    };
+    match order_in_file(rt, alloc, order.file, order.at, reader, journal) {
+        Ok(given) => give_out(rt, alloc, order, &to, given, writer, faults, journal),
+        Err(fault) => {
+            let caused = Caused::at_path(rt, alloc, fault, order.file, "");
+            give_up_caused(alloc, caused, faults)
+        }
+    }
+}
