@@ -187,7 +187,7 @@ fn part_rows(alloc: Global, depth: &str, text: &[u8]) -> Result<Vec<u8>, Refused
 
 /// The part of what a part has, with its first row once more at a depth, unless that is 0.
 fn part_with(alloc: Global, part: &Part, depth: u32) -> Result<Part, Refusal> {
-    let rows = rows_with(alloc, part.rows().as_slice(), depth)?;
+    let rows = rows_with(alloc, part.rows(), depth)?;
     let job = part.job().copy(alloc)?;
     let above = copies_of(alloc, part.ancestors())?;
     let rw = copies_of(alloc, part.rw())?;

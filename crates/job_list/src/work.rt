@@ -111,7 +111,7 @@ fn root_of(entry: &Entry) -> Option<&NodeRow>
 {
     match &entry.part {
         None => None,
-        Some(part) => part.rows().as_slice().first(),
+        Some(part) => part.rows().first(),
     }
 }
 

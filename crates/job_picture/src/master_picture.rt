@@ -15,7 +15,8 @@ use job_list::push_spawns;
 use master_core::Master;
 use spawn::{Holder, Phase, SpawnRec};
 use std::alloc::{AllocError, Global};
-use ticket_items::{Id, NodeRow, SpawnId};
+use ticket_items::{Id, SpawnId};
+use ticket_tree::Rows;
 
 /// The spawn that a holder is, if it is one.
 fn spawn_in(holder: Holder) -> Option<SpawnId>
@@ -40,13 +41,14 @@ fn held_lines(
     alloc: Global,
     master: &Master,
     marked: &Marked<'_>,
-    rows: &[NodeRow],
+    rows: &Rows<'_>,
 ) -> Result<Vec<NodeLine>, AllocError>
     ensures { IfOk result (λ lines. map line_of lines.items
         ≡ map (picture.held_line master.now (mark_in marked.now)) rows.now) }
 {
     let mut lines = Vec::new(alloc);
-    for row in rows {
+    for place in 0..rows.len() {
+        let row = rows.at(place);
         lines.push(node_line(alloc, marked, row, &spawn_at(master, &row.id), "")?)?;
     }
     Ok(lines)
@@ -61,7 +63,7 @@ fn ticket_lines(alloc: Global, master: &Master) -> Result<Vec<NodeLine>, AllocEr
         return Err(AllocError);
     };
     let marked = marked_by_id(alloc, marks.resources.as_slice())?;
-    held_lines(alloc, master, &marked, master.ticket().rows().as_slice())
+    held_lines(alloc, master, &marked, &master.ticket().rows())
 }
 
 /// How many spawns were merged.

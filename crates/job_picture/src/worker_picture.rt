@@ -75,7 +75,7 @@ fn push_part(
         None => Ok(()),
         Some(part) => {
             let copies = part_copies(alloc, part)?;
-            push_rows(alloc, lines, held, copies, part.rows().as_slice())
+            push_rows(alloc, lines, held, copies, part.rows())
         }
     }
 }

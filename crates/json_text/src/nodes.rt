@@ -1,6 +1,7 @@
 //! Printing nodes in preorder, each with all below it.
 
-ghost use Rattle.std.specs.Prelude.{◌≡◌, ◌∷◌, codes, drop, false, true, IfOk, MatchOption, OnOk};
+ghost use Rattle.std.specs.Prelude.{◌≡◌, ◌+◌, ◌<◌, ◌^◌, ◌∷◌, codes, drop, false, true};
+ghost use Rattle.std.specs.Prelude.{IfOk, IfSome, MatchOption, OnOk};
 ghost use Rattle.json.specs.Token.{Token as TokenSeen};
 ghost use Rattle.serde_json.specs.Data.{array};
 ghost use Rattle.json_items.specs.TicketForm.{row_has_names, row_has_texts};
@@ -16,6 +17,7 @@ use crate::pools::print_pool;
 use json::Writer;
 use std::alloc::{AllocError, Global};
 use ticket_items::{Marks, NodeRow};
+use ticket_rows::Rows;
 
 /// Prints the members of a node in front of its children.
 pub fn print_front(out: &mut Writer, row: &NodeRow) -> Result<(), AllocError>
@@ -46,12 +48,16 @@ pub fn print_last(
 }
 
 /// The row at an index, if there is one and it stands deeper than `depth`.
-fn deeper_at(rows: &[NodeRow], at: usize, depth: u32) -> Option<&NodeRow>
-    ensures { MatchOption result
+fn deeper_at<'a>(rows: &Rows<'a>, at: usize, depth: u32) -> Option<&'a NodeRow>
+    ensures row { MatchOption result
         (is_front_deeper depth (drop at rows.now) ≡ false)
         (λ r. IsDeeperAt depth rows.now at r.now) }
+    ensures next { IfSome result (λ _. at + 1 < 2 ^ 64) }
 {
-    let row = rows.get(at)?;
+    if at >= rows.len() {
+        return None;
+    }
+    let row = rows.at(at);
     if depth < row.depth { Some(row) } else { None }
 }
 
@@ -62,7 +68,7 @@ fn print_node(
     alloc: Global,
     out: &mut Writer,
     row: &NodeRow,
-    rows: &[NodeRow],
+    rows: &Rows<'_>,
     from: usize,
     marks: &Marks,
 ) -> Result<usize, AllocError>
@@ -87,7 +93,7 @@ pub fn print_children(
     alloc: Global,
     out: &mut Writer,
     depth: u32,
-    rows: &[NodeRow],
+    rows: &Rows<'_>,
     from: usize,
     marks: &Marks,
 ) -> Result<usize, AllocError>

@@ -18,6 +18,7 @@ use crate::nodes::{print_children, print_front};
 use crate::pools::print_root_pool;
 use json::Writer;
 use std::alloc::{AllocError, Global};
+use ticket_rows::Rows;
 use ticket_tree::Part;
 
 /// Prints a part. Its names and texts are valid.
@@ -32,7 +33,7 @@ pub fn print_part(alloc: Global, out: &mut Writer, part: &Part) -> Result<(), Al
     ensures copy_names { OnOk result (copies_have_names part.now.rw part.now.ro ≡ true) }
     ensures copy_texts { OnOk result (copies_have_texts part.now.rw part.now.ro ≡ true) }
 {
-    let rows = part.rows().as_slice();
+    let rows = Rows::new(part.rows());
     let spawn = part.spawn_id().to_id(alloc)?;
     let Some(root) = rows.first() else {
         return out.null();
@@ -40,7 +41,7 @@ pub fn print_part(alloc: Global, out: &mut Writer, part: &Part) -> Result<(), Al
     out.begin_object()?;
     print_items(out, "AncestorPool", part.ancestors())?;
     print_front(out, root)?;
-    print_children(alloc, out, root.depth, rows, 1, &no_marks(alloc))?;
+    print_children(alloc, out, root.depth, &rows, 1, &no_marks(alloc))?;
     print_member(out, "JobID", part.job())?;
     print_member(out, "JobPartID", &root.job_part)?;
     print_member(out, "ResourceLinkPool", &root.links)?;

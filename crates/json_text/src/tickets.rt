@@ -27,13 +27,13 @@ pub fn print_ticket(
     ensures names { OnOk result (list_all row_has_names ticket.now.rows ≡ true) }
     ensures texts { OnOk result (list_all row_has_texts ticket.now.rows ≡ true) }
 {
-    let rows = ticket.rows().as_slice();
+    let rows = ticket.rows();
     let Some(root) = rows.first() else {
         return out.null();
     };
     out.begin_object()?;
     print_front(out, root)?;
-    print_children(alloc, out, root.depth, rows, 1, marks)?;
+    print_children(alloc, out, root.depth, &rows, 1, marks)?;
     print_member(out, "JobID", ticket.job())?;
     print_last(alloc, out, root, marks)?;
     out.end_object()

@@ -70,7 +70,7 @@ fn is_declined(asked: Command, told: Result<QueueStatus, u16>) -> bool
 fn end_of_part(part: &Part) -> QueueStatus
     ensures { result ≡ messages.end_of_part part.now }
 {
-    match part.rows().as_slice().first() {
+    match part.rows().first() {
         None => QueueStatus::Completed,
         Some(root) => {
             if root.status.as_str() == "Aborted" {

@@ -50,5 +50,5 @@ unfit t r p valid unknown fits =
 
 -- at the node at which the ticket is seen
 pub is_part-at : (t : Job) (r : SpawnRec) (p : Copied) (a : At) → IsAt t.rows r.node a
-    → is_part t r a.below.now (a.depth - 1) p ≡ is_fit t r p
+    → is_part t r a.below (a.depth - 1) p ≡ is_fit t r p
 is_part-at t r p a is = ap (λ rs. is_part t r rs (a.depth - 1) p) is.below ∙ ap (λ n. is_part t r (rows_below t.rows r.node) n p) (levels_are t.rows r.node a is)

@@ -2,9 +2,9 @@
 use Rattle.std.proofs.Common.{◌≡◌, ◌∙◌, ℕ, zero, suc, ◌+◌, ◌-◌, ◌≤◌, inl, inr, Bool, true, false}
 use Rattle.std.proofs.Common.{cond, List, [], ◌∷◌, ◌++◌, length, drop, reverse, slice_get}
 use Rattle.std.proofs.Common.{Option, Some, None, is_some, nat_lt, Result, IfErr, IfNone, refl, sym}
-use Rattle.std.proofs.Common.{ap, subst, append_assoc, arith}
+use Rattle.std.proofs.Common.{◌<◌, ap, subst, append_assoc, arith, get_or, take}
 use Rattle.std.proofs.lemmas.Bool.{ltb-true, ltb-false}
-use Rattle.std.proofs.lemmas.List.{reverse-append, length-drop}
+use Rattle.std.proofs.lemmas.List.{reverse-append, length-drop, take_more}
 use Rattle.std.proofs.lemmas.List.Folds.{find-append}
 use Rattle.std.specs.List.{find}
 use Rattle.std.specs.Option.{option_map, option_map_or, option_or, option_and_then}
@@ -24,6 +24,18 @@ use Rattle.spawn.proofs.AroundAt.{shows}
 use Rattle.spawn.proofs.Split.{path_after, follows_front, Around, around}
 use Rattle.ticket_tree.specs.At.{IsAt}
 use Rattle.ticket_tree.specs.declared.at.At.{At}
+
+-- ---- the last that a test holds of, looked for from the end
+
+pub found_more : {X : Type 0} (test : X → Bool) (xs : List X) (i : ℕ) (x : X)
+    → 0 < i → i ≤ length xs → x ≡ get_or xs (i - 1) x
+    → find test (reverse (take i xs)) ≡ cond (test x) (Some x) (find test (reverse (take (i - 1) xs)))
+found_more test xs i x some within is =
+    let before = take (i - 1) xs in
+    let one : i ≡ i - 1 + 1 = omega (arith, some) in
+    ap (λ n. find test (reverse (take n xs))) one
+    ∙ ap (λ ys. find test (reverse ys)) (take_more xs (i - 1) x (omega (arith, some, within)) ∙ ap (λ y. before ++ y ∷ []) (sym is))
+    ∙ ap (find test) (reverse-append before (x ∷ []))
 
 -- ---- the last row that stands higher, told from the front
 
@@ -124,11 +136,11 @@ front_above rows n valid at =
 
 -- the row that is found in front of a node is its parent
 pub parent_is : (rows : List NodeRow) (n : List ℕ) (a : At) → IsValid rows → IsAt rows n a
-    → has_node rows n ≡ true → found_above a.depth a.front.now ≡ up (node_places rows) n
+    → has_node rows n ≡ true → found_above a.depth a.front ≡ up (node_places rows) n
 parent_is rows n a valid is known =
     let at = around rows n valid known in
     let seen = shows rows n a valid is at in
-    ap (λ d. found_above d a.front.now) seen.depth ∙ ap (found_above at.root.depth) seen.front ∙ front_above rows n valid at ∙ sym (up_is rows n valid at)
+    ap (λ d. found_above d a.front) seen.depth ∙ ap (found_above at.root.depth) seen.front ∙ front_above rows n valid at ∙ sym (up_is rows n valid at)
 
 no_place : (o : Option Place) → is_some o ≡ false → option_and_then parent o ≡ None
 no_place None h = refl

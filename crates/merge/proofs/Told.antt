@@ -1,7 +1,8 @@
 -- What the tests tell: a test holds exactly where what it compares is the same.
 use Rattle.std.specs.Cmp.Lexicographic.{pointwise}
 use Rattle.std.proofs.Common.{◌≡◌, ◌∙◌, ℕ, ◌-◌, ◌&&◌, Bool, List, [], ◌∷◌, length, map, take}
-use Rattle.std.proofs.Common.{Decides, refl, sym, ap}
+use Rattle.std.proofs.Common.{◌+◌, ◌<◌, Decides, ap, drop, false, get_or, refl, suc, sym, true}
+use Rattle.std.proofs.lemmas.List.{drop_more}
 use Rattle.std.proofs.lemmas.Bool.Decides.{Decides-and, Decides-eqb, Decides-like}
 use Rattle.std.proofs.lemmas.Slice.Eq.{bytes_eq-Decides, slice_eq-Decides}
 use Rattle.std.specs.List.{list_all, starts_with, zip}
@@ -29,6 +30,27 @@ pairs_all test [] [] long = refl
 pairs_all test [] (y ∷ ys) long = cc
 pairs_all test (x ∷ xs) [] long = cc
 pairs_all test (x ∷ xs) (y ∷ ys) long = ap (λ b. test x y && b) (pairs_all test xs ys cc)
+
+and_none : (b : Bool) → (b && false) ≡ false
+and_none true = refl
+and_none false = refl
+
+pub pairs_unlike : {X Y : Type 0} (test : X → Y → Bool) (xs : List X) (ys : List Y)
+    → (length xs ≡ length ys → ⊥) → pointwise test xs ys ≡ false
+pairs_unlike test [] [] unlike = absurd (unlike refl)
+pairs_unlike test [] (y ∷ ys) unlike = refl
+pairs_unlike test (x ∷ xs) [] unlike = refl
+pairs_unlike test (x ∷ xs) (y ∷ ys) unlike = ap (λ b. test x y && b) (pairs_unlike test xs ys (λ same. unlike (ap suc same))) ∙ and_none (test x y)
+
+-- the pairs behind one
+pub pairs_more : {X Y : Type 0} (test : X → Y → Bool) (xs : List X) (ys : List Y) (i : ℕ) (x : X)
+    (y : Y)
+    → i < length xs → i < length ys → x ≡ get_or xs i x → y ≡ get_or ys i y
+    → pointwise test (drop i xs) (drop i ys)
+    ≡ (test x y && pointwise test (drop (i + 1) xs) (drop (i + 1) ys))
+pairs_more test xs ys i x y old new is same =
+    ap (λ zs. pointwise test zs (drop i ys)) (drop_more xs i x old ∙ ap (λ z. z ∷ drop (i + 1) xs) (sym is))
+    ∙ ap (pointwise test (x ∷ drop (i + 1) xs)) (drop_more ys i y new ∙ ap (λ z. z ∷ drop (i + 1) ys) (sym same))
 
 -- ---- links and audits
 

@@ -1,11 +1,11 @@
 //! Whether rows, ids and copies are those of the ticket, in what a worker may not change.
 
-ghost use Rattle.std.specs.Prelude.{◌≡◌, ◌-◌};
+ghost use Rattle.std.specs.Prelude.{◌≡◌, ◌-◌, length};
 ghost use Rattle.std.specs.Cmp.Lexicographic.{pointwise};
 ghost use Rattle.merge.specs.Alike as alike;
 
 use spawn::OfResource;
-use ticket_tree::{NodeRow, Resource};
+use ticket_tree::{NodeRow, Resource, Rows};
 
 /// Whether these are the ids or copies of the resources, in order.
 pub fn are_of<T: OfResource>(resources: &[Resource], items: &[T]) -> bool
@@ -32,14 +32,23 @@ fn is_row(old: &NodeRow, new: &NodeRow, levels: u32) -> bool
         && new.audits.as_slice().starts_with(old.audits.as_slice())
 }
 
-/// Whether the rows of a part are those of the ticket, so many levels higher, but for what a worker
-/// may change.
-pub fn are_rows(old: &[NodeRow], new: &[NodeRow], levels: u32) -> bool
+/// Whether the rows of a part are those of the ticket, of which there are as many.
+fn are_alike(old: &Rows<'_>, new: &[NodeRow], levels: u32) -> bool
+    requires { length old.now ≡ length new.now }
     ensures { result ≡ pointwise (alike.is_row levels) old.now new.now }
 {
-    old.len() == new.len()
-        && old
-            .iter()
-            .zip(new)
-            .all(|(old, new)| is_row(old, new, levels))
+    for place in 0..new.len() {
+        if !is_row(old.at(place), &new[place], levels) {
+            return false;
+        }
+    }
+    true
+}
+
+/// Whether the rows of a part are those of the ticket, so many levels higher, but for what a worker
+/// may change.
+pub fn are_rows(old: &Rows<'_>, new: &[NodeRow], levels: u32) -> bool
+    ensures { result ≡ pointwise (alike.is_row levels) old.now new.now }
+{
+    old.len() == new.len() && are_alike(old, new, levels)
 }

@@ -14,7 +14,7 @@ use crate::alike::are_of;
 use crate::in_order::are_in_order;
 use spawn::behind;
 use ticket_items::is_among;
-use ticket_tree::{Id, NodeRow, Resource};
+use ticket_tree::{Id, Resource, Rows};
 
 /// The copies behind those of the pool's resources whose ids are among these, if the copies begin
 /// with them.
@@ -33,12 +33,13 @@ fn behind_pool<'a>(pool: &[Resource], ids: &[Id], copies: &'a [Resource]) -> Opt
 
 /// Whether the copies have the ids, names and Classes of the resources whose ids are among these,
 /// in ticket order. Asks for each resource whether it is among them.
-fn are_copies_among(rows: &[NodeRow], ids: &[Id], copies: &[Resource]) -> bool
+fn are_copies_among(rows: &Rows<'_>, ids: &[Id], copies: &[Resource]) -> bool
     ensures { result ≡ pointwise is_alike
         (resources_among ids.now rows.now) copies.now }
 {
     let mut rest = copies;
-    for row in rows {
+    for place in 0..rows.len() {
+        let row = rows.at(place);
         match behind_pool(row.resources.as_slice(), ids, rest) {
             None => return false,
             Some(later) => rest = later,
@@ -50,7 +51,7 @@ fn are_copies_among(rows: &[NodeRow], ids: &[Id], copies: &[Resource]) -> bool
 /// Whether the copies have the ids, names and Classes of the resources whose ids are among these,
 /// in ticket order. Where the ids stand in ticket order too, one walk past the resources tells it
 /// of them, and one of the copies.
-pub fn are_copies(rows: &[NodeRow], ids: &[Id], copies: &[Resource]) -> bool
+pub fn are_copies(rows: &Rows<'_>, ids: &[Id], copies: &[Resource]) -> bool
     requires { IsValid rows.now }
     ensures { result ≡ pointwise is_alike
         (resources_among ids.now rows.now) copies.now }

@@ -6,7 +6,7 @@ ghost use Rattle.spawn.specs.Parts.{resources};
 ghost use Rattle.merge.specs.InOrder as order;
 
 use spawn::{OfResource, behind};
-use ticket_tree::{NodeRow, Resource};
+use ticket_tree::{Resource, Rows};
 
 /// The ids or copies that are left behind the resources of a pool.
 fn left_behind<'a, T: OfResource>(pool: &[Resource], items: &'a [T]) -> &'a [T]
@@ -22,11 +22,12 @@ fn left_behind<'a, T: OfResource>(pool: &[Resource], items: &'a [T]) -> &'a [T]
 }
 
 /// Whether the ids or copies are those of resources, in ticket order.
-pub fn are_in_order<T: OfResource>(rows: &[NodeRow], items: &[T]) -> bool
+pub fn are_in_order<T: OfResource>(rows: &Rows<'_>, items: &[T]) -> bool
     ensures { result ≡ order.are_met T.is_of (resources rows.now) items.now }
 {
     let mut left = items;
-    for row in rows {
+    for place in 0..rows.len() {
+        let row = rows.at(place);
         left = left_behind(row.resources.as_slice(), left);
     }
     left.is_empty()

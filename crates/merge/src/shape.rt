@@ -13,14 +13,14 @@ use ticket_tree::{At, NodeRow, Part, Ticket};
 /// are seen at the node and the copies of the spawn, but for what a worker may change.
 fn is_part(ticket: &Ticket, spawn: &SpawnRec, at: &At<'_>, came: &[NodeRow], part: &Part) -> bool
     requires { came.now ≡ part.now.rows }
-    ensures { result ≡ alike.is_part ticket.now spawn.now at.now.below.now (at.now.depth - 1)
+    ensures { result ≡ alike.is_part ticket.now spawn.now at.now.below (at.now.depth - 1)
         part.now }
 {
     let rows = ticket.rows();
     *part.job() == *ticket.job()
         && part.spawn_id() == spawn.id
-        && are_rows(at.below, came, at.levels())
-        && are_copies(rows.as_slice(), spawn.rw.as_slice(), part.rw())
+        && are_rows(&at.below, came, at.levels())
+        && are_copies(&rows, spawn.rw.as_slice(), part.rw())
 }
 
 /// Whether a part that comes back has the shape of what the ticket still has of the spawn (JDF 1.5,
@@ -35,6 +35,6 @@ pub fn fits(ticket: &Ticket, spawn: &SpawnRec, part: &Part) -> bool
     let came = part.rows();
     match ticket.at(&spawn.node) {
         None => false,
-        Some(at) => is_part(ticket, spawn, &at, came.as_slice(), part),
+        Some(at) => is_part(ticket, spawn, &at, came, part),
     }
 }

@@ -52,30 +52,30 @@ one_place (x ∷ rows) (suc i) (suc j) r s apart e f same = ap suc (one_place ro
 
 -- at n the rows around it are shown, and its depth
 pub record Shows (rows : List NodeRow) (n : List ℕ) (a : At) (at : Around rows n) : Type 0 where
-  pub front : a.front.now ≡ at.front
-  pub below : a.below.now ≡ at.root ∷ at.inner
-  pub behind : a.behind.now ≡ at.back
+  pub front : a.front ≡ at.front
+  pub below : a.below ≡ at.root ∷ at.inner
+  pub behind : a.behind ≡ at.back
   pub depth : a.depth ≡ at.root.depth
 
 pub shows : (rows : List NodeRow) (n : List ℕ) (a : At) → IsValid rows → IsAt rows n a
     → (at : Around rows n) → Shows rows n a at
 shows rows n a valid is at =
     let mid = at.root ∷ at.inner in
-    let below : a.below.now ≡ mid = is.below ∙ rows_below-around rows n valid at in
-    let shown = is.whole ∙ append_assoc a.front.now a.below.now a.behind.now in
+    let below : a.below ≡ mid = is.below ∙ rows_below-around rows n valid at in
+    let shown = is.whole ∙ append_assoc a.front a.below a.behind in
     let whole = at.whole ∙ append_assoc at.front mid at.back in
-    let first : slice_get rows (length a.front.now) ≡ Some at.root =
-    ap (λ rs. slice_get rs (length a.front.now)) (shown ∙ ap (λ rs. a.front.now ++ (rs ++ a.behind.now)) below) ∙ at_end a.front.now at.root (at.inner ++ a.behind.now) in
+    let first : slice_get rows (length a.front) ≡ Some at.root =
+    ap (λ rs. slice_get rs (length a.front)) (shown ∙ ap (λ rs. a.front ++ (rs ++ a.behind)) below) ∙ at_end a.front at.root (at.inner ++ a.behind) in
     let root : slice_get rows (length at.front) ≡ Some at.root = ap (λ rs. slice_get rs (length at.front)) whole ∙ at_end at.front at.root (at.inner ++ at.back) in
-    let long : length a.front.now ≡ length at.front = one_place rows (length a.front.now) (length at.front) at.root at.root (node_ids_distinct rows valid.distinct) first root refl in
-    let front : a.front.now ≡ at.front =
-    sym (take_at a.front.now (a.below.now ++ a.behind.now) (length at.front) long) ∙ ap (take (length at.front)) (sym shown ∙ whole) ∙ take_at at.front (mid ++ at.back) (length at.front) refl in
+    let long : length a.front ≡ length at.front = one_place rows (length a.front) (length at.front) at.root at.root (node_ids_distinct rows valid.distinct) first root refl in
+    let front : a.front ≡ at.front =
+    sym (take_at a.front (a.below ++ a.behind) (length at.front) long) ∙ ap (take (length at.front)) (sym shown ∙ whole) ∙ take_at at.front (mid ++ at.back) (length at.front) refl in
     let last = length (at.front ++ mid) in
-    let ends : length (a.front.now ++ a.below.now) ≡ last = ap (λ rs. length (rs ++ a.below.now)) front ∙ ap (λ rs. length (at.front ++ rs)) below in
+    let ends : length (a.front ++ a.below) ≡ last = ap (λ rs. length (rs ++ a.below)) front ∙ ap (λ rs. length (at.front ++ rs)) below in
     record {
       front = front;
       below = below;
-      behind = sym (drop_at (a.front.now ++ a.below.now) a.behind.now last ends) ∙ ap (drop last) (sym is.whole ∙ at.whole) ∙ drop_at (at.front ++ mid) at.back last refl;
+      behind = sym (drop_at (a.front ++ a.below) a.behind last ends) ∙ ap (drop last) (sym is.whole ∙ at.whole) ∙ drop_at (at.front ++ mid) at.back last refl;
       depth = ap (λ o. option_map_or (λ d. d) o a.depth) (sym is.depth ∙ ap (option_map (λ p. length p.path)) (root_place rows n valid at)) ∙ ap length at.path ∙ sym at.level;
     }
 

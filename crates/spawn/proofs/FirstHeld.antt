@@ -128,20 +128,20 @@ around_ids h rw front inside back apart =
 around_node : (rows : List NodeRow) (recs : List SpawnRec) (n : List ℕ) (rw : List (List ℕ)) (a : At)
     → IsValid rows → IsAt rows n a
     → option_map (λ r. r.id) (slice_get (holding_claimed (places rows) recs n rw) 0)
-    ≡ option_or (first_answer (among (spawn_with rows recs) rw) (ids a.front.now))
-    (option_or (first_answer (spawn_with rows recs) (ids a.below.now))
-    (first_answer (among (spawn_with rows recs) rw) (ids a.behind.now)))
+    ≡ option_or (first_answer (among (spawn_with rows recs) rw) (ids a.front))
+    (option_or (first_answer (spawn_with rows recs) (ids a.below))
+    (first_answer (among (spawn_with rows recs) rw) (ids a.behind)))
 around_node rows recs n rw a valid at =
     let tree = places rows in
     let h = spawn_with rows recs in
-    let inside = ids a.below.now in
-    let whole : ids rows ≡ ids a.front.now ++ (inside ++ ids a.behind.now) =
-    ap ids at.whole ∙ ids-append (a.front.now ++ a.below.now) a.behind.now ∙ ap (λ xs. xs ++ ids a.behind.now) (ids-append a.front.now a.below.now)
-    ∙ append_assoc (ids a.front.now) inside (ids a.behind.now) in
+    let inside = ids a.below in
+    let whole : ids rows ≡ ids a.front ++ (inside ++ ids a.behind) =
+    ap ids at.whole ∙ ids-append (a.front ++ a.below) a.behind ∙ ap (λ xs. xs ++ ids a.behind) (ids-append a.front a.below)
+    ∙ append_assoc (ids a.front) inside (ids a.behind) in
     mapped_first (holding_claimed tree recs n rw)
     ∙ ap (λ xs. slice_get xs 0) (by_ids rows recs (is_claimed n rw) inside rw tree (all_own tree tree (λ y p found. found) (ids_apart rows valid)) (λ p own. ap (λ b. b || mem p.id rw) (below_rows rows n p valid own ∙ ap (λ rs. mem p.id (ids rs)) (sym at.below))))
     ∙ ap (first_answer (claimed h inside rw)) (ids_of_places [] rows ∙ whole)
-    ∙ around_ids h rw (ids a.front.now) inside (ids a.behind.now) (ap are_distinct (sym whole) ∙ valid.distinct)
+    ∙ around_ids h rw (ids a.front) inside (ids a.behind) (ap are_distinct (sym whole) ∙ valid.distinct)
 
 -- ---- where no spawn holds one of the resources
 
@@ -159,14 +159,14 @@ pub first_below : (rows : List NodeRow) (recs : List SpawnRec) (n : List ℕ) (r
     (a : At)
     → IsValid rows → IsAt rows n a
     → list_any (λ x. is_some (spawn_with rows recs x)) rw ≡ false
-    → first_answer (spawn_with rows recs) (ids a.below.now)
+    → first_answer (spawn_with rows recs) (ids a.below)
     ≡ option_map (λ r. r.id) (slice_get (holding_claimed (places rows) recs n rw) 0)
 first_below rows recs n rw a valid at none =
     let h = spawn_with rows recs in
-    let below = first_answer h (ids a.below.now) in
+    let below = first_answer h (ids a.below) in
     sym (around_node rows recs n rw a valid at
-    ∙ ap (λ o. option_or o (option_or below (first_answer (among h rw) (ids a.behind.now)))) (none_among h rw (ids a.front.now) none)
-    ∙ ap (option_or below) (none_among h rw (ids a.behind.now) none) ∙ or_none below)
+    ∙ ap (λ o. option_or o (option_or below (first_answer (among h rw) (ids a.behind)))) (none_among h rw (ids a.front) none)
+    ∙ ap (option_or below) (none_among h rw (ids a.behind) none) ∙ or_none below)
 
 -- ---- where a spawn holds one of them
 
@@ -189,17 +189,17 @@ pub first_front : (rows : List NodeRow) (recs : List SpawnRec) (n : List ℕ) (r
     → IsValid rows → has_node rows n ≡ true → IsAt rows n a
     → list_all (λ x. mem x (ids_of (linked_outside (places rows) n))) rw ≡ true
     → list_any (λ x. is_some (spawn_with rows recs x)) rw ≡ true
-    → first_answer (among (spawn_with rows recs) rw) (ids a.front.now)
+    → first_answer (among (spawn_with rows recs) rw) (ids a.front)
     ≡ option_map (λ r. r.id) (slice_get (holding_claimed (places rows) recs n rw) 0)
 first_front rows recs n rw a valid known at linked held =
     let h = spawn_with rows recs in
     let f = among h rw in
     let around_n = around rows n valid known in
     let one = some_passes (λ x. is_some (h x)) rw held in
-    let there : mem one.0 (ids a.front.now) ≡ true =
+    let there : mem one.0 (ids a.front) ≡ true =
     ap (λ rs. mem one.0 (ids rs)) (shows rows n a valid at around_n).front ∙ in_front rows n one.0 valid around_n (one_passes (λ x. mem x (ids_of (linked_outside (places rows) n))) one.0 rw linked one.1) in
-    let found = some_answer f (ids a.front.now) one.0 there (ap (λ b. is_some (cond b (h one.0) None)) one.1 ∙ one.2) in
-    sym (around_node rows recs n rw a valid at ∙ some_first (first_answer f (ids a.front.now)) (option_or (first_answer h (ids a.below.now)) (first_answer f (ids a.behind.now))) found)
+    let found = some_answer f (ids a.front) one.0 there (ap (λ b. is_some (cond b (h one.0) None)) one.1 ∙ one.2) in
+    sym (around_node rows recs n rw a valid at ∙ some_first (first_answer f (ids a.front)) (option_or (first_answer h (ids a.below)) (first_answer f (ids a.behind))) found)
 
 -- ---- row by row
 

@@ -197,14 +197,14 @@ met_within rows path recs i depth free met =
 -- ---- the path of a node, as it is seen
 
 pub front_follows : (rows : List NodeRow) (n : List ℕ) (a : At) → IsValid rows → IsAt rows n a
-    → Follows [] a.front.now
+    → Follows [] a.front
 front_follows rows n a valid is =
-    follows_front [] a.front.now (a.below.now ++ a.behind.now) (subst (Follows []) (is.whole ∙ append_assoc a.front.now a.below.now a.behind.now) (Follows-outline rows valid.tree))
+    follows_front [] a.front (a.below ++ a.behind) (subst (Follows []) (is.whole ∙ append_assoc a.front a.below a.behind) (Follows-outline rows valid.tree))
 
 -- a node is below just those of its path
 pub below_path : (rows : List NodeRow) (n : List ℕ) (a : At) → IsValid rows → IsAt rows n a
     → has_node rows n ≡ true → (x : List ℕ)
-    → mem x (path_behind n a.depth a.front.now) ≡ is_below (node_places rows) n x
+    → mem x (path_behind n a.depth a.front) ≡ is_below (node_places rows) n x
 below_path rows n a valid is known x =
     let at = around rows n valid known in
     let seen = shows rows n a valid is at in

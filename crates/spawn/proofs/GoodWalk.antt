@@ -426,7 +426,7 @@ good_if rows r result at above e =
 -- the same of the rows that a ticket shows at the node
 pub good_at : (rows : List NodeRow) (r : SpawnRec) (a : At) (result : Bool) → IsValid rows
     → IsAt rows r.node a → has_node rows r.node ≡ true → nat_lt 1 a.depth ≡ true
-    → result ≡ copied_in a.front.now a.below.now a.behind.now r
+    → result ≡ copied_in a.front a.below a.behind r
     → (result ≡ true → IsGood rows r) × (IsGood rows r → result ≡ true)
 good_at rows r a result valid is known deeper e =
     let at = around rows r.node valid known in
@@ -434,6 +434,6 @@ good_at rows r a result valid is known deeper e =
     let seen = shows rows r.node a valid is at in
     good_if rows r result at (sym (deeper_has_parent rows r.node a is) ∙ deeper)
     (e
-    ∙ ap (λ rs. copied_in rs a.below.now a.behind.now r) seen.front
-    ∙ ap (λ rs. copied_in at.front rs a.behind.now r) seen.below
+    ∙ ap (λ rs. copied_in rs a.below a.behind r) seen.front
+    ∙ ap (λ rs. copied_in at.front rs a.behind r) seen.below
     ∙ ap (λ rs. copied_in at.front mid rs r) seen.behind)

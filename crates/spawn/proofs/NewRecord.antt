@@ -80,32 +80,32 @@ changes_are rows n ids valid at = ap ids_of (linked_and rows n (λ x. mem x ids)
 -- those that pass in front of n and behind it
 both_sides : (rows : List NodeRow) (n : List ℕ) (a : At) (q : List ℕ → Bool) → IsValid rows
     → IsAt rows n a → (at : Around rows n)
-    → filter (λ x. is_linked a.below.now x.id && q x.id) (resources a.front.now)
-    ++ filter (λ x. is_linked a.below.now x.id && q x.id) (resources a.behind.now)
+    → filter (λ x. is_linked a.below x.id && q x.id) (resources a.front)
+    ++ filter (λ x. is_linked a.below x.id && q x.id) (resources a.behind)
     ≡ filter (λ x. wanted at x.id && q x.id) (resources rows)
 both_sides rows n a q valid here at =
     let seen = shows rows n a valid here at in
-    ap (λ rs. filter (λ x. is_linked rs x.id && q x.id) (resources a.front.now) ++ filter (λ x. is_linked rs x.id && q x.id) (resources a.behind.now)) seen.below
-    ∙ ap (λ rs. filter (λ x. is_linked (at.root ∷ at.inner) x.id && q x.id) (resources rs) ++ filter (λ x. is_linked (at.root ∷ at.inner) x.id && q x.id) (resources a.behind.now)) seen.front
+    ap (λ rs. filter (λ x. is_linked rs x.id && q x.id) (resources a.front) ++ filter (λ x. is_linked rs x.id && q x.id) (resources a.behind)) seen.below
+    ∙ ap (λ rs. filter (λ x. is_linked (at.root ∷ at.inner) x.id && q x.id) (resources rs) ++ filter (λ x. is_linked (at.root ∷ at.inner) x.id && q x.id) (resources a.behind)) seen.front
     ∙ ap (λ rs. filter (λ x. is_linked (at.root ∷ at.inner) x.id && q x.id) (resources at.front) ++ filter (λ x. is_linked (at.root ∷ at.inner) x.id && q x.id) (resources rs)) seen.behind
     ∙ sym (around_kept rows n q valid at)
 
 pub new_changes : (rows : List NodeRow) (n : List ℕ) (a : At) (ids : List (List ℕ)) → IsValid rows
     → has_node rows n ≡ true → IsAt rows n a
     → resource_ids
-    (filter (λ x. is_linked a.below.now x.id && mem x.id ids) (resources a.front.now))
+    (filter (λ x. is_linked a.below x.id && mem x.id ids) (resources a.front))
     ++ resource_ids
-    (filter (λ x. is_linked a.below.now x.id && mem x.id ids) (resources a.behind.now))
+    (filter (λ x. is_linked a.below x.id && mem x.id ids) (resources a.behind))
     ≡ ids_of (linked_rw (places rows) n ids)
 new_changes rows n a ids valid known here =
     let at = around rows n valid known in
-    let test : Resource → Bool = λ x. is_linked a.below.now x.id && mem x.id ids in
-    sym (map-append (λ x. x.id) (filter test (resources a.front.now)) (filter test (resources a.behind.now))) ∙ ap resource_ids (both_sides rows n a (λ x. mem x ids) valid here at) ∙ sym (changes_are rows n ids valid at)
+    let test : Resource → Bool = λ x. is_linked a.below x.id && mem x.id ids in
+    sym (map-append (λ x. x.id) (filter test (resources a.front)) (filter test (resources a.behind))) ∙ ap resource_ids (both_sides rows n a (λ x. mem x ids) valid here at) ∙ sym (changes_are rows n ids valid at)
 
 pub new_reads : (rows : List NodeRow) (n : List ℕ) (a : At) (ids : List (List ℕ)) → IsValid rows
     → has_node rows n ≡ true → IsAt rows n a
-    → filter (λ x. is_linked a.below.now x.id && not (mem x.id ids)) (resources a.front.now)
-    ++ filter (λ x. is_linked a.below.now x.id && not (mem x.id ids)) (resources a.behind.now)
+    → filter (λ x. is_linked a.below x.id && not (mem x.id ids)) (resources a.front)
+    ++ filter (λ x. is_linked a.below x.id && not (mem x.id ids)) (resources a.behind)
     ≡ resources_among (ids_of (linked_ro (places rows) n ids)) rows
 new_reads rows n a ids valid known here =
     let at = around rows n valid known in

@@ -179,7 +179,7 @@ with_resource-none x f (r ∷ rows) out =
     let own = or_parts (mem x (map (λ y. y.id) r.resources)) (mem x (ids rows)) (sym (mem-append x (map (λ y. y.id) r.resources) (ids rows)) ∙ parts.1) in
     ap (λ pool. record r { resources = pool } ∷ with_resource x f rows) (at_key-none (λ y. y.id) x f r.resources own.0) ∙ ap (λ rs. r ∷ rs) (with_resource-none x f rows own.1)
 
-abbrev with_pool : List ℕ → (Resource → Resource) → NodeRow → NodeRow
+abbrev pub with_pool : List ℕ → (Resource → Resource) → NodeRow → NodeRow
 with_pool x f r = record r { resources = with_item x f r.resources }
 
 set_pool : (here : Bool) (later : Option ℕ) (x : List ℕ) (f : Resource → Resource) (r : NodeRow)

@@ -16,6 +16,7 @@ use Rattle.ticket_rows.proofs.Growth.{finds_node, finds_resource, finds_same}
 use Rattle.ticket_rows.proofs.NewNode.{own_place}
 use Rattle.ticket_rows.proofs.NewResource.{add_resource}
 use Rattle.ticket_rows.proofs.NodePlaces.{node_ids_distinct}
+use Rattle.ticket_rows.proofs.Parents.{parents_grown, runs_grown, runs_nest}
 use Rattle.ticket_rows.proofs.Shapes.{ids-shapes, length-runs-rows, node-rows, run-rows, run_ends}
 use Rattle.ticket_rows.proofs.Shapes.{runs_grow, shape}
 use Rattle.ticket_rows.specs.ChangedRow.{at_place, end_behind}
@@ -23,6 +24,7 @@ use Rattle.ticket_rows.specs.Edit.{with_resource}
 use Rattle.ticket_rows.specs.Index.{AreAlike, Finds, IsIndex, Shape, Spots, ids_in, lengthened}
 use Rattle.ticket_rows.specs.Index.{node_at, raised, runs_of, shape_of, shapes_of, spot_under}
 use Rattle.ticket_rows.specs.Index.{with_more}
+use Rattle.ticket_rows.specs.Parents.{AreParents}
 use Rattle.ticket_rows.specs.Ticket.{depths, ids}
 use Rattle.ticket_rows.specs.declared.index.Index.{Index}
 use Rattle.ticket_rows.specs.declared.spot.Spot.{Spot}
@@ -39,9 +41,12 @@ depths-shapes (r ∷ rows) = ap (λ ds. r.depth ∷ ds) (depths-shapes rows)
 pub index_same : (old new : List NodeRow) (index : Index) → shapes_of new ≡ shapes_of old
     → IsIndex old index → IsIndex new index
 index_same old new index same i =
+    let runs : runs_of (depths old) ≡ runs_of (depths new)
+    = ap runs_of (depths-shapes old ∙ ap (map (λ s. s.depth)) (sym same) ∙ sym (depths-shapes new)) in
     record {
       finds = subst (λ ss. Finds ss index.spots index.places.items) (sym same) i.finds;
-      runs = i.runs ∙ ap runs_of (depths-shapes old ∙ ap (map (λ s. s.depth)) (sym same) ∙ sym (depths-shapes new));
+      parents = subst (λ ns. AreParents ns index.places.items index.parents.items) runs i.parents;
+      runs = i.runs ∙ runs;
     }
 
 pub index_stays : {X E : Type 0} (result : Result X E) (old new changed : List NodeRow)
@@ -130,12 +135,21 @@ shapes-more rows k r x at =
 
 -- ---- a copy
 
+-- which nodes stand above, where nothing of that is changed
+pub parents_kept : (rows : List NodeRow) (old new : Index) → IsIndex rows old
+    → new.places.items ≡ old.places.items → new.parents.items ≡ old.parents.items
+    → AreParents (runs_of (depths rows)) new.places.items new.parents.items
+parents_kept rows old new i places parents =
+    subst (λ ps. AreParents (runs_of (depths rows)) ps new.parents.items) (sym places)
+    (subst (AreParents (runs_of (depths rows)) old.places.items) (sym parents) i.parents)
+
 pub index_alike : (old new : List NodeRow) (a b : Index) → new ≡ old → AreAlike a b → IsIndex old a
     → IsIndex new b
 index_alike old new a b same alike i =
     subst (λ rows. IsIndex rows b) (sym same)
     (record {
       finds = subst (Finds (shapes_of old) b.spots) (sym alike.places) (finds_same (shapes_of old) a.spots b.spots a.places.items alike.spots i.finds);
+      parents = parents_kept old a b i alike.places alike.parents;
       runs = alike.runs ∙ i.runs;
     })
 
@@ -162,10 +176,12 @@ pub runs_long : (rows : List NodeRow) (index : Index) → IsIndex rows index
 runs_long rows index i = ap length i.runs ∙ length-runs-rows rows
 
 -- the columns with the new node's place and run
-abbrev pub Columns : List NodeRow → Spots → List ℕ → List ℕ → Type 0
-Columns rows spots places runs = Finds (shapes_of rows) spots places × (runs ≡ runs_of (depths rows))
+abbrev pub Columns : List NodeRow → Spots → List ℕ → List ℕ → List ℕ → Type 0
+Columns rows spots places parents runs =
+    Finds (shapes_of rows) spots places × AreParents (runs_of (depths rows)) places parents
+    × (runs ≡ runs_of (depths rows))
 
-pub columns_with_node : (rows : List NodeRow) (k n : ℕ) (r new : NodeRow) (index : Index)
+pub columns_with_node : (rows : List NodeRow) (k n node : ℕ) (r new : NodeRow) (index : Index)
     (next : Spots) (moved longer : List ℕ)
     → IsIndex rows index → slice_get index.runs.items k ≡ Some n → slice_get rows k ≡ Some r
     → new.resources ≡ [] → new.depth ≡ suc r.depth → mem new.id (ids rows) ≡ false
@@ -176,13 +192,21 @@ pub columns_with_node : (rows : List NodeRow) (k n : ℕ) (r new : NodeRow) (ind
     ≡ option_map (raised (k + 1 + n)) (slice_get index.places.items m))
     → length moved ≡ length index.places.items
     → ((j : ℕ) → slice_get longer j ≡ option_map (lengthened k j) (slice_get index.runs.items j))
+    → length longer ≡ length index.runs.items → slice_get index.places.items node ≡ Some k
     → Columns (insert rows (k + 1 + n) new) next (moved ++ (k + 1 + n) ∷ [])
-    (insert longer (k + 1 + n) 0)
-columns_with_node rows k n r new index next moved longer i run at bare one out put raise long grow =
+    (index.parents.items ++ node ∷ []) (insert longer (k + 1 + n) 0)
+columns_with_node rows k n node r new index next moved longer i run at bare one out put raise long grow longs came =
     let end : k + 1 + n ≡ end_behind rows k r = end_told rows k n r index i run at in
-    let within : k + 1 + n ≤ length rows = omega (arith, runs_end rows k n index i run) in (
+    let within : k + 1 + n ≤ length rows = omega (arith, runs_end rows k n index i run) in
+    let old = runs_of (depths rows) in
+    let more = λ (j : ℕ). grow j ∙ ap (λ ns. option_map (lengthened k j) (slice_get ns j)) i.runs in
+    let runs : insert longer (k + 1 + n) 0 ≡ runs_of (depths (insert rows (k + 1 + n) new))
+    = ap (λ e. insert longer e 0) end ∙ runs_grow rows k r new longer at one more ∙ ap (λ e. runs_of (depths (insert rows e new))) (sym end) in
+    let grown = runs_grown old longer k (k + 1 + n) more (omega arith) (omega (arith, within, longs, runs_long rows index i)) in
+    let parents = parents_grown old (insert longer (k + 1 + n) 0) index.places.items moved index.parents.items k n (k + 1 + n) node (runs_nest (depths rows)) (ap (λ ns. slice_get ns k) (sym i.runs) ∙ run) refl grown i.parents came raise long in (
       finds_insert rows (k + 1 + n) new index.spots next index.places.items moved within bare out put raise long i.finds,
-      ap (λ e. insert longer e 0) end ∙ runs_grow rows k r new longer at one (λ j. grow j ∙ ap (λ ns. option_map (lengthened k j) (slice_get ns j)) i.runs) ∙ ap (λ e. runs_of (depths (insert rows e new))) (sym end),
+      subst (λ ns. AreParents ns (moved ++ (k + 1 + n) ∷ []) (index.parents.items ++ node ∷ [])) runs parents,
+      runs,
     )
 
 -- ---- and for a new resource
@@ -210,12 +234,15 @@ pub index_with_resource : (rows : List NodeRow) (k : ℕ) (r : NodeRow) (x : Res
     (index : Index)
     → slice_get rows k ≡ Some r
     → Finds (at_place k (with_more x.id) (shapes_of rows)) index.spots index.places.items
+    → AreParents (runs_of (depths rows)) index.places.items index.parents.items
     → index.runs.items ≡ runs_of (depths rows)
     → IsIndex (at_place k (add_resource x) rows) index
-index_with_resource rows k r x index at f runs =
+index_with_resource rows k r x index at f parents runs =
+    let same = ap runs_of (sym (map-at_place (λ s. s.depth) (add_resource x) rows k (λ s. refl))) in
     record {
       finds = subst (λ ss. Finds ss index.spots index.places.items) (sym (shapes-more rows k r x at)) f;
-      runs = runs ∙ ap runs_of (sym (map-at_place (λ s. s.depth) (add_resource x) rows k (λ s. refl)));
+      parents = subst (λ ns. AreParents ns index.places.items index.parents.items) same parents;
+      runs = runs ∙ same;
     }
 
 -- and those that didn't have the one from which the id was taken out again
@@ -223,11 +250,12 @@ pub index_again : (rows : List NodeRow) (y : List ℕ) (old mid new : Index) →
     → mem y (ids rows) ≡ false
     → ((x : List ℕ) → bytes_eq y x ≡ false → spot_under mid.spots x ≡ spot_under old.spots x)
     → ((x : List ℕ) → spot_under new.spots x ≡ cond (bytes_eq y x) None (spot_under mid.spots x))
-    → new.places.items ≡ old.places.items → new.runs.items ≡ runs_of (depths rows)
-    → IsIndex rows new
-index_again rows y old mid new i out others took places runs =
+    → new.places.items ≡ old.places.items → new.parents.items ≡ old.parents.items
+    → new.runs.items ≡ runs_of (depths rows) → IsIndex rows new
+index_again rows y old mid new i out others took places parents runs =
     record {
       finds = subst (Finds (shapes_of rows) new.spots) (sym places) (finds_same (shapes_of rows) old.spots new.spots old.places.items (λ x. by x (bytes_eq y x) refl) i.finds);
+      parents = parents_kept rows old new i places parents;
       runs = runs;
     }
   where
@@ -247,12 +275,13 @@ pub index_pushed : (rows : List NodeRow) (k : ℕ) (r : NodeRow) (x : Resource)
     (pool : List Resource) (index : Index)
     → slice_get rows k ≡ Some r → pool ≡ r.resources ++ x ∷ []
     → Finds (at_place k (with_more x.id) (shapes_of rows)) index.spots index.places.items
+    → AreParents (runs_of (depths rows)) index.places.items index.parents.items
     → index.runs.items ≡ runs_of (depths rows)
     → IsIndex (set rows k (record r { resources = pool })) index
-index_pushed rows k r x pool index at pushed f runs =
+index_pushed rows k r x pool index at pushed f parents runs =
     subst (λ rs. IsIndex rs index)
     (ap (λ o. option_map_or (λ s. set rows k (add_resource x s)) o rows) at ∙ ap (λ xs. set rows k (record r { resources = xs })) (sym pushed))
-    (index_with_resource rows k r x index at f runs)
+    (index_with_resource rows k r x index at f parents runs)
 
 -- a row whose pool is what it was
 pub index_unpushed : (rows : List NodeRow) (k : ℕ) (r : NodeRow) (pool : List Resource)

@@ -2,13 +2,16 @@ pub mod Alike
 pub mod AtHome
 pub mod AtPlaces
 pub mod Below
+pub mod Boxed
 pub mod Building
 pub mod Changes
+pub mod Climbed
 pub mod Copies
 pub mod EditedValid
 pub mod Growing
 pub mod Growth
 pub mod InLists
+pub mod Labels
 pub mod IndexFollows
 pub mod LinkWalk
 pub mod LinksByRuns
@@ -16,6 +19,7 @@ pub mod NewNode
 pub mod NewResource
 pub mod NodePlaces
 pub mod OneRows
+pub mod Parents
 pub mod PartEdits
 pub mod Reasons
 pub mod ResourcePlaces

@@ -12,10 +12,10 @@ use Rattle.ticket_rows.specs.Index.{lengthened, runs_of}
 abbrev pub deeper : ℕ → List ℕ → ℕ
 deeper d ds = position_or_len (λ e. leb e d) ds
 
-stop : (d e : ℕ) (es : List ℕ) → e ≤ d → deeper d (e ∷ es) ≡ 0
+pub stop : (d e : ℕ) (es : List ℕ) → e ≤ d → deeper d (e ∷ es) ≡ 0
 stop d e es low = ap (λ b. cond (not b) (1 + deeper d es) 0) (le-leb e d low)
 
-pass : (d e : ℕ) (es : List ℕ) → d < e → deeper d (e ∷ es) ≡ suc (deeper d es)
+pub pass : (d e : ℕ) (es : List ℕ) → d < e → deeper d (e ∷ es) ≡ suc (deeper d es)
 pass d e es high = ap (λ b. cond (not b) (1 + deeper d es) 0) (lt-leb e d high) ∙ omega arith
 
 -- the first, if there is one, isn't deeper
@@ -238,7 +238,7 @@ runs_child ds k d at =
 
 -- ---- place by place
 
-same_list : (xs ys : List ℕ) → ((j : ℕ) → slice_get xs j ≡ slice_get ys j) → xs ≡ ys
+pub same_list : (xs ys : List ℕ) → ((j : ℕ) → slice_get xs j ≡ slice_get ys j) → xs ≡ ys
 same_list [] [] same = refl
 same_list [] (y ∷ ys) same = cc (same 0)
 same_list (x ∷ xs) [] same = cc (same 0)

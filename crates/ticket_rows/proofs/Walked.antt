@@ -11,7 +11,7 @@ pub record Walked (f : ℕ → ℕ → ℕ) (old new : List ℕ) (n : ℕ) : Typ
   pub rest : (m : ℕ) → n ≤ m → slice_get new m ≡ slice_get old m
   pub long : length new ≡ length old
 
-get_set : (xs : List ℕ) (n m v w : ℕ) → slice_get xs n ≡ Some v
+pub get_set : (xs : List ℕ) (n m v w : ℕ) → slice_get xs n ≡ Some v
     → ((m ≡ n) × (slice_get (set xs n w) m ≡ Some w))
     ⊎ ((m < n) × (slice_get (set xs n w) m ≡ slice_get xs m))
     ⊎ ((n < m) × (slice_get (set xs n w) m ≡ slice_get xs m))
@@ -31,7 +31,7 @@ get_set (x ∷ xs) (suc n) (suc m) v w at = by (get_set xs n m v w at)
     by (inr (inl h)) = let low : m < n = h.0 in inr (inl (omega arith, h.1))
     by (inr (inr h)) = let low : n < m = h.0 in inr (inr (omega arith, h.1))
 
-set-long : (xs : List ℕ) (n w : ℕ) → length (set xs n w) ≡ length xs
+pub set-long : (xs : List ℕ) (n w : ℕ) → length (set xs n w) ≡ length xs
 set-long [] n w = refl
 set-long (x ∷ xs) zero w = refl
 set-long (x ∷ xs) (suc n) w = omega (arith, set-long xs n w)

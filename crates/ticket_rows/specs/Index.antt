@@ -9,6 +9,7 @@ use Rattle.std.specs.Ordering.{nat_cmp}
 use Rattle.std.specs.Str.{bytes_eq}
 use Rattle.ticket_items.specs.Ids.{mem, are_distinct}
 use Rattle.ticket_items.specs.declared.node_row.NodeRow.{NodeRow}
+use Rattle.ticket_rows.specs.Parents.{AreParents}
 use Rattle.ticket_rows.specs.Ticket.{depths}
 use Rattle.ticket_rows.specs.declared.index.Index.{Index}
 use Rattle.ticket_rows.specs.declared.spot.Spot.{Spot}
@@ -101,6 +102,7 @@ runs_of (d ∷ ds) = position_or_len (λ e. nat_le e d) ds ∷ runs_of ds
 
 pub record IsIndex (rows : List NodeRow) (index : Index) : Type 0 where
   pub finds : Finds (shapes_of rows) index.spots index.places.items
+  pub parents : AreParents (runs_of (depths rows)) index.places.items index.parents.items
   pub runs : index.runs.items ≡ runs_of (depths rows)
 
 -- ---- what becomes of places and runs with a new row
@@ -122,4 +124,5 @@ with_more x s = record s { pool = s.pool ++ x ∷ [] }
 pub record AreAlike (a b : Index) : Type 0 where
   pub spots : (x : List ℕ) → spot_under b.spots x ≡ spot_under a.spots x
   pub places : b.places.items ≡ a.places.items
+  pub parents : b.parents.items ≡ a.parents.items
   pub runs : b.runs.items ≡ a.runs.items

@@ -10,3 +10,6 @@ pub mod Copies
 pub mod OneRow
 pub mod ChangedRow
 pub mod Index
+pub mod Labels
+pub mod Parents
+pub mod Boxed

@@ -1,12 +1,11 @@
-ghost use Rattle.std.specs.Prelude.{◌≡◌, ◌<◌, ℕ, List, Some, not, is_some, if◌then◌else◌, slice_get};
+ghost use Rattle.std.specs.Prelude.{◌≡◌, ℕ, List, Some, not, is_some, if◌then◌else◌};
 ghost use Rattle.std.specs.Prelude.{◌∷◌, ◌++◌, [], length, true, IfOk, OnErr, OnOk};
-ghost use Rattle.std.specs.Option.{option_map};
-ghost use Rattle.std.specs.Vec.{vec_capacity};
 ghost use Rattle.std.specs.Str.{bytes_eq};
 ghost use Rattle.ticket_items.specs.Ids.{are_distinct};
-ghost use Rattle.ticket_rows.specs.Index.{Finds, Shape, Tells, ids_in, raised, shape_of, spot_under};
+ghost use Rattle.ticket_rows.specs.Index.{Finds, Shape, Tells, ids_in, shape_of, spot_under};
 
-use crate::runs::{lengthen, runs_of};
+use crate::places::Places;
+use crate::runs::{lengthen, parents_of, runs_of};
 use crate::spot::Spot;
 use std::alloc::{AllocError, Global};
 use std::collections::BTreeMap;
@@ -17,7 +16,9 @@ use ticket_items::{Id, NodeRow};
 #[derive(Drop)]
 pub struct Index {
     spots: BTreeMap<Id, Spot>,
-    places: Vec<usize>,
+    places: Places,
+    /// The node above each, in the order of coming; the first one's is itself.
+    parents: Vec<usize>,
     runs: Vec<usize>,
 }
 
@@ -51,28 +52,6 @@ fn add_row(spots: &mut BTreeMap<Id, Spot>, node: usize, row: &NodeRow) -> Result
     Ok(true)
 }
 
-/// A place, moved by one where it stands from another on.
-fn moved(place: usize, from: usize, end: usize) -> usize
-    requires { place < end }
-    ensures { result ≡ raised from place }
-{
-    if place >= from { place + 1 } else { place }
-}
-
-/// Moves the places from one on, all of which are below an end, by one. Each is written, so that
-/// the processor has nothing to guess.
-fn raise(places: &mut Vec<usize>, from: usize, end: usize)
-    requires { (n k : ℕ) → slice_get places.old.items n ≡ Some k → k < end }
-    ensures len { length places.new.items ≡ length places.old.items }
-    ensures room { vec_capacity places.new ≡ vec_capacity places.old }
-    ensures moved { (n : ℕ) → slice_get places.new.items n
-        ≡ option_map (raised from) (slice_get places.old.items n) }
-{
-    for n in 0..places.len() {
-        places[n] = moved(places[n], from, end);
-    }
-}
-
 impl Index {
     ghost use Rattle.std.specs.Prelude.{◌≡◌, ◌<◌, [], ℕ, List, None, Some, suc, false, true, is_some};
     ghost use Rattle.std.specs.Prelude.{if◌then◌else◌, length, slice_get, IfOk, IfSome, OnErr, OnOk};
@@ -81,6 +60,7 @@ impl Index {
     ghost use Rattle.std.specs.Str.{bytes_eq};
     ghost use Rattle.ticket_items.specs.Ids.{are_distinct, mem};
     ghost use Rattle.ticket_items.specs.declared.node_row.NodeRow.{NodeRow};
+    ghost use Rattle.ticket_rows.specs.Boxed.{contents};
     ghost use Rattle.ticket_rows.specs.ChangedRow.{at_place, end_behind};
     ghost use Rattle.ticket_rows.specs.Index.{Finds, IsIndex, node_at, resource_at, runs_of};
     ghost use Rattle.ticket_rows.specs.Index.{shapes_of, spot_under, with_more};
@@ -92,17 +72,18 @@ impl Index {
         ensures index { IfOk result (λ made. IfSome made (IsIndex rows.now)) }
     {
         let mut spots = BTreeMap::new(alloc);
-        let mut places = Vec::with_capacity(alloc, rows.len())?;
         for node in 0..rows.len() {
             if !add_row(&mut spots, node, &rows[node])? {
                 return Ok(None);
             }
-            places.push(node)?;
         }
+        let places = Places::counted(alloc, rows.len())?;
         let runs = runs_of(alloc, rows)?;
+        let parents = parents_of(alloc, runs.as_slice())?;
         Ok(Some(Index {
             spots,
             places,
+            parents,
             runs,
         }))
     }
@@ -120,7 +101,7 @@ impl Index {
             (spot_under self.now.spots id.now) }
     {
         match self.spots.get(id)? {
-            Spot::OfNode { node } => self.places.get(*node).copied(),
+            Spot::OfNode { node } => self.places.get(*node),
             Spot::InPool { .. } => None,
         }
     }
@@ -133,7 +114,7 @@ impl Index {
         match self.spots.get(id)? {
             Spot::OfNode { .. } => None,
             Spot::InPool { home, place } => {
-                let home = *self.places.get(*home)?;
+                let home = self.places.get(*home)?;
                 Some((home, *place))
             }
         }
@@ -149,25 +130,39 @@ impl Index {
 
     /// Puts the id of a new node in, which is to stand last below the one at a place; where it will
     /// stand. Without memory nothing changes.
-    pub fn add_node(&mut self, rows: &[NodeRow], place: usize, id: Id) -> Result<usize, AllocError>
-        requires index { IsIndex rows.now self.old }
-        requires within { place < length rows.now }
-        requires new { mem id (ids rows.now) ≡ false }
-        ensures end { (r : NodeRow) → slice_get rows.now place ≡ Some r
-            → IfOk result (λ end. end ≡ end_behind rows.now place r) }
-        ensures ok { (r new : NodeRow) → slice_get rows.now place ≡ Some r → new.id ≡ id
+    pub fn add_node(
+        &mut self,
+        rows: &[Box<NodeRow>],
+        place: usize,
+        id: Id,
+    ) -> Result<usize, AllocError>
+        requires index { IsIndex (contents rows.now) self.old }
+        requires within { place < length (contents rows.now) }
+        requires distinct { are_distinct (ids (contents rows.now)) ≡ true }
+        requires new { mem id (ids (contents rows.now)) ≡ false }
+        ensures end { (r : NodeRow) → slice_get (contents rows.now) place ≡ Some r
+            → IfOk result (λ end. end ≡ end_behind (contents rows.now) place r) }
+        ensures ok { (r new : NodeRow) → slice_get (contents rows.now) place ≡ Some r → new.id ≡ id
             → new.resources ≡ [] → new.depth ≡ suc r.depth
-            → IfOk result (λ end. IsIndex (insert rows.now end new) self.new) }
-        ensures err { OnErr result (IsIndex rows.now self.new) }
+            → IfOk result (λ end. IsIndex (insert (contents rows.now) end new) self.new) }
+        ensures err { OnErr result (IsIndex (contents rows.now) self.new) }
     {
         let end = place + 1 + self.runs[place];
-        self.places.reserve(1)?;
+        let row = rows[place].as_ref();
+        let parent = self.came(&row.id);
+        self.places.reserve()?;
+        self.parents.reserve(1)?;
         self.runs.reserve(1)?;
         let node = self.places.len();
         self.spots.insert(id, Spot::OfNode { node })?;
-        raise(&mut self.places, end, rows.len());
-        self.places.push(end).unwrap();
-        lengthen(&mut self.runs, place, rows.len());
+        lengthen(
+            &mut self.runs,
+            &self.places,
+            self.parents.as_slice(),
+            parent,
+        );
+        self.places.insert(end);
+        self.parents.push(parent).unwrap();
         self.runs.insert(end, 0).unwrap();
         Ok(end)
     }
@@ -188,23 +183,25 @@ impl Index {
     /// Without memory nothing changes.
     pub fn add_resource(
         &mut self,
-        rows: &[NodeRow],
+        rows: &[Box<NodeRow>],
         place: usize,
         id: &Id,
     ) -> Result<(), AllocError>
-        requires index { IsIndex rows.now self.old }
-        requires distinct { are_distinct (ids rows.now) ≡ true }
-        requires within { place < length rows.now }
-        requires new { mem id.now (ids rows.now) ≡ false }
-        ensures ok { OnOk result (Finds (at_place place (with_more id.now) (shapes_of rows.now))
+        requires index { IsIndex (contents rows.now) self.old }
+        requires distinct { are_distinct (ids (contents rows.now)) ≡ true }
+        requires within { place < length (contents rows.now) }
+        requires new { mem id.now (ids (contents rows.now)) ≡ false }
+        ensures ok { OnOk result (Finds
+            (at_place place (with_more id.now) (shapes_of (contents rows.now)))
             self.new.spots self.new.places.items) }
-        ensures runs { self.new.runs.items ≡ runs_of (depths rows.now) }
+        ensures runs { self.new.runs.items ≡ runs_of (depths (contents rows.now)) }
+        ensures parents { self.new.parents.items ≡ self.old.parents.items }
         ensures others { OnOk result ((x : List ℕ) → bytes_eq id.now x ≡ false
             → spot_under self.new.spots x ≡ spot_under self.old.spots x) }
         ensures places { self.new.places.items ≡ self.old.places.items }
-        ensures err { OnErr result (IsIndex rows.now self.new) }
+        ensures err { OnErr result (IsIndex (contents rows.now) self.new) }
     {
-        let row = &rows[place];
+        let row = rows[place].as_ref();
         let home = self.came(&row.id);
         let spot = Spot::InPool {
             home,
@@ -219,6 +216,7 @@ impl Index {
         ensures spots { (x : List ℕ) → spot_under self.new.spots x
             ≡ (if bytes_eq id.now x then None else spot_under self.old.spots x) }
         ensures places { self.new.places.items ≡ self.old.places.items }
+        ensures parents { self.new.parents.items ≡ self.old.parents.items }
         ensures runs { self.new.runs.items ≡ self.old.runs.items }
     {
         self.spots.remove(id);
@@ -234,6 +232,7 @@ impl Clone for Index {
         Ok(Index {
             spots: self.spots.clone()?,
             places: self.places.clone()?,
+            parents: self.parents.clone()?,
             runs: self.runs.clone()?,
         })
     }

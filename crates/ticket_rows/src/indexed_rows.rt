@@ -1,28 +1,31 @@
+use crate::boxes::{copies_in_boxes, in_boxes};
 use crate::edit::{at_place, edits};
 use crate::index::Index;
 use crate::pools::resource_at;
+use crate::rows_iter::Rows;
 use std::alloc::{AllocError, Global};
 use std::marker::Model;
-use ticket_items::{Audit, Duplicate, Edit, Id, Link, NodeRow, Resource, copies};
+use ticket_items::{Audit, Duplicate, Edit, Id, Link, NodeRow, Resource};
 
 /// The nodes of a ticket in preorder. Each node and each resource is found by its id without a
 /// walk.
 #[derive(Drop)]
 pub struct IndexedRows {
-    rows: Vec<NodeRow>,
+    rows: Vec<Box<NodeRow>>,
     index: Index,
 }
 
 impl Model for IndexedRows {
     ghost use Rattle.std.specs.Prelude.{List};
     ghost use Rattle.ticket_items.specs.declared.node_row.NodeRow.{NodeRow};
+    ghost use Rattle.ticket_rows.specs.Boxed.{contents};
     ghost use Rattle.ticket_rows.specs.Index.{IsIndex};
 
     ghost Value = { List NodeRow };
 
-    ghost view = { λ a. a.rows.items };
+    ghost view = { λ a. contents a.rows.items };
 
-    ghost invariant = { λ a. IsIndex a.rows.items a.index };
+    ghost invariant = { λ a. IsIndex (contents a.rows.items) a.index };
 }
 
 impl IndexedRows {
@@ -51,17 +54,18 @@ impl IndexedRows {
         ensures { IfOk result (λ made. made
             ≡ (if are_distinct (ids rows.items) then Some rows.items else None)) }
     {
-        match Index::of(alloc, rows.as_slice())? {
-            None => Ok(None),
-            Some(index) => Ok(Some(IndexedRows { rows, index })),
-        }
+        let Some(index) = Index::of(alloc, rows.as_slice())? else {
+            return Ok(None);
+        };
+        let rows = in_boxes(alloc, rows)?;
+        Ok(Some(IndexedRows { rows, index }))
     }
 
-    /// The nodes as a slice.
-    pub fn as_slice(&self) -> &[NodeRow]
-        ensures { result.now ≡ self.now }
+    /// The nodes.
+    pub fn rows(&self) -> Rows<'_>
+        ensures { result ≡ self.now }
     {
-        self.rows.as_slice()
+        Rows::boxed(self.rows.as_slice())
     }
 
     /// Where the row of a node stands.
@@ -76,7 +80,7 @@ impl IndexedRows {
         requires { place < length self.now }
         ensures { result.now ≡ slice_index_or self.now place result.now }
     {
-        &self.rows[place]
+        self.rows[place].as_ref()
     }
 
     /// Where the row stands in whose pool the resource of an id is, and its place in the pool.
@@ -207,9 +211,9 @@ impl IndexedRows {
         requires distinct { are_distinct (ids self.now) ≡ true }
         ensures { result ≡ valid.are_resolved self.now }
     {
-        let rows = self.as_slice();
+        let rows = self.rows();
         for place in 0..rows.len() {
-            let row = &rows[place];
+            let row = rows.at(place);
             if !self.links_resolve(place, row.links.as_slice()) {
                 return false;
             }
@@ -251,7 +255,7 @@ impl IndexedRows {
         requires { option_map shape_of (slice_get self.old place) ≡ Some (shape_of row) }
         ensures { self.new ≡ slice_set self.old place row }
     {
-        self.rows[place] = row;
+        *self.rows[place] = row;
     }
 
     /// Puts a resource in the place of the one of its id, which is in the pool of the row at a
@@ -274,7 +278,7 @@ impl Clone for IndexedRows {
 
     fn clone(&self) -> Result<IndexedRows, AllocError> {
         Ok(IndexedRows {
-            rows: copies(*self.rows.allocator(), self.rows.as_slice())?,
+            rows: copies_in_boxes(*self.rows.allocator(), self.rows.as_slice())?,
             index: self.index.clone()?,
         })
     }

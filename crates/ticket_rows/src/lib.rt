@@ -2,10 +2,12 @@
 //! them, and the edits of them.
 #![tactic(auto)]
 
+mod boxes;
 pub mod distinct;
 mod edit;
 mod index;
 mod indexed_rows;
+mod places;
 pub mod pools;
 pub mod resolved;
 pub mod rows;

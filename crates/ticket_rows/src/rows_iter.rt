@@ -1,51 +1,131 @@
 use std::marker::Model;
 use ticket_items::NodeRow;
 
-/// The nodes of a ticket in preorder, one after the other.
+/// Rows where they stand: each in a box of its own, or one behind the other.
+#[derive(Clone, Copy)]
+enum Run<'a> {
+    Boxed(&'a [Box<NodeRow>]),
+    Plain(&'a [NodeRow]),
+}
+
+impl<'a> Run<'a> {
+    ghost use Rattle.std.specs.Prelude.{◌≡◌, ◌-◌, ◌<◌, ◌≤◌, drop, length, slice_get, take};
+    ghost use Rattle.std.specs.Prelude.{slice_index_or};
+    ghost use Rattle.std.specs.Option.{option_copied};
+    ghost use Rattle.ticket_rows.specs.Boxed.{rows_of};
+
+    fn len(self) -> usize
+        ensures { result ≡ length (rows_of self.entry) }
+    {
+        match self {
+            Run::Boxed(boxes) => boxes.len(),
+            Run::Plain(rows) => rows.len(),
+        }
+    }
+
+    fn at(self, place: usize) -> &'a NodeRow
+        requires { place < length (rows_of self) }
+        ensures { result.now ≡ slice_index_or (rows_of self.entry) place result.now }
+    {
+        match self {
+            Run::Boxed(boxes) => boxes[place].as_ref(),
+            Run::Plain(rows) => &rows[place],
+        }
+    }
+
+    fn between(self, from: usize, to: usize) -> Run<'a>
+        requires apart { from ≤ to }
+        requires within { to ≤ length (rows_of self) }
+        ensures { rows_of result ≡ take (to - from) (drop from (rows_of self.entry)) }
+    {
+        match self {
+            Run::Boxed(boxes) => Run::Boxed(&boxes[from..to]),
+            Run::Plain(rows) => Run::Plain(&rows[from..to]),
+        }
+    }
+}
+
+/// A run of nodes in preorder, as a ticket or a part lends it.
 #[derive(Drop)]
 pub struct Rows<'a> {
-    rest: &'a [NodeRow],
+    run: Run<'a>,
 }
 
 impl<'a> Model for Rows<'a> {
     ghost use Rattle.std.specs.Prelude.{List};
     ghost use Rattle.ticket_items.specs.declared.node_row.NodeRow.{NodeRow};
+    ghost use Rattle.ticket_rows.specs.Boxed.{rows_of};
 
     ghost Value = { List NodeRow };
 
-    ghost view = { λ a. a.rest.now };
+    ghost view = { λ a. rows_of a.run };
 }
 
 impl<'a> Rows<'a> {
-    ghost use Rattle.std.specs.Prelude.{◌≡◌};
+    ghost use Rattle.std.specs.Prelude.{◌≡◌, ◌-◌, ◌<◌, ◌≤◌, drop, length, slice_get, take};
+    ghost use Rattle.std.specs.Prelude.{slice_index_or};
+    ghost use Rattle.std.specs.Option.{option_copied};
+    ghost use Rattle.ticket_rows.specs.Boxed.{contents};
 
-    /// These nodes, from the first on.
-    pub fn new(rest: &'a [NodeRow]) -> Rows<'a>
-        ensures { result ≡ rest.now }
+    /// These nodes.
+    pub fn new(rows: &'a [NodeRow]) -> Rows<'a>
+        ensures { result ≡ rows.now }
     {
-        Rows { rest }
+        Rows {
+            run: Run::Plain(rows),
+        }
     }
 
-    /// The nodes that are left, as a slice.
-    pub fn as_slice(&self) -> &'a [NodeRow]
-        ensures { result.now ≡ self.now }
+    /// The nodes in these boxes.
+    pub(crate) fn boxed(boxes: &'a [Box<NodeRow>]) -> Rows<'a>
+        ensures { result ≡ contents boxes.now }
     {
-        self.rest
+        Rows {
+            run: Run::Boxed(boxes),
+        }
     }
-}
 
-impl<'a> Iterator for Rows<'a> {
-    ghost use Rattle.std.specs.Iterator.{YieldsFirstRef, item_count};
+    /// How many there are.
+    pub fn len(&self) -> usize
+        ensures { result ≡ length self.now }
+    {
+        self.run.len()
+    }
 
-    type Item = &'a NodeRow;
+    /// The node at a place.
+    pub fn at(&self, place: usize) -> &'a NodeRow
+        requires { place < length self.now }
+        ensures { result.now ≡ slice_index_or self.now place result.now }
+    {
+        self.run.at(place)
+    }
 
-    ghost next_gives = { YieldsFirstRef (λ s. s) };
+    /// The node at a place, if there is one.
+    pub fn get(&self, place: usize) -> Option<&'a NodeRow>
+        ensures { option_copied result ≡ slice_get self.now place }
+    {
+        if place < self.len() {
+            Some(self.at(place))
+        } else {
+            None
+        }
+    }
 
-    ghost remaining = { item_count (λ s. s) };
+    /// The first node.
+    pub fn first(&self) -> Option<&'a NodeRow>
+        ensures { option_copied result ≡ slice_get self.now 0 }
+    {
+        self.get(0)
+    }
 
-    fn next(&mut self) -> Option<&'a NodeRow> {
-        let (first, rest) = self.rest.split_first()?;
-        self.rest = rest;
-        Some(first)
+    /// The nodes from one place up to another.
+    pub fn between(&self, from: usize, to: usize) -> Rows<'a>
+        requires apart { from ≤ to }
+        requires within { to ≤ length self.now }
+        ensures { result ≡ take (to - from) (drop from self.now) }
+    {
+        Rows {
+            run: self.run.between(from, to),
+        }
     }
 }

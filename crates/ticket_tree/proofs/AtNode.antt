@@ -78,8 +78,8 @@ first_is xs from zero more =
 
 -- what stands in front of a node's bounds, between them and behind, is the ticket at the node
 pub is_at : (rows : List NodeRow) (n : List ℕ) (from to : ℕ) (a : At) → IsValid rows
-    → BoundsNodesBelow rows n from to → a.front.now ≡ take from rows
-    → a.below.now ≡ take (to - from) (drop from rows) → a.behind.now ≡ drop to rows
+    → BoundsNodesBelow rows n from to → a.front ≡ take from rows
+    → a.below ≡ take (to - from) (drop from rows) → a.behind ≡ drop to rows
     → ((r : NodeRow) → slice_get rows from ≡ Some r → a.depth ≡ r.depth)
     → IsAt rows n a
 is_at rows n from to a valid bounds front below behind deep =
@@ -90,8 +90,8 @@ is_at rows n from to a valid bounds front below behind deep =
     let some : 0 < to - from = omega (arith, apart) in
     record {
       whole = whole_is rows from to within
-          ∙ sym (ap (λ rs. rs ++ a.below.now ++ a.behind.now) front
-          ∙ ap (λ rs. take from rows ++ rs ++ a.behind.now) below
+          ∙ sym (ap (λ rs. rs ++ a.below ++ a.behind) front
+          ∙ ap (λ rs. take from rows ++ rs ++ a.behind) below
           ∙ ap (λ rs. take from rows ++ take (to - from) (drop from rows) ++ rs) behind);
       below = below ∙ sym (below_is rows n from to valid bounds);
       first = ap (λ rs. option_map (λ r. r.id) (slice_get rs 0)) below ∙ ap (option_map (λ r. r.id)) (first_is rows from (to - from) some) ∙ bounds.node;

@@ -18,4 +18,5 @@ pub mod PlainRows
 pub mod Preorder
 pub mod Sound
 pub mod StaysValid
+pub mod WhereTrue
 mod Worked

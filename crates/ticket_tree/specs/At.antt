@@ -13,7 +13,7 @@ rows_below rows n = filter (λ r. is_below (node_places rows) r.id n) rows
 -- the rows are those in front of n, its own, which comes first, with those below it, and those
 -- behind; and its depth is the length of its path
 pub record IsAt (rows : List NodeRow) (n : List ℕ) (a : At) : Type 0 where
-  pub whole : rows ≡ a.front.now ++ a.below.now ++ a.behind.now
-  pub below : a.below.now ≡ rows_below rows n
-  pub first : option_map (λ r. r.id) (slice_get a.below.now 0) ≡ Some n
+  pub whole : rows ≡ a.front ++ a.below ++ a.behind
+  pub below : a.below ≡ rows_below rows n
+  pub first : option_map (λ r. r.id) (slice_get a.below 0) ≡ Some n
   pub depth : option_map (λ p. length p.path) (place_at (node_places rows) n) ≡ Some a.depth

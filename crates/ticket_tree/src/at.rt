@@ -1,14 +1,14 @@
 //! A ticket at one of its nodes.
 
-use ticket_items::NodeRow;
+use ticket_rows::Rows;
 
 /// The nodes of a ticket around one of them, in preorder: those in front of it, its own with those
 /// below it, and those behind; and how deep it stands.
-#[derive(Clone, Copy)]
+#[derive(Drop)]
 pub struct At<'a> {
-    pub front: &'a [NodeRow],
-    pub below: &'a [NodeRow],
-    pub behind: &'a [NodeRow],
+    pub front: Rows<'a>,
+    pub below: Rows<'a>,
+    pub behind: Rows<'a>,
     pub depth: u32,
 }
 
@@ -17,23 +17,23 @@ impl<'a> At<'a> {
     ghost use Rattle.ticket_items.specs.declared.node_row.NodeRow.{NodeRow};
 
     /// Around the node whose row, with those below it, stands between these bounds.
-    pub(crate) fn between(rows: &'a [NodeRow], from: usize, to: usize) -> At<'a>
+    pub(crate) fn between(rows: &Rows<'a>, from: usize, to: usize) -> At<'a>
         requires apart { from < to }
         requires within { to ≤ length rows.now }
-        ensures front { result.front.now ≡ take from rows.now }
-        ensures below { result.below.now ≡ take (to - from) (drop from rows.now) }
-        ensures behind { result.behind.now ≡ drop to rows.now }
+        ensures front { result.front ≡ take from rows.now }
+        ensures below { result.below ≡ take (to - from) (drop from rows.now) }
+        ensures behind { result.behind ≡ drop to rows.now }
         ensures depth { (r : NodeRow) → slice_get rows.now from ≡ Some r
             → result.depth ≡ r.depth }
     {
-        let front = &rows[..from];
-        let below = &rows[from..to];
-        let behind = &rows[to..];
+        let front = rows.between(0, from);
+        let below = rows.between(from, to);
+        let behind = rows.between(to, rows.len());
         At {
             front,
             below,
             behind,
-            depth: rows[from].depth,
+            depth: rows.at(from).depth,
         }
     }
 

@@ -6,6 +6,7 @@ ghost use Rattle.std.specs.Str.{bytes_eq};
 ghost use Rattle.ticket_tree.specs.Part as part;
 
 use ticket_items::{Id, NodeRow};
+use ticket_rows::Rows;
 
 /// Whether the row links the resource of an id.
 fn links(row: &NodeRow, id: &Id) -> bool
@@ -15,8 +16,13 @@ fn links(row: &NodeRow, id: &Id) -> bool
 }
 
 /// Whether some row links the resource of an id.
-pub fn is_linked(rows: &[NodeRow], id: &Id) -> bool
+pub fn is_linked(rows: &Rows<'_>, id: &Id) -> bool
     ensures { result ≡ part.is_linked rows.now id.now }
 {
-    rows.iter().any(|row| links(row, id))
+    for place in 0..rows.len() {
+        if links(rows.at(place), id) {
+            return true;
+        }
+    }
+    false
 }

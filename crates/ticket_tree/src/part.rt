@@ -11,7 +11,7 @@ use ticket_items::{
 };
 use ticket_rows::distinct::are_distinct_with;
 use ticket_rows::resolved::are_resolved_with;
-use ticket_rows::{Rows, part_edits, rows};
+use ticket_rows::{part_edits, rows};
 
 /// A part of a ticket, which a spawn gives to another controller (JDF 1.5, 4.4): a node with all
 /// below it as a ticket of its own, the nodes that it stood under, and copies of the resources that
@@ -159,11 +159,11 @@ impl Part {
     }
 
     /// The nodes in preorder, the root at depth 1.
-    pub fn rows(&self) -> Rows<'_>
-        ensures rows { result ≡ self.now.rows }
+    pub fn rows(&self) -> &[NodeRow]
+        ensures rows { result.now ≡ self.now.rows }
         ensures valid { IsValid (with_copies self.now.rows self.now.rw self.now.ro) }
     {
-        Rows::new(self.rows.as_slice())
+        self.rows.as_slice()
     }
 
     /// The copies that may be changed.

@@ -9,6 +9,7 @@ ghost use Rattle.ticket_rows.specs.Ticket.{ids, max_depth};
 
 use crate::linked::is_linked;
 use ticket_items::{Ancestor, Id, NodeRow, Resource};
+use ticket_rows::Rows;
 use ticket_rows::pools::{has_id, holds};
 use ticket_rows::rows::MAX_DEPTH;
 
@@ -97,7 +98,8 @@ pub fn are_shallow_below(above: usize, rows: &[NodeRow]) -> bool
 pub fn are_linked(rows: &[NodeRow], resources: &[Resource]) -> bool
     ensures { result ≡ part.are_linked rows.now resources.now }
 {
+    let rows = Rows::new(rows);
     resources
         .iter()
-        .all(|resource| is_linked(rows, &resource.id))
+        .all(|resource| is_linked(&rows, &resource.id))
 }

@@ -57,10 +57,11 @@ impl Ticket {
         if !rows::are_unreserved(rows.as_slice()) {
             return Err(Refusal::ReservedStatus);
         }
+        let shallow = rows::are_shallow(rows.as_slice());
         let Some(rows) = IndexedRows::of(alloc, rows)? else {
             return Err(Refusal::DuplicateId);
         };
-        if !rows::are_shallow(rows.as_slice()) {
+        if !shallow {
             return Err(Refusal::TooDeep);
         }
         if !rows.are_resolved() {
@@ -81,7 +82,7 @@ impl Ticket {
         ensures rows { result ≡ self.now.rows }
         ensures valid { IsValid self.now.rows }
     {
-        Rows::new(self.rows.as_slice())
+        self.rows.rows()
     }
 
     /// The node of an id.
@@ -123,18 +124,18 @@ impl Ticket {
     {
         match self.rows.subtree(node) {
             None => None,
-            Some((from, to)) => Some(At::between(self.rows.as_slice(), from, to)),
+            Some((from, to)) => Some(At::between(&self.rows.rows(), from, to)),
         }
     }
 
     /// The rows of a node and of those below it; none where no node has the id.
-    pub fn rows_below(&self, node: &Id) -> &[NodeRow]
-        ensures rows { result.now ≡ rows_below self.now.rows node.now }
+    pub fn rows_below(&self, node: &Id) -> Rows<'_>
+        ensures rows { result ≡ rows_below self.now.rows node.now }
         ensures valid { IsValid self.now.rows }
     {
         match self.at(node) {
-            None => &[],
-            Some(at) => at.below,
+            None => Rows::new(&[]),
+            Some(At { below, .. }) => below,
         }
     }
 

@@ -40,9 +40,9 @@ fn is_here(edit: &Edit, part: &Part) -> bool
     let nodes = part.rows();
     let id = edit.target();
     if edit.is_of_node() {
-        has_node(nodes.as_slice(), id)
+        has_node(nodes, id)
     } else {
-        has_resource(nodes.as_slice(), id) || has_copy(part.rw(), id)
+        has_resource(nodes, id) || has_copy(part.rw(), id)
     }
 }
 

@@ -39,7 +39,7 @@ impl Model for Entries {
 fn has(part: &Part, id: &Id) -> bool
     ensures { result ≡ worker.has part.now id.now }
 {
-    pools::has_id(part.rows().as_slice(), id) || pools::holds(part.rw(), id)
+    pools::has_id(part.rows(), id) || pools::holds(part.rw(), id)
 }
 
 /// Where the entry of each spawn stands. `None` where two entries are of one spawn.

@@ -86,7 +86,7 @@ fn ending(alloc: Global, part: &Part, end: End) -> Result<Edit, Refusal>
     ensures memory { IfErr result (λ e. e ≡ Refusal.Memory) }
 {
     let status = Name::new(alloc, end.word())?;
-    match part.rows().as_slice().first() {
+    match part.rows().first() {
         None => unreachable!(),
         Some(root) => Ok(Edit::SetStatus {
             node: root.id.copy(alloc)?,

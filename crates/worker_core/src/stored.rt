@@ -19,7 +19,7 @@ fn has_ended_so(phase: Stage, part: &Part) -> bool
 {
     match phase {
         Stage::Open | Stage::Declined => true,
-        Stage::Done(end) | Stage::Closed(end) => match part.rows().as_slice().first() {
+        Stage::Done(end) | Stage::Closed(end) => match part.rows().first() {
             None => unreachable!(),
             Some(root) => root.status.as_str() == end.word(),
         },

@@ -4,7 +4,7 @@ ghost use Rattle.std.specs.Prelude.{◌≡◌, ◌++◌, ◌∷◌, [], ◌-◌,
 ghost use Rattle.spawn.specs.Parts as parts;
 
 use std::alloc::{AllocError, Global};
-use ticket_tree::{Ancestor, At, Duplicate, NodeRow};
+use ticket_tree::{Ancestor, At, Duplicate, NodeRow, Rows};
 
 /// Goes on to a row, on the way from the root.
 fn go_to<'a>(way: &mut Vec<&'a NodeRow>, row: &'a NodeRow) -> Result<(), AllocError>
@@ -17,11 +17,12 @@ fn go_to<'a>(way: &mut Vec<&'a NodeRow>, row: &'a NodeRow) -> Result<(), AllocEr
 }
 
 /// The nodes on the way to the last of these rows, from the root on.
-fn way_to<'a>(alloc: Global, rows: &'a [NodeRow]) -> Result<Vec<&'a NodeRow>, AllocError>
+fn way_to<'a>(alloc: Global, rows: &Rows<'a>) -> Result<Vec<&'a NodeRow>, AllocError>
     ensures { IfOk result (λ v. map (λ s. s.now) v.items ≡ parts.way_from [] rows.now) }
 {
     let mut way = Vec::new(alloc);
-    for row in rows {
+    for place in 0..rows.len() {
+        let row = rows.at(place);
         go_to(&mut way, row)?;
     }
     Ok(way)
@@ -30,9 +31,9 @@ fn way_to<'a>(alloc: Global, rows: &'a [NodeRow]) -> Result<Vec<&'a NodeRow>, Al
 /// The nodes above the one at which a ticket is seen, from the root to the parent.
 fn rows_above<'a>(alloc: Global, at: &At<'a>) -> Result<Vec<&'a NodeRow>, AllocError>
     ensures { IfOk result (λ v. map (λ s. s.now) v.items
-        ≡ take (at.now.depth - 1) (parts.way_from [] at.now.front.now)) }
+        ≡ take (at.now.depth - 1) (parts.way_from [] at.now.front)) }
 {
-    let mut way = way_to(alloc, at.front)?;
+    let mut way = way_to(alloc, &at.front)?;
     way.truncate(at.levels() as usize);
     Ok(way)
 }
@@ -54,7 +55,7 @@ fn as_ancestors(alloc: Global, rows: &[&NodeRow]) -> Result<Vec<Ancestor>, Alloc
 /// The ancestors of the node at which a ticket is seen.
 pub fn ancestors_of(alloc: Global, at: &At<'_>) -> Result<Vec<Ancestor>, AllocError>
     ensures { IfOk result (λ v. v.items
-        ≡ map parts.as_ancestor (take (at.now.depth - 1) (parts.way_from [] at.now.front.now))) }
+        ≡ map parts.as_ancestor (take (at.now.depth - 1) (parts.way_from [] at.now.front))) }
 {
     let above = rows_above(alloc, at)?;
     as_ancestors(alloc, above.as_slice())

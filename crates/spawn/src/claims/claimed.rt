@@ -10,7 +10,7 @@ ghost use Rattle.spawn.specs.Holdings.{claimed_ids};
 use crate::records::spawn_rec::SpawnRec;
 use crate::tables::table::stands;
 use std::alloc::{AllocError, Global};
-use ticket_tree::{Id, NodeRow, Resource, Ticket};
+use ticket_tree::{Id, NodeRow, Resource, Rows, Ticket};
 
 /// Adds the ids of a pool.
 fn push_pool<'a>(all: &mut Vec<&'a Id>, pool: &'a [Resource]) -> Result<(), AllocError>
@@ -33,11 +33,12 @@ fn push_row<'a>(all: &mut Vec<&'a Id>, row: &'a NodeRow) -> Result<(), AllocErro
 }
 
 /// Adds the ids of rows and of their pools.
-fn push_rows<'a>(all: &mut Vec<&'a Id>, rows: &'a [NodeRow]) -> Result<(), AllocError>
+fn push_rows<'a>(all: &mut Vec<&'a Id>, rows: &Rows<'a>) -> Result<(), AllocError>
     ensures { OnOk result (map (λ s. s.now) all.new.items
         ≡ map (λ s. s.now) all.old.items ++ ids rows.now) }
 {
-    for row in rows {
+    for place in 0..rows.len() {
+        let row = rows.at(place);
         push_row(all, row)?;
     }
     Ok(())
@@ -69,7 +70,7 @@ pub fn claim_of<'a>(
     ensures valid { IsValid ticket.now.rows }
 {
     let mut all = Vec::new(alloc);
-    push_rows(&mut all, ticket.rows_below(&spawn.node))?;
+    push_rows(&mut all, &ticket.rows_below(&spawn.node))?;
     push_known(&mut all, ticket, spawn.rw.as_slice())?;
     Ok(all)
 }

@@ -10,7 +10,7 @@ ghost use Rattle.spawn.specs.Parts.{resources};
 
 use crate::claims::id_set::{IdSet, has, linked_by, set_of};
 use std::alloc::{AllocError, Global};
-use ticket_tree::{At, Duplicate, Id, NodeRow, Resource};
+use ticket_tree::{At, Duplicate, Id, Resource, Rows};
 
 /// The resources of which the copies may be changed, and copies of the others, each in ticket
 /// order.
@@ -51,7 +51,7 @@ fn push_pool(
 fn push_rows(
     alloc: Global,
     copies: &mut Copies,
-    rows: &[NodeRow],
+    rows: &Rows<'_>,
     linked: &IdSet<'_>,
     chosen: &IdSet<'_>,
 ) -> Result<(), AllocError>
@@ -63,7 +63,8 @@ fn push_rows(
         → copies.new.ro.items
         ≡ copies.old.ro.items ++ filter (λ x. f x.id && not (g x.id)) (resources rows.now)) }
 {
-    for row in rows {
+    for place in 0..rows.len() {
+        let row = rows.at(place);
         push_pool(alloc, copies, row.resources.as_slice(), linked, chosen)?;
     }
     Ok(())
@@ -74,24 +75,24 @@ fn push_rows(
 pub fn copies_at(alloc: Global, at: &At<'_>, rw: &[Id]) -> Result<Copies, AllocError>
     ensures rw { IfOk result (λ c. c.rw.items
         ≡ resource_ids
-        (filter (λ x. is_linked at.now.below.now x.id && mem x.id rw.now)
-        (resources at.now.front.now))
+        (filter (λ x. is_linked at.now.below x.id && mem x.id rw.now)
+        (resources at.now.front))
         ++ resource_ids
-        (filter (λ x. is_linked at.now.below.now x.id && mem x.id rw.now)
-        (resources at.now.behind.now))) }
+        (filter (λ x. is_linked at.now.below x.id && mem x.id rw.now)
+        (resources at.now.behind))) }
     ensures ro { IfOk result (λ c. c.ro.items
-        ≡ filter (λ x. is_linked at.now.below.now x.id && not (mem x.id rw.now))
-        (resources at.now.front.now)
-        ++ filter (λ x. is_linked at.now.below.now x.id && not (mem x.id rw.now))
-        (resources at.now.behind.now)) }
+        ≡ filter (λ x. is_linked at.now.below x.id && not (mem x.id rw.now))
+        (resources at.now.front)
+        ++ filter (λ x. is_linked at.now.below x.id && not (mem x.id rw.now))
+        (resources at.now.behind)) }
 {
-    let linked = linked_by(alloc, at.below)?;
+    let linked = linked_by(alloc, &at.below)?;
     let chosen = set_of(alloc, rw)?;
     let mut copies = Copies {
         rw: Vec::new(alloc),
         ro: Vec::new(alloc),
     };
-    push_rows(alloc, &mut copies, at.front, &linked, &chosen)?;
-    push_rows(alloc, &mut copies, at.behind, &linked, &chosen)?;
+    push_rows(alloc, &mut copies, &at.front, &linked, &chosen)?;
+    push_rows(alloc, &mut copies, &at.behind, &linked, &chosen)?;
     Ok(copies)
 }

@@ -9,7 +9,7 @@ ghost use Rattle.spawn.specs.IdSet.{IsSetOf, is_in};
 
 use std::alloc::{AllocError, Global};
 use std::collections::BTreeSet;
-use ticket_tree::{Id, NodeRow};
+use ticket_tree::{Id, NodeRow, Rows};
 
 /// A set of ids.
 pub type IdSet<'a> = BTreeSet<&'a str>;
@@ -61,11 +61,12 @@ fn add_links<'a>(set: &mut IdSet<'a>, row: &'a NodeRow) -> Result<(), AllocError
 }
 
 /// The set of the resources that some of the rows link.
-pub fn linked_by<'a>(alloc: Global, rows: &'a [NodeRow]) -> Result<IdSet<'a>, AllocError>
+pub fn linked_by<'a>(alloc: Global, rows: &Rows<'a>) -> Result<IdSet<'a>, AllocError>
     ensures { IfOk result (λ set. IsSetOf (is_linked rows.now) set) }
 {
     let mut set = BTreeSet::new(alloc);
-    for row in rows {
+    for place in 0..rows.len() {
+        let row = rows.at(place);
         add_links(&mut set, row)?;
     }
     Ok(set)

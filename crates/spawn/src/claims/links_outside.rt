@@ -7,10 +7,10 @@ ghost use Rattle.ticket_rows.specs.Ticket.{IsValid, has_node};
 ghost use Rattle.ticket_tree.specs.At.{rows_below};
 ghost use Rattle.spawn.specs.Claim.{ids_of, linked_outside};
 
-use ticket_tree::{Id, NodeRow, Ticket, is_linked};
+use ticket_tree::{Id, Rows, Ticket, is_linked};
 
 /// Whether a resource is linked outside a node, below which are these rows.
-pub fn is_linked_outside(ticket: &Ticket, node: &Id, below: &[NodeRow], resource: &Id) -> bool
+pub fn is_linked_outside(ticket: &Ticket, node: &Id, below: &Rows<'_>, resource: &Id) -> bool
     requires valid { IsValid ticket.now.rows }
     requires known { has_node ticket.now.rows node.now ≡ true }
     requires rows { below.now ≡ rows_below ticket.now.rows node.now }

@@ -7,7 +7,7 @@ ghost use Rattle.spawn.specs.Parts as parts;
 
 use crate::claims::id_set::{IdSet, has, set_of};
 use std::alloc::{AllocError, Global};
-use ticket_tree::{Duplicate, Id, NodeRow, Resource};
+use ticket_tree::{Duplicate, Id, NodeRow, Resource, Rows};
 
 /// A row, so many levels higher.
 fn lifted_row(alloc: Global, row: &NodeRow, levels: u32) -> Result<NodeRow, AllocError>
@@ -19,11 +19,12 @@ fn lifted_row(alloc: Global, row: &NodeRow, levels: u32) -> Result<NodeRow, Allo
 }
 
 /// The rows, each so many levels higher.
-pub fn lifted_rows(alloc: Global, rows: &[NodeRow], levels: u32) -> Result<Vec<NodeRow>, AllocError>
+pub fn lifted_rows(alloc: Global, rows: &Rows<'_>, levels: u32) -> Result<Vec<NodeRow>, AllocError>
     ensures { IfOk result (λ v. v.items ≡ map (parts.lifted levels) rows.now) }
 {
     let mut lifted = Vec::with_capacity(alloc, rows.len())?;
-    for row in rows {
+    for place in 0..rows.len() {
+        let row = rows.at(place);
         lifted.push(lifted_row(alloc, row, levels)?)?;
     }
     Ok(lifted)
@@ -50,14 +51,15 @@ fn push_among(
 /// Copies of the resources whose ids are among these, in ticket order.
 pub fn resources_among(
     alloc: Global,
-    rows: &[NodeRow],
+    rows: &Rows<'_>,
     ids: &[Id],
 ) -> Result<Vec<Resource>, AllocError>
     ensures { IfOk result (λ v. v.items ≡ parts.resources_among ids.now rows.now) }
 {
     let among = set_of(alloc, ids)?;
     let mut found = Vec::new(alloc);
-    for row in rows {
+    for place in 0..rows.len() {
+        let row = rows.at(place);
         push_among(alloc, &mut found, row.resources.as_slice(), &among)?;
     }
     Ok(found)

@@ -16,18 +16,18 @@ use ticket_tree::{At, Duplicate, Items, Part, Refusal, Ticket};
 /// The part of a spawn of the node at which the ticket is seen.
 fn part_at(alloc: Global, ticket: &Ticket, spawn: &SpawnRec, at: &At<'_>) -> Result<Part, Refusal>
     requires { IsValid
-        (with_copies (map (parts.lifted (at.now.depth - 1)) at.now.below.now)
+        (with_copies (map (parts.lifted (at.now.depth - 1)) at.now.below)
         (parts.resources_among spawn.now.rw ticket.now.rows) spawn.now.ro) }
     ensures ok { IfOk result (λ p. p ≡ copied ticket.now.job_id spawn.now.id
-        (map parts.as_ancestor (take (at.now.depth - 1) (parts.way_from [] at.now.front.now)))
-        (map (parts.lifted (at.now.depth - 1)) at.now.below.now)
+        (map parts.as_ancestor (take (at.now.depth - 1) (parts.way_from [] at.now.front)))
+        (map (parts.lifted (at.now.depth - 1)) at.now.below)
         (parts.resources_among spawn.now.rw ticket.now.rows) spawn.now.ro) }
     ensures memory { IfErr result (λ e. e ≡ Refusal.Memory) }
 {
     let nodes = ticket.rows();
     let ancestors = ancestors_of(alloc, at)?;
-    let below = lifted_rows(alloc, at.below, at.levels())?;
-    let rw = resources_among(alloc, nodes.as_slice(), spawn.rw.as_slice())?;
+    let below = lifted_rows(alloc, &at.below, at.levels())?;
+    let rw = resources_among(alloc, &nodes, spawn.rw.as_slice())?;
     let ro = spawn.ro.copy(alloc)?;
     let job = ticket.job().copy(alloc)?;
     let (ancestors, rw) = (Items::new(ancestors), Items::new(rw));

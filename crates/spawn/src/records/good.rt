@@ -10,7 +10,7 @@ ghost use Rattle.spawn.specs.Walk as walk;
 use crate::records::of_resource::behind;
 use crate::records::spawn_rec::SpawnRec;
 use ticket_items::is_among;
-use ticket_tree::{At, Id, NodeRow, Resource, Ticket, is_linked};
+use ticket_tree::{At, Id, Resource, Rows, Ticket, is_linked};
 
 /// The copies of a record that weren't met yet, on the way through a ticket's resources.
 #[derive(Clone, Copy)]
@@ -20,7 +20,7 @@ struct Left<'a> {
 }
 
 /// What is left behind a resource.
-fn meet<'a>(inside: &[NodeRow], rw: &[Id], resource: &Resource, left: Left<'a>) -> Option<Left<'a>>
+fn meet<'a>(inside: &Rows<'_>, rw: &[Id], resource: &Resource, left: Left<'a>) -> Option<Left<'a>>
     ensures { option_map (λ l. (l.rw.now, l.ro.now)) result
         ≡ walk.met inside.now rw.now resource.now (left.entry.rw.now, left.entry.ro.now) }
 {
@@ -38,7 +38,7 @@ fn meet<'a>(inside: &[NodeRow], rw: &[Id], resource: &Resource, left: Left<'a>) 
 
 /// What is left behind the resources of a pool.
 fn meet_pool<'a>(
-    inside: &[NodeRow],
+    inside: &Rows<'_>,
     rw: &[Id],
     pool: &[Resource],
     mut left: Left<'a>,
@@ -54,16 +54,17 @@ fn meet_pool<'a>(
 
 /// What is left behind the resources of rows.
 fn meet_rows<'a>(
-    inside: &[NodeRow],
+    inside: &Rows<'_>,
     rw: &[Id],
-    rows: &[NodeRow],
+    rows: &Rows<'_>,
     mut left: Left<'a>,
 ) -> Option<Left<'a>>
     ensures { option_map (λ l. (l.rw.now, l.ro.now)) result
         ≡ walk.all_met inside.now rw.now (resources rows.now)
         (left.entry.rw.now, left.entry.ro.now) }
 {
-    for row in rows {
+    for place in 0..rows.len() {
+        let row = rows.at(place);
         left = meet_pool(inside, rw, row.resources.as_slice(), left)?;
     }
     Some(left)
@@ -73,13 +74,13 @@ fn meet_rows<'a>(
 /// after it and all below it.
 fn left_of<'a>(at: &At<'_>, spawn: &'a SpawnRec) -> Option<Left<'a>>
     ensures { option_map (λ l. (l.rw.now, l.ro.now)) result
-        ≡ walk.all_met at.now.below.now spawn.now.rw
-        (resources at.now.front.now ++ resources at.now.behind.now) (spawn.now.rw, spawn.now.ro) }
+        ≡ walk.all_met at.now.below spawn.now.rw
+        (resources at.now.front ++ resources at.now.behind) (spawn.now.rw, spawn.now.ro) }
 {
     let rw = spawn.rw.as_slice();
     let ro = spawn.ro.as_slice();
-    let left = meet_rows(at.below, rw, at.front, Left { rw, ro })?;
-    meet_rows(at.below, rw, at.behind, left)
+    let left = meet_rows(&at.below, rw, &at.front, Left { rw, ro })?;
+    meet_rows(&at.below, rw, &at.behind, left)
 }
 
 /// Whether the copies of a record are just those of the resources that the rows at and below its
@@ -87,8 +88,8 @@ fn left_of<'a>(at: &At<'_>, spawn: &'a SpawnRec) -> Option<Left<'a>>
 fn has_copies(at: &At<'_>, spawn: &SpawnRec) -> bool
     ensures { result
         ≡ option_map_or walk.are_none
-        (walk.all_met at.now.below.now spawn.now.rw
-        (resources at.now.front.now ++ resources at.now.behind.now)
+        (walk.all_met at.now.below spawn.now.rw
+        (resources at.now.front ++ resources at.now.behind)
         (spawn.now.rw, spawn.now.ro)) false }
 {
     match left_of(at, spawn) {

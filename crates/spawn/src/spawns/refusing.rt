@@ -16,13 +16,13 @@ use crate::claims::links_outside::is_linked_outside;
 use crate::records::spawn_rec::SpawnRec;
 use crate::tables::holders::Holders;
 use crate::tables::known::Known;
-use ticket_tree::{Id, NodeRow, Refusal, SpawnId, Ticket};
+use ticket_tree::{At, Id, Refusal, Rows, SpawnId, Ticket};
 
 /// The rows of a node that stands below another and of those below it, or `UnknownNode`, then
 /// `IsRoot`.
-fn spawnable<'a>(ticket: &'a Ticket, node: &Id) -> Result<&'a [NodeRow], Refusal>
+fn spawnable<'a>(ticket: &'a Ticket, node: &Id) -> Result<Rows<'a>, Refusal>
     ensures refusal { MatchResult result
-        (λ rows. (rows.now ≡ rows_below ticket.now.rows node.now)
+        (λ rows. (rows ≡ rows_below ticket.now.rows node.now)
         × (has_node ticket.now.rows node.now ≡ true)
         × (is_some (up (node_places ticket.now.rows) node.now) ≡ true))
         (λ e. first_of
@@ -37,7 +37,8 @@ fn spawnable<'a>(ticket: &'a Ticket, node: &Id) -> Result<&'a [NodeRow], Refusal
     if at.depth <= 1 {
         return Err(Refusal::IsRoot);
     }
-    Ok(at.below)
+    let At { below, .. } = at;
+    Ok(below)
 }
 
 /// Whether each id is a resource's.
@@ -49,7 +50,7 @@ pub(crate) fn are_resources(ticket: &Ticket, ids: &[Id]) -> bool
 
 /// Whether each id is one of a resource that is linked outside the node, below which are these
 /// rows.
-fn are_linked_outside(ticket: &Ticket, node: &Id, below: &[NodeRow], ids: &[Id]) -> bool
+fn are_linked_outside(ticket: &Ticket, node: &Id, below: &Rows<'_>, ids: &[Id]) -> bool
     requires valid { IsValid ticket.now.rows }
     requires known { has_node ticket.now.rows node.now ≡ true }
     requires rows { below.now ≡ rows_below ticket.now.rows node.now }
@@ -110,7 +111,7 @@ pub(crate) fn check_spawn(
     if !are_resources(ticket, rw) {
         return Err(Refusal::UnknownResource);
     }
-    if !are_linked_outside(ticket, node, below, rw) {
+    if !are_linked_outside(ticket, node, &below, rw) {
         return Err(Refusal::NotLinked);
     }
     check_held(ticket, records, holders, node, rw)?;

@@ -22,7 +22,7 @@ use crate::tables::table::stands;
 use std::alloc::{AllocError, Global};
 use std::collections::BTreeMap;
 use std::marker::Model;
-use ticket_tree::{Duplicate, Id, NodeRow, Resource, SpawnId, Ticket};
+use ticket_tree::{Duplicate, Id, Resource, Rows, SpawnId, Ticket};
 
 /// Who holds each id of a ticket: the same as `holder_of`, without a walk. Kept of it are the ids
 /// that spawns hold, in step with the ticket and the records by whoever changes those. They are in
@@ -123,7 +123,7 @@ impl Holders {
         ensures given { IsGiven (claims ticket.now.rows spawn.now) None self.old self.new }
         ensures valid { IsValid ticket.now.rows }
     {
-        self.free_rows(ticket.rows_below(&spawn.node));
+        self.free_rows(&ticket.rows_below(&spawn.node));
         self.free_known(ticket, spawn.rw.as_slice());
     }
 
@@ -213,10 +213,11 @@ impl Holders {
     }
 
     /// Takes the nodes of rows, and the resources at home there, from their spawns.
-    fn free_rows(&mut self, rows: &[NodeRow])
+    fn free_rows(&mut self, rows: &Rows<'_>)
         ensures { IsGiven (λ x. mem x (ids rows.now)) None self.old self.new }
     {
-        for row in rows {
+        for place in 0..rows.len() {
+            let row = rows.at(place);
             self.free_id(&row.id);
             self.free_pool(row.resources.as_slice());
         }

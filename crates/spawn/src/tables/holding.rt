@@ -55,11 +55,11 @@ fn before_above(ticket: &Ticket, records: &[SpawnRec], node: &Id) -> usize
     let Some(at) = ticket.at(node) else {
         return records.len();
     };
-    let front = at.front;
+    let front = &at.front;
     let mut depth = at.depth;
     let mut free = before_node(records, node);
     for place in (0..front.len()).rev() {
-        let row = &front[place];
+        let row = front.at(place);
         if row.depth < depth {
             depth = row.depth;
             free = before_node(&records[..free], &row.id);

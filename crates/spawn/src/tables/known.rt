@@ -17,7 +17,7 @@ use crate::records::spawn_rec::SpawnRec;
 use crate::tables::holders::Holders;
 use crate::tables::table::holder_of;
 use ticket_items::is_among;
-use ticket_tree::{Id, NodeRow, Resource, SpawnId, Ticket};
+use ticket_tree::{Id, NodeRow, Resource, Rows, SpawnId, Ticket};
 
 /// What tells who holds an id: the table of holders where there is one, and else the records.
 #[derive(Clone, Copy)]
@@ -92,12 +92,13 @@ impl Known<'_> {
     }
 
     /// The same of nodes and their pools.
-    fn first_in_rows(&self, some: Option<&[Id]>, rows: &[NodeRow]) -> Option<SpawnId>
+    fn first_in_rows(&self, some: Option<&[Id]>, rows: &Rows<'_>) -> Option<SpawnId>
         requires { IsKnown self.now }
         ensures { result ≡ first_answer
             (asked self.now.ticket.now.rows self.now.records.now some.entry) (ids rows.now) }
     {
-        for row in rows {
+        for place in 0..rows.len() {
+            let row = rows.at(place);
             let found = self.first_in_row(some, row);
             if found.is_some() {
                 return found;
@@ -122,9 +123,9 @@ impl Known<'_> {
     {
         let at = self.ticket.at(node)?;
         if self.has_spawn_with(rw) {
-            self.first_in_rows(Some(rw), at.front)
+            self.first_in_rows(Some(rw), &at.front)
         } else {
-            self.first_in_rows(None, at.below)
+            self.first_in_rows(None, &at.below)
         }
     }
 }

@@ -14,8 +14,8 @@ use crate::records::out_tables::{Numbers, copies_rw, numbers_of, records_out, sp
 use crate::records::spawn_rec::SpawnRec;
 use std::alloc::{AllocError, Global};
 use ticket_tree::{
-    Duplicate, Id, Items, Marks, NodeRow, Refusal, ResMark, Resource, SpawnId, SpawnIds,
-    SpawnStatus, Ticket,
+    Duplicate, Id, Items, Marks, Refusal, ResMark, Resource, Rows, SpawnId, SpawnIds, SpawnStatus,
+    Ticket,
 };
 
 /// The copies that are out: the ids of those that may be changed, and the spawns with which each
@@ -92,7 +92,7 @@ fn push_marks(
 /// What the resources of the rows show.
 fn marked_resources(
     alloc: Global,
-    rows: &[NodeRow],
+    rows: &Rows<'_>,
     copies: &Copies<'_>,
 ) -> Result<Vec<ResMark>, AllocError>
     ensures { IfOk result (λ marks. marks.items
@@ -100,18 +100,20 @@ fn marked_resources(
         (resource_ids (resources rows.now))) }
 {
     let mut marks = Vec::new(alloc);
-    for row in rows {
+    for place in 0..rows.len() {
+        let row = rows.at(place);
         push_marks(alloc, &mut marks, copies, row.resources.as_slice())?;
     }
     Ok(marks)
 }
 
 /// The nodes of the rows that were spawned.
-fn marked_nodes(alloc: Global, rows: &[NodeRow], spawned: &IdSet<'_>) -> Result<Vec<Id>, AllocError>
+fn marked_nodes(alloc: Global, rows: &Rows<'_>, spawned: &IdSet<'_>) -> Result<Vec<Id>, AllocError>
     ensures { IfOk result (λ nodes. nodes.items ≡ filter (is_in spawned.now) (node_ids rows.now)) }
 {
     let mut nodes = Vec::new(alloc);
-    for row in rows {
+    for place in 0..rows.len() {
+        let row = rows.at(place);
         if has(spawned, &row.id) {
             nodes.push(row.id.copy(alloc)?)?;
         }
@@ -131,8 +133,8 @@ pub fn marked(alloc: Global, ticket: &Ticket, records: &[SpawnRec]) -> Result<Ma
     let spawned = spawned_nodes(alloc, out.as_slice())?;
     let copies = copies_of(alloc, out.as_slice())?;
     let rows = ticket.rows();
-    let nodes = marked_nodes(alloc, rows.as_slice(), &spawned)?;
-    let resources = marked_resources(alloc, rows.as_slice(), &copies)?;
+    let nodes = marked_nodes(alloc, &rows, &spawned)?;
+    let resources = marked_resources(alloc, &rows, &copies)?;
     Ok(Marks {
         nodes: Items::new(nodes),
         resources: Items::new(resources),

@@ -2,6 +2,7 @@
 
 ghost use Rattle.std.specs.Prelude.{◌≡◌, None, Some, false, OnOk, OnErr, IfErr, IfNone, IfSome};
 ghost use Rattle.std.specs.Prelude.{IsOk, MatchResult};
+ghost use Rattle.ticket_rows.specs.Boxed.{contents};
 ghost use Rattle.ticket_rows.specs.ChangedRow as changed;
 ghost use Rattle.ticket_items.specs.Edit.{grows};
 ghost use Rattle.ticket_rows.specs.Edit.{edited_rows, refusal_of};
@@ -56,19 +57,20 @@ pub fn check(rows: &IndexedRows, edit: &Edit) -> Result<(), Refusal>
 /// Does an edit that isn't refused, whose place is known, and keeps the index of the rows.
 pub(crate) fn change(
     alloc: Global,
-    rows: &mut Vec<NodeRow>,
+    rows: &mut Vec<Box<NodeRow>>,
     index: &mut Index,
     place: usize,
     edit: Edit,
     at: u64,
 ) -> Result<(), AllocError>
-    requires valid { IsValid rows.old.items }
-    requires index { IsIndex rows.old.items index.old }
-    requires open { refusal_of edit rows.old.items ≡ None }
-    requires place { changed.changed_place edit rows.old.items ≡ Some place }
-    ensures ok { OnOk result (rows.new.items ≡ edited_rows edit at rows.old.items) }
-    ensures err { OnErr result (rows.new.items ≡ rows.old.items) }
-    ensures index { IsIndex rows.new.items index.new }
+    requires valid { IsValid (contents rows.old.items) }
+    requires index { IsIndex (contents rows.old.items) index.old }
+    requires open { refusal_of edit (contents rows.old.items) ≡ None }
+    requires place { changed.changed_place edit (contents rows.old.items) ≡ Some place }
+    ensures ok { OnOk result (contents rows.new.items
+        ≡ edited_rows edit at (contents rows.old.items)) }
+    ensures err { OnErr result (contents rows.new.items ≡ contents rows.old.items) }
+    ensures index { IsIndex (contents rows.new.items) index.new }
     ensures in_place { grows edit ≡ false → IsOk result }
 {
     match edit {

@@ -5,6 +5,7 @@ ghost use Rattle.std.specs.Prelude.{OnErr, OnOk};
 ghost use Rattle.std.specs.List.{insert};
 ghost use Rattle.ticket_items.specs.Ids.{are_distinct, mem};
 ghost use Rattle.ticket_items.specs.declared.node_row.NodeRow.{NodeRow};
+ghost use Rattle.ticket_rows.specs.Boxed.{contents};
 ghost use Rattle.ticket_rows.specs.ChangedRow.{at_place, end_behind};
 ghost use Rattle.ticket_rows.specs.Edit as edit;
 ghost use Rattle.ticket_rows.specs.Index.{IsIndex};
@@ -35,7 +36,7 @@ fn bare_row(alloc: Global, id: Id, kind: Name, job_part: Name, status: Name, dep
 /// rows.
 pub fn add_node(
     alloc: Global,
-    rows: &mut Vec<NodeRow>,
+    rows: &mut Vec<Box<NodeRow>>,
     index: &mut Index,
     place: usize,
     id: Id,
@@ -43,41 +44,43 @@ pub fn add_node(
     job_part: Name,
     status: Name,
 ) -> Result<(), AllocError>
-    requires within { place < length rows.old.items }
-    requires shallow { (r : NodeRow) → slice_get rows.old.items place ≡ Some r
+    requires within { place < length (contents rows.old.items) }
+    requires shallow { (r : NodeRow) → slice_get (contents rows.old.items) place ≡ Some r
         → r.depth < max_depth }
-    requires index { IsIndex rows.old.items index.old }
-    requires new { mem id (ids rows.old.items) ≡ false }
-    ensures ok { (r : NodeRow) → slice_get rows.old.items place ≡ Some r
-        → OnOk result (rows.new.items ≡ insert rows.old.items (end_behind rows.old.items place r)
+    requires index { IsIndex (contents rows.old.items) index.old }
+    requires distinct { are_distinct (ids (contents rows.old.items)) ≡ true }
+    requires new { mem id (ids (contents rows.old.items)) ≡ false }
+    ensures ok { (r : NodeRow) → slice_get (contents rows.old.items) place ≡ Some r
+        → OnOk result (contents rows.new.items
+        ≡ insert (contents rows.old.items) (end_behind (contents rows.old.items) place r)
         (edit.bare_row id kind job_part status (suc r.depth))) }
-    ensures err { OnErr result (rows.new.items ≡ rows.old.items) }
-    ensures index { IsIndex rows.new.items index.new }
+    ensures err { OnErr result (contents rows.new.items ≡ contents rows.old.items) }
+    ensures index { IsIndex (contents rows.new.items) index.new }
 {
     let depth = rows[place].depth + 1;
     let key = id.clone()?;
+    let row = Box::new(alloc, bare_row(alloc, id, kind, job_part, status, depth))?;
     rows.reserve(1)?;
     let end = index.add_node(rows.as_slice(), place, key)?;
-    rows.insert(end, bare_row(alloc, id, kind, job_part, status, depth))
-        .unwrap();
+    rows.insert(end, row).unwrap();
     Ok(())
 }
 
 /// Puts a resource last in the pool of the node at a place, and its id into the index of the rows.
 pub fn add_resource(
-    rows: &mut Vec<NodeRow>,
+    rows: &mut Vec<Box<NodeRow>>,
     index: &mut Index,
     place: usize,
     resource: Resource,
 ) -> Result<(), AllocError>
-    requires within { place < length rows.old.items }
-    requires index { IsIndex rows.old.items index.old }
-    requires distinct { are_distinct (ids rows.old.items) ≡ true }
-    requires new { mem resource.id (ids rows.old.items) ≡ false }
-    ensures ok { OnOk result (rows.new.items ≡ at_place place
-        (λ r. record r { resources = r.resources ++ resource ∷ [] }) rows.old.items) }
-    ensures err { OnErr result (rows.new.items ≡ rows.old.items) }
-    ensures index { IsIndex rows.new.items index.new }
+    requires within { place < length (contents rows.old.items) }
+    requires index { IsIndex (contents rows.old.items) index.old }
+    requires distinct { are_distinct (ids (contents rows.old.items)) ≡ true }
+    requires new { mem resource.id (ids (contents rows.old.items)) ≡ false }
+    ensures ok { OnOk result (contents rows.new.items ≡ at_place place
+        (λ r. record r { resources = r.resources ++ resource ∷ [] }) (contents rows.old.items)) }
+    ensures err { OnErr result (contents rows.new.items ≡ contents rows.old.items) }
+    ensures index { IsIndex (contents rows.new.items) index.new }
 {
     let id = resource.id.clone()?;
     index.add_resource(rows.as_slice(), place, &id)?;
@@ -91,11 +94,11 @@ pub fn add_resource(
 }
 
 /// Puts a link last in the pool of the node at a place.
-pub fn add_link(rows: &mut Vec<NodeRow>, place: usize, link: Link) -> Result<(), AllocError>
-    requires { place < length rows.old.items }
-    ensures ok { OnOk result (rows.new.items ≡ at_place place
-        (λ r. record r { links = r.links ++ link ∷ [] }) rows.old.items) }
-    ensures err { OnErr result (rows.new.items ≡ rows.old.items) }
+pub fn add_link(rows: &mut Vec<Box<NodeRow>>, place: usize, link: Link) -> Result<(), AllocError>
+    requires { place < length (contents rows.old.items) }
+    ensures ok { OnOk result (contents rows.new.items ≡ at_place place
+        (λ r. record r { links = r.links ++ link ∷ [] }) (contents rows.old.items)) }
+    ensures err { OnErr result (contents rows.new.items ≡ contents rows.old.items) }
 {
     rows[place].links.push(link)?;
     Ok(())

@@ -6,7 +6,6 @@ ghost use Rattle.ticket_items.specs.Ids.{are_distinct};
 ghost use Rattle.ticket_rows.specs.Edit.{edited_rows, refusal_of};
 ghost use Rattle.ticket_rows.specs.Ticket.{ids};
 
-use crate::edit::at_place;
 use crate::edit::walks::{known_home, known_node, open_to_status};
 use ticket_items::{Audit, Edit, Id, Name, NodeRow, Refusal, Text};
 
@@ -22,7 +21,7 @@ pub fn set_status(rows: &mut Vec<NodeRow>, node: &Id, status: Name) -> Result<()
         (IsOk result) }
 {
     let place = open_to_status(rows.as_slice(), node, &status)?;
-    at_place::set_status(rows, place, status);
+    rows[place].status = status;
     Ok(())
 }
 
@@ -38,7 +37,7 @@ pub fn set_attr(rows: &mut Vec<NodeRow>, node: &Id, name: Name, value: Text) -> 
         (IfErr result (λ e. e ≡ Refusal.Memory)) }
 {
     let place = known_node(rows.as_slice(), node)?;
-    at_place::set_attr(rows, place, name, value)?;
+    rows[place].attrs.set(name, value)?;
     Ok(())
 }
 
@@ -58,7 +57,7 @@ pub fn set_resource_status(
         (IsOk result) }
 {
     let home = known_home(rows.as_slice(), resource)?;
-    at_place::set_resource_status(rows, home, resource, status);
+    rows[home].resources.set_status(resource, status);
     Ok(())
 }
 
@@ -79,7 +78,7 @@ pub fn set_resource_attr(
         (IfErr result (λ e. e ≡ Refusal.Memory)) }
 {
     let home = known_home(rows.as_slice(), resource)?;
-    at_place::set_resource_attr(rows, home, resource, name, value)?;
+    rows[home].resources.set_attr(resource, name, value)?;
     Ok(())
 }
 
@@ -95,6 +94,6 @@ pub fn note(rows: &mut Vec<NodeRow>, node: &Id, text: Text, at: u64) -> Result<(
         (IfErr result (λ e. e ≡ Refusal.Memory)) }
 {
     let place = known_node(rows.as_slice(), node)?;
-    at_place::append(rows, place, Audit::Notification { at, text })?;
+    rows[place].audits.push(Audit::Notification { at, text })?;
     Ok(())
 }

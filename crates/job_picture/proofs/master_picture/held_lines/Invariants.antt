@@ -5,5 +5,5 @@ use Rattle.job_picture.specs.Rows.{line_of}
 use Rattle.job_picture.proofs.Lines.{IsSoFar}
 use Rattle.job_picture.proofs.master_picture.held_lines.Given as goal
 
-abbrev pub invariant-loop-row : goal.invariant-loop-row
-invariant-loop-row l = IsSoFar (map (held_line l.master (mark_in l.marked))) l.rows l.row-index [] (map line_of l.lines.items)
+abbrev pub invariant-loop-place : goal.invariant-loop-place
+invariant-loop-place l = IsSoFar (map (held_line l.master (mark_in l.marked))) l.rows l.place [] (map line_of l.lines.items)

@@ -11,25 +11,25 @@ print_children-loop-row-init t c =
     (record { tokens = c.in_ok-key.ensures.ok; before = c.key.ensures.room.0 }) (record { tokens = c.in_ok-begin_array.ensures.ok; before = c.begin_array.ensures.room.0 })
 
 pub print_children-print_node-requires : goal.print_children-print_node-requires
-print_children-print_node-requires t c = (omega (arith, c.decreases, c.in-Some.ensures.within), tt)
+print_children-print_node-requires t c = (omega (arith, c.decreases, c.in-Some.ensures.row.within), tt)
 
 pub print_children-loop-row-smaller : goal.print_children-loop-row-smaller
-print_children-loop-row-smaller t c = omega (arith, c.in_ok-at.ensures.end.behind.forward, c.in-Some.ensures.within)
+print_children-loop-row-smaller t c = omega (arith, c.in_ok-at.ensures.end.behind.forward, c.in-Some.ensures.row.within)
 
 pub print_children-loop-row-preserved : goal.print_children-loop-row-preserved
 print_children-loop-row-preserved t c =
-    printed_more c.args.marks.now c.args.depth c.args.rows.now c.args.from c.loop-row.at c.in_ok-at.at c.in-Some.row.now c.args.out.now c.loop-row.out c.print_node.new.out c.loop-row.invariant c.in-Some.ensures
+    printed_more c.args.marks.now c.args.depth c.args.rows.now c.args.from c.loop-row.at c.in_ok-at.at c.in-Some.row.now c.args.out.now c.loop-row.out c.print_node.new.out c.loop-row.invariant c.in-Some.ensures.row
     c.in_ok-at.ensures.printed c.in_ok-at.ensures.end c.in_ok-at.ensures.names c.in_ok-at.ensures.texts
 
 pub print_children-returns-clause-printed : goal.print_children-returns-clause-printed
 print_children-returns-clause-printed t c =
-    printed_all c.args.marks.now c.args.depth c.args.rows.now c.args.from c.loop-row.at c.args.out.now c.loop-row.out c.end_array.new.self c.loop-row.invariant c.in_default.ensures (record { tokens = c.in_ok-end_array.ensures.ok; before = c.end_array.ensures.room.0 })
+    printed_all c.args.marks.now c.args.depth c.args.rows.now c.args.from c.loop-row.at c.args.out.now c.loop-row.out c.end_array.new.self c.loop-row.invariant c.in_default.ensures.row (record { tokens = c.in_ok-end_array.ensures.ok; before = c.end_array.ensures.room.0 })
 
 pub print_children-returns-clause-again : goal.print_children-returns-clause-again
-print_children-returns-clause-again t c = again_all c.args.marks.now c.args.depth c.args.rows.now c.args.from c.loop-row.at c.args.out.now c.loop-row.out c.loop-row.invariant c.in_default.ensures
+print_children-returns-clause-again t c = again_all c.args.marks.now c.args.depth c.args.rows.now c.args.from c.loop-row.at c.args.out.now c.loop-row.out c.loop-row.invariant c.in_default.ensures.row
 
 pub print_children-returns-clause-end : goal.print_children-returns-clause-end
-print_children-returns-clause-end t c = walked_all c.args.marks.now c.args.depth c.args.rows.now c.args.from c.loop-row.at c.args.out.now c.loop-row.out c.loop-row.invariant c.in_default.ensures
+print_children-returns-clause-end t c = walked_all c.args.marks.now c.args.depth c.args.rows.now c.args.from c.loop-row.at c.args.out.now c.loop-row.out c.loop-row.invariant c.in_default.ensures.row
 
 pub print_node-print_children-requires : goal.print_node-print_children-requires
 print_node-print_children-requires t c = (omega (arith, c.decreases), tt)

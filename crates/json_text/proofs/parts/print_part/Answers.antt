@@ -26,9 +26,9 @@ returns-clause-printed c =
     let p = c.args.part.now in
     let spawn = spawn_text p.spawn_id in
     let root = c.in-Some.root.now in
-    let later = drop 1 c.as_slice-rows.result.now in
-    let same = c.as_slice-rows.ensures ∙ c.rows.ensures.rows in
-    let is = first_row c.as_slice-rows.result.now root c.in-Some.ensures.value in
+    let later = drop 1 c.new-rows.result in
+    let same = c.new-rows.ensures ∙ c.rows.ensures.rows in
+    let is = first_row c.new-rows.result root c.in-Some.ensures in
     let id = c.in_ok-spawn.ensures.id ∙ ap spawn_text c.spawn_id.ensures.id in
     let begun = opened c.begin_object.result c.args.out.now c.begin_object.new.self c.begin_object.ensures c.in_ok-begin_object.ensures.ok in
     let above = same_member (codes "AncestorPool") _ (array (data_items ancestor_data p.ancestors)) c.print_items.new.out begun c.in_ok-print_items.ensures.printed c.in_ok-print_items.ensures.again (ap (λ xs. array (data_items ancestor_data xs)) c.ancestors.ensures) in
@@ -47,9 +47,9 @@ returns-clause-printed c =
 pub returns-clause-names : goal.returns-clause-names
 returns-clause-names c =
     let p = c.args.part.now in
-    let rows = c.as_slice-rows.result.now in
+    let rows = c.new-rows.result in
     let root = c.in-Some.root.now in
-    let same = c.as_slice-rows.ensures ∙ c.rows.ensures.rows in
+    let same = c.new-rows.ensures ∙ c.rows.ensures.rows in
     let outline : is_outline (depths rows) ≡ true = ap (λ rs. is_outline (depths rs)) same ∙ sym (outline-copies p.rows p.rw p.ro) ∙ c.rows.ensures.valid.tree in
     let last : IsLastValid root = record {
       job_part = c.in_ok-print_member-2.ensures.names;
@@ -59,14 +59,14 @@ returns-clause-names c =
       status = c.in_ok-print_member-4.ensures.names;
       kind = c.in_ok-print_member-5.ensures.names;
     } in
-    on_any c.end_object.result (ap (list_all row_has_names) (sym same) ∙ all_names c.no_marks.result rows root _ (first_row rows root c.in-Some.ensures.value) outline c.in_ok-print_children.ensures.end (row_names root c.in_ok-print_front.ensures.valid last))
+    on_any c.end_object.result (ap (list_all row_has_names) (sym same) ∙ all_names c.no_marks.result rows root _ (first_row rows root c.in-Some.ensures) outline c.in_ok-print_children.ensures.end (row_names root c.in_ok-print_front.ensures.valid last))
 
 pub returns-clause-texts : goal.returns-clause-texts
 returns-clause-texts c =
     let p = c.args.part.now in
-    let rows = c.as_slice-rows.result.now in
+    let rows = c.new-rows.result in
     let root = c.in-Some.root.now in
-    let same = c.as_slice-rows.ensures ∙ c.rows.ensures.rows in
+    let same = c.new-rows.ensures ∙ c.rows.ensures.rows in
     let outline : is_outline (depths rows) ≡ true = ap (λ rs. is_outline (depths rs)) same ∙ sym (outline-copies p.rows p.rw p.ro) ∙ c.rows.ensures.valid.tree in
     let pool = ap (list_all resource_has_texts) (sym c.as_slice.ensures) ∙ c.in_ok-print_root_pool.ensures.texts in
-    on_any c.end_object.result (ap (list_all row_has_texts) (sym same) ∙ all_texts c.no_marks.result rows root _ (first_row rows root c.in-Some.ensures.value) outline c.in_ok-print_children.ensures.end (row_texts root c.in_ok-print_front.ensures.valid pool))
+    on_any c.end_object.result (ap (list_all row_has_texts) (sym same) ∙ all_texts c.no_marks.result rows root _ (first_row rows root c.in-Some.ensures) outline c.in_ok-print_children.ensures.end (row_texts root c.in_ok-print_front.ensures.valid pool))

@@ -17,8 +17,8 @@ pub returns-clause-printed : goal.returns-clause-printed
 returns-clause-printed c =
     let t = c.args.ticket.now in
     let marks = c.args.marks.now in
-    let same = c.as_slice-rows.ensures ∙ c.rows.ensures.rows in
-    let is = first_row c.as_slice-rows.result.now c.in-Some.root.now c.in-Some.ensures.value in
+    let same = c.rows-rows.ensures.rows in
+    let is = first_row c.rows-rows.result c.in-Some.root.now c.in-Some.ensures in
     let begun = opened c.begin_object.result c.args.out.now c.begin_object.new.self c.begin_object.ensures c.in_ok-begin_object.ensures.ok in
     let front = open_more c.print_front.new.out begun c.in_ok-print_front.ensures.printed in
     let kids = one_member (codes "JDF") _ c.print_children.new.out front c.in_ok-print_children.ensures.printed c.in_ok-print_children.ensures.again in
@@ -28,18 +28,18 @@ returns-clause-printed c =
 
 pub returns-clause-names : goal.returns-clause-names
 returns-clause-names c =
-    let rows = c.as_slice-rows.result.now in
+    let rows = c.rows-rows.result in
     let root = c.in-Some.root.now in
-    let same = c.as_slice-rows.ensures ∙ c.rows.ensures.rows in
-    let outline : is_outline (depths rows) ≡ true = ap (λ rs. is_outline (depths rs)) same ∙ c.rows.ensures.valid.tree in
+    let same = c.rows-rows.ensures.rows in
+    let outline : is_outline (depths rows) ≡ true = ap (λ rs. is_outline (depths rs)) same ∙ c.rows-rows.ensures.valid.tree in
     let names = row_names root c.in_ok-print_front.ensures.valid c.in_ok-print_last.ensures.valid in
-    on_any c.end_object.result (ap (list_all row_has_names) (sym same) ∙ all_names c.args.marks.now rows root _ (first_row rows root c.in-Some.ensures.value) outline c.in_ok-print_children.ensures.end names)
+    on_any c.end_object.result (ap (list_all row_has_names) (sym same) ∙ all_names c.args.marks.now rows root _ (first_row rows root c.in-Some.ensures) outline c.in_ok-print_children.ensures.end names)
 
 pub returns-clause-texts : goal.returns-clause-texts
 returns-clause-texts c =
-    let rows = c.as_slice-rows.result.now in
+    let rows = c.rows-rows.result in
     let root = c.in-Some.root.now in
-    let same = c.as_slice-rows.ensures ∙ c.rows.ensures.rows in
-    let outline : is_outline (depths rows) ≡ true = ap (λ rs. is_outline (depths rs)) same ∙ c.rows.ensures.valid.tree in
+    let same = c.rows-rows.ensures.rows in
+    let outline : is_outline (depths rows) ≡ true = ap (λ rs. is_outline (depths rs)) same ∙ c.rows-rows.ensures.valid.tree in
     let texts = row_texts root c.in_ok-print_front.ensures.valid c.in_ok-print_last.ensures.valid.pool_texts in
-    on_any c.end_object.result (ap (list_all row_has_texts) (sym same) ∙ all_texts c.args.marks.now rows root _ (first_row rows root c.in-Some.ensures.value) outline c.in_ok-print_children.ensures.end texts)
+    on_any c.end_object.result (ap (list_all row_has_texts) (sym same) ∙ all_texts c.args.marks.now rows root _ (first_row rows root c.in-Some.ensures) outline c.in_ok-print_children.ensures.end texts)

@@ -5,5 +5,5 @@ use Rattle.spawn.specs.Parts.{resources_among}
 use Rattle.merge.proofs.copies.are_copies_among.Given as goal
 
 -- what is left decides
-abbrev pub invariant-loop-row : goal.invariant-loop-row
-invariant-loop-row l = pointwise is_alike (resources_among l.ids (drop l.row-index l.rows)) l.rest ≡ pointwise is_alike (resources_among l.ids l.rows) l.copies
+abbrev pub invariant-loop-place : goal.invariant-loop-place
+invariant-loop-place l = pointwise is_alike (resources_among l.ids (drop l.place l.rows)) l.rest ≡ pointwise is_alike (resources_among l.ids l.rows) l.copies

@@ -9,5 +9,5 @@ pub returns-else-has_id : goal.returns-else-has_id
 returns-else-has_id c =
     let x = c.args.id.now in
     let p = c.args.part.now in
-    let out : mem x (ids p.rows) ≡ false = ap (λ rows. mem x (ids rows)) (sym (c.as_slice.ensures ∙ c.rows.ensures.rows)) ∙ sym c.has_id.ensures ∙ c.if-has_id.false in
+    let out : mem x (ids p.rows) ≡ false = ap (λ rows. mem x (ids rows)) (sym (c.rows.ensures.rows)) ∙ sym c.has_id.ensures ∙ c.if-has_id.false in
     c.holds.ensures ∙ any_key (λ y. y.id) x c.rw.result.now ∙ ap (λ pool. mem x (resource_ids pool)) c.rw.ensures ∙ sym (ap (λ b. b || mem x (resource_ids p.rw)) out)

@@ -3,5 +3,5 @@ use Rattle.spawn.specs.Parts.{way_from}
 use Rattle.spawn.proofs.claims.above.way_to.Given as goal
 
 -- the way to the last of the rows so far
-abbrev pub invariant-loop-row : goal.invariant-loop-row
-invariant-loop-row l = map (λ s. s.now) l.way.items ≡ way_from [] (take l.row-index l.rows)
+abbrev pub invariant-loop-place : goal.invariant-loop-place
+invariant-loop-place l = map (λ s. s.now) l.way.items ≡ way_from [] (take l.place l.rows)

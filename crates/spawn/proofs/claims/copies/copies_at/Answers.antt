@@ -9,18 +9,18 @@ use Rattle.spawn.proofs.claims.copies.copies_at.Goals as goal
 
 pub returns-clause-rw : goal.returns-clause-rw
 returns-clause-rw c =
-    let f = is_linked c.args.at.now.below.now in
+    let f = is_linked c.args.at.now.below in
     let g = λ (x : List ℕ). mem x c.args.rw.now in
-    let test : Resource → Bool = λ x. is_linked c.args.at.now.below.now x.id && mem x.id c.args.rw.now in
+    let test : Resource → Bool = λ x. is_linked c.args.at.now.below x.id && mem x.id c.args.rw.now in
     c.in_ok-push_rows-2.ensures.rw f g c.in_ok-linked.ensures c.in_ok-chosen.ensures
-    ∙ ap (λ xs. xs ++ resource_ids (filter test (resources c.args.at.now.behind.now)))
-    (c.in_ok-push_rows.ensures.rw f g c.in_ok-linked.ensures c.in_ok-chosen.ensures ∙ ap (λ xs. xs ++ resource_ids (filter test (resources c.args.at.now.front.now))) c.new.ensures.items)
+    ∙ ap (λ xs. xs ++ resource_ids (filter test (resources c.args.at.now.behind)))
+    (c.in_ok-push_rows.ensures.rw f g c.in_ok-linked.ensures c.in_ok-chosen.ensures ∙ ap (λ xs. xs ++ resource_ids (filter test (resources c.args.at.now.front))) c.new.ensures.items)
 
 pub returns-clause-ro : goal.returns-clause-ro
 returns-clause-ro c =
-    let f = is_linked c.args.at.now.below.now in
+    let f = is_linked c.args.at.now.below in
     let g = λ (x : List ℕ). mem x c.args.rw.now in
-    let test : Resource → Bool = λ x. is_linked c.args.at.now.below.now x.id && not (mem x.id c.args.rw.now) in
+    let test : Resource → Bool = λ x. is_linked c.args.at.now.below x.id && not (mem x.id c.args.rw.now) in
     c.in_ok-push_rows-2.ensures.ro f g c.in_ok-linked.ensures c.in_ok-chosen.ensures
-    ∙ ap (λ xs. xs ++ filter test (resources c.args.at.now.behind.now))
-    (c.in_ok-push_rows.ensures.ro f g c.in_ok-linked.ensures c.in_ok-chosen.ensures ∙ ap (λ xs. xs ++ filter test (resources c.args.at.now.front.now)) c.new-2.ensures.items)
+    ∙ ap (λ xs. xs ++ filter test (resources c.args.at.now.behind))
+    (c.in_ok-push_rows.ensures.ro f g c.in_ok-linked.ensures c.in_ok-chosen.ensures ∙ ap (λ xs. xs ++ filter test (resources c.args.at.now.front)) c.new-2.ensures.items)

@@ -3,5 +3,5 @@ use Rattle.spawn.specs.Parts.{lifted}
 use Rattle.spawn.proofs.parts.part_rows.lifted_rows.Given as goal
 
 -- the rows so far
-abbrev pub invariant-loop-row : goal.invariant-loop-row
-invariant-loop-row l = l.lifted.items ≡ map (lifted l.levels) (take l.row-index l.rows)
+abbrev pub invariant-loop-place : goal.invariant-loop-place
+invariant-loop-place l = l.lifted.items ≡ map (lifted l.levels) (take l.place l.rows)

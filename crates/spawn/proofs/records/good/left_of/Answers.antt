@@ -9,19 +9,19 @@ pub returns-in_err-left : goal.returns-in_err-left
 returns-in_err-left c =
     let at = c.args.at.now in
     let r = c.args.spawn.now in
-    let inside = at.below.now in
+    let inside = at.below in
     ap (option_map (λ l. (l.rw.now, l.ro.now))) c.from_residual.ensures
-    ∙ ap (option_and_then (all_met inside r.rw (resources at.behind.now)))
-    (c.in_err-left.ensures ∙ ap (λ rw. all_met inside rw (resources at.front.now) (rw, c.as_slice-ro.result.now)) c.as_slice-rw.ensures ∙ ap (λ ro. all_met inside r.rw (resources at.front.now) (r.rw, ro)) c.as_slice-ro.ensures)
-    ∙ sym (all_met-append inside r.rw (resources at.front.now) (resources at.behind.now) (r.rw, r.ro))
+    ∙ ap (option_and_then (all_met inside r.rw (resources at.behind)))
+    (c.in_err-left.ensures ∙ ap (λ rw. all_met inside rw (resources at.front) (rw, c.as_slice-ro.result.now)) c.as_slice-rw.ensures ∙ ap (λ ro. all_met inside r.rw (resources at.front) (r.rw, ro)) c.as_slice-ro.ensures)
+    ∙ sym (all_met-append inside r.rw (resources at.front) (resources at.behind) (r.rw, r.ro))
 
 pub returns : goal.returns
 returns c =
     let at = c.args.at.now in
     let r = c.args.spawn.now in
-    let inside = at.below.now in
+    let inside = at.below in
     c.meet_rows-2.ensures
-    ∙ ap (λ rw. all_met inside rw (resources at.behind.now) (c.in_ok-left.left.rw.now, c.in_ok-left.left.ro.now)) c.as_slice-rw.ensures
-    ∙ ap (option_and_then (all_met inside r.rw (resources at.behind.now)))
-    (c.in_ok-left.ensures ∙ ap (λ rw. all_met inside rw (resources at.front.now) (rw, c.as_slice-ro.result.now)) c.as_slice-rw.ensures ∙ ap (λ ro. all_met inside r.rw (resources at.front.now) (r.rw, ro)) c.as_slice-ro.ensures)
-    ∙ sym (all_met-append inside r.rw (resources at.front.now) (resources at.behind.now) (r.rw, r.ro))
+    ∙ ap (λ rw. all_met inside rw (resources at.behind) (c.in_ok-left.left.rw.now, c.in_ok-left.left.ro.now)) c.as_slice-rw.ensures
+    ∙ ap (option_and_then (all_met inside r.rw (resources at.behind)))
+    (c.in_ok-left.ensures ∙ ap (λ rw. all_met inside rw (resources at.front) (rw, c.as_slice-ro.result.now)) c.as_slice-rw.ensures ∙ ap (λ ro. all_met inside r.rw (resources at.front) (r.rw, ro)) c.as_slice-ro.ensures)
+    ∙ sym (all_met-append inside r.rw (resources at.front) (resources at.behind) (r.rw, r.ro))

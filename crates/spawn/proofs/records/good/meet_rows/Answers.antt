@@ -1,4 +1,4 @@
-use Rattle.std.proofs.Common.{◌∙◌, ap}
+use Rattle.std.proofs.Common.{◌∙◌, ap, arith}
 use Rattle.std.specs.Option.{option_map}
 use Rattle.spawn.proofs.GoodWalk.{met_more, met_none}
 use Rattle.spawn.specs.Walk.{all_met}
@@ -8,18 +8,18 @@ pub returns-in_err-left : goal.returns-in_err-left
 returns-in_err-left c =
     let inside = c.args.inside.now in
     let rw = c.args.rw.now in
-    let old = c.loop-row.left in
+    let old = c.loop-place.left in
     ap (option_map (λ l. (l.rw.now, l.ro.now))) c.from_residual.ensures
-    ∙ met_none inside rw c.args.rows.now c.loop-row.row-index c.row-item.result (old.rw.now, old.ro.now) c.loop-row-test.true
-    (c.in_err-left.ensures ∙ ap (λ pool. all_met inside rw pool (old.rw.now, old.ro.now)) (c.as_slice.ensures ∙ ap (λ r. r.resources) c.row-item.is))
-    ∙ c.loop-row.invariant
+    ∙ met_none inside rw c.args.rows.now c.loop-place.place c.at-row.result.now (old.rw.now, old.ro.now) (omega (arith, c.loop-place-test.true, c.len-place-end.ensures))
+    (c.in_err-left.ensures ∙ ap (λ pool. all_met inside rw pool (old.rw.now, old.ro.now)) (c.as_slice.ensures ∙ ap (λ r. r.resources) c.at-row.ensures))
+    ∙ c.loop-place.invariant
 
-pub loop-row-preserved : goal.loop-row-preserved
-loop-row-preserved c =
+pub loop-place-preserved : goal.loop-place-preserved
+loop-place-preserved c =
     let inside = c.args.inside.now in
     let rw = c.args.rw.now in
-    let old = c.loop-row.left in
+    let old = c.loop-place.left in
     let new = c.in_ok-left.left in
-    met_more inside rw c.args.rows.now c.loop-row.row-index c.row-item.result (old.rw.now, old.ro.now) (new.rw.now, new.ro.now) c.loop-row-test.true
-    (c.in_ok-left.ensures ∙ ap (λ pool. all_met inside rw pool (old.rw.now, old.ro.now)) (c.as_slice.ensures ∙ ap (λ r. r.resources) c.row-item.is))
-    ∙ c.loop-row.invariant
+    met_more inside rw c.args.rows.now c.loop-place.place c.at-row.result.now (old.rw.now, old.ro.now) (new.rw.now, new.ro.now) (omega (arith, c.loop-place-test.true, c.len-place-end.ensures))
+    (c.in_ok-left.ensures ∙ ap (λ pool. all_met inside rw pool (old.rw.now, old.ro.now)) (c.as_slice.ensures ∙ ap (λ r. r.resources) c.at-row.ensures))
+    ∙ c.loop-place.invariant

@@ -5,5 +5,5 @@ use Rattle.spawn.specs.IdSet.{is_in}
 use Rattle.spawn.proofs.tables.marking.marked_nodes.Given as goal
 
 -- those of the rows so far
-abbrev pub invariant-loop-row : goal.invariant-loop-row
-invariant-loop-row l = l.nodes.items ≡ filter (is_in l.spawned) (node_ids (take l.row-index l.rows))
+abbrev pub invariant-loop-place : goal.invariant-loop-place
+invariant-loop-place l = l.nodes.items ≡ filter (is_in l.spawned) (node_ids (take l.place l.rows))

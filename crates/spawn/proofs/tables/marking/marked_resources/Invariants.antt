@@ -6,5 +6,5 @@ use Rattle.spawn.specs.Parts.{resources}
 use Rattle.spawn.proofs.tables.marking.marked_resources.Given as goal
 
 -- what the resources of the rows so far show
-abbrev pub invariant-loop-row : goal.invariant-loop-row
-invariant-loop-row l = l.marks.items ≡ filter_map (mark_in l.copies.changed l.copies.numbers) (resource_ids (resources (take l.row-index l.rows)))
+abbrev pub invariant-loop-place : goal.invariant-loop-place
+invariant-loop-place l = l.marks.items ≡ filter_map (mark_in l.copies.changed l.copies.numbers) (resource_ids (resources (take l.place l.rows)))

@@ -1,15 +1,28 @@
-use Rattle.std.proofs.Common.{◌∙◌, ap, refl, slice_set}
+use Rattle.std.proofs.Common.{◌∙◌, ap, arith}
+use Rattle.ticket_items.proofs.Places.{below_length}
 use Rattle.ticket_items.specs.Attrs.{with_attr}
-use Rattle.ticket_rows.proofs.Changes.{change_pool_at, home_at_place, pool_apart}
+use Rattle.ticket_items.specs.declared.resource.Resource.{Resource}
+use Rattle.ticket_rows.proofs.AtHome.{holds}
+use Rattle.ticket_rows.proofs.Boxed.{apart_in, count, on_err, pool_boxed, stays_boxed}
+use Rattle.ticket_rows.proofs.Changes.{with_pool}
+use Rattle.ticket_rows.specs.Boxed.{contents}
 use Rattle.ticket_rows.proofs.edit.at_place.set_resource_attr.Goals as goal
 
+pub index_mut-requires : goal.index_mut-requires
+index_mut-requires c =
+    omega (arith, below_length (holds c.args.resource.now) (contents c.args.rows.now.items) c.args.home c.requires.home, count c.args.rows.now.items)
+
 pub set_attr-requires : goal.set_attr-requires
-set_attr-requires c =
-    let s = c.index_mut.result.now in
-    pool_apart c.args.rows.now.items c.args.home s c.requires.distinct (home_at_place c.args.resource.now c.args.rows.now.items _ c.args.home s refl c.requires.home c.index_mut.ensures.value)
+set_attr-requires c = apart_in c.args.resource.now c.args.rows.now.items c.args.home c.index_mut.result.now c.deref_mut.result.now c.requires.distinct c.requires.home c.index_mut.ensures.value c.deref_mut.ensures.value
 
 pub returns-clause-ok : goal.returns-clause-ok
 returns-clause-ok c =
-    let s = c.index_mut.result.now in
-    ap (λ pool. slice_set c.args.rows.now.items c.args.home (record s { resources = pool })) c.in_ok-set_attr.ensures.ok
-    ∙ change_pool_at c.args.resource.now (λ y. record y { attrs = with_attr c.args.name c.args.value y.attrs }) c.args.rows.now.items _ c.args.home s refl c.requires.distinct c.requires.home c.index_mut.ensures.value
+    let f = λ (y : Resource). record y { attrs = with_attr c.args.name c.args.value y.attrs } in
+    let s = c.deref_mut.result.now in
+    pool_boxed c.args.resource.now f c.args.rows.now.items c.args.home c.index_mut.result.now _ c.requires.distinct c.requires.home c.index_mut.ensures.value
+    (ap (λ pool. record s { resources = pool }) c.in_ok-set_attr.ensures.ok ∙ ap (with_pool c.args.resource.now f) c.deref_mut.ensures.value)
+
+pub returns-in_err-set_attr-clause-err : goal.returns-in_err-set_attr-clause-err
+returns-in_err-set_attr-clause-err c =
+    let s = c.deref_mut.result.now in
+    on_err c.from_residual.result (stays_boxed c.args.rows.now.items c.args.home c.index_mut.result.now _ c.index_mut.ensures.value (ap (λ pool. record s { resources = pool }) c.in_err-set_attr.ensures.err ∙ c.deref_mut.ensures.value))

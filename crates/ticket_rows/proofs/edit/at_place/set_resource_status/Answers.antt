@@ -1,14 +1,22 @@
-use Rattle.std.proofs.Common.{◌∙◌, ap, refl, slice_set}
-use Rattle.ticket_rows.proofs.Changes.{change_pool_at, home_at_place, pool_apart}
+use Rattle.std.proofs.Common.{◌∙◌, ap, arith}
+use Rattle.ticket_items.proofs.Places.{below_length}
+use Rattle.ticket_items.specs.declared.resource.Resource.{Resource}
+use Rattle.ticket_rows.proofs.AtHome.{holds}
+use Rattle.ticket_rows.proofs.Boxed.{apart_in, count, pool_boxed}
+use Rattle.ticket_rows.proofs.Changes.{with_pool}
+use Rattle.ticket_rows.specs.Boxed.{contents}
 use Rattle.ticket_rows.proofs.edit.at_place.set_resource_status.Goals as goal
 
+pub index_mut-requires : goal.index_mut-requires
+index_mut-requires c =
+    omega (arith, below_length (holds c.args.resource.now) (contents c.args.rows.now.items) c.args.home c.requires.home, count c.args.rows.now.items)
+
 pub set_status-requires : goal.set_status-requires
-set_status-requires c =
-    let s = c.index_mut.result.now in
-    pool_apart c.args.rows.now.items c.args.home s c.requires.distinct (home_at_place c.args.resource.now c.args.rows.now.items _ c.args.home s refl c.requires.home c.index_mut.ensures.value)
+set_status-requires c = apart_in c.args.resource.now c.args.rows.now.items c.args.home c.index_mut.result.now c.deref_mut.result.now c.requires.distinct c.requires.home c.index_mut.ensures.value c.deref_mut.ensures.value
 
 pub returns : goal.returns
 returns c =
-    let s = c.index_mut.result.now in
-    ap (λ pool. slice_set c.args.rows.now.items c.args.home (record s { resources = pool })) c.set_status.ensures
-    ∙ change_pool_at c.args.resource.now (λ y. record y { status = c.args.status }) c.args.rows.now.items _ c.args.home s refl c.requires.distinct c.requires.home c.index_mut.ensures.value
+    let f = λ (y : Resource). record y { status = c.args.status } in
+    let s = c.deref_mut.result.now in
+    pool_boxed c.args.resource.now f c.args.rows.now.items c.args.home c.index_mut.result.now _ c.requires.distinct c.requires.home c.index_mut.ensures.value
+    (ap (λ pool. record s { resources = pool }) c.set_status.ensures ∙ ap (with_pool c.args.resource.now f) c.deref_mut.ensures.value)

@@ -1,16 +1,21 @@
-use Rattle.std.proofs.Common.{◌∙◌, sym, ap}
+use Rattle.std.proofs.Common.{◌∙◌, sym, ap, slice_set, arith}
 use Rattle.std.specs.List.{position}
 use Rattle.std.specs.Str.{bytes_eq}
 use Rattle.ticket_items.specs.Attrs.{with_attr}
 use Rattle.ticket_items.proofs.Places.{below_length}
-use Rattle.ticket_rows.proofs.AtPlaces.{row_at_place}
+use Rattle.ticket_items.specs.declared.node_row.NodeRow.{NodeRow}
+use Rattle.ticket_rows.proofs.AtPlaces.{row_at_place, set_at}
 use Rattle.ticket_rows.proofs.edit.setting_edits.set_attr.Goals as goal
 
-pub set_attr-requires : goal.set_attr-requires
-set_attr-requires c =
-    below_length (λ r. bytes_eq r.id c.args.node.now) c.args.rows.now.items c.in_ok-place.place (ap (position (λ r. bytes_eq r.id c.args.node.now)) (sym c.as_slice.ensures.value) ∙ c.in_ok-place.ensures.place)
+pub index_mut-requires : goal.index_mut-requires
+index_mut-requires c =
+    omega (arith, below_length (λ r. bytes_eq r.id c.args.node.now) c.args.rows.now.items c.in_ok-place.place (ap (position (λ r. bytes_eq r.id c.args.node.now)) (sym c.as_slice.ensures.value) ∙ c.in_ok-place.ensures.place))
 
 pub returns-clause-ok : goal.returns-clause-ok
 returns-clause-ok c =
     let found = ap (position (λ r. bytes_eq r.id c.args.node.now)) (sym c.as_slice.ensures.value) ∙ c.in_ok-place.ensures.place in
-    c.in_ok-set_attr.ensures.ok ∙ row_at_place c.args.node.now (λ r. record r { attrs = with_attr c.args.name c.args.value r.attrs }) c.args.rows.now.items c.in_ok-place.place c.requires found
+    let s = c.index_mut.result.now in
+    let within = below_length (λ r. bytes_eq r.id c.args.node.now) c.args.rows.now.items c.in_ok-place.place found in
+    ap (λ attrs. slice_set c.args.rows.now.items c.in_ok-place.place (record s { attrs = attrs })) c.in_ok-set.ensures.ok
+    ∙ set_at (λ (r : NodeRow). record r { attrs = with_attr c.args.name c.args.value r.attrs }) c.args.rows.now.items c.in_ok-place.place s within c.index_mut.ensures.value
+    ∙ row_at_place c.args.node.now (λ r. record r { attrs = with_attr c.args.name c.args.value r.attrs }) c.args.rows.now.items c.in_ok-place.place c.requires found

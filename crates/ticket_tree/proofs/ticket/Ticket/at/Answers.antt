@@ -13,7 +13,7 @@ returns-in-Some-clause-at c =
     let to = c.in-Some.to in
     let n = c.args.node.now in
     let a = c.between.result in
-    let seen = c.as_slice.ensures in
+    let seen = c.rows.ensures in
     let found = c.between.ensures in
     subst (λ (t : Job). IsAt t.rows n a) c.self.view_is
     (is_at c.self.inside.rows n from to a c.self.invariant c.in-Some.ensures.found (found.front ∙ ap (take from) seen) (found.below ∙ ap (λ rs. take (to - from) (drop from rs)) seen) (found.behind ∙ ap (drop to) seen)

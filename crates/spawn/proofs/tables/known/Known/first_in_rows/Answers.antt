@@ -1,4 +1,4 @@
-use Rattle.std.proofs.Common.{◌∙◌, ◌+◌, drop, sym, ap}
+use Rattle.std.proofs.Common.{◌∙◌, ◌+◌, drop, sym, ap, arith}
 use Rattle.std.specs.Option.{option_or}
 use Rattle.ticket_rows.specs.Ticket.{ids}
 use Rattle.spawn.proofs.Entries.{none_of, some_first}
@@ -11,17 +11,17 @@ returns-then-is_some c =
     let k = c.args.self.now in
     let h = asked k.ticket.now.rows k.records.now c.args.some in
     let rows = c.args.rows.now in
-    let i = c.loop-row.row-index in
+    let i = c.loop-place.place in
     let later = first_answer h (ids (drop (i + 1) rows)) in
-    sym (c.loop-row.invariant ∙ next_row h rows i c.row-item.result c.loop-row-test.true c.row-item.is ∙ ap (λ o. option_or o later) (sym c.first_in_row-found.ensures)
+    sym (c.loop-place.invariant ∙ next_row h rows i c.at-row.result.now (omega (arith, c.loop-place-test.true, c.len-place-end.ensures)) c.at-row.ensures ∙ ap (λ o. option_or o later) (sym c.first_in_row-found.ensures)
     ∙ some_first c.first_in_row-found.result later (sym c.is_some.ensures ∙ c.if-is_some.true))
 
-pub loop-row-preserved : goal.loop-row-preserved
-loop-row-preserved c =
+pub loop-place-preserved : goal.loop-place-preserved
+loop-place-preserved c =
     let k = c.args.self.now in
     let h = asked k.ticket.now.rows k.records.now c.args.some in
     let rows = c.args.rows.now in
-    let i = c.loop-row.row-index in
+    let i = c.loop-place.place in
     let later = first_answer h (ids (drop (i + 1) rows)) in
-    c.loop-row.invariant ∙ next_row h rows i c.row-item.result c.loop-row-test.true c.row-item.is
+    c.loop-place.invariant ∙ next_row h rows i c.at-row.result.now (omega (arith, c.loop-place-test.true, c.len-place-end.ensures)) c.at-row.ensures
     ∙ ap (λ o. option_or o later) (sym c.first_in_row-found.ensures ∙ none_of c.first_in_row-found.result (sym c.is_some.ensures ∙ c.if-is_some.false))
