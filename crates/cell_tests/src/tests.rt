@@ -1,0 +1,4 @@
+mod answers;
+mod holders;
+mod keepers;
+mod requests;
