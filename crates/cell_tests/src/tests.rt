@@ -2,3 +2,4 @@ mod answers;
 mod holders;
 mod keepers;
 mod requests;
+mod responses;

@@ -50,6 +50,10 @@ put_again key =
     single (codes "request_put")
     (pair (codes "key") (string key) (codes "ignore_value") (boolean true))
 
+-- what comes there by a touch: of revision 0 is nothing that could come again, and no bytes come
+abbrev pub touched : List ℕ → ℕ → Json
+touched key revision = if revision == 0 then put key [] else put_again key
+
 -- one comparison; the one thing that is done where it holds; and where it doesn't, what is under
 -- the key is looked up
 abbrev pub transaction : List ℕ → List ℕ → Json → Json
@@ -66,8 +70,6 @@ abbrev pub swap : List ℕ → ℕ → List ℕ → Json
 swap key revision bytes =
     transaction (encoded key) (decimal revision) (put (encoded key) (encoded bytes))
 
--- of revision 0 is nothing that could come again: a touch of it puts no bytes there
 abbrev pub touch : List ℕ → ℕ → Json
 touch key revision =
-    if revision == 0 then swap key 0 []
-    else transaction (encoded key) (decimal revision) (put_again (encoded key))
+    transaction (encoded key) (decimal revision) (touched (encoded key) revision)

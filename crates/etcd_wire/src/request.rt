@@ -49,12 +49,9 @@ pub fn touch_request(alloc: Global, key: &[u8], revision: u64) -> Result<Vec<u8>
     ensures again { IfOk result (λ body.
         document body.items ≡ Some (form.touch key.now revision)) }
 {
-    if revision == 0 {
-        return swap_request(alloc, key, 0, b"");
-    }
     let key = STANDARD.encode(alloc, key)?;
     let mut buffer = Buffer::new();
-    touch_body(alloc, key.as_str(), buffer.format(revision))
+    touch_body(alloc, key.as_str(), buffer.format(revision), revision)
 }
 
 /// The body of a swap, by the texts of what it names.
@@ -73,19 +70,20 @@ fn swap_body<'a>(
     transaction(alloc, key, revision, success)
 }
 
-/// The body of a touch, by the texts of what it names.
+/// The body of a touch of this revision, by the texts of what it names.
 fn touch_body<'a>(
     alloc: Global,
     key: &'a str,
-    revision: &'a str,
+    digits: &'a str,
+    revision: u64,
 ) -> Result<Vec<u8>, AllocError>
     ensures text { IfOk result (λ body. body.items
-        ≡ text_of (form.transaction key.now revision.now (form.put_again key.now))) }
+        ≡ text_of (form.transaction key.now digits.now (form.touched key.now revision))) }
     ensures again { IfOk result (λ body. document body.items
-        ≡ Some (form.transaction key.now revision.now (form.put_again key.now))) }
+        ≡ Some (form.transaction key.now digits.now (form.touched key.now revision))) }
 {
-    let success = put_again(alloc, key)?;
-    transaction(alloc, key, revision, success)
+    let success = touched(alloc, key, revision)?;
+    transaction(alloc, key, digits, success)
 }
 
 /// What is under a key.
@@ -117,6 +115,19 @@ fn put_again<'a>(alloc: Global, key: &'a str) -> Result<Value<'a>, AllocError>
         ("ignore_value", Value::Bool(true)),
     )?;
     single(alloc, "request_put", put)
+}
+
+/// What comes under the key by a touch of this revision.
+fn touched<'a>(alloc: Global, key: &'a str, revision: u64) -> Result<Value<'a>, AllocError>
+    ensures value { IfOk result (λ v. value_view v ≡ form.touched key.now revision) }
+    ensures numbers { IfOk result (λ v. HasNumbers (value_view v)) }
+    ensures depth { IfOk result (λ v. depth (value_view v) ≤ 2) }
+{
+    if revision == 0 {
+        put(alloc, key, "")
+    } else {
+        put_again(alloc, key)
+    }
 }
 
 /// The one comparison, of the revision of what is under the key with this.

@@ -6,5 +6,5 @@ use Rattle.etcd_wire.proofs.request.touch_body.Goals as goal
 
 pub returns-clause-text : goal.returns-clause-text
 returns-clause-text c =
-    subst (λ (j : Json). IfOk c.transaction.result (λ body. body.items ≡ text_of (transaction c.args.key.now c.args.revision.now j)))
-    c.in_ok-success.ensures c.transaction.ensures.text
+    subst (λ (j : Json). IfOk c.transaction.result (λ body. body.items ≡ text_of (transaction c.args.key.now c.args.digits.now j)))
+    c.in_ok-success.ensures.value c.transaction.ensures.text
