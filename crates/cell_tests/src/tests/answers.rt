@@ -2,15 +2,20 @@ use cells::Swapped;
 use etcd_wire::{NoAnswer, held_of, swapped_of};
 use std::test::Fail;
 
-const ABSENT: &str = r#"{"header":{"cluster_id":"324952591200643719","member_id":"3319814642761637952","revision":"1","raft_term":"2"}}"#;
+const ABSENT: &str =
+    r#"{"header":{"cluster_id":"324952591200643719","member_id":"3319814642761637952","revision":"1","raft_term":"2"}}"#;
 
-const PRESENT: &str = r#"{"header":{"cluster_id":"324952591200643719","member_id":"3319814642761637952","revision":"2","raft_term":"2"},"kvs":[{"key":"L2pkZi9taXM=","create_revision":"2","mod_revision":"2","version":"1","value":"aGVsbG8="}],"count":"1"}"#;
+const PRESENT: &str =
+    r#"{"header":{"cluster_id":"324952591200643719","member_id":"3319814642761637952","revision":"2","raft_term":"2"},"kvs":[{"key":"L2pkZi9taXM=","create_revision":"2","mod_revision":"2","version":"1","value":"aGVsbG8="}],"count":"1"}"#;
 
-const EMPTY: &str = r#"{"header":{"cluster_id":"324952591200643719","member_id":"3319814642761637952","revision":"2","raft_term":"2"},"kvs":[{"key":"L2pkZi9taXM=","create_revision":"2","mod_revision":"2","version":"1"}],"count":"1"}"#;
+const EMPTY: &str =
+    r#"{"header":{"cluster_id":"324952591200643719","member_id":"3319814642761637952","revision":"2","raft_term":"2"},"kvs":[{"key":"L2pkZi9taXM=","create_revision":"2","mod_revision":"2","version":"1"}],"count":"1"}"#;
 
-const MADE: &str = r#"{"header":{"cluster_id":"324952591200643719","member_id":"3319814642761637952","revision":"3","raft_term":"2"},"succeeded":true,"responses":[{"response_put":{"header":{"revision":"3"}}}]}"#;
+const MADE: &str =
+    r#"{"header":{"cluster_id":"324952591200643719","member_id":"3319814642761637952","revision":"3","raft_term":"2"},"succeeded":true,"responses":[{"response_put":{"header":{"revision":"3"}}}]}"#;
 
-const OTHER: &str = r#"{"header":{"cluster_id":"324952591200643719","member_id":"3319814642761637952","revision":"3","raft_term":"2"},"responses":[{"response_range":{"header":{"revision":"3"},"kvs":[{"key":"L2pkZi9taXM=","create_revision":"2","mod_revision":"3","version":"2","value":"dHdv"}],"count":"1"}}]}"#;
+const OTHER: &str =
+    r#"{"header":{"cluster_id":"324952591200643719","member_id":"3319814642761637952","revision":"3","raft_term":"2"},"responses":[{"response_range":{"header":{"revision":"3"},"kvs":[{"key":"L2pkZi9taXM=","create_revision":"2","mod_revision":"3","version":"2","value":"dHdv"}],"count":"1"}}]}"#;
 
 const TIMED_OUT: &str =
     r#"{"error":"etcdserver: request timed out","message":"etcdserver: request timed out","code":14}"#;
@@ -67,7 +72,10 @@ fn nothing_else_tells_anything(rt: HostRuntime) -> Result<(), Fail> {
     ] {
         let body = body.as_bytes();
         assert_eq!(rt; swapped_of(rt.alloc(), status, body)?, Swapped::Unknown);
-        assert_eq!(rt; held_of(rt.alloc(), status, body).err(), Some(NoAnswer::Unknown));
+        assert_eq!(rt;
+            held_of(rt.alloc(), status, body).err(),
+            Some(NoAnswer::Unknown)
+        );
     }
     Ok(())
 }
@@ -75,7 +83,9 @@ fn nothing_else_tells_anything(rt: HostRuntime) -> Result<(), Fail> {
 #[test]
 fn a_value_that_is_no_base64_is_none(rt: HostRuntime) {
     for value in ["YWI", "_-8=", "aGVsbG8"] {
-        let body = format!(in rt.alloc(); r#"{{"header":{{"revision":"2"}},"kvs":[{{"mod_revision":"2","value":"{value}"}}]}}"#);
+        let body = format!(in rt.alloc();
+            r#"{{"header":{{"revision":"2"}},"kvs":[{{"mod_revision":"2","value":"{value}"}}]}}"#
+        );
         if let Ok(body) = body {
             let found = held_of(rt.alloc(), 200, body.as_bytes());
             assert_eq!(rt; found.err(), Some(NoAnswer::Unknown), "{value}");

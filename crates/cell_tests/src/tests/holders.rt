@@ -16,7 +16,10 @@ fn calls(alloc: Global, calls: &[(usize, u8)]) -> Result<Vec<Call>, AllocError> 
             b'!' => Act::Touch,
             byte => swap(alloc, byte)?,
         };
-        made.push(Call { holder: *holder, act })?;
+        made.push(Call {
+            holder: *holder,
+            act,
+        })?;
     }
     Ok(made)
 }
@@ -35,7 +38,15 @@ fn of_two_that_read_the_same_one_swaps(rt: HostRuntime) -> Result<(), Fail> {
     let mut cell = ScriptedCell::new(rt.alloc(), Vec::new(rt.alloc()));
     let calls = calls(
         rt.alloc(),
-        &[(0, b'?'), (1, b'?'), (0, b'a'), (1, b'b'), (1, b'c'), (1, b'?'), (1, b'd')],
+        &[
+            (0, b'?'),
+            (1, b'?'),
+            (0, b'a'),
+            (1, b'b'),
+            (1, b'c'),
+            (1, b'?'),
+            (1, b'd'),
+        ],
     )?;
     let told = run(rt.alloc(), &mut cell, 2, calls.as_slice())?;
     assert_eq!(rt; told.len(), 7);
@@ -57,10 +68,22 @@ fn a_swap_that_was_delayed_comes_once_or_never(rt: HostRuntime) -> Result<(), Fa
         let touch = if touches { b'!' } else { b'x' };
         let calls = calls(
             rt.alloc(),
-            &[(0, b'?'), (0, b'a'), (0, b'b'), (0, touch), (1, b'?'), (1, b'?'), (1, b'?')],
+            &[
+                (0, b'?'),
+                (0, b'a'),
+                (0, b'b'),
+                (0, touch),
+                (1, b'?'),
+                (1, b'?'),
+                (1, b'?'),
+            ],
         )?;
         let _ = run(rt.alloc(), &mut cell, 2, calls.as_slice())?;
-        assert_eq!(rt; chain_of(rt.alloc(), &cell)?.as_slice(), chain.as_bytes(), "{chain}");
+        assert_eq!(rt;
+            chain_of(rt.alloc(), &cell)?.as_slice(),
+            chain.as_bytes(),
+            "{chain}"
+        );
     }
     Ok(())
 }

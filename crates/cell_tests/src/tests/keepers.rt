@@ -1,4 +1,4 @@
-use cells::{CellKeep, Cell, Deed, ScriptedCell, Step, Swapped, step_anew};
+use cells::{Cell, CellKeep, Deed, ScriptedCell, Step, Swapped, step_anew};
 use keepers::{Keep, KeepFault};
 use std::alloc::{AllocError, Global};
 use std::test::Fail;
@@ -108,7 +108,10 @@ fn nothing_is_loaded_while_a_swap_is_open(rt: HostRuntime) -> Result<(), Fail> {
     script.push(Deed::Lose)?;
     script.push(Deed::Lose)?;
     let mut keep = CellKeep::over(rt.alloc(), cell(rt.alloc(), script)?);
-    assert_eq!(rt; step_anew(rt.alloc(), &mut keep, &Add(b'b')), Err(KeepFault::Failed));
+    assert_eq!(rt;
+        step_anew(rt.alloc(), &mut keep, &Add(b'b')),
+        Err(KeepFault::Failed)
+    );
     assert_eq!(rt; keep.load().err(), Some(KeepFault::Failed));
     assert_eq!(rt; keep.failures(), 2);
     assert_eq!(rt; keep.load()?.as_slice(), b"a".as_slice());
@@ -133,4 +136,17 @@ fn nothing_is_loaded_where_nothing_was_held(rt: HostRuntime) {
     assert_eq!(rt; cell.swap(7, b"a"), Swapped::Other);
     let mut keep = CellKeep::over(rt.alloc(), cell);
     assert_eq!(rt; keep.load().err(), Some(KeepFault::Failed));
+}
+
+#[test]
+fn a_beginning_without_an_answer_is_settled(rt: HostRuntime) -> Result<(), Fail> {
+    for (deed, bytes) in [(Deed::Mute, "n"), (Deed::Lose, ""), (Deed::Delay, "")] {
+        let mut script = Vec::new(rt.alloc());
+        script.push(deed)?;
+        let cell = ScriptedCell::new(rt.alloc(), script);
+        let mut keep = CellKeep::over_new(rt.alloc(), cell);
+        assert_eq!(rt; keep.save(b"n"), Err(KeepFault::Failed), "{bytes}");
+        assert_eq!(rt; keep.load()?.as_slice(), bytes.as_bytes(), "{bytes}");
+    }
+    Ok(())
 }

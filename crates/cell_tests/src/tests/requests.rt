@@ -5,12 +5,15 @@ const KEY: &[u8] = b"/jdf/mis";
 
 const RANGE: &str = r#"{"key":"L2pkZi9taXM="}"#;
 
-const SWAP: &str = r#"{"compare":[{"target":"MOD","key":"L2pkZi9taXM=","mod_revision":"2"}],"success":[{"request_put":{"key":"L2pkZi9taXM=","value":"dHdv"}}],"failure":[{"request_range":{"key":"L2pkZi9taXM="}}]}"#;
+const SWAP: &str =
+    r#"{"compare":[{"target":"MOD","key":"L2pkZi9taXM=","mod_revision":"2"}],"success":[{"request_put":{"key":"L2pkZi9taXM=","value":"dHdv"}}],"failure":[{"request_range":{"key":"L2pkZi9taXM="}}]}"#;
 
 /// A touch of nothing.
-const BEGIN: &str = r#"{"compare":[{"target":"MOD","key":"L2pkZi9taXM=","mod_revision":"0"}],"success":[{"request_put":{"key":"L2pkZi9taXM=","value":""}}],"failure":[{"request_range":{"key":"L2pkZi9taXM="}}]}"#;
+const BEGIN: &str =
+    r#"{"compare":[{"target":"MOD","key":"L2pkZi9taXM=","mod_revision":"0"}],"success":[{"request_put":{"key":"L2pkZi9taXM=","value":""}}],"failure":[{"request_range":{"key":"L2pkZi9taXM="}}]}"#;
 
-const TOUCH: &str = r#"{"compare":[{"target":"MOD","key":"L2pkZi9taXM=","mod_revision":"924"}],"success":[{"request_put":{"key":"L2pkZi9taXM=","ignore_value":true}}],"failure":[{"request_range":{"key":"L2pkZi9taXM="}}]}"#;
+const TOUCH: &str =
+    r#"{"compare":[{"target":"MOD","key":"L2pkZi9taXM=","mod_revision":"924"}],"success":[{"request_put":{"key":"L2pkZi9taXM=","ignore_value":true}}],"failure":[{"request_range":{"key":"L2pkZi9taXM="}}]}"#;
 
 #[test]
 fn a_key_is_asked_for(rt: HostRuntime) -> Result<(), Fail> {
