@@ -5,7 +5,6 @@
 mod input_file;
 mod order_command;
 mod send_command;
-mod until;
 
 pub use input_file::{file_of, open_input};
 pub use order_command::{SendOrder, run_send_order};

@@ -2,15 +2,14 @@
 
 use crate::input_file::{file_of, open_input};
 use crate::send_command::connecting::connect;
-use crate::until::{Until, time_left};
 use http_message::{MAX_BODY_BYTES, Received, receive, send_to};
 use jdf_commands::Caused;
 use peers_file::Destination;
 use std::alloc::Global;
-use std::io::{self, Read, Write};
+use std::io::{Read, Write};
 use std::net::Net;
 use std::rt::Files;
-use std::time::{Clock, Duration, Instant};
+use std::time::{Clock, Duration};
 use streams::{Counted, Fault, Refused, read_input};
 
 /// How many seconds an exchange may take: as long as a response to the longest body may need, and
@@ -54,19 +53,6 @@ fn read_named<I: Read>(
     }
 }
 
-/// A connection to the host of a destination, for `EXCHANGE_SECONDS` at most from now on, of which
-/// it may take some until there is one.
-fn connection<'a, R: Net + Clock>(
-    rt: &'a R,
-    destination: &Destination,
-) -> io::Result<Until<'a, R, R::Stream>> {
-    let start = Instant::now(rt)?;
-    let limit = Duration::from_secs(EXCHANGE_SECONDS);
-    let stream = connect(rt, destination, start, limit)?;
-    let left = time_left(rt, start, limit)?;
-    Until::new(rt, stream, left)
-}
-
 /// Posts a message to a destination, and reads the response, for `EXCHANGE_SECONDS` at most. Refuses
 /// `NoConnection`, also where none is there within that time and where the clock can't be read;
 /// `WriteFailed`; and what `receive` refuses the response for.
@@ -77,7 +63,8 @@ pub(crate) fn post<R: Net + Clock>(
     message: &[u8],
 ) -> Result<Received, Caused> {
     let host = destination.authority();
-    let stream = match connection(rt, destination) {
+    let limit = Duration::from_secs(EXCHANGE_SECONDS);
+    let stream = match connect(rt, destination, limit) {
         Ok(stream) => stream,
         Err(error) => {
             let fault = Fault::Device(Refused::NoConnection);

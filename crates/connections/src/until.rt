@@ -2,14 +2,14 @@ ghost use Rattle.std.specs.Prelude.{◌<◌, IfOk};
 ghost use Rattle.std.specs.Duration.{as_nanos};
 
 use std::io::{self, ErrorKind, Read, Write};
-use std::net::{OpenStream, Shutdown, SocketAddr};
+use std::net::OpenStream;
 use std::time::{Clock, Duration, Instant};
 
 /// A connection that is cut off at its limit: before each call of it its timeout is set to what is
 /// left, and behind the limit each call fails. A limit for each call alone would let a client that
 /// drips hold it for as long as it likes.
 #[derive(Drop)]
-pub(crate) struct Until<'a, R: Clock, S> {
+pub struct Until<'a, R: Clock, S> {
     clock: &'a R,
     stream: S,
     start: Instant,
@@ -17,14 +17,14 @@ pub(crate) struct Until<'a, R: Clock, S> {
 }
 
 impl<'a, R: Clock, S: Drop> Until<'a, R, S> {
-    /// The connection, which begins now. Refuses where the clock can't be read.
-    pub(crate) fn new(clock: &'a R, stream: S, limit: Duration) -> io::Result<Until<'a, R, S>> {
-        Ok(Until {
+    /// The connection, whose limit counts from a start on.
+    pub(crate) fn new(clock: &'a R, stream: S, start: Instant, limit: Duration) -> Until<'a, R, S> {
+        Until {
             clock,
             stream,
-            start: Instant::now(clock)?,
+            start,
             limit,
-        })
+        }
     }
 
     /// The time that is left, which is some.
@@ -49,18 +49,6 @@ pub(crate) fn time_left<R: Clock>(
         return Err(ErrorKind::TimedOut.into());
     }
     Ok(left)
-}
-
-impl<'a, R: Clock, S: OpenStream> Until<'a, R, S> {
-    /// The address of the client.
-    pub(crate) fn peer_addr(&self) -> io::Result<SocketAddr> {
-        self.stream.peer_addr()
-    }
-
-    /// Says that nothing more is written.
-    pub(crate) fn end_writing(&self) -> io::Result<()> {
-        self.stream.shutdown(Shutdown::Write)
-    }
 }
 
 impl<'a, R: Clock, S: Read + OpenStream + Drop> Read for Until<'a, R, S> {

@@ -1,0 +1,5 @@
+mod answers;
+mod holders;
+mod keepers;
+mod requests;
+mod responses;

@@ -1,0 +1,94 @@
+//! What is asked about a value over a stream, and what is heard of it.
+
+ghost use Rattle.std.specs.Prelude.{◌≡◌, ◌⊎◌, Option, Err, IfOk};
+ghost use Rattle.cells.specs.Chain.{Version};
+ghost use Rattle.etcd_wire.specs.Answer.{IsFound, Tells, TellsSwap};
+ghost use Rattle.etcd_wire.specs.declared.no_answer.NoAnswer.TheVariants.{Unknown};
+ghost use Rattle.etcd_cell.specs.Asking.{range_asked, swap_asked, touch_asked};
+ghost use Rattle.etcd_cell.specs.Exchange.{Hears, IsUnheard};
+
+use crate::exchange::post;
+use crate::gateway::Gateway;
+use cells::{Swapped, Versioned};
+use etcd_wire::{
+    NoAnswer, Response, held_of, range_request, swap_request, swapped_of, touch_request,
+};
+use std::alloc::{AllocError, Global};
+use std::io::{Read, Write};
+use streams::Counted;
+
+/// The target of a request for what is under a key.
+const RANGE: &str = "/v3/kv/range";
+
+/// The target of a request that changes it.
+const CHANGE: &str = "/v3/kv/txn";
+
+/// Asks for the value under a key. Refuses `Unknown` where no response comes, or one that tells
+/// nothing; and `Memory`.
+pub fn read_over<S: Read + Write>(
+    alloc: Global,
+    stream: &mut Counted<S>,
+    gateway: &Gateway,
+    key: &[u8],
+) -> Result<Option<Versioned>, NoAnswer>
+    ensures ok { IfOk result (λ found. Hears S.remaining S.contents stream.old stream.new
+        (range_asked gateway.now key.now)
+        (λ status body. Tells status body (λ _ j. IsFound j found))) }
+    ensures unknown { result ≡ Err Unknown →
+        IsUnheard S.remaining S.contents stream.old stream.new (range_asked gateway.now key.now)
+        ⊎ Hears S.remaining S.contents stream.old stream.new (range_asked gateway.now key.now)
+        (λ status body. (found : Option Version)
+        → Tells status body (λ _ j. IsFound j found) → ⊥) }
+{
+    let body = range_request(alloc, key)?;
+    let response = post(alloc, stream, gateway.authority(), RANGE, body.as_slice())?;
+    held_of(alloc, response.status, response.body.as_slice())
+}
+
+/// What a response tells of a swap or a touch.
+fn told(alloc: Global, response: &Response) -> Result<Swapped, AllocError>
+    ensures { IfOk result (TellsSwap response.now.status response.now.body.items) }
+{
+    swapped_of(alloc, response.status, response.body.as_slice())
+}
+
+/// Asks for these bytes under a key, in place of those of this revision. Refuses `Unknown` where no
+/// response comes, and `Memory`.
+pub fn swap_over<S: Read + Write>(
+    alloc: Global,
+    stream: &mut Counted<S>,
+    gateway: &Gateway,
+    key: &[u8],
+    revision: u64,
+    bytes: &[u8],
+) -> Result<Swapped, NoAnswer>
+    ensures ok { IfOk result (λ swapped. Hears S.remaining S.contents stream.old stream.new
+        (swap_asked gateway.now key.now revision bytes.now)
+        (λ status body. TellsSwap status body swapped)) }
+    ensures unknown { result ≡ Err Unknown → IsUnheard S.remaining S.contents stream.old stream.new
+        (swap_asked gateway.now key.now revision bytes.now) }
+{
+    let body = swap_request(alloc, key, revision, bytes)?;
+    let response = post(alloc, stream, gateway.authority(), CHANGE, body.as_slice())?;
+    Ok(told(alloc, &response)?)
+}
+
+/// Asks for a later revision of what is under a key, where it has this one. Refuses `Unknown` where
+/// no response comes, and `Memory`.
+pub fn touch_over<S: Read + Write>(
+    alloc: Global,
+    stream: &mut Counted<S>,
+    gateway: &Gateway,
+    key: &[u8],
+    revision: u64,
+) -> Result<Swapped, NoAnswer>
+    ensures ok { IfOk result (λ swapped. Hears S.remaining S.contents stream.old stream.new
+        (touch_asked gateway.now key.now revision)
+        (λ status body. TellsSwap status body swapped)) }
+    ensures unknown { result ≡ Err Unknown → IsUnheard S.remaining S.contents stream.old stream.new
+        (touch_asked gateway.now key.now revision) }
+{
+    let body = touch_request(alloc, key, revision)?;
+    let response = post(alloc, stream, gateway.authority(), CHANGE, body.as_slice())?;
+    Ok(told(alloc, &response)?)
+}

@@ -1,0 +1,16 @@
+//! The bytes of etcd's JSON gateway: what a value under a key is asked by, what an answer tells, and
+//! the response that it comes in.
+#![tactic(auto)]
+
+mod answer;
+mod found;
+mod no_answer;
+mod parts;
+mod request;
+mod response;
+
+pub use answer::swapped_of;
+pub use found::held_of;
+pub use no_answer::NoAnswer;
+pub use request::{range_request, swap_request, touch_request};
+pub use response::{Response, response_in};

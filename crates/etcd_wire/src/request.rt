@@ -1,0 +1,174 @@
+//! The bodies of requests.
+
+ghost use Rattle.std.specs.Prelude.{◌≡◌, ◌≤◌, Some, IfOk};
+ghost use Rattle.json.specs.Json.{document};
+ghost use Rattle.json.specs.Tree.{HasNumbers, depth};
+ghost use Rattle.json.specs.Value.{value_view};
+ghost use Rattle.etcd_wire.specs.Request as form;
+ghost use Rattle.etcd_wire.specs.Request.{text_of};
+
+use crate::parts::{one, pair, single, triple};
+use base64::engine::general_purpose::STANDARD;
+use itoa::Buffer;
+use json::{Value, to_vec};
+use std::alloc::{AllocError, Global};
+
+/// The body that asks for what is under a key.
+pub fn range_request(alloc: Global, key: &[u8]) -> Result<Vec<u8>, AllocError>
+    ensures text { IfOk result (λ body. body.items ≡ text_of (form.range key.now)) }
+    ensures again { IfOk result (λ body. document body.items ≡ Some (form.range key.now)) }
+{
+    let key = STANDARD.encode(alloc, key)?;
+    let range = single(alloc, "key", Value::String(key.as_str()))?;
+    to_vec(alloc, &range)
+}
+
+/// The body that asks for these bytes under a key, in place of those of this revision. Of revision
+/// 0 is what isn't there.
+pub fn swap_request(
+    alloc: Global,
+    key: &[u8],
+    revision: u64,
+    bytes: &[u8],
+) -> Result<Vec<u8>, AllocError>
+    ensures text { IfOk result (λ body.
+        body.items ≡ text_of (form.swap key.now revision bytes.now)) }
+    ensures again { IfOk result (λ body.
+        document body.items ≡ Some (form.swap key.now revision bytes.now)) }
+{
+    let key = STANDARD.encode(alloc, key)?;
+    let bytes = STANDARD.encode(alloc, bytes)?;
+    let mut buffer = Buffer::new();
+    swap_body(alloc, key.as_str(), buffer.format(revision), bytes.as_str())
+}
+
+/// The body that asks for a later revision of what is under a key, where it has this one. Where
+/// nothing is there, no bytes come there.
+pub fn touch_request(alloc: Global, key: &[u8], revision: u64) -> Result<Vec<u8>, AllocError>
+    ensures text { IfOk result (λ body. body.items ≡ text_of (form.touch key.now revision)) }
+    ensures again { IfOk result (λ body.
+        document body.items ≡ Some (form.touch key.now revision)) }
+{
+    let key = STANDARD.encode(alloc, key)?;
+    let mut buffer = Buffer::new();
+    touch_body(alloc, key.as_str(), buffer.format(revision), revision)
+}
+
+/// The body of a swap, by the texts of what it names.
+fn swap_body<'a>(
+    alloc: Global,
+    key: &'a str,
+    revision: &'a str,
+    bytes: &'a str,
+) -> Result<Vec<u8>, AllocError>
+    ensures text { IfOk result (λ body. body.items
+        ≡ text_of (form.transaction key.now revision.now (form.put key.now bytes.now))) }
+    ensures again { IfOk result (λ body. document body.items
+        ≡ Some (form.transaction key.now revision.now (form.put key.now bytes.now))) }
+{
+    let success = put(alloc, key, bytes)?;
+    transaction(alloc, key, revision, success)
+}
+
+/// The body of a touch of this revision, by the texts of what it names.
+fn touch_body<'a>(
+    alloc: Global,
+    key: &'a str,
+    digits: &'a str,
+    revision: u64,
+) -> Result<Vec<u8>, AllocError>
+    ensures text { IfOk result (λ body. body.items
+        ≡ text_of (form.transaction key.now digits.now (form.touched key.now revision))) }
+    ensures again { IfOk result (λ body. document body.items
+        ≡ Some (form.transaction key.now digits.now (form.touched key.now revision))) }
+{
+    let success = touched(alloc, key, revision)?;
+    transaction(alloc, key, digits, success)
+}
+
+/// What is under a key.
+fn range_at<'a>(alloc: Global, key: &'a str) -> Result<Value<'a>, AllocError>
+    ensures { IfOk result (λ v. value_view v ≡ form.range_at key.now) }
+{
+    single(alloc, "key", Value::String(key))
+}
+
+/// These bytes come under the key.
+fn put<'a>(alloc: Global, key: &'a str, bytes: &'a str) -> Result<Value<'a>, AllocError>
+    ensures { IfOk result (λ v. value_view v ≡ form.put key.now bytes.now) }
+{
+    let put = pair(
+        alloc,
+        ("key", Value::String(key)),
+        ("value", Value::String(bytes)),
+    )?;
+    single(alloc, "request_put", put)
+}
+
+/// The bytes that are under the key come there again.
+fn put_again<'a>(alloc: Global, key: &'a str) -> Result<Value<'a>, AllocError>
+    ensures { IfOk result (λ v. value_view v ≡ form.put_again key.now) }
+{
+    let put = pair(
+        alloc,
+        ("key", Value::String(key)),
+        ("ignore_value", Value::Bool(true)),
+    )?;
+    single(alloc, "request_put", put)
+}
+
+/// What comes under the key by a touch of this revision.
+fn touched<'a>(alloc: Global, key: &'a str, revision: u64) -> Result<Value<'a>, AllocError>
+    ensures value { IfOk result (λ v. value_view v ≡ form.touched key.now revision) }
+    ensures numbers { IfOk result (λ v. HasNumbers (value_view v)) }
+    ensures depth { IfOk result (λ v. depth (value_view v) ≤ 2) }
+{
+    if revision == 0 {
+        put(alloc, key, "")
+    } else {
+        put_again(alloc, key)
+    }
+}
+
+/// The one comparison, of the revision of what is under the key with this.
+fn comparison<'a>(
+    alloc: Global,
+    key: &'a str,
+    revision: &'a str,
+) -> Result<Value<'a>, AllocError>
+    ensures { IfOk result (λ v. value_view v ≡ form.comparison key.now revision.now) }
+{
+    triple(
+        alloc,
+        ("target", Value::String("MOD")),
+        ("key", Value::String(key)),
+        ("mod_revision", Value::String(revision)),
+    )
+}
+
+/// A comparison of the revision under a key; what is done where it holds; and a look under the key
+/// where it doesn't.
+fn transaction<'a>(
+    alloc: Global,
+    key: &'a str,
+    revision: &'a str,
+    success: Value<'a>,
+) -> Result<Vec<u8>, AllocError>
+    requires numbers { HasNumbers (value_view success) }
+    requires depth { depth (value_view success) ≤ 2 }
+    ensures text { IfOk result (λ body. body.items
+        ≡ text_of (form.transaction key.now revision.now (value_view success.entry))) }
+    ensures again { IfOk result (λ body. document body.items
+        ≡ Some (form.transaction key.now revision.now (value_view success.entry))) }
+{
+    let compare = comparison(alloc, key, revision)?;
+    let range = range_at(alloc, key)?;
+    let look = single(alloc, "request_range", range)?;
+    let whole = triple(
+        alloc,
+        ("compare", one(alloc, compare)?),
+        ("success", one(alloc, success)?),
+        ("failure", one(alloc, look)?),
+    )?;
+    to_vec(alloc, &whole)
+}
