@@ -1,5 +1,5 @@
 -- What holds of a result holds as more is known.
-use Rattle.std.proofs.Common.{◌≡◌, List, Option, Result, Ok, Err, OnOk, OnErr, refl}
+use Rattle.std.proofs.Common.{◌≡◌, List, Option, Some, None, IfSome, Result, Ok, Err, OnOk, OnErr, refl}
 use Rattle.world.specs.Settling.{settled_messages, settled_state, with_sent}
 use Rattle.world_items.specs.declared.stop.Stop.{Stop}
 use Rattle.world_items.specs.declared.stop.Stop.TheVariants.{Run, BeforeSave, BeforeSend}
@@ -7,6 +7,10 @@ use Rattle.world_items.specs.declared.stop.Stop.TheVariants.{Run, BeforeSave, Be
 pub on_ok : {C E : Type 0} (P Q R : Type 0) (r : Result C E) → OnOk r P → OnOk r Q → (P → Q → R) → OnOk r R
 on_ok P Q R (Ok m) p q go = go p q
 on_ok P Q R (Err e) p q go = tt
+
+pub if_some : {A : Type 0} (P Q : A → Type 0) (o : Option A) → ((x : A) → P x → Q x) → IfSome o P → IfSome o Q
+if_some P Q None f p = tt
+if_some P Q (Some x) f p = f x p
 
 pub on_err : {C E : Type 0} (P : Type 0) (r : Result C E) → P → OnErr r P
 on_err P (Ok m) p = tt
