@@ -15,9 +15,9 @@ use Rattle.world.specs.Stepping.{master_moved, worker_moved}
 use Rattle.world_items.specs.declared.stop.Stop.TheVariants.{BeforeSave, BeforeSend}
 use Rattle.world_items.specs.declared.word.Word.{Word}
 
-pub err_by : {A E : Type 0} (r : Result A E) (P Q : Type 0) → (P → Q) → OnErr r P → OnErr r Q
-err_by (Ok a) P Q go p = tt
-err_by (Err e) P Q go p = go p
+pub err_by : {A E : Type 0} (r : Result A E) (P Q : Type 0) → OnErr r P → (P → Q) → OnErr r Q
+err_by (Ok a) P Q p go = tt
+err_by (Err e) P Q p go = go p
 
 -- a step that is lost changes nothing
 pub lost : (w : State) (step : StepOrWord Controllers Message) → settled BeforeSave w step ≡ w

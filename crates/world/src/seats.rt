@@ -365,6 +365,7 @@ impl<M: Seat<Master>, W: Seat<Worker>> Seats<M, W> {
             → MayChange self.new c x → MayChange self.new d x → c ≡ d }
         ensures held { (c : Changer) (x : List ℕ)
             → MayChange self.new c x ↔ Holds (shows self.new).shop c x }
+        ensures kept { state.IsKept self.old }
     {
         // A shop is kept in order: that is known where a field is named.
         let _ = &self.messages;

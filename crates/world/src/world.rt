@@ -19,13 +19,11 @@ pub struct World {
 }
 
 impl Model for World {
-    ghost use Rattle.world.specs.State.{IsKept, State};
+    ghost use Rattle.world.specs.State.{State};
 
     ghost Value = { State };
 
     ghost view = { λ a. a.seats };
-
-    ghost invariant = { λ a. IsKept a.seats };
 }
 
 impl World {

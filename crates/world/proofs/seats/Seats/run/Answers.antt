@@ -90,3 +90,17 @@ returns-clause-shown g c =
 pub returns-clause-merges : goal.returns-clause-merges
 returns-clause-merges g c =
     run_told c.loop-event.yielded c.args.self.now c.loop-event.self c.loop-event.answers.items (subst IsKept c.self.view_is c.self.invariant) c.loop-event.invariant.answers_are c.loop-event.invariant.state_is
+
+-- ---- what held before
+
+pub returns-in_err-answers-clause-kept : goal.returns-in_err-answers-clause-kept
+returns-in_err-answers-clause-kept g c = subst IsKept c.self.view_is c.self.invariant
+
+pub returns-in_err-answer-clause-kept : goal.returns-in_err-answer-clause-kept
+returns-in_err-answer-clause-kept g c = subst IsKept c.self.view_is c.self.invariant
+
+pub returns-in_err-extend_from_slice-clause-kept : goal.returns-in_err-extend_from_slice-clause-kept
+returns-in_err-extend_from_slice-clause-kept g c = subst IsKept c.self.view_is c.self.invariant
+
+pub returns-clause-kept : goal.returns-clause-kept
+returns-clause-kept g c = subst IsKept c.self.view_is c.self.invariant

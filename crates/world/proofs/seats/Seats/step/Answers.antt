@@ -1,4 +1,4 @@
-use Rattle.std.proofs.Common.{◌∙◌, ap, map, refl, sym}
+use Rattle.std.proofs.Common.{◌≡◌, ◌∙◌, IfOk, OnOk, ap, map, refl, subst, sym}
 use Rattle.std.specs.List.{position}
 use Rattle.world.proofs.Changing.{alone, by_holders, kept_then}
 use Rattle.world.proofs.Replayed.{said_so, shown_so}
@@ -8,7 +8,7 @@ use Rattle.world.proofs.Unknown.{err_by, unknown_same}
 use Rattle.world.proofs.Unmade.{unplaced}
 use Rattle.ticket_items.specs.declared.refusal.Refusal.TheVariants.{UnknownWorker}
 use Rattle.stored_state.specs.declared.cause.Cause.TheVariants.{Order}
-use Rattle.world.specs.Happening.{is_reached, restart_word, step_of}
+use Rattle.world.specs.Happening.{is_reached, restart_word, settled, settled_word, step_of}
 use Rattle.world.specs.State.{State, is_named}
 use Rattle.world_items.specs.declared.what.What.TheVariants.{MasterOrder, WorkerOrder, Deliver, Restart}
 use Rattle.world_items.specs.declared.word.Word.TheVariants.{Refused}
@@ -111,10 +111,29 @@ pub returns-in-Restart-clause-cut : goal.returns-in-Restart-clause-cut
 returns-in-Restart-clause-cut g c = stop_so c.restart.result c.args.event (Restart c.in-Restart.name) c.args.self.now c.restart.new.self c.restart.ensures.kept c.in-Restart.is (unknown_same c.restart.result c.args.self.now c.restart.new.self (restart_word c.in-Restart.name c.args.self.now) c.restart.ensures.err)
 
 pub returns-in-MasterOrder-clause-sure : goal.returns-in-MasterOrder-clause-sure
-returns-in-MasterOrder-clause-sure g c = err_by c.tell_master.result _ _ (λ sure master workers direct. sure master refl) c.tell_master.ensures.sure
+returns-in-MasterOrder-clause-sure g c = err_by c.tell_master.result _ _ c.tell_master.ensures.sure (λ sure master workers direct. sure master refl)
 
 pub returns-in-WorkerOrder-clause-sure : goal.returns-in-WorkerOrder-clause-sure
-returns-in-WorkerOrder-clause-sure g c = err_by c.tell_worker.result _ _ (λ sure master workers direct. sure workers refl) c.tell_worker.ensures.sure
+returns-in-WorkerOrder-clause-sure g c = err_by c.tell_worker.result _ _ c.tell_worker.ensures.sure (λ sure master workers direct. sure workers refl)
 
 pub returns-in-Restart-clause-sure : goal.returns-in-Restart-clause-sure
-returns-in-Restart-clause-sure g c = err_by c.restart.result _ _ (λ same master workers direct. same) c.restart.ensures.err
+returns-in-Restart-clause-sure g c = err_by c.restart.result _ _ c.restart.ensures.err (λ same master workers direct. same)
+
+-- ---- the worker that is told
+
+pub tell_worker-requires : goal.tell_worker-requires
+tell_worker-requires g c =
+    let place = sym (c.place_of-place.ensures ∙ place_seen g.W.Seat.kept c.in-WorkerOrder.name c.as_slice.result.now ∙ ap (position (is_named c.in-WorkerOrder.name)) (ap (map g.W.Seat.kept) c.as_slice.ensures.value ∙ ap (λ (v : State). v.controllers.workers) c.self.view_is)) in
+    (c.in-WorkerOrder.name, place, tt)
+
+pub returns-in-WorkerOrder-clause-answer : goal.returns-in-WorkerOrder-clause-answer
+returns-in-WorkerOrder-clause-answer g c =
+    let w : State = c.args.self.now in
+    let place = sym (c.place_of-place.ensures ∙ place_seen g.W.Seat.kept c.in-WorkerOrder.name c.as_slice.result.now ∙ ap (position (is_named c.in-WorkerOrder.name)) (ap (map g.W.Seat.kept) c.as_slice.ensures.value ∙ ap (λ (v : State). v.controllers.workers) c.self.view_is)) in
+    subst (λ what. IfOk c.tell_worker.result (λ a. a ≡ settled_word c.args.event.stop w (step_of what c.args.event.at w))) (sym c.in-WorkerOrder.is) (c.tell_worker.ensures.answer c.in-WorkerOrder.name place)
+
+pub returns-in-WorkerOrder-clause-state : goal.returns-in-WorkerOrder-clause-state
+returns-in-WorkerOrder-clause-state g c =
+    let w : State = c.args.self.now in
+    let place = sym (c.place_of-place.ensures ∙ place_seen g.W.Seat.kept c.in-WorkerOrder.name c.as_slice.result.now ∙ ap (position (is_named c.in-WorkerOrder.name)) (ap (map g.W.Seat.kept) c.as_slice.ensures.value ∙ ap (λ (v : State). v.controllers.workers) c.self.view_is)) in
+    subst (λ what. OnOk c.tell_worker.result (c.tell_worker.new.self ≡ settled c.args.event.stop w (step_of what c.args.event.at w))) (sym c.in-WorkerOrder.is) (c.tell_worker.ensures.state c.in-WorkerOrder.name place)

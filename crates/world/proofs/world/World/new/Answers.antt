@@ -13,9 +13,6 @@ new-requires-in-Ok c =
     subst (λ ws. IsKept (state c.in_ok-master.master ws [])) (sym (map-id c.in-Ok.workers.items))
     (opening_kept c.in_ok-master.master c.in-Ok.workers.items [] (subst master.IsKept (sym c.in_ok-master.ensures) c.in_ok-core.ensures.kept) named refl (ap (λ (m : Known). m.records) (c.in_ok-master.ensures ∙ c.in_ok-core.ensures.ok)))
 
-pub invariant_of-result : goal.invariant_of-result
-invariant_of-result c = subst IsKept (sym c.new-in-Ok.ensures) (new-requires-in-Ok c)
-
 pub returns-in-Ok-clause-ok : goal.returns-in-Ok-clause-ok
 returns-in-Ok-clause-ok c =
     let name = c.args.name in

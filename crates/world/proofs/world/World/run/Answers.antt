@@ -27,4 +27,4 @@ returns-in-Err-clause-err c =
 
 pub returns-in-Err-clause-cut : goal.returns-in-Err-clause-cut
 returns-in-Err-clause-cut c =
-    cut_before c.args.events.items c.args.self.now c.run.new.self (subst IsKept c.self.view_is c.self.invariant) (returns-in-Err-clause-err c)
+    cut_before c.args.events.items c.args.self.now c.run.new.self (subst IsKept c.self.view_is c.in-Err.ensures.kept) (returns-in-Err-clause-err c)
