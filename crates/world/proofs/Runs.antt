@@ -19,7 +19,7 @@ pub record IsNext (all done : List Event) (e : Event) : Type 0 where
 
 pub next_of : {S : Type 0} {steps : S → Option Event → S → Type 0} {s : S} {all : List Event} (y : YieldsList steps (λ z. z) s all) (done : List Event) (t : S) (given : Yields steps s done t) (r : Option Event) (u : S) (e : Event)
     → r ≡ Some e → steps t r u → IsNext all done e
-next_of y done t given r u e is step =
+next_of {all = all} y done t given r u e is step =
     let turn = YieldsList-turn y done t given r u e is step in
     record { so_far = sym (map-id done) ∙ YieldsList-so_far y done t given; within = turn.0; there = slice_get-get_or all (length done) e turn.0 ∙ ap Some (sym turn.1) }
 

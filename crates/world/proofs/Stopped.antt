@@ -1,5 +1,5 @@
 -- What is shown where it isn't known how far an event came: what one ticket with one table of holders shows where its controller stopped in it.
-use Rattle.std.proofs.Common.{◌≡◌, ◌∙◌, ◌⊎◌, ◌<◌, inl, inr, ℕ, zero, List, [], ◌∷◌, length, take, Result, Ok, Err, OnErr, Some, slice_get, ap, arith, refl, subst, sym}
+use Rattle.std.proofs.Common.{◌≡◌, ◌∙◌, ◌⊎◌, ◌<◌, inl, inr, ℕ, zero, suc, List, [], ◌∷◌, length, take, Result, Ok, Err, OnErr, Some, slice_get, ap, arith, refl, subst, sym}
 use Rattle.controller.specs.Step.{Step}
 use Rattle.controller.specs.declared.message.Message.{Message}
 use Rattle.world.proofs.AlwaysKept.{kept_after_all}
@@ -51,6 +51,15 @@ cut_shown events w new kept cut =
 pub cut_first : (events : List Event) (w : State) → 0 < length events → IsCutOff machine events w w
 cut_first [] w some = absurd (omega (arith, some))
 cut_first (e ∷ events) w some = record { place = 0; event = e; there = refl; stopped = not_begun w e }
+
+pub stands_first : (events : List Event) (w : State) → 0 < length events → (k : ℕ) × (k < length events) × (w ≡ after_all (take k events) w)
+stands_first [] w some = absurd (omega (arith, some))
+stands_first (e ∷ events) w some = (0, some, refl)
+
+-- room for as many is wanted, so there are some
+pub some_there : (n room : ℕ) → room ≡ n → (room ≡ 0 → ⊥) → 0 < n
+some_there zero room is wanted = absurd (wanted is)
+some_there (suc n) room is wanted = omega arith
 
 -- ---- the law
 

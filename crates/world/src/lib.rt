@@ -5,6 +5,7 @@
 mod apart;
 mod carrier;
 pub mod laws;
+mod memory;
 mod seats;
 mod sent;
 mod stepping;

@@ -1,5 +1,6 @@
 use crate::apart::are_names_apart;
 use crate::carrier::Direct;
+use crate::memory::in_memory;
 use crate::seats::Seats;
 use crate::workers::new_workers;
 use master_core::Master;
@@ -185,9 +186,6 @@ impl World {
         ensures held { (c : Changer) (x : List ℕ)
             → MayChange self.new c x ↔ Holds (shows self.new).shop c x }
     {
-        match self.seats.run(&mut Direct, alloc, events) {
-            Ok(answers) => Ok(answers),
-            Err(_) => Err(AllocError),
-        }
+        in_memory(self.seats.run(&mut Direct, alloc, events))
     }
 }

@@ -44,7 +44,7 @@ returns-clause-unmade g c =
     λ unmade. comes w c.args.number c.args.at c.in-Some.message (subst IsKept c.self.view_is c.self.invariant) found unmade
 
 pub returns-in_err-message-clause-err : goal.returns-in_err-message-clause-err
-returns-in_err-message-clause-err g c = on_err _ c.from_residual-in_err-message.result (not_made c.args.self.now (delivery_step c.args.number c.args.at c.args.self.now))
+returns-in_err-message-clause-err g c = on_err _ c.from_residual.result (not_made c.args.self.now (delivery_step c.args.number c.args.at c.args.self.now))
 
 pub returns-then-eq-clause-sure : goal.returns-then-eq-clause-sure
 returns-then-eq-clause-sure g c = err_by c.tell_master.result _ _ c.tell_master.ensures.sure (λ sure master workers direct. sure master direct)

@@ -1,11 +1,12 @@
-use Rattle.std.proofs.Common.{rules, refl, arith, ap, subst, ◌∙◌}
+use Rattle.std.proofs.Common.{◌<◌, ◌∙◌, ap, arith, length, refl, rules, subst, sym}
+use Rattle.std.proofs.lemmas.Bool.{true≢false}
 use Rattle.std.proofs.lemmas.Iterator.Adapters.{YieldsList-from_vec}
 use Rattle.world.proofs.Answered.{on_err}
 use Rattle.world.proofs.Changing.{alone, by_holders, kept_then_all}
 use Rattle.world.proofs.MergesTold.{run_told}
 use Rattle.world.proofs.Once.{run_merges_once}
 use Rattle.world.proofs.Replayed.{all_said, all_shown}
-use Rattle.world.proofs.Stopped.{cut_first, cut_shown}
+use Rattle.world.proofs.Stopped.{cut_first, cut_shown, some_there, stands_first}
 use Rattle.world.proofs.Runs.{all_of, cut_off, has_room, next_of, one_more, stands_before}
 use Rattle.world.specs.Happening.{after_all, answers_to, machine}
 use Rattle.world.specs.State.{IsKept}
@@ -90,6 +91,23 @@ returns-clause-shown g c =
 pub returns-clause-merges : goal.returns-clause-merges
 returns-clause-merges g c =
     run_told c.loop-event.yielded c.args.self.now c.loop-event.self c.loop-event.answers.items (subst IsKept c.self.view_is c.self.invariant) c.loop-event.invariant.answers_are c.loop-event.invariant.state_is
+
+-- ---- with no room for the answers
+
+pub returns-in_err-answers-clause-err : goal.returns-in_err-answers-clause-err
+returns-in_err-answers-clause-err g c =
+    let some : 0 < length c.args.events.items = some_there (length c.args.events.items) c.len.result (omega (arith, c.len.ensures, c.args.events.ok.0)) (λ none. true≢false (sym (c.in_err-answers.ensures.succeeds none))) in
+    on_err _ c.from_residual.result (cut_first c.args.events.items c.args.self.now some)
+
+pub returns-in_err-answers-clause-sure : goal.returns-in_err-answers-clause-sure
+returns-in_err-answers-clause-sure g c =
+    let some : 0 < length c.args.events.items = some_there (length c.args.events.items) c.len.result (omega (arith, c.len.ensures, c.args.events.ok.0)) (λ none. true≢false (sym (c.in_err-answers.ensures.succeeds none))) in
+    on_err _ c.from_residual.result (λ master workers direct. stands_first c.args.events.items c.args.self.now some)
+
+pub returns-in_err-answers-clause-cut : goal.returns-in_err-answers-clause-cut
+returns-in_err-answers-clause-cut g c =
+    let some : 0 < length c.args.events.items = some_there (length c.args.events.items) c.len.result (omega (arith, c.len.ensures, c.args.events.ok.0)) (λ none. true≢false (sym (c.in_err-answers.ensures.succeeds none))) in
+    on_err _ c.from_residual.result (cut_shown c.args.events.items c.args.self.now c.args.self.now (subst IsKept c.self.view_is c.self.invariant) (cut_first c.args.events.items c.args.self.now some))
 
 -- ---- what held before
 

@@ -1,30 +1,53 @@
-use Rattle.std.proofs.Common.{◌≡◌, ◌∙◌, ◌<◌, ℕ, ap, length, refl, subst, take}
+use Rattle.std.proofs.Common.{◌≡◌, ◌<◌, ℕ, IfOk, List, OnErr, OnOk, length, refl, subst, take}
+use Rattle.ticket_rows.specs.Ticket.{Job}
+use Rattle.world.proofs.Answered.{if_ok_by, on_err_by}
 use Rattle.world.proofs.Replayed.{cut_before}
+use Rattle.world.proofs.Unknown.{err_by}
 use Rattle.world.specs.Happening as happening
+use Rattle.world.specs.MergeAudits.{AreToldAbove}
 use Rattle.world.specs.Replay as replay
 use Rattle.world.specs.Showing.{shows}
-use Rattle.world.specs.State.{IsKept, State}
+use Rattle.world.specs.State.{State, opening}
 use Rattle.world.proofs.world.World.run.Goals as goal
 
-pub returns-in-Ok-clause-said : goal.returns-in-Ok-clause-said
-returns-in-Ok-clause-said c = c.in-Ok.ensures.said ∙ ap (λ (v : State). replay.answers_to c.args.events.items (shows v)) c.self.view_is
+pub returns-clause-said : goal.returns-clause-said
+returns-clause-said c =
+    if_ok_by c.run.result c.in_memory.result _ c.in_memory.ensures.ok
+    (subst (λ (v : State). IfOk c.run.result (λ answers. answers.items ≡ replay.answers_to c.args.events.items (shows v))) c.self.view_is c.run.ensures.said)
 
-pub returns-in-Ok-clause-shown : goal.returns-in-Ok-clause-shown
-returns-in-Ok-clause-shown c = c.in-Ok.ensures.shown ∙ ap (λ (v : State). replay.after_all c.args.events.items (shows v)) c.self.view_is
+pub returns-clause-shown : goal.returns-clause-shown
+returns-clause-shown c =
+    if_ok_by c.run.result c.in_memory.result _ c.in_memory.ensures.ok
+    (subst (λ (v : State). OnOk c.run.result (shows c.run.new.self ≡ replay.after_all c.args.events.items (shows v))) c.self.view_is c.run.ensures.shown)
 
-pub returns-in-Ok-clause-answers : goal.returns-in-Ok-clause-answers
-returns-in-Ok-clause-answers c = c.in-Ok.ensures.answers ∙ ap (happening.answers_to c.args.events.items) c.self.view_is
+pub returns-clause-answers : goal.returns-clause-answers
+returns-clause-answers c =
+    if_ok_by c.run.result c.in_memory.result _ c.in_memory.ensures.ok
+    (subst (λ (v : State). IfOk c.run.result (λ answers. answers.items ≡ happening.answers_to c.args.events.items v)) c.self.view_is c.run.ensures.answers)
 
-pub returns-in-Ok-clause-state : goal.returns-in-Ok-clause-state
-returns-in-Ok-clause-state c = c.in-Ok.ensures.state ∙ ap (happening.after_all c.args.events.items) c.self.view_is
+pub returns-clause-state : goal.returns-clause-state
+returns-clause-state c =
+    if_ok_by c.run.result c.in_memory.result _ c.in_memory.ensures.ok
+    (subst (λ (v : State). OnOk c.run.result (c.run.new.self ≡ happening.after_all c.args.events.items v)) c.self.view_is c.run.ensures.state)
 
-pub returns-in-Ok-clause-merges : goal.returns-in-Ok-clause-merges
-returns-in-Ok-clause-merges c = λ name workers ticket is. c.in-Ok.ensures.merges name workers ticket (c.self.view_is ∙ is)
+pub returns-clause-once : goal.returns-clause-once
+returns-clause-once c = if_ok_by c.run.result c.in_memory.result _ c.in_memory.ensures.ok c.run.ensures.once
 
-pub returns-in-Err-clause-err : goal.returns-in-Err-clause-err
-returns-in-Err-clause-err c =
-    subst (λ (v : State). (k : ℕ) × (k < length c.args.events.items) × (c.run.new.self ≡ happening.after_all (take k c.args.events.items) v)) c.self.view_is (c.in-Err.ensures.sure refl refl refl)
+pub returns-clause-merges : goal.returns-clause-merges
+returns-clause-merges c =
+    if_ok_by c.run.result c.in_memory.result _ c.in_memory.ensures.ok
+    (subst (λ (v : State). IfOk c.run.result (λ answers. (name : List ℕ) (workers : List (List ℕ)) (ticket : Job) → v ≡ opening name workers ticket → AreToldAbove ticket answers.items (shows c.run.new.self).shop)) c.self.view_is c.run.ensures.merges)
 
-pub returns-in-Err-clause-cut : goal.returns-in-Err-clause-cut
-returns-in-Err-clause-cut c =
-    cut_before c.args.events.items c.args.self.now c.run.new.self (subst IsKept c.self.view_is c.in-Err.ensures.kept) (returns-in-Err-clause-err c)
+-- ---- where memory runs out
+
+pub returns-clause-err : goal.returns-clause-err
+returns-clause-err c =
+    on_err_by c.run.result c.in_memory.result _ c.in_memory.ensures.err
+    (subst (λ (v : State). OnErr c.run.result ((k : ℕ) × (k < length c.args.events.items) × (c.run.new.self ≡ happening.after_all (take k c.args.events.items) v))) c.self.view_is
+    (err_by c.run.result _ _ c.run.ensures.sure (λ sure. sure refl refl refl)))
+
+pub returns-clause-cut : goal.returns-clause-cut
+returns-clause-cut c =
+    on_err_by c.run.result c.in_memory.result _ c.in_memory.ensures.err
+    (subst (λ (v : State). OnErr c.run.result ((k : ℕ) × (k < length c.args.events.items) × (shows c.run.new.self ≡ replay.after_all (take k c.args.events.items) (shows v)))) c.self.view_is
+    (err_by c.run.result _ _ c.run.ensures.sure (λ sure. cut_before c.args.events.items c.self.inside.seats c.run.new.self c.run.ensures.kept (sure refl refl refl))))
