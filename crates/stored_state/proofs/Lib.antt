@@ -4,6 +4,7 @@ mod KindTold
 pub mod Loading
 pub mod MessageTexts
 mod OutSoFar
+mod HeldSeats
 mod SavedOnce
 mod TakingEach
 mod Unsaved

@@ -1,7 +1,9 @@
 -- Steps that give nothing out.
-use Rattle.std.proofs.Common.{◌≡◌, ℕ, Bool, List, Result, Ok, Err, IfErr, IsErrAnd, OnErr, ap, inl, inr, subst, sym, ⊎_elim}
+use Rattle.std.proofs.Common.{◌≡◌, ℕ, Bool, true, List, Result, Ok, Err, IfErr, IsErrAnd, OnErr, ap, inl, inr, subst, sym, ⊎_elim}
 use Rattle.ticket_items.specs.declared.refusal.Refusal.{Refusal}
-use Rattle.stored_state.specs.Held.{GivesNothing, Held, ShowsEither}
+use Rattle.serde_json.specs.Data.{Data}
+use Rattle.json_profile.specs.ReadAs.{IsReadAs}
+use Rattle.stored_state.specs.Held.{GivesNothing, Held, HoldsOldOrNext, IsNotSaved, ShowsEither}
 use Rattle.streams.specs.declared.refused.Refused.{Refused}
 use Rattle.streams.specs.declared.refused.Refused.TheVariants as refused
 
@@ -30,3 +32,12 @@ pub shown_as : {A E C K : Type 0} (P Q : C → Type 0) (r : Result A E) (old new
 shown_as P Q (Ok a) old new f shown = tt
 shown_as P Q (Err e) old new f (inl same) = inl same
 shown_as P Q (Err e) old new f (inr is) = inr (f new.controller is)
+
+-- ---- a state that isn't saved
+
+-- an honest keeper holds what it held, or the text, which is read as the controller
+pub not_saved : {C K : Type 0} (honest : K → Bool) (held : K → List ℕ) (count : K → ℕ) (save_fails : K → List ℕ → K → Type 0) (reads : Data → Result C Refusal) (text : List ℕ) (c : C) (old new : K) → IsReadAs reads text (Ok c) → (e : Refused) → IsNotSaved honest held count save_fails text old new e → honest old ≡ true → HoldsOldOrNext reads (held old) c (held new)
+not_saved honest held count save_fails reads text c old new read (refused.Core x) why is = inl (why.1 is)
+not_saved honest held count save_fails reads text c old new read refused.SaveFailed why is =
+    ⊎_elim (λ same. inl same) (λ saved. inr (subst (λ t. IsReadAs reads t (Ok c)) (sym saved) read)) (why.either is)
+not_saved honest held count save_fails reads text c old new read e why is = absurd why

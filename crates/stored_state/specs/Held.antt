@@ -1,7 +1,7 @@
 -- A controller beside the keeper of its state: what is shown, what is held, and what a call that
 -- gives nothing out leaves.
 use Rattle.std.specs.Prelude.{◌≡◌, ◌⊎◌, ℕ, Bool, false, true, List, Result}
-use Rattle.std.specs.Prelude.{⊤}
+use Rattle.std.specs.Prelude.{⊤, Ok}
 use Rattle.serde_json.specs.Data.{Data}
 use Rattle.keepers.specs.Keeper.{CountRose}
 pub use Rattle.json_profile.specs.ReadAs.{IsReadAs, IsRefusalOf}
@@ -31,6 +31,10 @@ IsNotLoaded reads honest held other = ⊥
 -- an honest keeper holds what it held
 abbrev pub HoldsSame : {K : Type 0} → (K → Bool) → (K → List ℕ) → K → K → Type 0
 HoldsSame is_honest held old new = is_honest old ≡ true → held new ≡ held old
+
+-- bytes that are held are those that were, or are read as a controller
+abbrev pub HoldsOldOrNext : {C : Type 0} → (Data → Result C Refusal) → List ℕ → C → List ℕ → Type 0
+HoldsOldOrNext state_read old next held = (held ≡ old) ⊎ IsReadAs state_read held (Ok next)
 
 -- a save of a text failed, in a way in which the keeper may: an honest one holds what it held, or
 -- the text

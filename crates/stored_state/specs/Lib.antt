@@ -8,8 +8,10 @@ pub mod Message
 pub mod Sender
 pub mod Resting
 pub mod Rested
+pub mod Names
 pub mod Cause
 pub mod Station
+pub mod Seat
 pub mod Told
 pub mod Snapshot
 pub mod Saved

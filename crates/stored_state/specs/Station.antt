@@ -1,11 +1,9 @@
 -- A controller beside the text of its state.
-use Rattle.std.specs.Prelude.{◌≡◌, ℕ, List, Option, IfSome, Result, Ok, unwrap_or}
+use Rattle.std.specs.Prelude.{◌≡◌, ℕ, List, Option, IfSome, Result, Ok}
 use Rattle.serde_json.specs.Data.{Data}
 use Rattle.serde_json.specs.Written.{compact_text}
 use Rattle.json_profile.specs.ReadAs.{IsReadAs}
 use Rattle.ticket_items.specs.declared.refusal.Refusal.{Refusal}
-use Rattle.controller.specs.Step.{Step, leading}
-use Rattle.controller.specs.declared.message.Message.{Message}
 
 -- the text is that of the state of a controller, and is read as it again
 pub record IsStateText {C : Type 0} (state_data : C → Data) (state_read : Data → Result C Refusal)
@@ -18,7 +16,3 @@ pub record IsStation {C : Type 0} (state_data : C → Data) (state_read : Data �
     (c : C) (text : List ℕ) (spare : Option C) : Type 0 where
   pub text_is : IsStateText state_data state_read text c
   pub same : IfSome spare (λ s. s ≡ c)
-
--- the step that is made so: where it leads to none, the controller stays as it is
-abbrev pub made_step : {C : Type 0} → C → Step (Option C) Message → Step C Message
-made_step c made = leading (λ next. unwrap_or next c) made

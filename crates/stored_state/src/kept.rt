@@ -3,11 +3,11 @@ ghost use Rattle.std.specs.Prelude.{IfOk, IfErr, IfSome, IsErrOf, OnOk, OnErr};
 ghost use Rattle.std.specs.Option.{option_map};
 ghost use Rattle.serde_json.specs.Written.{compact_text};
 ghost use Rattle.ticket_items.specs.declared.refusal.Refusal.TheVariants.{Memory};
-ghost use Rattle.jmf_message.specs.Decoded.{IsRefusalOf as IsUndecoded};
+ghost use Rattle.jmf_message.specs.Decoded.{IsDecodedAs, IsRefusalOf as IsUndecoded};
 ghost use Rattle.controller.specs.Words.{may_be_sent};
 ghost use Rattle.keepers.specs.Keeper.{CountRose};
 ghost use Rattle.stored_state.specs.Cause.{caused};
-ghost use Rattle.stored_state.specs.Held.{GivesNothing, HoldsSame, IsNotLoaded};
+ghost use Rattle.stored_state.specs.Held.{GivesNothing, HoldsOldOrNext, HoldsSame, IsNotLoaded};
 ghost use Rattle.stored_state.specs.Held.{IsNotSaved, IsReadAs, ShowsEither};
 ghost use Rattle.stored_state.specs.Message.{IsOfMessage, message_text};
 ghost use Rattle.stored_state.specs.Sender.{IsSentBy};
@@ -111,6 +111,7 @@ impl<C: Stored, K: Keep> Kept<C, K> {
         requires { IfSome message (λ m. may_be_sent m.body ≡ true) }
         ensures text { IfOk result (λ text. option_map (λ b. b.items) text
             ≡ option_map message_text message) }
+        ensures read { OnOk result (IfSome message (λ m. IsDecodedAs (message_text m) (Ok m))) }
         ensures controller { self.new.controller ≡ self.old.controller }
         ensures fresh { OnOk result (self.new.stale ≡ false) }
         ensures stale { OnErr result (self.new.stale ≡ true) }
@@ -123,6 +124,8 @@ impl<C: Stored, K: Keep> Kept<C, K> {
         ensures counted { K.count self.old.keep ≤ K.count self.new.keep }
         ensures refused { IfErr result (IsNotSaved K.is_honest K.held K.count K.save_fails
             (compact_text (C.state_data self.old.controller)) self.old.keep self.new.keep) }
+        ensures left { OnErr result (K.is_honest self.old.keep ≡ true → HoldsOldOrNext
+            C.state_read (K.held self.old.keep) self.old.controller (K.held self.new.keep)) }
     {
         let given = save_step(alloc, &self.controller, &mut self.keep, &message);
         drop(message);
@@ -131,7 +134,7 @@ impl<C: Stored, K: Keep> Kept<C, K> {
     }
 
     /// Makes a step, saves the state that it leads to, and gives out what comes of it.
-    fn step(
+    pub(crate) fn step(
         &mut self,
         alloc: Global,
         cause: Cause<C::Order>,
@@ -143,6 +146,9 @@ impl<C: Stored, K: Keep> Kept<C, K> {
         ensures message { IfOk result (λ given. option_map (λ b. b.items) given.message
             ≡ option_map message_text
             (caused C.order_step C.take_step cause at self.old.controller).sent) }
+        ensures read { OnOk result (IfSome
+            (caused C.order_step C.take_step cause at self.old.controller).sent
+            (λ m. IsDecodedAs (message_text m) (Ok m))) }
         ensures state { OnOk result (self.new.controller
             ≡ (caused C.order_step C.take_step cause at self.old.controller).next) }
         ensures fresh { OnOk result (self.new.stale ≡ false) }
@@ -157,6 +163,10 @@ impl<C: Stored, K: Keep> Kept<C, K> {
             (λ e. e ≡ Memory) (λ text. text ≡ compact_text (C.state_data
             (caused C.order_step C.take_step cause at self.old.controller).next))
             self.old self.new) }
+        ensures left { OnErr result (K.is_honest self.old.keep ≡ true →
+            HoldsOldOrNext C.state_read (K.held self.old.keep)
+            (caused C.order_step C.take_step cause at self.old.controller).next
+            (K.held self.new.keep)) }
         ensures shown { OnErr result (ShowsEither self.old (λ c. c
             ≡ (caused C.order_step C.take_step cause at self.old.controller).next) self.new) }
     {

@@ -1,19 +1,23 @@
 ghost use Rattle.std.specs.Prelude.{◌≡◌, true, Ok, IfOk, IfSome, OnErr, OnOk, unwrap_or};
+ghost use Rattle.std.specs.Option.{option_map};
 ghost use Rattle.serde_json.specs.Written.{compact_text};
 ghost use Rattle.json_profile.specs.ReadAs.{IsReadAs};
-ghost use Rattle.controller.specs.Step.{outcome_step};
 ghost use Rattle.controller.specs.Words.{may_be_sent};
 ghost use Rattle.stored_state.specs.Cause.{caused};
-ghost use Rattle.stored_state.specs.Station.{made_step};
+ghost use Rattle.jmf_message.specs.Decoded.{IsDecodedAs};
+ghost use Rattle.stored_state.specs.Message.{message_text as text_sent};
 
 use crate::cause::{Cause, make};
-use crate::made::Made;
+use crate::order_bytes::OrderBytes;
+use crate::seat::Seat;
 use crate::stored::Stored;
 use crate::storing::{controllers_of, message_text};
-use controller::Outcome;
+use controller::{Outcome, Reply};
 use std::alloc::{AllocError, Global};
 use std::marker::Model;
 use std::mem;
+use streams::Refused;
+use ticket_tree::{Duplicate, Id, Refusal};
 
 /// A controller beside the text of its state, from which it is started again (our own). Beside it
 /// may stand a second value of it, on which its next step is made, so that what is shown stays
@@ -42,7 +46,7 @@ impl<C: Stored> Station<C> {
         ensures { IfOk result (λ station. station ≡ controller) }
     {
         let mut station = Station::alone(alloc, controller)?;
-        station.restart(alloc)?;
+        station.start_again(alloc)?;
         Ok(station)
     }
 
@@ -84,7 +88,7 @@ impl<C: Stored> Station<C> {
     }
 
     /// The controller stops, and is started again from the text of its state.
-    pub fn restart(&mut self, alloc: Global) -> Result<(), AllocError>
+    fn start_again(&mut self, alloc: Global) -> Result<(), AllocError>
         ensures { self.new ≡ self.old }
     {
         let (controller, spare) = self.read(alloc)?;
@@ -99,46 +103,59 @@ impl<C: Stored> Station<C> {
         ensures state { self.new ≡ self.old }
     {
         if self.spare.is_none() {
-            self.restart(alloc)?;
+            self.start_again(alloc)?;
         }
         self.spare.take().ok_or(AllocError)
     }
 
-    /// What is made of a step by which the second value came to the next. It is the same where it
-    /// says so.
+    /// What is given out of a step by which the second value came to the next, and what it leads
+    /// to: to none where it says that it leaves the controller as it was.
     fn made(
         &mut self,
         alloc: Global,
         next: C,
         outcome: Outcome,
         is_same: bool,
-    ) -> Result<Made<C>, AllocError>
+    ) -> Result<(Option<Station<C>>, OrderBytes), AllocError>
         requires sendable { IfSome outcome.answer (λ m. may_be_sent m.body ≡ true) }
         requires same { is_same ≡ true → next ≡ self.old }
-        ensures made { IfOk result (λ made. made_step self.old made ≡ outcome_step outcome next) }
+        ensures next { IfOk result (λ made. unwrap_or made.0 self.old ≡ next) }
+        ensures reply { IfOk result (λ made. made.1.reply ≡ outcome.reply) }
+        ensures message { IfOk result (λ made. option_map (λ b. b.items) made.1.message
+            ≡ option_map text_sent outcome.answer) }
+        ensures read { OnOk result
+            (IfSome outcome.answer (λ m. IsDecodedAs (text_sent m) (Ok m))) }
         ensures state { self.new ≡ self.old }
     {
         let Outcome { reply, answer } = outcome;
         let text = message_text(alloc, &answer);
         drop(answer);
-        let sent = text?;
+        let message = text?;
         if is_same {
             self.spare = Some(next);
-            return Ok(Made::of(None, reply, sent));
+            return Ok((None, OrderBytes { reply, message }));
         }
         let next = Station::alone(alloc, next)?;
-        Ok(Made::of(Some(next), reply, sent))
+        Ok((Some(next), OrderBytes { reply, message }))
     }
 
-    /// Its step, at a time in seconds since 1970, which isn't stored yet.
-    pub fn step(
+    /// Its step, at a time in seconds since 1970, which isn't stored yet: what it leads to, or none
+    /// where it leaves the controller as it was, and what is given out.
+    fn step_made(
         &mut self,
         alloc: Global,
         cause: Cause<C::Order>,
         at: u64,
-    ) -> Result<Made<C>, AllocError>
-        ensures made { IfOk result (λ made. made_step self.old made
-            ≡ caused C.order_step C.take_step cause at self.old) }
+    ) -> Result<(Option<Station<C>>, OrderBytes), AllocError>
+        ensures next { IfOk result (λ made. unwrap_or made.0 self.old
+            ≡ (caused C.order_step C.take_step cause at self.old).next) }
+        ensures reply { IfOk result (λ made. made.1.reply
+            ≡ (caused C.order_step C.take_step cause at self.old).reply) }
+        ensures message { IfOk result (λ made. option_map (λ b. b.items) made.1.message
+            ≡ option_map text_sent (caused C.order_step C.take_step cause at self.old).sent) }
+        ensures read { OnOk result (IfSome
+            (caused C.order_step C.take_step cause at self.old).sent
+            (λ m. IsDecodedAs (text_sent m) (Ok m))) }
         ensures state { self.new ≡ self.old }
     {
         let mut next = self.second(alloc)?;
@@ -148,14 +165,14 @@ impl<C: Stored> Station<C> {
 
     /// Stores what a step led to, stops, and is started again from the text of that. Where memory
     /// runs out nothing is changed.
-    pub fn stop_after(&mut self, alloc: Global, next: Option<Station<C>>) -> Result<(), AllocError>
+    fn stop_after(&mut self, alloc: Global, next: Option<Station<C>>) -> Result<(), AllocError>
         ensures ok { OnOk result (self.new ≡ unwrap_or next self.old) }
         ensures err { OnErr result (self.new ≡ self.old) }
     {
         match next {
-            None => self.restart(alloc),
+            None => self.start_again(alloc),
             Some(mut next) => {
-                next.restart(alloc)?;
+                next.start_again(alloc)?;
                 *self = next;
                 Ok(())
             }
@@ -179,13 +196,7 @@ impl<C: Stored> Station<C> {
 
     /// Stores what a step led to. The controller that it was makes the same step, and is the second
     /// value then; where memory runs out there is none.
-    pub fn store(
-        &mut self,
-        alloc: Global,
-        next: Option<Station<C>>,
-        cause: Cause<C::Order>,
-        at: u64,
-    )
+    fn store(&mut self, alloc: Global, next: Option<Station<C>>, cause: Cause<C::Order>, at: u64)
         requires { (caused C.order_step C.take_step cause at self.old).next
             ≡ unwrap_or next self.old }
         ensures { self.new ≡ unwrap_or next self.old }
@@ -202,5 +213,75 @@ impl<C: Stored> Station<C> {
             }
             Err(_) => drop(second),
         }
+    }
+}
+
+impl<C: Stored> Seat<C> for Station<C>
+where
+    C::Order: Duplicate,
+{
+    ghost use Rattle.std.specs.Prelude.{refl};
+
+    ghost kept = { λ station. station };
+
+    ghost is_fresh = { λ _. true };
+
+    ghost is_sure = { true };
+
+    ghost sure_is_fresh = { λ _ _. refl };
+
+    fn name(&self) -> &Id {
+        self.controller.name()
+    }
+
+    fn controller(&self) -> Option<&C> {
+        Some(&self.controller)
+    }
+
+    fn step(
+        &mut self,
+        alloc: Global,
+        cause: Cause<C::Order>,
+        at: u64,
+    ) -> Result<OrderBytes, Refused>
+        ensures reply { IfOk result (λ given. given.reply
+            ≡ (caused C.order_step C.take_step cause at self.old).reply) }
+        ensures message { IfOk result (λ given. option_map (λ b. b.items) given.message
+            ≡ option_map text_sent (caused C.order_step C.take_step cause at self.old).sent) }
+        ensures read { OnOk result (IfSome
+            (caused C.order_step C.take_step cause at self.old).sent
+            (λ m. IsDecodedAs (text_sent m) (Ok m))) }
+        ensures state { OnOk result (self.new
+            ≡ (caused C.order_step C.take_step cause at self.old).next) }
+        ensures err { OnErr result (self.new ≡ self.old) }
+    {
+        let again = cause.copy(alloc)?;
+        let (next, given) = self.step_made(alloc, cause, at)?;
+        self.store(alloc, next, again, at);
+        Ok(given)
+    }
+
+    fn stop(
+        &mut self,
+        alloc: Global,
+        cause: Cause<C::Order>,
+        at: u64,
+    ) -> Result<Result<Reply, Refusal>, Refused>
+        ensures reply { IfOk result (λ reply. reply
+            ≡ (caused C.order_step C.take_step cause at self.old).reply) }
+        ensures state { OnOk result (self.new
+            ≡ (caused C.order_step C.take_step cause at self.old).next) }
+        ensures err { OnErr result (self.new ≡ self.old) }
+    {
+        let (next, given) = self.step_made(alloc, cause, at)?;
+        let OrderBytes { reply, message } = given;
+        drop(message);
+        self.stop_after(alloc, next)?;
+        Ok(reply)
+    }
+
+    fn restart(&mut self, alloc: Global) -> Result<(), Refused> {
+        self.start_again(alloc)?;
+        Ok(())
     }
 }

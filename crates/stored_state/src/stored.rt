@@ -8,7 +8,7 @@ use master_core::Master;
 use worker_core::Worker;
 
 /// A controller that is stored (our own). Where its reply tells that nothing changes, its state
-/// stays as it was.
+/// stays as it was; and no step changes its name.
 pub trait Stored: Controller + StateForm {
     ghost order_rests: { (order : Self.Order) (at : ℕ) (c : Self)
         → rests (Self.Controller.order_step order at c).reply ≡ true
@@ -17,20 +17,38 @@ pub trait Stored: Controller + StateForm {
     ghost take_rests: { (m : Message) (at : ℕ) (c : Self)
         → rests_on m.body (Self.Controller.take_step m at c).reply ≡ true
         → (Self.Controller.take_step m at c).next ≡ c };
+
+    ghost order_names: { (order : Self.Order) (at : ℕ) (c : Self)
+        → Self.Controller.own_name (Self.Controller.order_step order at c).next
+        ≡ Self.Controller.own_name c };
+
+    ghost take_names: { (m : Message) (at : ℕ) (c : Self)
+        → Self.Controller.own_name (Self.Controller.take_step m at c).next
+        ≡ Self.Controller.own_name c };
 }
 
 impl Stored for Master {
+    ghost use Rattle.stored_state.specs.Names.{master_order_names, master_take_names};
     ghost use Rattle.stored_state.specs.Rested.{master_rests, master_rests_on};
 
     ghost order_rests = { master_rests };
 
     ghost take_rests = { master_rests_on };
+
+    ghost order_names = { master_order_names };
+
+    ghost take_names = { master_take_names };
 }
 
 impl Stored for Worker {
+    ghost use Rattle.stored_state.specs.Names.{worker_order_names, worker_take_names};
     ghost use Rattle.stored_state.specs.Rested.{worker_rests, worker_rests_on};
 
     ghost order_rests = { worker_rests };
 
     ghost take_rests = { worker_rests_on };
+
+    ghost order_names = { worker_order_names };
+
+    ghost take_names = { worker_take_names };
 }

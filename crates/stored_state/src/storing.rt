@@ -1,13 +1,14 @@
 //! States to and from keepers.
 
-ghost use Rattle.std.specs.Prelude.{◌≡◌, ◌≤◌, ◌⊎◌, Ok, true, IfOk, IfErr, IfSome, IsErrOf, OnOk};
+ghost use Rattle.std.specs.Prelude.{◌≡◌, ◌≤◌, ◌⊎◌, Ok, true};
+ghost use Rattle.std.specs.Prelude.{IfOk, IfErr, IfSome, IsErrOf, OnErr, OnOk};
 ghost use Rattle.std.specs.Option.{option_map};
 ghost use Rattle.serde_json.specs.Written.{compact_text};
 ghost use Rattle.ticket_items.specs.declared.refusal.Refusal.TheVariants.{Memory};
 ghost use Rattle.jmf_message.specs.Decoded.{IsDecodedAs};
 ghost use Rattle.controller.specs.Words.{may_be_sent};
 ghost use Rattle.keepers.specs.Keeper.{CountRose};
-ghost use Rattle.stored_state.specs.Held.{HoldsSame, IsNotLoaded, IsNotSaved};
+ghost use Rattle.stored_state.specs.Held.{HoldsOldOrNext, HoldsSame, IsNotLoaded, IsNotSaved};
 ghost use Rattle.stored_state.specs.Held.{IsReadAs, IsRefusalOf};
 ghost use Rattle.stored_state.specs.Message.{message_text as text_sent};
 ghost use Rattle.streams.specs.declared.refused.Refused.TheVariants.{LoadFailed};
@@ -52,6 +53,7 @@ pub(crate) fn save_step<C: Stored, K: Keep>(
     requires { IfSome message.now (λ m. may_be_sent m.body ≡ true) }
     ensures text { IfOk result (λ text. option_map (λ b. b.items) text
         ≡ option_map text_sent message.now) }
+    ensures read { OnOk result (IfSome message.now (λ m. IsDecodedAs (text_sent m) (Ok m))) }
     ensures held { OnOk result (K.is_honest keep.old ≡ true →
         K.held keep.new ≡ compact_text (C.state_data controller.now)) }
     ensures again { OnOk result (K.is_honest keep.old ≡ true →
@@ -61,6 +63,8 @@ pub(crate) fn save_step<C: Stored, K: Keep>(
     ensures counted { K.count keep.old ≤ K.count keep.new }
     ensures refused { IfErr result (IsNotSaved K.is_honest K.held K.count K.save_fails
         (compact_text (C.state_data controller.now)) keep.old keep.new) }
+    ensures left { OnErr result (K.is_honest keep.old ≡ true → HoldsOldOrNext C.state_read
+        (K.held keep.old) controller.now (K.held keep.new)) }
 {
     let given = message_text(alloc, message)?;
     let text = controller.state_text(alloc)?;

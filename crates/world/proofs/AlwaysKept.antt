@@ -37,7 +37,7 @@ use Rattle.world.proofs.Doors.{master_refuses_nothing, returned_in, returned_tol
 use Rattle.world.proofs.Kept.{Keeps, master_stored, settled_kept, worker_stored}
 use Rattle.world.proofs.Later.{in_order_later}
 use Rattle.world.proofs.MasterSteps as master_steps
-use Rattle.world.proofs.Names.{ordered_names, taken_by_master_names, taken_by_worker_names, worker_ordered_names}
+use Rattle.stored_state.specs.Names.{ordered_names, taken_by_master_names, taken_by_worker_names, worker_ordered_names}
 use Rattle.world.proofs.Stored.{entry_there, found_and}
 use Rattle.world.proofs.Receivers.{worker_receives}
 use Rattle.world.proofs.Sending.{IsNew, IsTaken, answer_is_new}

@@ -1,5 +1,5 @@
 -- The laws of who may change what.
-use Rattle.std.proofs.Common.{◌≡◌, ◌↔◌, ◌∙◌, cond, IsSomeAnd, Bool, true, false, List, ℕ, Option, Some, None, Result, Ok, Err, OnOk, OnErr, refl, slice_get, sym, ap, subst}
+use Rattle.std.proofs.Common.{◌≡◌, inl, inr, ◌↔◌, ◌∙◌, cond, IsSomeAnd, Bool, true, false, List, ℕ, Option, Some, None, Result, Ok, Err, OnOk, OnErr, refl, slice_get, sym, ap, subst}
 use Rattle.std.proofs.lemmas.Bool.{eqb-true, true≢false}
 use Rattle.std.proofs.lemmas.Slice.Eq.{bytes_eq-Decides}
 use Rattle.std.specs.Option.{option_and_then, option_map, option_map_or}
@@ -36,7 +36,7 @@ use Rattle.world.proofs.Stored.{and_found, found_and}
 use Rattle.world.proofs.TakenSpawns.{phase_out}
 use Rattle.world.specs.Changing.{Changer, Holds, MayChange, by_entry, by_master}
 use Rattle.world.specs.Controllers.{entry_at, is_named, worker_of}
-use Rattle.world.specs.Happening.{after_all, settled, step_of}
+use Rattle.world.specs.Happening.{IsUnknown, after_all, settled, step_of}
 use Rattle.world.specs.Laws.{HoldersMayChange, NoTwoMayChangeOne}
 use Rattle.world.specs.Messages.{AreRecorded, HasComeBack, IsBack, IsRecorded, entry_for}
 use Rattle.world.specs.Shop.{Closed, Declined, Done, Merged, Open, SpawnState, spawn_of}
@@ -44,6 +44,7 @@ use Rattle.world.specs.Showing.{phase_shown, shop_shown, shows, spawn_shown}
 use Rattle.world.specs.State.{IsKept, State}
 use Rattle.world_items.specs.declared.event.Event.{Event}
 use Rattle.world_items.specs.declared.stop.Stop.{Stop}
+use Rattle.world_items.specs.declared.stop.Stop.TheVariants.{BeforeSave, BeforeSend}
 use Rattle.world_items.specs.declared.what.What.{What}
 
 -- ---- an entry that is open, and its record
@@ -281,10 +282,11 @@ ByHolders w = (c : Changer) (x : List ℕ) → MayChange w c x ↔ Holds (shows 
 pub by_holders : (w : State) → IsKept w → ByHolders w
 by_holders w ok c x = holders_may_change w c x ok
 
--- where memory runs out nothing changes
-pub kept_then : {A E : Type 0} (r : Result A E) (what : What) (at : ℕ) (stop : Stop) (w now : State) → IsKept w → OnOk r (now ≡ settled stop w (step_of what at w)) → OnErr r (now ≡ w) → IsKept now
-kept_then (Ok a) what at stop w now ok is same = subst IsKept (sym is) (kept_after (record { what = what; at = at; stop = stop }) w ok)
-kept_then (Err e) what at stop w now ok is same = subst IsKept (sym same) ok
+-- where it isn't known how far an event came, its controller stopped in it
+pub kept_then : {A E : Type 0} (r : Result A E) (what : What) (at : ℕ) (stop : Stop) (w now : State) → IsKept w → OnOk r (now ≡ settled stop w (step_of what at w)) → OnErr r (IsUnknown w (step_of what at w) now) → IsKept now
+kept_then (Ok a) what at stop w now ok is unknown = subst IsKept (sym is) (kept_after (record { what = what; at = at; stop = stop }) w ok)
+kept_then (Err e) what at stop w now ok is (inl lost) = subst IsKept (sym lost) (kept_after (record { what = what; at = at; stop = BeforeSave }) w ok)
+kept_then (Err e) what at stop w now ok is (inr unsent) = subst IsKept (sym unsent) (kept_after (record { what = what; at = at; stop = BeforeSend }) w ok)
 
 pub kept_then_all : (events : List Event) (w now : State) → IsKept w → now ≡ after_all events w → IsKept now
 kept_then_all events w now ok is = subst IsKept (sym is) (kept_after_all events w ok)

@@ -1,5 +1,5 @@
 -- What always holds of a shop holds once a step of one of its controllers is settled.
-use Rattle.std.proofs.Common.{◌≡◌, List, Option, Some, None, IfSome, Result, Ok, Err, OnOk, OnErr, sym, ◌∙◌, subst}
+use Rattle.std.proofs.Common.{◌≡◌, inl, inr, List, Option, Some, None, IfSome, Result, Ok, Err, OnOk, OnErr, sym, ◌∙◌, subst}
 use Rattle.std.proofs.lemmas.List.Elements.{All-weaker}
 use Rattle.std.specs.List.{All}
 use Rattle.controller.specs.declared.message.Message.{Message}
@@ -8,7 +8,8 @@ use Rattle.worker_core.specs.Worker as worker
 use Rattle.world.proofs.Back.{back_later}
 use Rattle.world.proofs.Later.{AreLater, in_order_later, recorded_later}
 use Rattle.world.proofs.MasterSteps.{with_master}
-use Rattle.world.proofs.Names.{HasItsNames, HasNames}
+use Rattle.stored_state.specs.Names.{HasItsNames, HasNames}
+use Rattle.stored_state.specs.Seat.{IsOldOrNext}
 use Rattle.world.proofs.Sending.{IsNew, one_more_in_order}
 use Rattle.world.proofs.Settled.{master_settled}
 use Rattle.world.proofs.Stored.{All-with_worker, names_stay}
@@ -86,9 +87,10 @@ settled_kept Run w moved ok keeps = sent_kept moved.next w.messages moved.sent k
 settled_kept BeforeSave w moved ok keeps = ok
 settled_kept BeforeSend w moved ok keeps = keeps.stored
 
--- where memory runs out nothing changes
+-- and so it does where it isn't known how far the step came, and nothing is sent
 pub master_kept : {A E : Type 0} (r : Result A E) (stop : Stop) (m stored : master.Known) (workers : List worker.Known) (old new : List Message) (moved : Step master.Known Message)
-    → OnOk r (stored ≡ settled_state stop m moved.next) → OnOk r (new ≡ settled_messages stop old moved.sent) → OnErr r (stored ≡ m) → OnErr r (new ≡ old)
+    → OnOk r (stored ≡ settled_state stop m moved.next) → OnOk r (new ≡ settled_messages stop old moved.sent) → OnErr r (IsOldOrNext m moved stored) → OnErr r (new ≡ old)
     → IsKept (state m workers old) → Keeps (state m workers old) (master_moved (record { master = m; workers = workers }) moved) → IsKept (state stored workers new)
-master_kept (Ok a) stop m stored workers old new moved is sent same unsent ok keeps = subst IsKept (sym (master_settled stop m stored workers old new moved is sent)) (settled_kept stop (state m workers old) _ ok keeps)
-master_kept (Err e) stop m stored workers old new moved is sent same unsent ok keeps = subst (λ n. IsKept (state n workers new)) (sym same) (subst (λ ms. IsKept (state m workers ms)) (sym unsent) ok)
+master_kept (Ok a) stop m stored workers old new moved is sent either unsent ok keeps = subst IsKept (sym (master_settled stop m stored workers old new moved is sent)) (settled_kept stop (state m workers old) _ ok keeps)
+master_kept (Err e) stop m stored workers old new moved is sent (inl same) unsent ok keeps = subst IsKept (sym (master_settled BeforeSave m stored workers old new moved same unsent)) (settled_kept BeforeSave (state m workers old) _ ok keeps)
+master_kept (Err e) stop m stored workers old new moved is sent (inr next) unsent ok keeps = subst IsKept (sym (master_settled BeforeSend m stored workers old new moved next unsent)) (settled_kept BeforeSend (state m workers old) _ ok keeps)

@@ -1,6 +1,5 @@
 pub mod Answered
 pub mod Opening
-pub mod Names
 pub mod Stored
 pub mod PartsGoOut
 pub mod EditedFits
@@ -17,6 +16,8 @@ pub mod SentTexts
 pub mod InPart
 pub mod Changing
 pub mod WorkerPlaces
+pub mod Unknown
+pub mod Seated
 pub mod Settled
 pub mod Once
 pub mod Runs
@@ -54,6 +55,7 @@ pub mod SpawnsGivenUp
 pub mod SpawnsFreed
 pub mod Events
 pub mod Replayed
+pub mod Stopped
 pub mod GoingOn
 pub mod ShopTells
 pub mod OrdersTell

@@ -19,7 +19,7 @@ use Rattle.master_core.specs.Orders.{abort_of, order_refusal, ordered, spawn_sen
 use Rattle.master_core.specs.declared.order.Order.{Order}
 use Rattle.master_core.specs.declared.order.Order.TheVariants as order
 use Rattle.world.proofs.Later.{AreLater}
-use Rattle.world.proofs.Names.{ordered_names, taken_by_master_names}
+use Rattle.stored_state.specs.Names.{ordered_names, taken_by_master_names}
 use Rattle.world.proofs.PartsGoOut.{part_is_valid}
 use Rattle.world.proofs.Sending.{IsNew, new_message}
 use Rattle.world.specs.Controllers.{Controllers}

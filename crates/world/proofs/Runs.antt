@@ -1,10 +1,11 @@
 -- A run so far, of any machine: the answers to the events that were, and what is there after them.
-use Rattle.std.proofs.Common.{◌≡◌, ◌+◌, ◌<◌, ◌≤◌, ℕ, List, [], ◌∷◌, ◌++◌, length, take, refl, sym, ap, ◌∙◌, arith, Option, Some, None}
+use Rattle.std.proofs.Common.{◌≡◌, ◌+◌, ◌<◌, ◌≤◌, ℕ, List, [], ◌∷◌, ◌++◌, length, slice_get, subst, take, refl, sym, ap, ◌∙◌, arith, Option, Some, None}
 use Rattle.std.proofs.lemmas.Iterator.Consumers.{YieldsList-end, YieldsList-so_far, YieldsList-turn}
 use Rattle.std.proofs.lemmas.List.{map-id, length-append}
 use Rattle.std.proofs.lemmas.Iterator.{YieldsList}
+use Rattle.std.proofs.lemmas.Option.{slice_get-get_or}
 use Rattle.std.specs.Iterator.{Yields}
-use Rattle.world.specs.Running.{Machine, after, after_all, answer_to, answers_to}
+use Rattle.world.specs.Running.{IsCutOff, IsStopped, Machine, after, after_all, answer_to, answers_to}
 use Rattle.world_items.specs.declared.answer.Answer.{Answer}
 use Rattle.world_items.specs.declared.event.Event.{Event}
 
@@ -14,11 +15,13 @@ use Rattle.world_items.specs.declared.event.Event.{Event}
 pub record IsNext (all done : List Event) (e : Event) : Type 0 where
   pub so_far : done ≡ take (length done) all
   pub within : length done < length all
+  pub there : slice_get all (length done) ≡ Some e
 
 pub next_of : {S : Type 0} {steps : S → Option Event → S → Type 0} {s : S} {all : List Event} (y : YieldsList steps (λ z. z) s all) (done : List Event) (t : S) (given : Yields steps s done t) (r : Option Event) (u : S) (e : Event)
     → r ≡ Some e → steps t r u → IsNext all done e
-next_of y done t given r u e is step =
-    record { so_far = sym (map-id done) ∙ YieldsList-so_far y done t given; within = (YieldsList-turn y done t given r u e is step).0 }
+next_of {all = all} y done t given r u e is step =
+    let turn = YieldsList-turn y done t given r u e is step in
+    record { so_far = sym (map-id done) ∙ YieldsList-so_far y done t given; within = turn.0; there = slice_get-get_or all (length done) e turn.0 ∙ ap Some (sym turn.1) }
 
 -- no event is next
 pub all_of : {S : Type 0} {steps : S → Option Event → S → Type 0} {s : S} {all : List Event} (y : YieldsList steps (λ z. z) s all) (done : List Event) (t : S) (given : Yields steps s done t) (r : Option Event) (u : S) → r ≡ None → steps t r u → done ≡ all
@@ -50,6 +53,11 @@ module _ {W S M : Type 0} (m : Machine W S M) where
 
   pub stands_before : (all done : List Event) (e : Event) (w : W) (answers : List Answer) (len cap : ℕ) (now same : W) → IsSoFar all done w answers len cap now → IsNext all done e → same ≡ now → StandsBefore all w same
   stands_before all done e w answers len cap now same so next is = (length done, next.within, is ∙ so.state_is ∙ ap (λ es. after_all m es w) next.so_far)
+
+  -- it isn't known how far the next event came
+  pub cut_off : (all done : List Event) (e : Event) (w : W) (answers : List Answer) (len cap : ℕ) (now new : W) → IsSoFar all done w answers len cap now → IsNext all done e → IsStopped m e now new → IsCutOff m all w new
+  cut_off all done e w answers len cap now new so next stopped =
+      record { place = length done; event = e; there = next.there; stopped = subst (λ v. IsStopped m e v new) (so.state_is ∙ ap (λ es. after_all m es w) next.so_far) stopped }
 
   pub has_room : (all done : List Event) (e : Event) (w : W) (answers : List Answer) (len cap : ℕ) (now : W) → IsSoFar all done w answers len cap now → IsNext all done e → len + 1 ≤ cap
   has_room all done e w answers len cap now so next = omega (arith, so.filled, so.room, next.within)

@@ -41,3 +41,8 @@ pub found_settles : (stop : Stop) (w : State) (f : worker.Known → Step worker.
     → settled stop w (Ok (worker_moved w.controllers x moved)) ≡ settled stop w (step_of_found w f word found)
 found_settles stop w f word found x moved there is =
     ap (λ v. settled stop w (Ok (worker_moved w.controllers x v))) is ∙ sym (ap (λ o. settled stop w (step_of_found w f word o)) there)
+
+-- the step of one that is found
+pub found_settled_as : (w : State) (f : worker.Known → Step worker.Known Message) (word : Word) (found : Option worker.Known) (x : worker.Known) → found ≡ Some x
+    → step_of_found w f word found ≡ Ok (worker_moved w.controllers x (f x))
+found_settled_as w f word found x there = ap (step_of_found w f word) there

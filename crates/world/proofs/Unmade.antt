@@ -1,10 +1,11 @@
--- Events that come to no controller.
+-- Events that come to no controller; and to which one a message comes.
 use Rattle.std.proofs.Common.{◌≡◌, ◌∙◌, ℕ, true, false, List, Option, Some, None, Ok, Err, is_ok, is_some, refl, sym, ap}
 use Rattle.std.proofs.lemmas.Bool.{true≢false}
 use Rattle.std.proofs.lemmas.List.Elements.{All-contains}
 use Rattle.std.specs.List.{position}
 use Rattle.std.specs.Option.{option_map_or}
 use Rattle.std.specs.Str.{bytes_eq}
+use Rattle.ticket_items.proofs.Apart.{bytes_eq-same}
 use Rattle.ticket_items.proofs.Places.{found_at_position}
 use Rattle.controller.specs.declared.message.Message.{Message}
 use Rattle.worker_core.specs.Messages.{is_for_workers}
@@ -65,3 +66,17 @@ none_of w k at (Some m) is ok unmade = comes w k at m ok is unmade
 -- what comes to none is no message
 pub no_message : (w : State) (k at : ℕ) → IsKept w → is_reached (delivery_step k at w) ≡ false → message_at w.messages k ≡ None
 no_message w k at ok unmade = none_of w k at (message_at w.messages k) refl ok unmade
+
+-- ---- the step that a message is
+
+pub comes_to_master : (w : State) (k at : ℕ) (m : Message) → message_at w.messages k ≡ Some m → m.receiver ≡ w.controllers.master.name → delivery_step k at w ≡ master_step (causes.Message m) at w
+comes_to_master w k at m found own =
+    let mine = bytes_eq m.receiver w.controllers.master.name in
+    ap (λ o. option_map_or (receiver_takes at w) o (Err NoMessage)) found
+    ∙ when_true mine (master_step (causes.Message m) at w) (worker_step m.receiver NoMessage (causes.Message m) at w) (ap (bytes_eq m.receiver) (sym own) ∙ bytes_eq-same m.receiver)
+
+pub comes_to_worker : (w : State) (k at : ℕ) (m : Message) → message_at w.messages k ≡ Some m → bytes_eq m.receiver w.controllers.master.name ≡ false → delivery_step k at w ≡ worker_step m.receiver NoMessage (causes.Message m) at w
+comes_to_worker w k at m found other =
+    let mine = bytes_eq m.receiver w.controllers.master.name in
+    ap (λ o. option_map_or (receiver_takes at w) o (Err NoMessage)) found
+    ∙ when_false mine (master_step (causes.Message m) at w) (worker_step m.receiver NoMessage (causes.Message m) at w) other

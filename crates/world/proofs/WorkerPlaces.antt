@@ -1,5 +1,5 @@
 -- A worker is found at its place, and what is stored there is stored by its name.
-use Rattle.std.proofs.Common.{◌≡◌, ◌<◌, ℕ, true, List, map, get_or, set, slice_get, Some, None, Result, Ok, Err, OnOk, OnErr, length, refl, subst, sym, ap, ◌∙◌}
+use Rattle.std.proofs.Common.{◌≡◌, ◌<◌, inl, inr, ℕ, true, List, map, get_or, set, slice_get, Some, None, Result, Ok, Err, OnOk, OnErr, length, refl, subst, sym, ap, ◌∙◌}
 use Rattle.std.proofs.lemmas.Bool.{and_parts}
 use Rattle.std.proofs.lemmas.List.{set-get_or}
 use Rattle.std.proofs.lemmas.Option.{slice_get-get_or}
@@ -11,6 +11,7 @@ use Rattle.ticket_items.specs.Ids.{are_distinct}
 use Rattle.ticket_rows.proofs.AtHome.{find-passes}
 use Rattle.controller.specs.declared.message.Message.{Message}
 use Rattle.master_core.specs.Master as master
+use Rattle.stored_state.specs.Seat.{IsOldOrNext}
 use Rattle.worker_core.specs.Worker as worker
 use Rattle.world.proofs.Kept.{Keeps, settled_kept}
 use Rattle.world.specs.Happening.{settled}
@@ -60,19 +61,16 @@ settled_there BeforeSave m workers old new name k x stored moved ok here is sent
 settled_there BeforeSend m workers old new name k x stored moved ok here is sent =
     ap (λ ms. state m (set workers k stored) ms) sent ∙ ap (λ s. state m (set workers k s) old) is ∙ ap (λ ws. state m ws old) (put m workers old name k x moved.next ok here)
 
--- where it is stored as it was, all stands as it did
-pub same_there : (workers : List worker.Known) (k : ℕ) (x stored : worker.Known) → x ≡ get_or workers k x → stored ≡ x → set workers k stored ≡ workers
-same_there workers k x stored at same = ap (set workers k) (same ∙ at) ∙ set-get_or workers k x
-
--- and what always holds holds then. Where memory runs out nothing changes
+-- and what always holds holds then, also where it isn't known how far the step came, and nothing is sent
 pub kept_there : {A E : Type 0} (r : Result A E) (stop : Stop) (m : master.Known) (workers : List worker.Known) (old new : List Message) (name : List ℕ) (k : ℕ) (x stored : worker.Known) (moved : Step worker.Known Message) → IsKept (state m workers old) → StandsAt workers name k x
-    → OnOk r (stored ≡ settled_state stop x moved.next) → OnOk r (new ≡ settled_messages stop old moved.sent) → OnErr r (stored ≡ x) → OnErr r (new ≡ old)
+    → OnOk r (stored ≡ settled_state stop x moved.next) → OnOk r (new ≡ settled_messages stop old moved.sent) → OnErr r (IsOldOrNext x moved stored) → OnErr r (new ≡ old)
     → Keeps (state m workers old) (worker_moved (record { master = m; workers = workers }) x moved) → IsKept (state m (set workers k stored) new)
-kept_there (Ok a) stop m workers old new name k x stored moved ok here is sent same unsent keeps =
+kept_there (Ok a) stop m workers old new name k x stored moved ok here is sent either unsent keeps =
     subst IsKept (sym (settled_there stop m workers old new name k x stored moved ok here is sent)) (settled_kept stop (state m workers old) _ ok keeps)
-kept_there (Err e) stop m workers old new name k x stored moved ok here is sent same unsent keeps =
-    let there = same_there workers k x stored here.at same in
-    subst (λ ws. IsKept (state m ws new)) (sym there) (subst (λ ms. IsKept (state m workers ms)) (sym unsent) ok)
+kept_there (Err e) stop m workers old new name k x stored moved ok here is sent (inl same) unsent keeps =
+    subst IsKept (sym (settled_there BeforeSave m workers old new name k x stored moved ok here same unsent)) (settled_kept BeforeSave (state m workers old) _ ok keeps)
+kept_there (Err e) stop m workers old new name k x stored moved ok here is sent (inr next) unsent keeps =
+    subst IsKept (sym (settled_there BeforeSend m workers old new name k x stored moved ok here next unsent)) (settled_kept BeforeSend (state m workers old) _ ok keeps)
 
 -- the worker that stands there is the one of its name
 pub found_own : (workers : List worker.Known) (name : List ℕ) (k : ℕ) (x : worker.Known) → StandsAt workers name k x → worker_of workers x.name ≡ Some x

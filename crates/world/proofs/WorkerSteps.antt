@@ -38,7 +38,7 @@ use Rattle.master_core.specs.Master.{record_of}
 use Rattle.world.proofs.EditedFits.{edited_fits}
 use Rattle.world.proofs.Cases.{made_of}
 use Rattle.world.proofs.Later.{AreLater, IsSameOrClosed}
-use Rattle.world.proofs.Names.{worker_ordered_names}
+use Rattle.stored_state.specs.Names.{worker_ordered_names}
 use Rattle.world.proofs.Sending.{IsNew, new_message}
 use Rattle.world.proofs.Stored.{and_found, and_mapped, entry_goes_on, entry_there, found_and, if_some}
 use Rattle.world.specs.Controllers.{Controllers, with_worker, worker_of}

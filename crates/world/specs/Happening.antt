@@ -1,5 +1,5 @@
 -- What happens at an event: which step is made, and what is left of it.
-use Rattle.std.specs.Prelude.{◌≡◌, ℕ, Bool, true, false, List, if◌then◌else◌, Ok, Err, ⊤}
+use Rattle.std.specs.Prelude.{◌≡◌, ◌⊎◌, ℕ, Bool, true, false, List, if◌then◌else◌, Ok, Err, ⊤}
 use Rattle.std.specs.List.{Contains}
 use Rattle.std.specs.Option.{option_map_or}
 use Rattle.std.specs.Str.{bytes_eq}
@@ -23,6 +23,7 @@ use Rattle.world.specs.Stepping.{worker_moved}
 use Rattle.world_items.specs.declared.answer.Answer.{Answer}
 use Rattle.world_items.specs.declared.event.Event.{Event}
 use Rattle.world_items.specs.declared.stop.Stop.{Stop}
+use Rattle.world_items.specs.declared.stop.Stop.TheVariants.{BeforeSave, BeforeSend}
 use Rattle.world_items.specs.declared.what.What.{What}
 use Rattle.world_items.specs.declared.what.What.TheVariants.{MasterOrder, WorkerOrder}
 use Rattle.world_items.specs.declared.what.What.TheVariants.{Deliver, Restart}
@@ -101,6 +102,12 @@ settled_word = running.settled_word machine
 
 abbrev pub settled : Stop → State → StepOrWord Controllers Message → State
 settled = running.settled machine
+
+-- it isn't known how far a step came: its controller stopped before its state was stored, or before
+-- its message was sent
+abbrev pub IsUnknown : State → StepOrWord Controllers Message → State → Type 0
+IsUnknown old step new =
+    (new ≡ settled BeforeSave old step) ⊎ (new ≡ settled BeforeSend old step)
 
 -- the same of an event
 abbrev pub answer_to : Event → State → Answer

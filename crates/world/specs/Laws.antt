@@ -1,6 +1,7 @@
 -- Laws of shops.
-use Rattle.std.specs.Prelude.{◌≡◌, ◌↔◌, ℕ, List, Some, slice_get}
+use Rattle.std.specs.Prelude.{◌≡◌, ◌↔◌, ◌⊎◌, ℕ, List, Some, Ok, slice_get}
 use Rattle.ticket_rows.specs.Ticket.{Job}
+use Rattle.controller.specs.Step.{Step}
 use Rattle.controller.specs.declared.message.Message.{Message}
 use Rattle.controller.specs.declared.reply.Reply.{Reply}
 use Rattle.spawn.specs.Marking.{marks}
@@ -10,11 +11,11 @@ use Rattle.world.specs.Happening.{after_all, answer_to, answers_to}
 use Rattle.world.specs.MergeAudits.{AreToldAbove}
 use Rattle.world.specs.Once.{AreMergedOnce, IsIn, TellsMerge}
 use Rattle.world.specs.Replay as replay
-use Rattle.world.specs.Running.{RunsAgree}
+use Rattle.world.specs.Running.{IsStopped, RunsAgree}
 use Rattle.world.specs.SeenTicket.{ticket_seen}
 use Rattle.world.specs.ShopMarks.{shop_marks}
 use Rattle.world.specs.Showing.{shop_shown, shows}
-use Rattle.world.specs.State.{IsKept, State, message_at, opening}
+use Rattle.world.specs.State.{Controllers, IsKept, State, message_at, opening}
 use Rattle.world_items.specs.declared.answer.Answer.{Answer}
 use Rattle.world_items.specs.declared.event.Event.{Event}
 use Rattle.world_items.specs.declared.stop.Stop.TheVariants.{Run}
@@ -30,6 +31,17 @@ abbrev pub SentIsTaken : Type 0
 SentIsTaken =
     (w : State) (k at : ℕ) (m : Message) → IsKept w → message_at w.messages k ≡ Some m
     → (reply : Reply) × ((answer_to (delivery k at) w).word ≡ Did reply)
+
+-- where a step of an event can't be saved, the state before it is held, or the one that it leads
+-- to; and nothing is sent. Then it is as if its controller had stopped in it, and so it is in what
+-- is shown
+abbrev pub FailedSaveIsStop : Type 0
+FailedSaveIsStop =
+    (w : State) (e : Event) (step : Step Controllers Message) (held : Controllers) → IsKept w
+    → happening.step_of e.what e.at w ≡ Ok step
+    → (held ≡ w.controllers) ⊎ (held ≡ step.next)
+    → let new : State = record { controllers = held; messages = w.messages } in
+    IsStopped happening.machine e w new × IsStopped replay.machine e (shows w) (shows new)
 
 -- ---- who may change what
 

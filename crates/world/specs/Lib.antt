@@ -2,6 +2,7 @@ pub mod Settling
 pub mod Controllers
 pub mod Messages
 pub mod State
+pub mod Sent
 pub mod StoredTexts
 pub mod Step
 pub mod Stepping

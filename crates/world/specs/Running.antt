@@ -1,6 +1,6 @@
 -- A run as one machine: at each event a step is made and settled, for any kind of state and of
 -- message. And when what one machine shows of itself runs as another.
-use Rattle.std.specs.Prelude.{◌≡◌, ℕ, List, [], ◌∷◌, map, Ok, Err}
+use Rattle.std.specs.Prelude.{◌≡◌, ◌⊎◌, ℕ, List, [], ◌∷◌, map, slice_get, take, Some, Ok, Err}
 use Rattle.std.specs.Option.{option_map}
 use Rattle.world.specs.Settling.{answer_without_step, settled_answer, settled_messages}
 use Rattle.world.specs.Settling.{settled_state}
@@ -10,6 +10,7 @@ use Rattle.world.specs.Step.{StepOrWord}
 use Rattle.world_items.specs.declared.answer.Answer.{Answer}
 use Rattle.world_items.specs.declared.event.Event.{Event}
 use Rattle.world_items.specs.declared.stop.Stop.{Stop}
+use Rattle.world_items.specs.declared.stop.Stop.TheVariants.{BeforeSave, BeforeSend}
 use Rattle.world_items.specs.declared.what.What.{What}
 
 -- what runs: a whole of a state and of the messages that were sent, and the step that is made of
@@ -51,6 +52,26 @@ answers_to m (e ∷ events) w = answer_to m e w ∷ answers_to m events (after m
 abbrev pub after_all : {W S M : Type 0} → Machine W S M → List Event → W → W
 after_all m [] w = w
 after_all m (e ∷ events) w = after_all m events (after m e w)
+
+-- ---- events that are cut off
+
+-- an event in which the controller stops so
+abbrev pub stopping : Stop → Event → Event
+stopping stop e = record e { stop = stop }
+
+-- it isn't known how far an event came: its controller stopped before its state was stored, or
+-- before its message was sent
+abbrev pub IsStopped : {W S M : Type 0} → Machine W S M → Event → W → W → Type 0
+IsStopped m e old new =
+    (new ≡ after m (stopping BeforeSave e) old) ⊎ (new ≡ after m (stopping BeforeSend e) old)
+
+-- events in turn came as far as one, and it isn't known how far that came
+pub record IsCutOff {W S M : Type 0} (m : Machine W S M) (events : List Event) (old new : W)
+    : Type 0 where
+  pub place : ℕ
+  pub event : Event
+  pub there : slice_get events place ≡ Some event
+  pub stopped : IsStopped m event (after_all m (take place events) old) new
 
 -- ---- two machines
 

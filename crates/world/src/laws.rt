@@ -9,6 +9,12 @@ pub fn what_was_sent_is_taken()
     ensures { law.SentIsTaken }
 {}
 
+/// A step that can't be saved, so that the old state is held or the new one, is as if its
+/// controller had stopped before its state was stored, or before its message was sent.
+pub fn failed_save_is_stop()
+    ensures { law.FailedSaveIsStop }
+{}
+
 /// No two may change one node or resource: neither the master and a worker, nor two workers, nor
 /// one worker through two of its entries.
 pub fn no_two_may_change_one()

@@ -3,10 +3,15 @@
 #![tactic(auto)]
 
 mod apart;
+mod carrier;
 pub mod laws;
+mod memory;
+mod seats;
 mod sent;
 mod stepping;
 mod workers;
 mod world;
 
+pub use carrier::{Carrier, Direct};
+pub use seats::Seats;
 pub use world::World;

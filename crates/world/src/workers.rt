@@ -1,13 +1,13 @@
 //! The workers of a shop, by their names.
 
 ghost use Rattle.std.specs.Prelude.{◌≡◌, false, map, IfOk, IfErr};
-ghost use Rattle.std.specs.List.{position};
+ghost use Rattle.std.specs.List.{find, position};
 ghost use Rattle.std.specs.Option.{option_copied};
 ghost use Rattle.ticket_items.specs.Ids.{mem};
 ghost use Rattle.world.specs.State as state;
 
 use std::alloc::Global;
-use stored_state::Station;
+use stored_state::{Seat, Station};
 use ticket_tree::{Duplicate, Id, Refusal};
 use worker_core::Worker;
 
@@ -30,20 +30,17 @@ pub fn new_workers(
     Ok(workers)
 }
 
-/// The worker of a name.
-pub fn station_of<'a>(workers: &'a [Station<Worker>], name: &Id) -> Option<&'a Station<Worker>>
-    ensures { option_copied result ≡ state.worker_of workers.now name.now }
+/// The seat of the worker of a name.
+pub fn seat_of<'a, W: Seat<Worker>>(workers: &'a [W], name: &Id) -> Option<&'a W>
+    ensures { option_copied result
+        ≡ find (λ seat. state.is_named name.now (W.kept seat)) workers.now }
 {
-    workers
-        .iter()
-        .find(|station| station.controller().name() == name)
+    workers.iter().find(|seat| seat.name() == name)
 }
 
 /// Where the worker of a name stands.
-pub fn place_of(workers: &[Station<Worker>], name: &Id) -> Option<usize>
-    ensures { result ≡ position (state.is_named name.now) workers.now }
+pub fn place_of<W: Seat<Worker>>(workers: &[W], name: &Id) -> Option<usize>
+    ensures { result ≡ position (λ seat. state.is_named name.now (W.kept seat)) workers.now }
 {
-    workers
-        .iter()
-        .position(|station| station.controller().name() == name)
+    workers.iter().position(|seat| seat.name() == name)
 }

@@ -1,33 +1,30 @@
 use crate::apart::are_names_apart;
-use crate::sent::Sent;
-use crate::stepping;
-use crate::workers::{new_workers, place_of, station_of};
+use crate::carrier::Direct;
+use crate::memory::in_memory;
+use crate::seats::Seats;
+use crate::workers::new_workers;
 use master_core::Master;
 use std::alloc::{AllocError, Global};
 use std::marker::Model;
-use stored_state::{Cause, Station};
+use stored_state::Station;
 use ticket_tree::{Id, Ids, Refusal, Ticket};
 use worker_core::Worker;
-use world_items::{Answer, Event, Stop, What, Word};
+use world_items::{Answer, Event};
 
 /// A master, its workers, and every message that they sent. What is kept of a message is its text,
 /// which is read where it is delivered; and of a controller the text of its state, from which it is
 /// started again. Between events each controller is as it is stored.
 #[derive(Drop)]
 pub struct World {
-    master: Station<Master>,
-    workers: Vec<Station<Worker>>,
-    messages: Sent,
+    seats: Seats<Station<Master>, Station<Worker>>,
 }
 
 impl Model for World {
-    ghost use Rattle.world.specs.State.{IsKept, State, state};
+    ghost use Rattle.world.specs.State.{State};
 
     ghost Value = { State };
 
-    ghost view = { λ a. state a.master a.workers.items a.messages };
-
-    ghost invariant = { λ a. IsKept (state a.master a.workers.items a.messages) };
+    ghost view = { λ a. a.seats };
 }
 
 impl World {
@@ -74,9 +71,7 @@ impl World {
         let begun = master.controller();
         match new_workers(alloc, begun.name(), begun.workers()) {
             Ok(workers) => Ok(World {
-                master,
-                workers,
-                messages: Sent::new(alloc),
+                seats: Seats::new(alloc, master, workers),
             }),
             Err(refusal) => {
                 drop(master);
@@ -93,14 +88,14 @@ impl World {
         ensures marks { marks result.now.ticket.rows result.now.records
             ≡ shop_marks (shows self.now).shop }
     {
-        self.master.controller()
+        self.seats.master_seat().controller()
     }
 
     /// The worker of a name.
     pub fn worker(&self, name: &Id) -> Option<&Worker>
         ensures { option_copied result ≡ state.worker_of self.now.controllers.workers name.now }
     {
-        let station = station_of(self.workers.as_slice(), name)?;
+        let station = self.seats.worker_seat(name)?;
         Some(station.controller())
     }
 
@@ -110,10 +105,11 @@ impl World {
         ensures again { IfSome result (λ text.
             texts.IsReadAgain self.now.controllers name.now text.now) }
     {
-        if name == self.master.controller().name() {
-            return Some(self.master.text());
+        let master = self.seats.master_seat();
+        if name == master.controller().name() {
+            return Some(master.text());
         }
-        let station = station_of(self.workers.as_slice(), name)?;
+        let station = self.seats.worker_seat(name)?;
         Some(station.text())
     }
 
@@ -132,122 +128,7 @@ impl World {
         ensures kept { state.IsKept self.now }
         ensures told { AreTold self.now }
     {
-        self.messages.texts()
-    }
-
-    /// The master is told to do something, or a message that was sent to it comes to it.
-    fn tell_master(
-        &mut self,
-        alloc: Global,
-        cause: Cause<master_core::Order>,
-        at: u64,
-        stop: Stop,
-    ) -> Result<Answer, AllocError>
-        requires { happening.ComesTo self.old.controllers.master.name self.old.messages cause }
-        ensures answer { IfOk result (λ a. a
-            ≡ happening.settled_word stop self.old (happening.master_step cause at self.old)) }
-        ensures state { OnOk result (self.new
-            ≡ happening.settled stop self.old (happening.master_step cause at self.old)) }
-        ensures err { OnErr result (self.new ≡ self.old) }
-        ensures kept { state.IsKept self.old }
-    {
-        stepping::steps(alloc, &mut self.master, &mut self.messages, cause, at, stop)
-    }
-
-    /// The worker that stands at a place is told to do something, or a message that was sent to it
-    /// comes to it. With no place no step is made, which is answered by this word.
-    fn tell_worker(
-        &mut self,
-        alloc: Global,
-        place: Option<usize>,
-        none: Word,
-        cause: Cause<worker_core::Order>,
-        at: u64,
-        stop: Stop,
-    ) -> Result<Answer, AllocError>
-        requires { (name : List ℕ)
-            × (position (state.is_named name) self.old.controllers.workers ≡ place)
-            × happening.ComesTo name self.old.messages cause }
-        ensures answer { (name : List ℕ)
-            → position (state.is_named name) self.old.controllers.workers ≡ place
-            → IfOk result (λ a. a ≡ happening.settled_word stop self.old
-            (happening.worker_step name none cause at self.old)) }
-        ensures state { (name : List ℕ)
-            → position (state.is_named name) self.old.controllers.workers ≡ place
-            → OnOk result (self.new ≡ happening.settled stop self.old
-            (happening.worker_step name none cause at self.old)) }
-        ensures err { OnErr result (self.new ≡ self.old) }
-        ensures unmade { is_some place ≡ false → IsOk result }
-        ensures kept { state.IsKept self.old }
-    {
-        match place {
-            None => {
-                drop(cause);
-                Ok(Answer::without_step(none))
-            }
-            Some(place) => {
-                let stored = &mut self.workers[place];
-                stepping::steps(alloc, stored, &mut self.messages, cause, at, stop)
-            }
-        }
-    }
-
-    /// The message of a number is handed to its receiver.
-    fn deliver(
-        &mut self,
-        alloc: Global,
-        number: u64,
-        at: u64,
-        stop: Stop,
-    ) -> Result<Answer, AllocError>
-        ensures answer { IfOk result (λ a. a
-            ≡ happening.settled_word stop self.old (happening.delivery_step number at self.old)) }
-        ensures state { OnOk result (self.new
-            ≡ happening.settled stop self.old (happening.delivery_step number at self.old)) }
-        ensures err { OnErr result (self.new ≡ self.old) }
-        ensures unmade { happening.is_reached (happening.delivery_step number at self.old)
-            ≡ false → IsOk result }
-        ensures kept { state.IsKept self.old }
-    {
-        let Some(message) = self.messages.read(alloc, number)? else {
-            return Ok(Answer::without_step(Word::NoMessage));
-        };
-        if message.receiver == *self.master.controller().name() {
-            return self.tell_master(alloc, Cause::Message(message), at, stop);
-        }
-        let place = place_of(self.workers.as_slice(), &message.receiver);
-        self.tell_worker(
-            alloc,
-            place,
-            Word::NoMessage,
-            Cause::Message(message),
-            at,
-            stop,
-        )
-    }
-
-    /// The controller of a name stops, and is started again from the text of its state.
-    fn restart(&mut self, alloc: Global, name: &Id) -> Result<Answer, AllocError>
-        ensures answer { IfOk result (λ a. a
-            ≡ settling.answer_without_step (happening.restart_word name.now self.old)) }
-        ensures state { OnOk result (self.new ≡ self.old) }
-        ensures err { OnErr result (self.new ≡ self.old) }
-        ensures unmade { happening.is_reached (Err (happening.restart_word name.now self.old))
-            ≡ false → IsOk result }
-        ensures kept { state.IsKept self.old }
-    {
-        if name == self.master.controller().name() {
-            self.master.restart(alloc)?;
-            return Ok(Answer::without_step(Word::Restarted));
-        }
-        match place_of(self.workers.as_slice(), name) {
-            None => Ok(Answer::without_step(Word::Refused(Refusal::UnknownWorker))),
-            Some(place) => {
-                let stored = &mut self.workers[place];
-                stored.restart(alloc)?;
-                Ok(Answer::without_step(Word::Restarted))
-            }
-        }
+        self.seats.messages()
     }
 
     /// One event. What is told to a controller, or comes to it, is a step: its state is stored and
@@ -271,16 +152,9 @@ impl World {
         ensures held { (c : Changer) (x : List ℕ)
             → MayChange self.new c x ↔ Holds (shows self.new).shop c x }
     {
-        let Event { what, at, stop } = event;
-        match what {
-            What::MasterOrder(order) => self.tell_master(alloc, Cause::Order(order), at, stop),
-            What::WorkerOrder(name, order) => {
-                let place = place_of(self.workers.as_slice(), &name);
-                let none = Word::Refused(Refusal::UnknownWorker);
-                self.tell_worker(alloc, place, none, Cause::Order(order), at, stop)
-            }
-            What::Deliver(number) => self.deliver(alloc, number, at, stop),
-            What::Restart(name) => self.restart(alloc, &name),
+        match self.seats.step(&mut Direct, alloc, event) {
+            Ok(answer) => Ok(answer),
+            Err(_) => Err(AllocError),
         }
     }
 
@@ -312,13 +186,6 @@ impl World {
         ensures held { (c : Changer) (x : List ℕ)
             → MayChange self.new c x ↔ Holds (shows self.new).shop c x }
     {
-        // A world is kept in order: that is known where a field is named.
-        let _ = &self.messages;
-        let mut answers = Vec::with_capacity(alloc, events.len())?;
-        for event in events {
-            let answer = self.step(alloc, event)?;
-            answers.extend_from_slice(&[answer])?;
-        }
-        Ok(answers)
+        in_memory(self.seats.run(&mut Direct, alloc, events))
     }
 }

@@ -1,20 +1,14 @@
-use Rattle.std.proofs.Common.{◌≡◌, ◌∙◌, ap, subst, sym}
+use Rattle.std.proofs.Common.{◌∙◌, ap}
 use Rattle.spawn.specs.Marking.{marks}
 use Rattle.master_core.specs.Master.{Known}
-use Rattle.world.proofs.MarksShown.{marks_are_shown}
-use Rattle.world.proofs.TicketSeen.{ticket_is_seen}
 use Rattle.world.specs.SeenTicket.{ticket_seen}
 use Rattle.world.specs.ShopMarks.{shop_marks}
-use Rattle.world.specs.Showing.{shop_shown}
-use Rattle.world.specs.State.{State, state}
+use Rattle.world.specs.Showing.{shows}
+use Rattle.world.specs.State.{State}
 use Rattle.world.proofs.world.World.master.Goals as goal
 
 pub returns-clause-seen : goal.returns-clause-seen
-returns-clause-seen c =
-    let w : State = state c.self.inside.master c.self.inside.workers.items c.self.inside.messages in
-    ap (λ (m : Known). m.ticket) c.controller.ensures ∙ subst (λ (v : State). w.controllers.master.ticket ≡ ticket_seen (shop_shown v.controllers)) c.self.view_is (sym (ticket_is_seen w c.self.invariant))
+returns-clause-seen c = ap (λ (m : Known). m.ticket) c.controller.ensures ∙ c.master_seat.ensures.seen ∙ ap (λ (v : State). ticket_seen (shows v).shop) c.self.view_is
 
 pub returns-clause-marks : goal.returns-clause-marks
-returns-clause-marks c =
-    let w : State = state c.self.inside.master c.self.inside.workers.items c.self.inside.messages in
-    ap (λ (m : Known). marks m.ticket.rows m.records) c.controller.ensures ∙ subst (λ (v : State). marks w.controllers.master.ticket.rows w.controllers.master.records ≡ shop_marks (shop_shown v.controllers)) c.self.view_is (sym (marks_are_shown w c.self.invariant))
+returns-clause-marks c = ap (λ (m : Known). marks m.ticket.rows m.records) c.controller.ensures ∙ c.master_seat.ensures.marks ∙ ap (λ (v : State). shop_marks (shows v).shop) c.self.view_is

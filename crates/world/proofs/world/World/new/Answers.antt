@@ -1,31 +1,30 @@
-use Rattle.std.proofs.Common.{◌≡◌, List, [], map, ap, ◌∙◌, subst, sym}
-use Rattle.controller.specs.declared.message.Message.{Message}
+use Rattle.std.proofs.Common.{◌≡◌, [], map, ap, ◌∙◌, refl, subst, sym}
+use Rattle.std.proofs.lemmas.List.{map-id}
 use Rattle.master_core.specs.Master as master
 use Rattle.master_core.specs.Master.{Known, known}
 use Rattle.world.proofs.Opening.{opening_is_shown, opening_kept}
 use Rattle.world.specs.Showing.{shows}
-use Rattle.world.specs.State.{new_worker, opening, state}
+use Rattle.world.specs.State.{IsKept, new_worker, opening, state}
 use Rattle.world.proofs.world.World.new.Goals as goal
 
-pub invariant_of-result : goal.invariant_of-result
-invariant_of-result c =
-    let sent : List Message = c.new-in-Ok.result in
-    let none : sent ≡ [] = c.new-in-Ok.ensures in
+pub new-requires-in-Ok : goal.new-requires-in-Ok
+new-requires-in-Ok c =
     let named = c.in-Ok.ensures.ok ∙ ap (λ n. map (new_worker n) c.workers-2.result.now) (c.name-2.ensures ∙ ap (λ (m : Known). m.name) c.controller-begun.ensures) ∙ ap (map (new_worker c.in_ok-master.master.name)) (c.workers-2.ensures ∙ ap (λ (m : Known). m.workers) c.controller-begun.ensures) in
-    opening_kept c.in_ok-master.master c.in-Ok.workers.items sent (subst master.IsKept (sym c.in_ok-master.ensures) c.in_ok-core.ensures.kept) named none (ap (λ (m : Known). m.records) (c.in_ok-master.ensures ∙ c.in_ok-core.ensures.ok))
+    subst (λ ws. IsKept (state c.in_ok-master.master ws [])) (sym (map-id c.in-Ok.workers.items))
+    (opening_kept c.in_ok-master.master c.in-Ok.workers.items [] (subst master.IsKept (sym c.in_ok-master.ensures) c.in_ok-core.ensures.kept) named refl (ap (λ (m : Known). m.records) (c.in_ok-master.ensures ∙ c.in_ok-core.ensures.ok)))
 
-pub returns-in-Ok-clause-shown : goal.returns-in-Ok-clause-shown
-returns-in-Ok-clause-shown c =
+pub returns-in-Ok-clause-ok : goal.returns-in-Ok-clause-ok
+returns-in-Ok-clause-ok c =
     let name = c.args.name in
     let workers = c.args.workers in
     let ticket = c.args.ticket in
     let begun = known name workers ticket [] in
-    let sent : List Message = c.new-in-Ok.result in
-    let none : sent ≡ [] = c.new-in-Ok.ensures in
     let is = c.in_ok-master.ensures ∙ c.in_ok-core.ensures.ok in
     let named = c.in-Ok.ensures.ok ∙ ap (λ n. map (new_worker n) c.workers-2.result.now) (c.name-2.ensures ∙ ap (λ (m : Known). m.name) c.controller-begun.ensures) ∙ ap (map (new_worker c.in_ok-master.master.name)) (c.workers-2.ensures ∙ ap (λ (m : Known). m.workers) c.controller-begun.ensures) in
-    let made : state c.in_ok-master.master c.in-Ok.workers.items sent ≡ opening name workers ticket =
-    ap (λ m. state m c.in-Ok.workers.items sent) is
-    ∙ ap (λ ws. state begun ws sent) (named ∙ ap (λ (m : Known). map (new_worker m.name) m.workers) is)
-    ∙ ap (state begun (map (new_worker name) workers)) none in
-    ap shows made ∙ opening_is_shown name workers ticket
+    let made : state c.in_ok-master.master c.in-Ok.workers.items [] ≡ opening name workers ticket =
+    ap (λ m. state m c.in-Ok.workers.items []) is
+    ∙ ap (λ ws. state begun ws []) (named ∙ ap (λ (m : Known). map (new_worker m.name) m.workers) is) in
+    c.new-in-Ok.ensures ∙ ap (λ ws. state c.in_ok-master.master ws []) (map-id c.in-Ok.workers.items) ∙ made
+
+pub returns-in-Ok-clause-shown : goal.returns-in-Ok-clause-shown
+returns-in-Ok-clause-shown c = ap shows (returns-in-Ok-clause-ok c) ∙ opening_is_shown c.args.name c.args.workers c.args.ticket
