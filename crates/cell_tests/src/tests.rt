@@ -1,5 +1,5 @@
 mod answers;
 mod holders;
-mod keepers;
+mod kept_cells;
 mod requests;
 mod responses;

@@ -49,6 +49,11 @@ pub fn step_anew<C: Cell, S: Step>(
     keep: &mut CellKeep<C>,
     step: &S,
 ) -> Result<S::Given, KeepFault>
+    // Proved: A step that is made anew where another came first is, once it succeeds, of the value
+    // that was held, which stays or which the step's own replaced, directly and once.
+    // By `stepped`, `sent`.
+    // Not proved: that a step is tried sixteen times, and that a load, a save or a step succeeds
+    // where answers come.
     ensures stepped { C.is_honest ≡ true → IfOk result (IsStepped (S.makes step.now)
         (C.view keep.old.cell).chain (C.view keep.new.cell).chain) }
     ensures sent { C.is_honest ≡ true → OnOk result

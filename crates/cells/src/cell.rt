@@ -19,6 +19,10 @@ pub trait Cell: Drop {
 
     /// The value that is held. Refuses `Failed` where no answer comes, and `Memory`.
     fn read(&mut self) -> Result<Versioned, KeepFault>
+        // Proved: Between two calls, only swaps that were sent are made, each over the value whose
+        // revision it names, of which the next is later; of an answered swap it is told whether it
+        // was made.
+        // By `Cell::swap`, `Cell::touch`.
         ensures { is_honest ≡ true → Reads (view self.old) (view self.new) result };
 
     /// Asks for these bytes in place of the value of a revision.

@@ -40,6 +40,9 @@ impl<C: Cell> CellKeep<C> {
 
     /// A keeper over this cell, of which no call failed yet. It loads before it saves.
     pub fn over(alloc: Global, cell: C) -> CellKeep<C>
+        // Proved: A keeper over a cell begins with nothing read, or with no value, and tells its
+        // cell and whether a conflict was told.
+        // By `CellKeep::over_new`, `CellKeep::cell`, `CellKeep::is_conflict`.
         ensures { result ≡ record { cell = cell; holding = idle; is_conflict = false; count = 0 } }
     {
         CellKeep {
@@ -140,8 +143,14 @@ impl<C: Cell> Keep for CellKeep<C> {
     /// no answer comes to that, nothing is loaded. Refuses `Failed` also where nothing was ever
     /// held.
     fn load(&mut self) -> Result<Vec<u8>, KeepFault>
+        // Proved: Whatever a load or a save answers, it sent nothing but a touch of what it had,
+        // and a save a swap of that by its bytes.
+        // By `sends`; `CellKeep::save`: `sends`.
         ensures sends { C.is_honest ≡ true → Sends (C.view self.old.cell)
             (IsOfLoad self.old.holding) (C.view self.new.cell) }
+        // Proved: A load that succeeds gives what is held, once nothing that this keeper sent can
+        // be made any more.
+        // By `value`, `settled`, `has`, `conflict`, `failures`.
         ensures value { C.is_honest ≡ true → IfOk result (λ bytes.
             (bytes.items ≡ (held (C.view self.new.cell).chain).bytes)
             × (0 < (held (C.view self.new.cell).chain).revision)) }
@@ -169,12 +178,18 @@ impl<C: Cell> Keep for CellKeep<C> {
     fn save(&mut self, bytes: &[u8]) -> Result<(), KeepFault>
         ensures sends { C.is_honest ≡ true → Sends (C.view self.old.cell)
             (IsOfSave self.old.holding bytes.now) (C.view self.new.cell) }
+        // Proved: A keeper over a cell answers `Ok` to a save only where its swap was made, or
+        // where these are the bytes that it has, and then it sends nothing.
+        // By `made`, `same`.
         ensures same { holds self.old.holding bytes.now ≡ true →
             (self.new.cell ≡ self.old.cell) × (self.new.holding ≡ self.old.holding) }
         ensures made { C.is_honest ≡ true → holds self.old.holding bytes.now ≡ false →
             OnOk result (IsSwapped self.old.holding bytes.now
             (C.view self.old.cell) (C.view self.new.cell)
             × (self.new.holding ≡ has_read (held (C.view self.new.cell).chain))) }
+        // Proved: A conflict is told where another came first: these bytes were not made, and what
+        // they were to replace is held no longer.
+        // By `conflict`, `told`.
         ensures conflict { C.is_honest ≡ true → self.new.is_conflict ≡ true →
             IfSome self.old.holding.has
             (λ v. IsNot (C.view self.old.cell) (swap_of v bytes.now) (C.view self.new.cell)) }

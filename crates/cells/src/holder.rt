@@ -35,6 +35,9 @@ impl Model for Holder {
 impl Holder {
     /// It has nothing yet.
     pub fn new(alloc: Global) -> Holder
+        // Proved: A holder begins with nothing read, or with no value, and tells what it has and
+        // whether it is open.
+        // By `Holder::of_nothing`, `Holder::has`, `Holder::is_open`.
         ensures { result ≡ idle }
     {
         Holder {
@@ -93,6 +96,11 @@ impl Holder {
     /// Asks for these bytes in place of what it has. Refuses `Failed` where it has nothing or is
     /// open, and `Memory`: then nothing is sent.
     pub fn swap<C: Cell>(&mut self, cell: &mut C, bytes: &[u8]) -> Result<Swapped, KeepFault>
+        // Proved: A swap is of what was read or made last. Where another came first its holder has
+        // nothing then, and reads again; where no answer comes it is open, and does nothing but
+        // touch until that is answered.
+        // By `failed`, `swaps`, `after`, `err`, `sent`; `Holder::touch`: `some`, `swaps`, `after`,
+        // `none`; `Holder::read`: `open`, `ok`, `err`, `goes`, `has`, `closed`.
         ensures err { OnErr result ((self.new ≡ self.old) × (cell.new ≡ cell.old)) }
         ensures failed { (result ≡ Err Failed) ↔ (can_swap self.old ≡ false) }
         ensures sent { OnOk result (can_swap self.old ≡ true) }

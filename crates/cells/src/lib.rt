@@ -1,6 +1,10 @@
 //! Cells: values with revisions that several processes share, and what keeps a state in one.
 #![tactic(auto)]
 
+// Not proved: that a cell is honest, of which all is said, as the one in memory that follows a
+// script is: of an engine behind a socket no contract can say it, and that it compares and swaps,
+// one call at a time, is a premise.
+
 mod act;
 mod anew;
 mod call;

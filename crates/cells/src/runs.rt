@@ -62,7 +62,13 @@ pub fn run<C: Cell>(
     count: usize,
     calls: &[Call],
 ) -> Result<Vec<Option<Versioned>>, AllocError>
+    // Wants: calls of holders that are there.
     requires { All (λ call. call.holder < count) calls.now }
+    // Proved: Several holders share a cell, each of whose calls, a read, a swap or a touch, comes
+    // at any time, also where answers are lost and what was sent is made later, by others' calls:
+    // the values that the cell held meanwhile are one chain, each by a swap or a touch of a holder
+    // that had the one before, as it read or made it, if no swap of anybody else may be made.
+    // By `chain`, `told`.
     ensures told { IfOk result (λ told. length told.items ≡ length calls.now) }
     ensures chain { C.is_honest ≡ true → IfOk result (λ told. IsRising (C.view cell.old).chain
         → ((s : Swap) → (C.view cell.old).may_land s → ⊥)

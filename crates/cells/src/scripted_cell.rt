@@ -39,6 +39,8 @@ impl ScriptedCell {
 
     /// A cell that never held anything.
     pub fn new(alloc: Global, script: Vec<Deed>) -> ScriptedCell
+        // Proved: A cell in memory begins with no value, and follows its script.
+        // By `ScriptedCell::chain`.
         ensures { result ≡ record { chain = []; delayed = []; script = script.items } }
     {
         ScriptedCell {

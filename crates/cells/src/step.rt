@@ -12,5 +12,6 @@ pub trait Step: Drop {
 
     /// The bytes that it leads to from these, and what it gives.
     fn make(&self, alloc: Global, bytes: &[u8]) -> Result<(Vec<u8>, Self::Given), AllocError>
+        // Proved: A step makes of the bytes what it says.
         ensures { IfOk result (λ made. makes self.now bytes.now made.0.items made.1) };
 }

@@ -21,6 +21,9 @@ impl Versioned {
 
     /// These bytes, of this revision.
     pub fn new(revision: u64, bytes: Vec<u8>) -> Versioned
+        // Proved: A value has its revision and its bytes, and a copy the same.
+        // By `Versioned::revision`, `Versioned::bytes`, `Versioned::copy_bytes`,
+        // `Versioned::copy`, `Versioned::into_bytes`.
         ensures { result ≡ record { revision = revision; bytes = bytes.items } }
     {
         Versioned { revision, bytes }

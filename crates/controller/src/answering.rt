@@ -47,6 +47,8 @@ pub fn answer_to(
     at: u64,
     told: Result<QueueStatus, u16>,
 ) -> Result<Option<Message>, AllocError>
+    // Proved: A command is answered to its sender; an answer isn't, which takes no memory.
+    // By `answer`, `answers`; `spawn_in`, `command_given`.
     ensures answer { IfOk result (λ answer. answer
         ≡ replies.answer_to name.now message.now at told) }
     ensures answers { replies.is_answer message.now.body ≡ true → IsOk result }
@@ -76,6 +78,9 @@ pub fn outcome_of(
     at: u64,
     taken: Result<Taken, Refusal>,
 ) -> Result<Outcome, AllocError>
+    // Proved: What comes of a message that is taken or refused is its reply, and the answer to a
+    // command.
+    // By `reply`, `answer`, `answers`.
     ensures reply { IfOk result (λ outcome. outcome.reply ≡ steps.reply_of taken) }
     ensures answer { IfOk result (λ outcome. outcome.answer
         ≡ replies.answer_to name.now message.now at (steps.told_of taken)) }

@@ -16,6 +16,9 @@ impl Command {
 
     /// The command of a Type.
     pub fn named(kind: &str) -> Option<Command>
+        // Proved: Words name commands, Statuses and replies.
+        // By `Command::word`, `Command::mark`, `QueueStatus::named`, `QueueStatus::word`,
+        // `Reply::word`.
         ensures { result ≡ command_named kind.now }
     {
         if kind == "SubmitQueueEntry" {

@@ -35,10 +35,18 @@ pub trait Controller: Drop {
     /// Does what it is told, at a time in seconds since 1970. Refuses what doesn't hold of its
     /// state, without memory, and then `Memory`. A refusal changes nothing.
     fn order(&mut self, alloc: Global, order: Self::Order, at: u64) -> Result<Done, Refusal>
+        // Proved: A step depends on state, input and time alone, and is one value: what is
+        // replied, what is sent, what it leads to.
+        // By `ok`, `err`; `Controller::take`: `ok`, `err`.
         ensures ok { IfOk result (λ done. done_step done self.new ≡ order_step order at self.old) }
+        // Proved: What is sent may be sent.
+        // By `sendable`; `Controller::take`: `sendable`.
         ensures sendable { IfOk result
             (λ done. IfSome done.message (λ m. may_be_sent m.body ≡ true)) }
         ensures err { OnErr result (self.new ≡ self.old) }
+        // Proved: What a controller refuses changes nothing and sends nothing, and is refused
+        // without memory.
+        // By `refused`, `memory`, `known`, `idle`.
         ensures refused { IfErr (order_step order at self.old).reply (λ e. result ≡ Err e) }
         ensures memory { IfOk (order_step order at self.old).reply
             (λ _. IfErr result (λ e. e ≡ Memory)) }
@@ -56,6 +64,7 @@ pub trait Controller: Drop {
         ensures sendable { IfOk result
             (λ outcome. IfSome outcome.answer (λ m. may_be_sent m.body ≡ true)) }
         ensures err { OnErr result (self.new ≡ self.old) }
+        // Proved: An answer that frees no spawn needs no memory.
         ensures answers { is_answer message.body ≡ true
             → IfOk (take_step message at self.old).reply (λ r. is_freed r ≡ false) → IsOk result };
 }

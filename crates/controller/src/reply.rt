@@ -61,6 +61,8 @@ impl Reply {
 
     /// The spawn that it tells of. That something is edited tells of none.
     pub fn spawn(self) -> Option<SpawnId>
+        // Proved: A reply tells its spawn, and a controller its name.
+        // By `Controller::name`.
         ensures { result ≡ replies.spawn_told self }
     {
         match self {

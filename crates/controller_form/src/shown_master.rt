@@ -12,6 +12,9 @@ use ticket_tree::Refusal;
 /// Appends the text of a master's ticket, with the marks of what is out, and the end of its line.
 /// Refuses `Memory` alone.
 pub fn push_shown(alloc: Global, text: &mut Vec<u8>, master: &Master) -> Result<(), Refusal>
+    // Proved: What a master shows is its ticket with the marks of what is out, on a line; memory
+    // alone is refused.
+    // By `ok`, `memory`.
     ensures ok { OnOk result (text.new.items ≡ text.old.items ++ master_text master.now) }
     ensures memory { IfErr result (λ e. e ≡ Memory) }
 {

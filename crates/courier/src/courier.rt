@@ -36,6 +36,9 @@ impl Model for Courier {
 impl Courier {
     /// No destinations.
     pub fn new(alloc: Global) -> Courier
+        // Proved: A courier begins with no destination, and one more has the next number and
+        // nothing out.
+        // By `Courier::lines`: `value`, `paced`; `Courier::add`: `number`, `ok`, `err`.
         ensures { result ≡ [] }
     {
         Courier {
@@ -54,6 +57,9 @@ impl Courier {
 
     /// Whether something is in flight to a destination.
     pub fn flies(&self, line: usize) -> bool
+        // Proved: What is in flight to a destination, when its last try ended, and when the next
+        // may be sent to any is told.
+        // By `Courier::in_flight`, `Courier::last_tried`, `Courier::wake`.
         ensures { result ≡ table.flies_at self.now line }
     {
         line < self.lines.len() && self.lines[line].flies()
@@ -72,6 +78,7 @@ impl Courier {
 
     /// When the last try to send to a destination ended, or it was added.
     pub fn last_tried(&self, line: usize) -> u64
+        // Wants: a destination that is there.
         requires { line < length self.now }
         ensures { result ≡ (table.destination_at self.now line).since }
     {
@@ -92,7 +99,10 @@ impl Courier {
 
     /// One item more is out to a destination, behind the others. Answers whether it wasn't before.
     pub fn put(&mut self, line: usize, item: u64) -> Result<bool, AllocError>
+        // Wants: a destination that is there.
         requires { line < length self.old }
+        // Proved: An item that is put is out, once.
+        // By `new`, `ok`, `err`.
         ensures new { IfOk result (λ new. new ≡ not (table.is_out self.old line item)) }
         ensures ok { OnOk result (self.new ≡ table.put item self.old line) }
         ensures err { OnErr result (self.new ≡ self.old) }
@@ -111,6 +121,10 @@ impl Courier {
     /// Nothing bounds how long that takes: the caller has its own limit, and calls `failed` then.
     /// To send all that is due, it is called until there is nothing.
     pub fn next(&mut self, now: u64) -> Option<Flight>
+        // Proved: What is given is the first item of a destination to which nothing is in flight,
+        // whose moment has come, and none that waits comes before it; where nothing is given,
+        // whatever waits had its last try end less than 60 seconds ago.
+        // By `next`, `after`, `tried`.
         ensures next { table.IsNextOrQuiet now self.old result }
         ensures after { self.new ≡ table.after_next self.old result }
         ensures tried { IfNone result (table.AreTried now self.new) }
@@ -135,6 +149,7 @@ impl Courier {
 
     /// What is in flight to a destination failed: it goes behind the others.
     pub fn failed(&mut self, line: usize, now: u64)
+        // Wants: a destination to which something is in flight.
         requires { table.flies_at self.old line ≡ true }
         ensures { self.new ≡ table.changed (words.failed now) self.old line }
     {
@@ -144,7 +159,11 @@ impl Courier {
 
     /// What is in flight to a destination was answered: it is out no longer.
     pub fn settled(&mut self, line: usize, now: u64)
+        // Wants: a destination to which something is in flight.
         requires { table.flies_at self.old line ≡ true }
+        // Proved: What is settled or withdrawn isn't out any more, and what failed goes behind the
+        // others of its destination, which waits 1 second then, doubled up to 60.
+        // By `Courier::withdrawn`, `Courier::failed`.
         ensures { self.new ≡ table.changed (words.settled now) self.old line }
     {
         let goes_on = self.lines[line].settle(now);
@@ -154,6 +173,7 @@ impl Courier {
     /// What is in flight to a destination wasn't sent, since it turned out to be out no longer:
     /// what is so in the middle of a line is found as its turn comes.
     pub fn withdrawn(&mut self, line: usize)
+        // Wants: a destination to which something is in flight.
         requires { table.flies_at self.old line ≡ true }
         ensures { self.new ≡ table.changed words.withdrawn self.old line }
     {
@@ -165,6 +185,9 @@ impl Courier {
     /// Something came from a destination, so it is there: what waits for it may be sent at once. An
     /// unknown number changes nothing. Where that ends a waiting it is a walk over all that wait.
     pub fn heard(&mut self, line: usize, now: u64)
+        // Proved: A destination that is heard from is due then, if it wasn't before, and waits 1
+        // second behind the next failure; its items, what is in flight and all other destinations
+        // stay, and an unknown number changes nothing.
         ensures { self.new ≡ table.changed (words.heard now) self.old line }
     {
         if line >= self.lines.len() {

@@ -48,6 +48,10 @@ impl Model for Deliveries {
 impl Deliveries {
     /// No destinations, and nothing is out.
     pub fn new(alloc: Global) -> Deliveries
+        // Proved: Deliveries begin with no destination and nothing out; one more destination has
+        // the next number; and it is told when something is due.
+        // By `Deliveries::destinations`, `Deliveries::wake`; `Deliveries::add_destination`:
+        // `number`, `ok`, `err`.
         ensures { result ≡ record { destinations = []; routes = []; outboxes = [] } }
     {
         Deliveries {
@@ -85,7 +89,14 @@ impl Deliveries {
         controller: usize,
         out: &[(SpawnId, usize)],
     ) -> Result<(), AllocError>
+        // Wants: destinations that are there.
         requires { All (λ o. o.1 < length self.old.destinations) out.now }
+        // Proved: Behind a look a controller has out just the spawns that are told, each with the
+        // progress that it had, and `Waiting` where it had none; what the others have out stays.
+        // What of them waits was put in lines, one behind the other in the order in which it was
+        // told, and nothing else was. Without memory what all have out stays, and a front of them
+        // was put.
+        // By `looked`, `others`, `put`, `boxes`, `err`.
         ensures looked { OnOk result ((s : ℕ) → progress_in (ledger.outbox_at self.new.outboxes controller) s
             ≡ looked (ledger.outbox_at self.old.outboxes controller) out.now s) }
         ensures others { OnOk result ((k : ℕ) → (k ≡ controller → ⊥)
@@ -114,6 +125,10 @@ impl Deliveries {
     /// What is to be sent now, and is in flight from then on, until the caller tells how it ended.
     /// Needs no memory.
     pub fn next(&mut self, now: u64) -> Option<Flight>
+        // Proved: What is given is out, waits, and goes to the destination for which it is. What
+        // the courier gave before and doesn't wait for that was withdrawn; where nothing is given,
+        // nothing that is due is in a line any more.
+        // By `given`, `routes`, `boxes`; `laws::what_is_given_waits`.
         ensures given { IsGiven now self.old.routes self.old.outboxes self.old.destinations
             self.new.destinations result }
         ensures routes { self.new.routes ≡ self.old.routes }
@@ -124,6 +139,10 @@ impl Deliveries {
 
     /// Whether something is in flight to a destination.
     pub fn flies(&self, line: usize) -> bool
+        // Proved: A thing is in flight to one destination at most; what waits is in the line of
+        // its destination.
+        // By `tied`, `value`; `Deliveries::progress`: `tied`, `value`;
+        // `laws::none_is_in_flight_twice`, `laws::what_waits_is_in_its_line`.
         ensures value { result ≡ table.flies_at self.now.destinations line }
         ensures tied { ledger.IsTied self.now.destinations self.now.routes self.now.outboxes }
     {
@@ -147,7 +166,9 @@ impl Deliveries {
 
     /// What is in flight to a destination failed: it goes behind the others of that.
     pub fn failed(&mut self, line: usize, now: u64)
+        // Wants: a destination to which something is in flight.
         requires { table.flies_at self.old.destinations line ≡ true }
+        // Proved: A failure changes no progress.
         ensures { self.new ≡ record self.old {
           destinations = table.changed (words.failed now) self.old.destinations line;
         } }
@@ -157,7 +178,13 @@ impl Deliveries {
 
     /// An answer accepts what is in flight to a destination.
     pub fn taken(&mut self, line: usize, now: u64)
+        // Wants: a destination to which something is in flight.
         requires { table.flies_at self.old.destinations line ≡ true }
+        // Proved: An answer that accepts or refuses what is in flight changes its progress to that
+        // where it is still out, one that it wasn't sent drops it, and no other progress is
+        // changed.
+        // By `destinations`, `routes`, `progress`; `Deliveries::refused`, `Deliveries::withdrawn`:
+        // `destinations`, `routes`, `progress`.
         ensures destinations { self.new.destinations
             ≡ table.changed (words.settled now) self.old.destinations line }
         ensures routes { self.new.routes ≡ self.old.routes }
@@ -175,6 +202,7 @@ impl Deliveries {
 
     /// An answer refuses what is in flight to a destination, with this number.
     pub fn refused(&mut self, line: usize, number: u16, now: u64)
+        // Wants: a destination to which something is in flight.
         requires { table.flies_at self.old.destinations line ≡ true }
         ensures destinations { self.new.destinations
             ≡ table.changed (words.settled now) self.old.destinations line }
@@ -194,6 +222,7 @@ impl Deliveries {
 
     /// What is in flight to a destination wasn't sent, since it turned out to be out no longer.
     pub fn withdrawn(&mut self, line: usize)
+        // Wants: a destination to which something is in flight.
         requires { table.flies_at self.old.destinations line ≡ true }
         ensures destinations { self.new.destinations
             ≡ table.changed words.withdrawn self.old.destinations line }
@@ -207,6 +236,7 @@ impl Deliveries {
     /// Something came from a destination, so it is there: what waits for it may be sent at once. An
     /// unknown number changes nothing.
     pub fn heard(&mut self, line: usize, now: u64)
+        // Proved: A destination that is heard from is due then, and nothing else has changed.
         ensures { self.new ≡ record self.old {
           destinations = table.changed (words.heard now) self.old.destinations line;
         } }
@@ -216,6 +246,9 @@ impl Deliveries {
 
     /// What a controller has out of a spawn is to be sent once more. Answers whether it has it out.
     pub fn again(&mut self, controller: usize, spawn: SpawnId) -> Result<bool, AllocError>
+        // Proved: What is settled isn't given again, until a look drops it or it is to go once
+        // more.
+        // By `out`, `progress`, `put`, `same`, `boxes`, `lines`.
         ensures out { IfOk result (λ out. out ≡ is_some
             (progress_in (ledger.outbox_at self.old.outboxes controller) spawn)) }
         ensures progress { OnOk result ((t : Thing) → ledger.progress_of self.new.outboxes t

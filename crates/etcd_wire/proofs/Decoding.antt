@@ -95,10 +95,10 @@ one_head all status code a b behind rest h k =
     let same = response_unique all h.head k.head behind rest h.reads k.reads in
     let code_is : status ≡ code = h.code ∙ (ap status_code same.0 ∙ sym k.code) in
     let framed : Ok a ≡ Ok b =
-        sym h.framed
-        ∙ (ap (λ (head : ResponseHead). response_framing Other status head.minor (known_of head.fields)) same.0
-        ∙ (ap (λ s. response_framing Other s k.head.minor (known_of k.head.fields)) code_is
-        ∙ k.framed)) in
+    sym h.framed
+    ∙ (ap (λ (head : ResponseHead). response_framing Other status head.minor (known_of head.fields)) same.0
+    ∙ (ap (λ s. response_framing Other s k.head.minor (known_of k.head.fields)) code_is
+    ∙ k.framed)) in
     (cc framed, same.1)
 
 -- what stands behind the one head has no such body

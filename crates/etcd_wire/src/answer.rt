@@ -88,6 +88,8 @@ fn is_made(answer: &Value<'_>) -> Option<bool>
 /// What a status and a body tell of a swap or a touch. Anything but a 200 whose JSON has a revision
 /// in its header leaves it unknown.
 pub fn swapped_of(alloc: Global, status: u16, body: &[u8]) -> Result<Swapped, AllocError>
+    // Proved: An answer tells that a swap was made, and at which revision, or that its comparison
+    // didn't hold, just where it is one that says so; anything else leaves it unknown.
     ensures { IfOk result (TellsSwap status body.now) }
 {
     if status != 200 {

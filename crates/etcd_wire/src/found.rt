@@ -95,6 +95,11 @@ fn found_in(alloc: Global, answer: &Value<'_>) -> Result<Option<Versioned>, NoAn
 /// is none. Refuses `Unknown` where they tell nothing, as anything does but a 200 whose JSON has a
 /// revision in its header; and `Memory`.
 pub fn held_of(alloc: Global, status: u16, body: &[u8]) -> Result<Option<Versioned>, NoAnswer>
+    // Proved: An answer tells a value just where its status is 200, its JSON has a revision in its
+    // header, and one value with a revision stands in it, whose bytes are the base64 there or,
+    // where that is missing, none; and that there is none just where no list of values stands in
+    // it.
+    // By `ok`, `unknown`.
     ensures ok { IfOk result (λ found. Tells status body.now (λ _ j. IsFound j found)) }
     ensures unknown { result ≡ Err Unknown → (found : Option Version)
         → Tells status body.now (λ _ j. IsFound j found) → ⊥ }

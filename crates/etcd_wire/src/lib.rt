@@ -2,6 +2,9 @@
 //! the response that it comes in.
 #![tactic(auto)]
 
+// Not proved: that etcd means this by these bytes: it is only tested, by bytes that it was seen to
+// take and to give.
+
 mod answer;
 mod found;
 mod no_answer;

@@ -15,6 +15,11 @@ use std::alloc::{AllocError, Global};
 
 /// The body that asks for what is under a key.
 pub fn range_request(alloc: Global, key: &[u8]) -> Result<Vec<u8>, AllocError>
+    // Proved: The body of a request is the text of one JSON value with no space in it, which is
+    // read again as that. Of a swap and a touch that has one comparison, of the revision under the
+    // key with the one that is given, one put under that key where it holds, and a look under it
+    // where it doesn't. A touch puts what is there again, and of revision 0 no bytes.
+    // By `text`, `again`; `swap_request`, `touch_request`: `text`, `again`.
     ensures text { IfOk result (λ body. body.items ≡ text_of (form.range key.now)) }
     ensures again { IfOk result (λ body. document body.items ≡ Some (form.range key.now)) }
 {
@@ -131,11 +136,7 @@ fn touched<'a>(alloc: Global, key: &'a str, revision: u64) -> Result<Value<'a>, 
 }
 
 /// The one comparison, of the revision of what is under the key with this.
-fn comparison<'a>(
-    alloc: Global,
-    key: &'a str,
-    revision: &'a str,
-) -> Result<Value<'a>, AllocError>
+fn comparison<'a>(alloc: Global, key: &'a str, revision: &'a str) -> Result<Value<'a>, AllocError>
     ensures { IfOk result (λ v. value_view v ≡ form.comparison key.now revision.now) }
 {
     triple(

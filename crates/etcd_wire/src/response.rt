@@ -99,6 +99,9 @@ fn body_in(alloc: Global, framing: Framing, behind: &[u8]) -> Result<Vec<u8>, No
 /// Refuses `Unknown` where there is none that is whole, or that doesn't tell where it ends; and
 /// `Memory`.
 pub fn response_in(alloc: Global, all: &[u8]) -> Result<Response, NoAnswer>
+    // Proved: Bytes are read as a response just where one stands in front of them, whole, as its
+    // length or its chunks tell.
+    // By `ok`, `unknown`.
     ensures ok { IfOk result (λ r. Responds all.now r.status r.body.items) }
     ensures unknown { result ≡ Err Unknown → (status : ℕ) (body : List ℕ)
         → Responds all.now status body → ⊥ }

@@ -89,6 +89,7 @@ fn look_at_bytes<'a>(
 /// The places in bytes where a document of a kind is refused so, at most so many of them, as far as
 /// the rules of the schema and what is known beside them tell any. Those of the schema come first,
 /// in the order of the text. Refuses for want of memory alone.
+// Not proved: which places are found.
 pub fn places_of(
     alloc: Global,
     kind: Kind,

@@ -81,6 +81,9 @@ pub fn respond<W: Write>(
     writer: &mut Counted<W>,
     came: &Result<TakenBytes, Refused>,
 ) -> Result<Served, EdgeFault>
+    // Proved: The response to what came of a request is written, and what is told of it answered,
+    // by itself.
+    // By `told`, `ok`, `front`, `fault`.
     ensures told { IfOk result (λ told. told ≡ told_of came.now) }
     ensures ok { OnOk result (Writes (used W.contents writer.old writer.new)
         (response_text (answer_in came.now))) }

@@ -39,6 +39,9 @@ impl<'a> Read for CutReader<'a> {
     ghost remaining = { λ r. Some r.bytes.now };
 
     fn read(&mut self, buffer: &mut [u8]) -> io::Result<usize>
+        // Proved: The reader and the writer for tests read and take bytes as any, whatever call of
+        // them is cut.
+        // By `bound`, `bytes`; `CutWriter::write`: `bound`, `bytes`.
         ensures bound { ReadsAtMost result buffer.new }
         ensures bytes { ReadConsumes (Some self.old.bytes.now) (Some self.new.bytes.now) result
             buffer.new }

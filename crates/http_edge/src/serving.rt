@@ -46,19 +46,30 @@ pub fn serve_one<R: Read, W: Write, C: Stored, K: Keep>(
     kept: &mut Kept<C, K>,
     at: u64,
 ) -> Result<Served, EdgeFault>
+    // Proved: No read failed, and the response to what came of a request is written: one step of
+    // the message that it carries, which is saved, or why there is none.
+    // Proved: Where no body is read, nothing is changed; where its body gives no step, that leaves
+    // what it does in `Kept::take`; while the controller is stale that is told before anything of
+    // the body, and nothing is changed.
+    // By `ok`, `unwritten`.
+    // Proved: What is told of a request is its response's status, and the refusal that was met.
     ensures ok { IfOk result (Serves K.is_honest K.held K.count K.save_fails
         (λ c. compact_text (C.state_data c)) C.state_read
         (λ m. in_text (C.take_step m at kept.old.controller))
         (used R.remaining reader.old reader.new) kept.old kept.new
         (used W.contents writer.old writer.new)) }
+    // Proved: Where a read failed or 2,000,000 were made, nothing is stepped or written.
     ensures unread { IsErrOf result ReadFailed → ServesNone reader.old.calls
         (used R.remaining reader.old reader.new) (used W.contents writer.old writer.new)
         kept.old kept.new }
+    // Proved: Where a write failed, a front of the response is written, and what came of the
+    // request is the same.
     ensures unwritten { IsErrOf result WriteFailed → ServesFront K.is_honest K.held K.count
         K.save_fails (λ c. compact_text (C.state_data c)) C.state_read
         (λ m. in_text (C.take_step m at kept.old.controller))
         (used R.remaining reader.old reader.new) kept.old kept.new
         (used W.contents writer.old writer.new) }
+    // Proved: At most 2,000,000 reads are made.
     ensures bound { reader.new.calls ≤ reader.old.calls + MAX_READS }
 {
     match exchange(alloc, reader, kept, at) {

@@ -32,6 +32,7 @@ impl Body {
 
     /// Its bytes.
     pub fn as_slice(&self) -> &[u8]
+        // Proved: A body's bytes are told.
         ensures { result.now ≡ self.now }
     {
         &self.bytes.as_slice()[self.start..self.end]

@@ -132,6 +132,13 @@ fn standing_of(kind: Kind, bytes: &[u8], found: &Look, most: u32) -> Standing
 impl Incoming {
     /// A message of which nothing has come, whose body has at most so many bytes.
     pub fn new(alloc: Global, kind: Kind, most: u32) -> Incoming
+        // Proved: Which methods are taken is said where a message is begun. What comes is a
+        // request by one of these, and one by GET or HEAD has no body.
+        // By `laws::a_request_is_by_a_method_that_is_taken`.
+        // Proved: A message in the making takes pieces however they are cut: more is wanted, and
+        // how much, or it is refused, or it is whole, whatever follows; by the same definitions of
+        // the whole input.
+        // By `Incoming::look`, `Incoming::len`; `Incoming::push`: `ok`, `err`, `kind`, `most`.
         ensures { result ≡ record { kind = kind; most = most; bytes = []; looks = 0 } }
     {
         Incoming {
@@ -152,6 +159,8 @@ impl Incoming {
 
     /// How often a head was looked for: not more often than lines ended, and once.
     pub fn looks(&self) -> usize
+        // Proved: A head is looked for at most once for each line that ended, and once more.
+        // By `bound`, `value`.
         ensures value { result ≡ self.now.looks }
         ensures bound { result ≤ line_feeds self.now.bytes + 1 }
     {
@@ -189,9 +198,13 @@ impl Incoming {
         buffer: &mut [u8],
         room: usize,
     ) -> Result<Arrival, AllocError>
+        // Wants: room for a byte or more, and a reader whose calls are still counted.
         requires buffer { 0 < length buffer.old }
         requires room { 0 < room }
         requires calls { reader.old.calls < 2 ^ 64 - 1 }
+        // Proved: One read of a message in the making takes no more than is asked for, and tells
+        // what it gave: a read that would block is no end and no failure.
+        // By `read`, `ok`, `err`.
         ensures read { IfOk result (IsRead reader.old reader.new) }
         ensures ok { IfOk result (making.Arrives room (R.remaining reader.old.inner)
             (R.remaining reader.new.inner) self.old self.new) }
@@ -215,7 +228,10 @@ impl Incoming {
 
     /// The message itself, which is whole.
     pub fn into_received(self, alloc: Global, whole: Whole) -> Result<Received, AllocError>
+        // Wants: a message that `look` told to be whole.
         requires { IsWhole self.most self.kind self.bytes whole }
+        // Proved: What a message in the making says, once it is whole, is its head, method,
+        // target, body and status.
         ensures { IfOk result (λ message. Says self.most self.kind self.bytes message.status
             message.method message.head.items message.target.items message.body) }
     {

@@ -6,6 +6,8 @@ ghost use Rattle.http_message.specs.Laws as law;
 /// However it comes, an input carries at most one message, or is refused as one thing, and never
 /// both; and it has at most one head, one method and one target.
 pub fn an_input_has_one_answer()
+    // Proved: An input carries at most one message or is refused as one thing, and never both; it
+    // has at most one head, one method and one target.
     ensures { law.InputsHaveOneAnswer }
 {}
 

@@ -24,6 +24,8 @@ fn lone_value(found: Named<'_>) -> Option<&[u8]>
 /// it. The name may be written in either case. There is none where no field has the name or more
 /// than one does, and where the bytes begin with no head of at most 64 fields.
 pub fn lone_field<'a>(head: &'a [u8], name: &[u8]) -> Option<&'a [u8]>
+    // Proved: Of the bytes of a head the value of the one field of a name is found, in either
+    // case, without the white space around it; none where no field has the name or more than one.
     ensures { HasLone head.now name.now (option_map (λ value. value.now) result) }
 {
     let mut fields = [EMPTY_HEADER_SPAN; MAX_FIELDS];

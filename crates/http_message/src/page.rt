@@ -42,6 +42,7 @@ pub fn page_bytes(
     lines: &[u8],
     body: &[u8],
 ) -> Result<Vec<u8>, AllocError>
+    // Proved: A page is written byte by byte, and to HEAD the same head without the body.
     ensures { IfOk result (λ text. text.items
         ≡ texts.page_text method status kind.now lines.now body.now) }
 {

@@ -159,17 +159,27 @@ fn read_message<R: Read>(
 /// interrupted or would have blocked is made again; where one failed, or 2,000,000 were made, it
 /// refuses `ReadFailed`, and `Memory` where that runs out. Limits and refusals are our own.
 pub fn read_request<R: Read>(alloc: Global, reader: &mut Counted<R>) -> Result<Received, Refused>
+    // Proved: The body of a request is the one that stands at the front of the input, behind a
+    // head within its limits that tells its length.
     ensures ok { IfOk result (λ request. IfSome (R.remaining reader.old.inner)
         (λ all. Carries (Kind.Request Methods.Post) all 0 request.body)) }
+    // Proved: The target of a request and its method are those of its head.
+    // By `target`, `method`.
     ensures method { IfOk result (λ request. IfSome (R.remaining reader.old.inner)
         (λ all. HasMethod (Kind.Request Methods.Post) all request.method)) }
+    // Proved: The bytes of a request's head are those at the front of the input.
     ensures head { IfOk result (λ request. IfSome (R.remaining reader.old.inner)
         (λ all. HasHead (Kind.Request Methods.Post) all request.head.items)) }
     ensures target { IfOk result (λ request. IfSome (R.remaining reader.old.inner)
         (λ all. HasTarget (Kind.Request Methods.Post) all request.target.items)) }
+    // Proved: No read failed where a message was read, and none where the input is refused as its
+    // first fault or memory runs out; else a read failed or 2,000,000 were made.
+    // By `unfailed`, `unread`; `receive`: `unfailed`, `unread`.
     ensures unfailed { OnOk result (IsUnfailed (used R.remaining reader.old reader.new)) }
     ensures unread { IfErr result (IsUnread (Kind.Request Methods.Post)
         reader.old.calls (used R.remaining reader.old reader.new)) }
+    // Proved: At most 2,000,000 reads are made.
+    // By `bound`; `receive`: `bound`.
     ensures bound { reader.new.calls ≤ reader.old.calls + MAX_READS }
 {
     read_message(alloc, reader, Kind::Request(Methods::Post))
@@ -178,6 +188,8 @@ pub fn read_request<R: Read>(alloc: Global, reader: &mut Counted<R>) -> Result<R
 /// Reads a response (RFC 9112) and gives its status and body. Refuses as `read_request`, but that
 /// it looks for no Host and no method.
 pub fn receive<R: Read>(alloc: Global, reader: &mut Counted<R>) -> Result<Received, Refused>
+    // Proved: The body of a response is the one that stands at the front of the input, behind a
+    // head within its limits that tells its length, with its status.
     ensures ok { IfOk result (λ message. IfSome (R.remaining reader.old.inner)
         (λ all. Carries Kind.Response all message.status message.body)) }
     ensures unfailed { OnOk result (IsUnfailed (used R.remaining reader.old reader.new)) }

@@ -23,6 +23,7 @@ fn are_visible(text: &[u8]) -> bool
 /// Whether a text is one word of visible ASCII, which it has to be to stand in a head as the host
 /// or the target of a request (RFC 9112).
 pub fn is_word(text: &str) -> bool
+    // Proved: Whether a text is one word of visible ASCII is told.
     ensures { result ≡ texts.is_word text.now }
 {
     if text.is_empty() {
@@ -71,6 +72,7 @@ pub fn send_to<W: Write>(
     target: &str,
     body: &[u8],
 ) -> Result<(), Refused>
+    // Wants: a host and a target, each of them one word of visible ASCII.
     requires host { texts.is_word host.now ≡ true }
     requires target { texts.is_word target.now ≡ true }
     ensures ok { OnOk result (Writes (used W.contents writer.old writer.new)
@@ -85,10 +87,15 @@ pub fn send_to<W: Write>(
 /// Writes a request that posts the body. Its form is that of RFC 9112; its target and its host are
 /// our own. It takes no memory. Refuses `WriteFailed` where a write fails.
 pub fn send<W: Write>(writer: &mut Counted<W>, body: &[u8]) -> Result<(), Refused>
+    // Proved: A request and a response are written as their texts, or a front of these where a
+    // write failed.
+    // By `ok`, `front`; `send_to`, `write_response`, `write_missing`: `ok`, `front`.
     ensures ok { OnOk result
         (Writes (used W.contents writer.old writer.new) (request_text body.now)) }
     ensures front { OnErr result
         (WritesFront (used W.contents writer.old writer.new) (request_text body.now)) }
+    // Proved: Where a text is written, only a write that failed is refused.
+    // By `refusal`; `send_to`, `write_response`, `write_missing`: `refusal`.
     ensures refusal { IfErr result (λ e. e ≡ WriteFailed) }
 {
     send_to(writer, "127.0.0.1", "/jmf", body)

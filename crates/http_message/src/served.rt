@@ -16,6 +16,7 @@ use streams::{Counted, Refused};
 
 /// What tells a refusal, as JSON.
 pub fn refusal_body(alloc: Global, refused: &Refused) -> Result<String, AllocError>
+    // Proved: What tells a refusal as JSON is told by itself.
     ensures { IfOk result (λ body. string_bytes body ≡ texts.refusal_body refused.now) }
 {
     let name = refused.name();
@@ -61,6 +62,8 @@ pub fn refused_bytes(
     methods: Methods,
     refused: &Refused,
 ) -> Result<Vec<u8>, AllocError>
+    // Proved: A listener of other methods names these where it refuses another, and one that takes
+    // HEAD tells no refusal in a body.
     ensures { IfOk result (λ text. text.items ≡ texts.told_text methods refused.now) }
 {
     let mut writer = Counted::new(Vec::new(alloc));
@@ -74,6 +77,9 @@ pub fn served_bytes(
     alloc: Global,
     answered: &Result<Option<&[u8]>, Refused>,
 ) -> Result<Vec<u8>, AllocError>
+    // Proved: The response of a server as one text is that of `write_response`, but that one of
+    // status 400 tells its refusal as JSON.
+    // By `missing_bytes`.
     ensures { IfOk result (λ text. text.items ≡ texts.served_text (texts.answer_of answered.now)) }
 {
     let mut writer = Counted::new(Vec::new(alloc));

@@ -11,6 +11,7 @@ use ticket_items::Refusal;
 /// refusal is our own. A read or a write that failed, a state that isn't loaded and a connection
 /// that isn't made are never answered; theirs is 503.
 pub fn status_of(refused: Refused) -> StatusCode
+    // Proved: Each refusal has its status.
     ensures { result ≡ statuses.status_of refused }
 {
     match refused {

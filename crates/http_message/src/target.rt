@@ -22,6 +22,8 @@ fn path_length(target: &[u8]) -> usize
 /// A target without its query: what stands before a `?`. Nothing of it is decoded: a name that is
 /// written with `%` is another name.
 pub fn path_of(target: &[u8]) -> &[u8]
+    // Proved: The path of a target is found, and its last segment, none of a target with a `#`.
+    // By `last_segment`.
     ensures { result.now ≡ targets.path_of target.now }
 {
     &target[..path_length(target)]

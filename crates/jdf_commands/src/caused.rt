@@ -28,6 +28,9 @@ impl Caused {
 
     /// A fault of which no more is known.
     pub fn bare(fault: Fault) -> Caused
+        // Proved: A fault that is told with its cause is that fault, and has its status.
+        // By `Caused::at`, `Caused::of_error`, `Caused::at_path`; `give_up_caused`: `told`,
+        // `status`.
         ensures { result.fault ≡ fault }
     {
         Caused { fault, cause: None }

@@ -51,6 +51,8 @@ pub fn run_explain<W: Write, F: Write>(
     writer: &mut Counted<W>,
     faults: &mut Counted<F>,
 ) -> u8
+    // Proved: `explain` writes the row that has the number, all of it and nothing else, with
+    // status 0; where none has it, it writes nothing, with status 2.
     ensures { EndsRow (rows.text_of number.now) (used W.contents writer.old writer.new)
         (used F.contents faults.old faults.new) result }
 {

@@ -126,6 +126,11 @@ pub fn run_loop<N: Net, I: Read, W: Write, F: Write>(
     writer: &mut Counted<W>,
     faults: &mut Counted<F>,
 ) -> u8
+    // Proved: `loop` writes, for the script that was read, a line for each event, as its shop
+    // steps from the beginning on, and the ticket that the master shows behind the last; the
+    // status is 1 where a message was too large, else 0; or it tells why the script is refused, or
+    // some fault of what it stands on.
+    // Proved: `loop` writes nothing where the script is refused or its run is cut off.
     ensures { run.EndsLoop (used I.remaining reader.old reader.new)
         (used W.contents writer.old writer.new) (used F.contents faults.old faults.new) result }
 {

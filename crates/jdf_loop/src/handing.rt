@@ -107,6 +107,10 @@ pub fn hand_over<N: Net, C: Stored, K: Keep>(
     kept: &mut Kept<C, K>,
     at: u64,
 ) -> Result<Delivery, Refused>
+    // Proved: What is handed over comes to one step of its receiver's on some message, which is
+    // saved, or to none, which is refused and changes nothing.
+    // Not proved: that what is handed over is the message that was sent, and that what comes back
+    // is its answer: both go through sockets, and cases show it.
     ensures { IfOk result (λ delivery. handing.Takes K.is_honest K.held
         (λ c. compact_text (C.state_data c)) C.state_read
         (λ m. in_text (C.take_step m at kept.old.controller))

@@ -2,6 +2,9 @@
 //! HTTP, from this program to itself.
 #![tactic(auto)]
 
+// Not proved: what bytes a file or a socket gives or takes: neither what a file held or holds, nor
+// what a client sent, or is answered.
+
 mod command;
 mod delivery;
 mod event_line;

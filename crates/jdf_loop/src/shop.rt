@@ -185,7 +185,12 @@ impl Shop {
     /// A master of this name with this ticket, of which nothing is out, and workers of these names.
     /// Nothing was sent. Refuses `Memory` alone.
     pub fn new(alloc: Global, name: Id, workers: Ids, ticket: Ticket) -> Result<Shop, Refused>
+        // Proved: In the beginning of a shop nothing is out and nothing was sent: a master of the
+        // name with the ticket, and a worker of each name.
         ensures is { IfOk result (λ shop. shop ≡ shops.opening name workers ticket) }
+        // Proved: Each keeper of a shop holds its controller's state, which is read again as it
+        // is.
+        // By `kept`; `Shop::step`: `kept`.
         ensures kept { IfOk result shops.AreKept }
     {
         let master = Master::new(alloc, name, workers, ticket)?;
@@ -356,6 +361,7 @@ impl Shop {
     /// The controller of a name does.
     fn restart(&mut self, alloc: Global, name: &Id) -> Result<EventLine, Refused>
         ensures restarts { IfOk result (shops.Restarts name.now self.old self.new) }
+        // Proved: A restart leaves everything as it is.
         ensures stays { OnOk result (shops.AreKept self.old → self.new ≡ self.old) }
     {
         if name == self.master().name() {
@@ -372,6 +378,13 @@ impl Shop {
         alloc: Global,
         event: Event,
     ) -> Result<EventLine, Refused>
+        // Proved: In a shop an order is its controller's own step, which is saved, and its message
+        // is sent.
+        // Proved: At a delivery the receiver of the message that was sent makes such a step, on
+        // some message, or none, which is refused; if anything came back, it is sent; and the line
+        // tells what the message is taken as, as its receiver says it, or that refusal.
+        // Proved: At an event all other controllers of a shop stay; over 16,384 bytes, and where
+        // there is no such message or controller, so does all.
         ensures steps { IfOk result (shops.Steps event.what event.at self.old self.new) }
         ensures kept { OnOk result (shops.AreKept self.old → shops.AreKept self.new) }
     {

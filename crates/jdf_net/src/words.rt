@@ -234,6 +234,10 @@ pub fn run_words<R: Locks + Net + Clock + Alloc + Clone + Drop, I: Read, W: Writ
     writer: &mut Counted<W>,
     faults: &mut Counted<F>,
 ) -> u8
+    // Proved: Words run the call that `clap` states of them, over the network or over files; only
+    // words that it doesn't take, help among them, stand for none. Of these the version, and help
+    // that the first word asks for, are written, with status 0; the others are told to stand for
+    // none, with status 2.
     ensures { EndsWords words.now (used I.remaining reader.old reader.new)
         (used W.contents writer.old writer.new) (used F.contents faults.old faults.new) result }
 {

@@ -2,6 +2,9 @@
 //! and the file that an input comes from.
 #![tactic(auto)]
 
+// Not proved: what bytes a file or a socket gives or takes: neither what a file held or holds, nor
+// what a client sent, or is answered.
+
 mod input_file;
 mod order_command;
 mod send_command;

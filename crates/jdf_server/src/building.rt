@@ -142,6 +142,10 @@ impl<'a, R: Locks + Net + Clock + Alloc + Clone + Drop, F: Write + Drop> Server<
         listener: TcpListener,
         writer: F,
     ) -> io::Result<Server<'a, R, F>>
+        // Proved: A server begins at what lies at its place, with as many requests as are asked
+        // for, and nothing goes out; opening its page, its orders or its post changes no client
+        // who sends messages and no line.
+        // By `Server::open_page`, `Server::open_orders`, `Server::send_by`: `serves`, `post`.
         ensures { IfOk result (IsBegun service.now place.entry) }
     {
         let log = Log::new(rt, alloc, writer)?;

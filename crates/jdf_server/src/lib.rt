@@ -2,6 +2,12 @@
 //! lines of those who wait for a controller, and what goes out by itself.
 #![tactic(auto)]
 
+// Not proved: what bytes a file or a socket gives or takes: neither what a file held or holds, nor
+// what a client sent, or is answered.
+// Not proved: that what is kept under a number is the connection from which the request came, that
+// each client has its turn and each line its step, that what goes out by itself is sent and
+// settled, and that the house of whoever sent what was taken is heard from: tests show it.
+
 mod accepting;
 mod building;
 mod calling;

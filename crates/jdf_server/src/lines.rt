@@ -228,6 +228,8 @@ impl<'a, R: Locks + Net + Clock, F: Write + Drop> Server<'a, R, F> {
     /// Whether a sender may send here: where a field of the head tells who sends, it tells this one,
     /// and where the other controllers are known it is one of them.
     fn may_send(&self, sender: &str, head: &[u8]) -> bool
+        // Proved: A sender may send just if the field of the head that is to tell who sends tells
+        // this one, and the peers' file, where there is one, has a URL for it.
         ensures { MaySend self.entry.now head.now sender.now result }
     {
         let is_told = tells(self.sender_field, head, sender);
@@ -362,6 +364,13 @@ impl<'a, R: Locks + Net + Clock, F: Write + Drop> Server<'a, R, F> {
     /// The same of those who are there still. Where a folder has no such file any more, they are
     /// told so.
     fn step(&mut self, path: String, line: Line) -> Result<(), AllocError>
+        // Proved: A line has its turn: who went is let go; each other client is put back under its
+        // own number, with the response of its own errand by the steps of the controller to which
+        // the line leads, and with no other; or with 503, where no steps are made or saved; or
+        // with 404, where there is no such controller. Where somebody else has the file locked,
+        // those who waited as long as they may are put back with 503, and the others stand in
+        // their order in the line of this controller, and no other line changes. No other client
+        // changes.
         ensures { OnOk result (StepsLineTo (string_bytes path) line.to line.errands.items self.old
             self.new) }
     {

@@ -37,6 +37,9 @@ impl Post {
     /// What goes out to whom the peers' file of this path names; nothing does yet. Refuses
     /// `LoadFailed` where that can't be read or is none, and `Memory`.
     pub fn of<R: Files>(rt: &R, alloc: Global, file: String) -> Result<Post, Refused>
+        // Proved: Post is of the peers' file that was named, and refused where that is no table or
+        // memory runs out.
+        // By `file`, `refused`.
         ensures file { IfOk result (λ post. post.file ≡ file) }
         ensures refused { IfErr result IsNoTable }
     {

@@ -317,6 +317,7 @@ impl<'a, R: Locks + Net + Clock, F: Write + Drop> Server<'a, R, F> {
         to: &Owner,
         own: Vec<Own>,
     ) -> Result<(), AllocError>
+        // Proved: What goes out by itself changes no client.
         ensures { self.new.clients.all ≡ self.old.clients.all }
     {
         if own.is_empty() {

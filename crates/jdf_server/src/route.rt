@@ -54,6 +54,9 @@ pub(crate) fn route_of<R: Files>(
     place: &Place<'_>,
     message: &Message,
 ) -> Result<Option<Route>, AllocError>
+    // Proved: A message leads to the file that is served; or in the folder to the one to which its
+    // receiver and its sender lead, by what lies there.
+    // By `some`, `none`.
     ensures some { IfOk result (λ route. IfSome route (LeadsTo place.now message.now)) }
     ensures none { IfOk result (λ route. IfNone route (LeadsNowhere place.now message.now)) }
 {

@@ -91,7 +91,18 @@ pub(crate) fn step_in_file<R: Locks + Clock, J: Journal>(
     now: u64,
     journal: &mut J,
 ) -> Result<Stepped, AllocError>
+    // Proved: Those who wait for the controller in a file are answered as `answer_all` says, by
+    // the keeper in the file of this path, if that holds one that is addressed, at some time; or
+    // each is refused with 503; or somebody else has the file locked, and they wait on.
+    // By `steps`, `journaled`.
+    // Not proved: that a journal gets the lines of orders that come over the socket: tests show
+    // it.
     ensures steps { IfOk result (IsStepped path.now to.entry now errands.items last) }
+    // Proved: A journal that is honest gets, behind the save, a line of each step of those who
+    // wait that was accepted and changed the controller, in turn, at the time of the step and with
+    // who sent the message; or it misses them, which is told; where nothing was saved it is left
+    // as it was. So it does of what goes out by itself, where the line tells `serve`.
+    // By `journaled`; `step_own_kept`: `journaled`.
     ensures journaled { J.is_honest journal.old ≡ true → MatchResult result
         (KeepsJournalIn J.held J.is_missed path.now to.entry now errands.items journal.old
         journal.new) (λ _. IsLeft J.held J.is_missed journal.old journal.new) }

@@ -63,6 +63,14 @@ impl<'a, R: Locks + Net + Clock, F: Write + Drop> Server<'a, R, F> {
 
     /// Does what is to be done behind a client's turn.
     fn follow(&mut self, key: usize, turn: Turn<TcpStream>) -> Result<(), AllocError>
+        // Proved: A client whose turn came is put back, let go, or taken up by its request, and
+        // only what is kept under its own number changes. A request that carries a message is an
+        // errand that stands last in the one line to which the message leads, and every other
+        // line, the orders of that one, and what it does by itself, stay as they are; where it
+        // leads nowhere, the client is put back with 404, and where its sender may not send, with
+        // 403. A body that is no message is an errand for the one controller that is served, and
+        // in a folder the client is put back with that refusal.
+        // By `Server::stand_in_line`, `join`.
         ensures { OnOk result (Follows key turn self.old self.new) }
     {
         match turn {

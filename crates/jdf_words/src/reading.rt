@@ -252,10 +252,15 @@ fn invocation_in<'a>(matches: &ArgMatches<'a>) -> Invocation<'a>
 /// at least 1. Other words, and those that ask for help or the version, are answered with `clap`'s
 /// fault.
 pub fn command_of<'a>(alloc: Global, words: &'a [String]) -> Result<Invocation<'a>, CallFault>
+    // Proved: A call is what `clap` states of the words, its time at most 9,999,999,999, its limit
+    // of 1 to 3,600, its number of requests 1 or more; no word is `edit`.
+    // By `edit`, `named`.
     ensures edit { words.entry.now ≡ [] → IsOk result }
     ensures named { IfOk result (λ invocation. (words.entry.now ≡ [] → IsEdit invocation)
         × (words.entry.now ≢ []
         → IsInvocation invocation (subcommand_of jdf (map string_bytes words.entry.now)))) }
+    // Proved: Words that `clap` takes fail for memory alone; else its fault is told.
+    // By `passes`, `kinds`.
     ensures passes { IfErr result (λ fault. takes jdf (map string_bytes words.entry.now) ≡ true
         → fault ≡ Memory) }
     ensures kinds { words.entry.now ≢ []

@@ -141,6 +141,9 @@ fn message_in<S: Source>(alloc: Global, value: &S) -> Result<Message, Refusal>
 /// each looked for in all of them before the next one is; `Memory` may come before any. The message
 /// may be sent again.
 pub fn decode(alloc: Global, bytes: &[u8]) -> Result<Message, Refusal>
+    // Proved: Bytes are read as the one table of messages says, or refused for their first fault;
+    // what was read may be sent again.
+    // By `found`, `sent`, `refused`.
     ensures found { IfOk result (λ message. decoded.IsDecodedAs bytes.now (Ok message)) }
     ensures sent { IfOk result (λ message. may_be_sent message.body ≡ true) }
     ensures refused { IfErr result (decoded.IsRefusalOf bytes.now) }

@@ -59,7 +59,10 @@ fn print_document(alloc: Global, out: &mut Writer, message: &Message) -> Result<
 /// The text of a message: compact JSON, which `decode` reads as that message. The number of a
 /// refusal in it is one of 1 to 999.
 pub fn encode(alloc: Global, message: &Message) -> Result<Vec<u8>, AllocError>
+    // Wants: a message that may be sent: its reason is one of 1 to 999.
     requires { may_be_sent message.now.body ≡ true }
+    // Proved: A message's text is that of its form, and read as the same message.
+    // By `text`, `again`.
     ensures text { IfOk result (λ b. b.items ≡ compact_text (written.message_data message.now)) }
     ensures again { IfOk result (λ b. IsDecodedAs b.items (Ok message.now)) }
 {

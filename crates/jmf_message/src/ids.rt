@@ -28,6 +28,8 @@ pub fn answer_id(alloc: Global, asked: Command, spawn: SpawnId) -> Result<String
 /// A message's ID: of a command `Q.`, `R.` or `A.` and its spawn's id, of an answer the command's
 /// with `.a` behind it.
 pub fn id_of(alloc: Global, message: &Message) -> Result<String, AllocError>
+    // Proved: A message's ID tells its command, its spawn, and whether it answers.
+    // By `laws::ids_tell_messages_apart`.
     ensures { IfOk result (λ id. string_bytes id ≡ words.message_id message.now.body) }
 {
     match said_by(&message.body) {

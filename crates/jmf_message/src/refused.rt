@@ -6,6 +6,7 @@ use controller::{Body, Command, Message};
 /// The number of the refusal that a message is an answer with, but for that by which a withdrawn
 /// spawn is declined: `AbortQueueEntry` asks for that.
 pub fn refusal_told(message: &Message) -> Option<u16>
+    // Proved: The refusal that an answer tells of is told, if it tells of one.
     ensures { result ≡ refused.refusal_told message.now.body }
 {
     match &message.body {

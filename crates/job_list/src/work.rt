@@ -121,6 +121,9 @@ impl Work {
 
     /// The work of a master's spawn.
     pub fn of_spawn(alloc: Global, master: &Master, spawn: &SpawnRec) -> Result<Work, AllocError>
+        // Proved: The work of a master is each spawn with its node as the ticket has it; of a
+        // worker each entry, with the node of the part that it keeps.
+        // By `Work::of_entry`.
         ensures { IfOk result (λ w. w ≡ work.work_of_spawn master.now spawn.now) }
     {
         let row = master.ticket().node(&spawn.node);
@@ -155,6 +158,10 @@ impl Work {
 
     /// Whether a part is still out: the master waits for it, or the worker keeps it.
     pub fn is_open(&self) -> bool
+        // Proved: Work tells whether it is open and how far it is, in a word, and what is known of
+        // its node.
+        // By `WorkPhase::is_open`, `WorkPhase::is_asked`, `WorkPhase::word`, `descriptive_name`,
+        // `known_id`, `known_name`.
         ensures { result ≡ work.is_open self.now }
     {
         self.phase.is_open()

@@ -17,6 +17,9 @@ pub fn push_spawns(
     master: &Master,
     are_open: bool,
 ) -> Result<(), AllocError>
+    // Proved: What is open is listed, or all others; between them they have each spawn, and each
+    // entry, once.
+    // By `push_entries`; `laws::each_work_stands_once`: `spawns`, `entries`.
     ensures { OnOk result (works.new.items
         ≡ works.old.items ++ work.works_of_master are_open master.now) }
 {

@@ -120,6 +120,10 @@ pub fn push_picture(
     master: &Master,
     now: u64,
 ) -> Result<(), AllocError>
+    // Proved: The picture of a master has a card for each of its spawns that is out, and a row for
+    // each node, with who holds it by the table of holders and its resources by the marks that it
+    // shows. What has no room is left out and counted: cards behind the 24th, nodes that are
+    // completed or aborted, and then the last. Work that is closed is counted.
     ensures { OnOk result (text.new.items
         ≡ text.old.items ++ picture.picture_of now master.now) }
 {

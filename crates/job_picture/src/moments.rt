@@ -39,6 +39,8 @@ fn two_digits(alloc: Global, number: u64) -> Result<String, AllocError>
 
 /// A moment, in seconds since 1970, as `Sat 07:41 UTC`.
 pub fn moment_text(alloc: Global, at: u64) -> Result<String, AllocError>
+    // Proved: Moments are told by day, hour and minute, UTC, and spans by their two largest units.
+    // By `span_text`.
     ensures { IfOk result (λ made. string_bytes made ≡ moments.moment_text at) }
 {
     let day = weekday(at / 86_400);

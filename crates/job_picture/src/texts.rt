@@ -58,6 +58,7 @@ fn chars_of(alloc: Global, text: &str) -> Result<Vec<char>, AllocError>
 
 /// A text in XML.
 pub fn escaped(alloc: Global, text: &str) -> Result<String, AllocError>
+    // Proved: A text is escaped for XML.
     ensures { IfOk result (λ made. string_bytes made ≡ texts.escaped text.now) }
 {
     escaped_chars(alloc, chars_of(alloc, text)?.as_slice())

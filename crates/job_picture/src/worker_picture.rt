@@ -146,6 +146,8 @@ pub fn push_worker_picture(
     worker: &Worker,
     now: u64,
 ) -> Result<(), AllocError>
+    // Proved: The picture of a worker has, with the same room, a card for each entry that keeps
+    // its part, and a row for each node of that, the first with the part's copies.
     ensures { OnOk result (text.new.items
         ≡ text.old.items ++ picture.worker_picture_of now worker.now) }
 {

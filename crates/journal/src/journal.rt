@@ -15,12 +15,20 @@ pub trait Journal: Drop {
 
     /// Whether lines are to be appended at all.
     fn is_wanted(&self) -> bool
+        // Proved: An honest journal wants lines.
         ensures { is_honest self.now ≡ true → result ≡ true };
 
     /// Appends whole lines, on a line of their own where what is held has no end of its last line.
     /// Answers whether they are kept: on a disk they are synced then. Else it is missed, and a front
     /// of them may be held.
     fn append(&mut self, lines: &[u8]) -> bool
+        // Proved: Lines that are appended stand whole behind what an honest journal held, and
+        // where its last line had no end, that gets one first; or a front of them does, and it is
+        // told that they are missed.
+        // By `lines`, `honest`; `Journal::miss`: `missed`, `honest`; `MemoryJournal::new`,
+        // `MemoryJournal::text`.
+        // Not proved: that a journal in a file is honest: the crate's tests and `.ci/journal.py`
+        // show it.
         ensures lines { is_honest self.old ≡ true → MatchBool result
             (IsAppended held is_missed lines.now self.old self.new)
             (IsMissed held is_missed lines.now self.old self.new) }

@@ -85,6 +85,9 @@ pub fn step_line(
     reply: Reply,
     at: u64,
 ) -> Result<Vec<u8>, AllocError>
+    // Proved: The line of a step is a JSON object with who asked, where that is known, the
+    // controller, the reply's word, its spawn, if it tells one, the time, and the name of what the
+    // step was made of, and nothing else.
     ensures { IfOk result (λ made. made.items
         ≡ line.told_line (line.who by.entry) controller.now reply at what.now) }
 {

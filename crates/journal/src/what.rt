@@ -25,6 +25,7 @@ fn answer_word(command: Command) -> &'static str
 /// The name of a message: of a command its Type, and of an answer `Response` and that of the
 /// command.
 pub fn message_word(body: &Body) -> &'static str
+    // Proved: A command's name is its Type, and an answer's `Response` and that.
     ensures { result.now ≡ whats.message_word body.now }
 {
     match body {
@@ -49,6 +50,9 @@ fn name_in<S: Source>(alloc: Global, value: &S) -> Result<String, Refusal>
 /// The name of the order that bytes are: what stands under `Order`. Refuses the first of `NotJson`
 /// and `NotProfile`, where no text stands there; `Memory` may come before either.
 pub fn order_word(alloc: Global, bytes: &[u8]) -> Result<String, Refusal>
+    // Proved: An order's name is what stands under `Order`; bytes of which none is read are
+    // refused as what is wrong with them first, or for want of memory.
+    // By `ok`, `refused`.
     ensures ok { IfOk result (λ word. IsReadAs whats.order_named bytes.now
         (Ok (string_bytes word))) }
     ensures refused { IfErr result (IsRefusalOf whats.order_named bytes.now) }

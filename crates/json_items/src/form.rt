@@ -23,6 +23,10 @@ pub trait Form: Drop {
 
     /// What is found of it in a value. Refuses `NotProfile`, and `Memory`.
     fn find<S: Source>(alloc: Global, value: &S) -> Result<Judged<Self>, Refusal>
+        // Proved: What is found of a value is what its form says: the value, in which nothing is
+        // wrong, or the first of `BadId` and `BadText` that stands in it; or `NotProfile`, where
+        // nothing of the form is there.
+        // By `FormIn::find_in`.
         ensures { Reads has_names has_texts result (form (S.content value.now)) };
 }
 

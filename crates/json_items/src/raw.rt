@@ -21,6 +21,8 @@ pub trait Raw: Form {
 
     /// The whole. Refuses what is wrong with it, and `Memory`.
     fn build(self, alloc: Global) -> Result<Self::Whole, Refusal>
+        // Proved: What else is wrong with a whole is told as it is built of what was found.
+        // By `ok`, `sound`, `err`.
         ensures ok { IfOk result (λ whole. whole ≡ made self) }
         ensures sound { OnOk result (late_fault self ≡ None) }
         ensures err { IfErr result (λ e. (e ≡ Refusal.Memory) ⊎ (late_fault self ≡ Some e)) };
@@ -28,6 +30,8 @@ pub trait Raw: Form {
     /// The whole of what is found in a value. Refuses the first of `NotProfile`, `BadId`, `BadText`
     /// and what else is wrong with it; `Memory` may come before any.
     final fn whole<S: Source>(alloc: Global, value: &S) -> Result<Self::Whole, Refusal>
+        // Proved: A whole of a value is answered, or refused for the first of `NotProfile`,
+        // `BadId`, `BadText` and what else is wrong with it.
         ensures { Answers result (built_of Self.has_names Self.has_texts late_fault made
             (Self.form (S.content value.now))) }
     {

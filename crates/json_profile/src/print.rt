@@ -18,6 +18,8 @@ use ticket_tree::{Marks, Part, Ticket};
 /// Prints a ticket as its `ticket_value`, which `ticket_of` reads as that ticket. It leaves room in
 /// the 127 levels that are read, so that it can stand in a larger document.
 pub fn print_ticket(alloc: Global, out: &mut Writer, ticket: &Ticket) -> Result<(), AllocError>
+    // Proved: What is printed is read again as it was.
+    // By `printed`, `again`, `plain`, `low`; `print_part`: `printed`, `again`, `plain`, `low`.
     ensures printed { OnOk result (IsPrinted (ticket_data ticket.now) out.old out.new) }
     ensures again { OnOk result (ticket_read (ticket_data ticket.now) ≡ Ok ticket.now) }
     ensures plain { OnOk result (has_float (ticket_data ticket.now) ≡ false) }
@@ -70,6 +72,7 @@ pub fn push_ticket_text(
 /// Appends the text of a part: the one that `text_of` gives of its `part_value`. After an error
 /// nothing of the text is left.
 pub fn push_part_text(alloc: Global, text: &mut Vec<u8>, part: &Part) -> Result<(), AllocError>
+    // Proved: A part's text is that of its value.
     ensures { OnOk result (text.new.items
         ≡ text.old.items ++ compact_text (part_data part.now)) }
 {

@@ -17,6 +17,9 @@ use ticket_tree::{Edit, Part, Refusal, Ticket};
 /// and `UnresolvedLink` that stands in it, each looked for in all of it before the next one is;
 /// `Memory` may come before any.
 pub fn ticket_of(alloc: Global, value: &Value) -> Result<Ticket, Refusal>
+    // Proved: A ticket is read as its form says, or refused for its first fault, each looked for
+    // in all of it.
+    // By `answers`, `tree`.
     ensures answers { Answers result (ticket_read (view value.now)) }
     ensures tree { IfErr result (λ e. e ≡ Refusal.NotATree → ⊥) }
 {
@@ -28,6 +31,8 @@ pub fn ticket_of(alloc: Global, value: &Value) -> Result<Ticket, Refusal>
 /// `ReservedStatus` (a node's Status alone), `DuplicateId`, `TooDeep` and `UnresolvedLink` that
 /// stands in it, each looked for in all of it before the next one is; `Memory` may come before any.
 pub fn part_of(alloc: Global, value: &Value) -> Result<Part, Refusal>
+    // Proved: A part and an edit are read as their forms say, or refused for their first fault.
+    // By `answers`, `tree`; `edit_of`.
     ensures answers { Answers result (part_read (view value.now)) }
     ensures tree { IfErr result (λ e. e ≡ Refusal.NotATree → ⊥) }
 {

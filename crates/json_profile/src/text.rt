@@ -15,6 +15,8 @@ use ticket_tree::Refusal;
 /// The JSON value that the bytes are. Refuses `NotJson` where they aren't UTF-8, are no JSON, or
 /// nest deeper than 127 levels.
 pub fn value_of(alloc: Global, bytes: &[u8]) -> Result<Value, Refusal>
+    // Proved: Bytes are refused as `NotJson` just where `serde_json` reads no value of them.
+    // By `ok`, `nests`, `not_json`, `kinds`.
     ensures ok { IfOk result (λ v. IsUtf8 bytes.now × (read bytes.now ≡ Some (view v))) }
     ensures nests { IfOk result (λ v. depth (view v) ≤ max_depth) }
     ensures not_json { IsErrOf result Refusal.NotJson → IsUtf8 bytes.now → read bytes.now ≡ None }
@@ -29,6 +31,8 @@ pub fn value_of(alloc: Global, bytes: &[u8]) -> Result<Value, Refusal>
 
 /// The value of what was printed, which is what its text is read as.
 pub fn value_printed(alloc: Global, out: Writer) -> Result<Value, AllocError>
+    // Proved: A value of what was printed is what its text is read as, where nothing stood before
+    // and it nests no deeper than is read.
     ensures { (d : Data) → out.before ≡ [] → out.tokens ≡ data_tokens d → IsReadAgain d
         → depth d ≤ max_depth → IfOk result (λ v. view v ≡ d) }
 {
@@ -41,6 +45,9 @@ pub fn value_printed(alloc: Global, out: Writer) -> Result<Value, AllocError>
 
 /// The compact JSON text of a value: no white space, and the members of each object in byte order.
 pub fn text_of(alloc: Global, value: &Value) -> Result<Vec<u8>, AllocError>
+    // Proved: A value's text is compact, if no float stands in it, and read again as it, if it
+    // nests no deeper than is read.
+    // By `text`, `utf8`, `reads_back`.
     ensures text { IfOk result (λ b. has_float (view value.now) ≡ false
         → b.items ≡ compact_text (view value.now)) }
     ensures utf8 { IfOk result (λ b. IsUtf8 b.items) }

@@ -21,10 +21,16 @@ use ticket_tree::{Edit, Marks, Part, Ticket};
 /// A ticket as a value, which `ticket_of` reads as that ticket. It leaves room in the 127 levels
 /// that are read, so that it can stand in a larger document.
 pub fn ticket_value(alloc: Global, ticket: &Ticket) -> Result<Value, AllocError>
+    // Proved: What is written is read again as it was.
+    // By `value`, `again`, `plain`, `nests`; `part_value`, `edit_value`: `value`, `again`,
+    // `plain`, `nests`.
     ensures value { IfOk result (λ v. view v ≡ ticket_data ticket.now) }
     ensures again { IfOk result (λ v. ticket_read (view v) ≡ Ok ticket.now) }
     ensures plain { IfOk result (λ v. has_float (view v) ≡ false) }
     ensures nests { IfOk result (λ v. depth (view v) ≤ max_depth) }
+    // Proved: The value of a ticket and of a part nests at most 68 deep, so that it may stand
+    // within a document.
+    // By `low`; `part_value`: `low`.
     ensures low { IfOk result (λ v. depth (view v) ≤ 68) }
 {
     let mut out = Writer::new(Vec::new(alloc));
@@ -37,6 +43,9 @@ pub fn ticket_value(alloc: Global, ticket: &Ticket) -> Result<Value, AllocError>
 /// that isn't in the ticket shows nothing; of two marks of a resource the first does. Nothing reads
 /// it again.
 pub fn shown_value(alloc: Global, ticket: &Ticket, marks: &Marks) -> Result<Value, AllocError>
+    // Proved: The value and the text of a shown ticket are of its data with its marks, and a
+    // ticket's text of its data without.
+    // By `value`, `plain`, `nests`; `push_shown_text`, `push_ticket_text`.
     ensures value { IfOk result (λ v. view v ≡ shown_data marks.now ticket.now) }
     ensures plain { IfOk result (λ v. has_float (view v) ≡ false) }
     ensures nests { IfOk result (λ v. depth (view v) ≤ max_depth) }

@@ -79,6 +79,9 @@ impl FoundPool {
     /// What is found of the pool under a name, an empty one where nothing stands there. Refuses
     /// `NotProfile` where something else does, and `Memory`.
     pub fn find<S: Source>(alloc: Global, value: &S, name: &str) -> Result<FoundPool, Refusal>
+        // Proved: A pool is found with what each of its resources shows, which is known also where
+        // their names aren't valid.
+        // By `FoundPool::find_under`, `FoundPool::is_bare`.
         ensures { FindsAs IsPool result
             (pool_draft resource_draft (get name.now (S.content value.now))) }
     {

@@ -36,6 +36,7 @@ impl RawPart {
 
     /// Its spawn.
     pub fn spawn(&self) -> SpawnId
+        // Proved: The spawn of a part that was found is told.
         ensures { result ≡ self.now.spawn }
     {
         self.spawn
@@ -75,6 +76,7 @@ impl Form for RawPart {
 
     ghost has_texts = { form.has_texts };
 
+    // Proved: A part is found as its form says.
     fn find<S: Source>(alloc: Global, value: &S) -> Result<Judged<RawPart>, Refusal> {
         let outer = find_three(alloc, value, "JobID", "SpawnID", "AncestorPool")?;
         let (rows, sizes) = find_rows(alloc, value)?;
@@ -99,6 +101,7 @@ impl Raw for RawPart {
 
     /// Refuses the first of `ReservedStatus`, `DuplicateId`, `TooDeep` and `UnresolvedLink` that
     /// stands in it, with the copies as resources of the root; `Memory` may come before any.
+    // Proved: A part that was found is built where nothing else is wrong.
     fn build(self, alloc: Global) -> Result<Part, Refusal> {
         let RawPart {
             job,

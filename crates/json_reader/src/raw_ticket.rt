@@ -32,6 +32,9 @@ impl RawTicket {
     /// What is found of the ticket that a tree is, each node's part of which is given back as soon
     /// as all is found of it. Refuses `NotProfile`, and `Memory`.
     pub fn of(alloc: Global, tree: Tree<'_>) -> Result<Judged<RawTicket>, Refusal>
+        // Proved: A ticket is found as its form says, also of a tree that is given back on the
+        // way.
+        // By `RawTicket::find`.
         ensures { Reads form.has_names form.has_texts result (ticket_draft (tree_data tree.entry)) }
     {
         let job = find_under(alloc, &tree, "JobID")?;
@@ -73,6 +76,7 @@ impl Raw for RawTicket {
     /// Refuses the first of `ReservedStatus` (a node's Status, or what a resource shows of spawns),
     /// `DuplicateId`, `TooDeep` and `UnresolvedLink` that stands in it; `Memory` may come before
     /// any but what a resource shows.
+    // Proved: A ticket that was found is built where nothing else is wrong.
     fn build(self, alloc: Global) -> Result<Ticket, Refusal> {
         if !self.bare {
             return Err(Refusal::ReservedStatus);

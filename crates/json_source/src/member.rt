@@ -11,6 +11,8 @@ use json::Value as Tree;
 /// What stands under a name in the object that a tree is; all else of the tree is given back. Of a
 /// name that stands twice it is the last.
 pub fn member_alone<'a>(tree: Tree<'a>, name: &str) -> Option<Tree<'a>>
+    // Proved: One member, or two of distinct names, are taken out of a tree.
+    // By `members_alone`: `first`, `second`.
     ensures { option_map tree_data result ≡ get name.now (tree_data tree.entry) }
 {
     let Tree::Object(members) = tree else {

@@ -17,6 +17,9 @@ pub trait Source: Drop {
 
     /// The text that it is.
     fn text(&self) -> Option<&str>
+        // Proved: What stands in a value or a tree is what its data has.
+        // By `Source::truth`, `Source::whole_number`, `Source::items`, `Source::member`,
+        // `Source::has_only`; `Source::texts`: `texts`, `order`.
         ensures { option_map (λ text. text.now) result ≡ as_str (content self.now) };
 
     /// The truth value that it is.

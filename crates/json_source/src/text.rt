@@ -143,6 +143,9 @@ pub fn tree_of<'a>(
     bytes: &'a [u8],
     scratch: &'a mut Scratch,
 ) -> Result<Tree<'a>, Refusal>
+    // Proved: Bytes are read as a tree with the data that `serde_json` reads, and refused just
+    // where it reads none.
+    // By `ok`, `not_json`, `kinds`.
     ensures ok { IfOk result (λ t. IsUtf8 bytes.now × (read bytes.now ≡ Some (tree_data t))) }
     ensures not_json { IsErrOf result Refusal.NotJson → IsUtf8 bytes.now → read bytes.now ≡ None }
     ensures kinds { IfErr result (λ e. (e ≡ Refusal.NotJson) ⊎ (e ≡ Refusal.Memory)) }

@@ -13,6 +13,8 @@ use ticket_tree::{Id, Items, Marks, NodeRow, ResMark, Resource, SpawnId};
 
 /// The marks of a ticket of which nothing is out.
 pub fn no_marks(alloc: Global) -> Marks
+    // Proved: What a ticket shows is told by its marks.
+    // By `shown_of`; `shown_status`: `status`, `valid`.
     ensures { result ≡ marked.no_marks }
 {
     Marks {

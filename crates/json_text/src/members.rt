@@ -14,6 +14,10 @@ use std::alloc::AllocError;
 
 /// Prints an item under a name. Its names and texts are valid.
 pub fn print_member<T: Printed>(out: &mut Writer, name: &str, item: &T) -> Result<(), AllocError>
+    // Proved: The tokens of a member are appended, its name and then its data, which is read as
+    // it; its ids, names and texts are valid.
+    // By `printed`, `again`, `names`, `texts`; `print_items`, `print_showing`: `printed`, `again`,
+    // `names`, `texts`; `print_text`.
     ensures printed { OnOk result
         (IsAppended (TokenSeen.key name.now ∷ data_tokens (T.written item.now)) out.old out.new) }
     ensures again { OnOk result (IsReadAgain (T.written item.now)) }

@@ -13,6 +13,10 @@ pub trait Printed: Form {
 
     /// Prints it. Its names and texts are valid.
     fn print(&self, out: &mut Writer) -> Result<(), AllocError>
+        // Proved: The tokens of a type's data are appended, and read as it; its ids, names and
+        // texts are valid.
+        // By `printed`, `names`, `texts`; `print_marked`, `print_list`: `printed`, `names`,
+        // `texts`.
         ensures printed { OnOk result (IsPrinted (written self.now) out.old out.new) }
         ensures names { OnOk result (Self.has_names self.now ≡ true) }
         ensures texts { OnOk result (Self.has_texts self.now ≡ true) };

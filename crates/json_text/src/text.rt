@@ -11,6 +11,9 @@ use json::Writer;
 
 /// The text of data that was printed, which is read as it, behind what stood before.
 pub fn finished(out: Writer) -> Vec<u8>
+    // Proved: The tokens of data are its compact text, which is read as it where nothing stood
+    // before and the data nests no deeper than is read.
+    // By `text`, `again`, `utf8`.
     ensures text { (d : Data) → out.tokens ≡ data_tokens d
         → result.items ≡ out.before ++ compact_text d }
     ensures again { (d : Data) → out.before ≡ [] → out.tokens ≡ data_tokens d → IsReadAgain d

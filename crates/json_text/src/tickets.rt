@@ -21,6 +21,10 @@ pub fn print_ticket(
     ticket: &Ticket,
     marks: &Marks,
 ) -> Result<(), AllocError>
+    // Proved: The tokens of a ticket with its marks, and of a part, are appended, and read as it;
+    // its rows, ids, names and texts are valid.
+    // By `printed`, `valid`, `job`, `names`, `texts`; `print_part`: `printed`, `valid`, `number`,
+    // `job`, `ancestors`, `names`, `texts`, `copy_names`, `copy_texts`.
     ensures printed { OnOk result (IsPrinted (shown_data marks.now ticket.now) out.old out.new) }
     ensures valid { IsValid ticket.now.rows }
     ensures job { OnOk result (is_name ticket.now.job_id ≡ true) }

@@ -31,9 +31,19 @@ pub trait Disk: Drop {
 
     /// The bytes of the file. Refuses `Failed`, as where there is no file; and `Memory`.
     fn read(&mut self) -> Result<Vec<u8>, KeepFault>
+        // Proved: What each call of a disk that is honest does to what is seen, and to what a
+        // crash may leave, is told.
+        // By `reads`, `time`; `Disk::clear`: `clears`, `time`; `Disk::make`: `makes`, `time`;
+        // `Disk::write`: `writes`, `time`; `Disk::sync`: `syncs`, `time`; `Disk::rename`:
+        // `renames`, `time`; `Disk::link`: `links`, `time`; `Disk::sync_folder`: `syncs`, `time`.
         ensures reads { is_honest ≡ true → Reads (view self.old) (view self.new) result }
         ensures time { is_honest ≡ true → Elapses (moment self.old) (moment self.new)
             (left_since self.old) (left_since self.new) (view self.new).may_leave }
+        // Proved: No call of a disk changes its place, and one that fails counts it; only a read
+        // may want memory.
+        // By `place`, `cause`; `Disk::clear`, `Disk::make`, `Disk::write`, `Disk::sync`,
+        // `Disk::rename`, `Disk::link`, `Disk::sync_folder`: `place`, `only`, `cause`;
+        // `Disk::failures`.
         ensures place { place self.new ≡ place self.old }
         ensures cause { HasCause (faults self.old) (faults self.new) result };
 
@@ -49,6 +59,7 @@ pub trait Disk: Drop {
 
     /// Makes a new draft, of no bytes, under its name, which nothing has. Refuses `Failed`.
     fn make(&mut self) -> Result<(), KeepFault>
+        // Wants: a draft's name that nothing has.
         requires { is_honest ≡ true → (view self.old).is_free ≡ true }
         ensures makes { is_honest ≡ true → Makes (view self.old) (view self.new) result }
         ensures time { is_honest ≡ true → Elapses (moment self.old) (moment self.new)

@@ -106,6 +106,10 @@ impl Keep for FailingKeep {
     ghost save_fails = { SaveFails };
 
     fn load(&mut self) -> Result<Vec<u8>, KeepFault>
+        // Proved: The keeper for tests fails at its k-th call alone; one that is refused memory
+        // isn't counted.
+        // By `loads`, `value`, `held`, `failures`; `FailingKeep::save`: `saves`, `held`,
+        // `failures`, `needs_no_memory`; `FailingKeep::new`.
         ensures loads { LoadsOrFails self.old self.new result }
         ensures value { Loads self.old.held result }
         ensures held { self.new.held ≡ self.old.held }

@@ -52,6 +52,9 @@ impl<'a, R: Locks> FileKeep<SystemDisk<'a, R>> {
         alloc: Global,
         path: &'a str,
     ) -> Result<FileKeep<SystemDisk<'a, R>>, KeepFault>
+        // Proved: A keeper on the system's disk is of the path that was given, and no call of it
+        // failed yet; a refusal is `Failed`.
+        // By `ok`, `only`; `FileKeep::try_lock`: `ok`, `only`; `FileKeep::create_new`.
         ensures ok { IfOk result (λ keep. keep ≡ kept_at path.now false) }
         ensures only { IfErr result (λ fault. fault ≡ KeepFault.Failed) }
     {
@@ -133,12 +136,17 @@ impl<D: Disk> Keep for FileKeep<D> {
 
     /// Reads the file to its end.
     fn load(&mut self) -> Result<Vec<u8>, KeepFault>
+        // Proved: A keeper in a file is as honest and as durable as its disk.
+        // By `value`, `file`, `any_moment`; `FileKeep::save`: `saves`, `any_moment`.
         ensures value { D.is_honest ≡ true → Loads (held_in (D.view self.old.disk)) result }
         ensures file { D.is_honest ≡ true →
             KeepsFile (D.view self.old.disk) (D.view self.new.disk) }
         ensures any_moment { D.is_honest ≡ true →
             LeavesOnly (λ keep. D.moment keep.disk) (λ keep. D.left_since keep.disk)
             self.old self.new (D.view self.old.disk).may_leave }
+        // Proved: On any disk a call of a keeper in a file keeps the place, and fails only where a
+        // failure was counted, or memory ran out for the text that is read.
+        // By `place`, `failures`; `FileKeep::save`: `place`, `failures`, `only`.
         ensures place { D.place self.new.disk ≡ D.place self.old.disk }
         ensures is_new { self.new.is_new ≡ self.old.is_new }
         ensures failures { CountsFailure (D.faults self.old.disk) (D.faults self.new.disk) result }
@@ -164,6 +172,8 @@ impl<D: Disk> Keep for FileKeep<D> {
         ensures place { D.place self.new.disk ≡ D.place self.old.disk }
         ensures only { IfErr result (λ fault. fault ≡ KeepFault.Failed) }
         ensures failures { CountsFailure (D.faults self.old.disk) (D.faults self.new.disk) result }
+        // Proved: Whether the next save makes the file is kept until one has.
+        // By `made`, `is_new`; `FileKeep::load`: `is_new`; `FileKeep::over`.
         ensures made { OnOk result (self.new.is_new ≡ false) }
         ensures is_new { OnErr result (self.new.is_new ≡ self.old.is_new) }
     {

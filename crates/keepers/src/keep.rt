@@ -48,13 +48,20 @@ pub trait Keep: Drop {
     /// it could not be read, and then counts a failure, and `Memory`. Once 2^64 - 1 failures were
     /// counted, it fails and counts no more.
     fn load(&mut self) -> Result<Vec<u8>, KeepFault>
+        // Proved: A load that succeeds gives the value, and none changes it.
+        // By `value`, `held`, `honest`.
         ensures value { is_honest self.old ≡ true → Loads (held self.old) result }
         ensures held { is_honest self.old ≡ true → held self.new ≡ held self.old }
         ensures honest { is_honest self.new ≡ is_honest self.old }
+        // Proved: No call changes the place of what is kept.
+        // By `place`; `Keep::save`: `place`.
         ensures place { place self.new ≡ place self.old }
         ensures crash { is_durable ≡ true → IsWithin (may_leave self.new) (may_leave self.old) }
         ensures any_moment { is_durable ≡ true →
             LeavesOnly moment left_since self.old self.new (may_leave self.old) }
+        // Proved: A call fails only as its keeper may, and then counts it; once 2^64 - 1 were
+        // counted, each fails.
+        // By `fails`, `failures`; `Keep::save`: `fails`, `failures`; `Keep::failures`.
         ensures fails { IsErrOf result KeepFault.Failed → load_fails self.old self.new }
         ensures failures { CountsFailure (count self.old) (count self.new) result };
 
@@ -64,10 +71,18 @@ pub trait Keep: Drop {
     /// and the value is the old or the new; and `Memory`, and then the value is the old. Once
     /// 2^64 - 1 failures were counted, it fails and counts no more.
     fn save(&mut self, bytes: &[u8]) -> Result<(), KeepFault>
+        // Proved: A save that succeeds keeps the new value, one that fails the old or the new, one
+        // without memory the old.
+        // By `held`, `honest`.
         ensures held { is_honest self.old ≡ true →
             Saves (held self.old) bytes.now (held self.new) result }
         ensures honest { is_honest self.new ≡ is_honest self.old }
         ensures place { place self.new ≡ place self.old }
+        // Proved: Of a keeper that is durable: behind a save that succeeds each crash leaves the
+        // new value; and a crash at any moment of a save leaves what one before it might have
+        // left, or the new value, whole, whether the save succeeds or not.
+        // By `durable`, `any_moment`; `Keep::load`: `crash`, `any_moment`; `Keep::counts_now`,
+        // `Keep::only_now`.
         ensures durable { is_durable ≡ true →
             OnOk result (Only (Some bytes.now) (may_leave self.new)) }
         ensures any_moment { is_durable ≡ true → LeavesOnly moment left_since self.old self.new

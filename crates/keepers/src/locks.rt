@@ -12,6 +12,8 @@ pub trait Locks: Files {
 
     /// Takes the lock of the file, and waits while another open of it has that.
     fn lock(&self, file: &Self::File) -> io::Result<()>
+        // Proved: A lock that was taken tells so of its file.
+        // By `Locks::try_lock`.
         ensures { OnOk result (was_locked file.now) };
 
     /// Takes the lock of the file, unless another open of it has that. Answers whether it took it.

@@ -60,6 +60,9 @@ impl MemoryDisk {
         k: u64,
         stops: bool,
     ) -> Result<MemoryDisk, AllocError>
+        // Proved: A disk in memory begins with a file or none, and tells what a crash may leave
+        // and what one might have left.
+        // By `file`, `left`, `settled`; `MemoryDisk::may_leave`, `MemoryDisk::might_have_left`.
         ensures file { IfOk result (λ disk. disk.file ≡ option_map (λ v. v.items) file) }
         ensures left { IfOk result (λ disk. disk.left ≡ option_map (λ v. v.items) file ∷ []) }
         ensures settled { IfOk result (λ disk. disk.settled ≡ 0) }
@@ -196,6 +199,7 @@ impl Disk for MemoryDisk {
     ghost use Rattle.std.specs.Prelude.{[], true};
     ghost use Rattle.keepers.specs.InMemory.{IsFrom, later, view_of};
 
+    // Proved: A disk in memory, for tests, is honest.
     ghost is_honest = { true };
 
     ghost place = { λ _. [] };

@@ -55,6 +55,9 @@ impl Keep for MemoryKeep {
     ghost save_fails = { λ _ _ _. ⊥ };
 
     fn load(&mut self) -> Result<Vec<u8>, KeepFault>
+        // Proved: A keeper in memory fails for want of memory alone.
+        // By `ok`, `stays`, `only`; `MemoryKeep::save`: `ok`, `err`, `only`; `MemoryKeep::new`,
+        // `MemoryKeep::failures`.
         ensures ok { IfOk result (λ v. v.items ≡ self.old) }
         ensures stays { self.new ≡ self.old }
         ensures only { IfErr result (λ fault. fault ≡ KeepFault.Memory) }

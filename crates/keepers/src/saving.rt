@@ -11,6 +11,8 @@ use crate::keep_fault::KeepFault;
 /// The bytes of the file. A crash meanwhile leaves what it might have left before. Refuses
 /// `Failed`, as where there is no file; and `Memory`.
 pub fn load<D: Disk>(disk: &mut D) -> Result<Vec<u8>, KeepFault>
+    // Proved: What is read is the file, which stays as it was.
+    // By `reads`, `any_moment`, `place`.
     ensures reads { D.is_honest ≡ true → Reads (D.view disk.old) (D.view disk.new) result }
     ensures any_moment { D.is_honest ≡ true →
         LeavesOnly D.moment D.left_since disk.old disk.new (D.view disk.old).may_leave }
@@ -25,10 +27,20 @@ pub fn load<D: Disk>(disk: &mut D) -> Result<Vec<u8>, KeepFault>
 /// crash at any moment of the save leaves what one before it might have left, or these bytes,
 /// whole. Refuses `Failed`, and then removes the draft, as far as the disk lets it.
 pub fn save<D: Disk>(disk: &mut D, bytes: &[u8]) -> Result<(), KeepFault>
+    // Proved: A file is saved on a disk that is honest: behind a save that succeeds it has the new
+    // bytes, and each crash leaves them; one that fails leaves the old to be seen, or the new; and
+    // a crash at any moment leaves what one before it might have left, or the new, whole.
+    // By `saves`, `any_moment`; `save_first`: `saves`, `any_moment`.
+    // Not proved: how a save comes to what it leaves: a draft is written and synced, takes the
+    // file's name, and the folder is synced.
     ensures saves { D.is_honest ≡ true →
         SavesFile (D.view disk.old) bytes.now (D.view disk.new) result }
     ensures any_moment { D.is_honest ≡ true → LeavesOnly D.moment D.left_since disk.old disk.new
         (IsOldOrNew (D.view disk.old).may_leave bytes.now) }
+    // Proved: A failure is one that the disk counts, and a save has no other refusal; the place
+    // stays.
+    // By `cause`, `only`, `place`; `save_first`: `cause`, `only`, `place`; `saving::load`:
+    // `cause`.
     ensures place { D.place disk.new ≡ D.place disk.old }
     ensures only { IfErr result (λ fault. fault ≡ KeepFault.Failed) }
     ensures cause { HasCause (D.faults disk.old) (D.faults disk.new) result }
@@ -44,6 +56,7 @@ pub fn save<D: Disk>(disk: &mut D, bytes: &[u8]) -> Result<(), KeepFault>
 pub fn save_first<D: Disk>(disk: &mut D, bytes: &[u8]) -> Result<(), KeepFault>
     ensures saves { D.is_honest ≡ true →
         SavesFile (D.view disk.old) bytes.now (D.view disk.new) result }
+    // Proved: The first save succeeds only where no file was there.
     ensures none { D.is_honest ≡ true → OnOk result ((D.view disk.old).file ≡ None) }
     ensures any_moment { D.is_honest ≡ true → LeavesOnly D.moment D.left_since disk.old disk.new
         (IsOldOrNew (D.view disk.old).may_leave bytes.now) }

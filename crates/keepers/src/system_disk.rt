@@ -48,7 +48,11 @@ impl<'a, R: Locks> SystemDisk<'a, R> {
         file: R::File,
         waits: bool,
     ) -> Self
+        // Wants: an open file whose lock was taken by `Locks::lock` or `try_lock`, of any files
+        // that tell which of them were locked.
         requires { R.was_locked file }
+        // Not proved: that the path leads to the file that is locked, and that the lock is held
+        // until the keeper is let go: it is only tested.
         ensures { result ≡ record { path = path.now; count = 0 } }
     {
         SystemDisk {
@@ -198,6 +202,8 @@ impl<'a, R: Locks> Disk for SystemDisk<'a, R> {
     ghost use Rattle.std.specs.Prelude.{false};
     ghost use Rattle.keepers.specs.OnDisk.{unknown};
 
+    // Not proved: that the system's disk does what `Disk` says of one that is honest: it is only
+    // tested.
     ghost is_honest = { false };
 
     ghost place = { λ disk. disk.path };

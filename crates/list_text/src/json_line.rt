@@ -38,6 +38,7 @@ pub fn print_work(
     bytes: Option<u64>,
     now: u64,
 ) -> Result<(), AllocError>
+    // Proved: As JSON the line of one work is told by itself.
     ensures { OnOk result (IsPrinted
         (line.work_data controller.now bytes now work.now) out.old out.new) }
 {

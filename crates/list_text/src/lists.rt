@@ -81,6 +81,9 @@ pub fn push_master_list(
     is_json: bool,
     now: u64,
 ) -> Result<(), AllocError>
+    // Proved: A list of a controller's work, of what is open or of all other, has a line for each,
+    // with the bytes of the message that carries its part, with tabs between or as JSON.
+    // By `push_worker_list`.
     ensures { OnOk result (text.new.items
         ≡ text.old.items ++ lists.master_list are_open is_json now master.now) }
 {

@@ -305,6 +305,7 @@ impl<L: GuestListener> Guests<L> {
 
     /// Gives each that may have something its turn.
     pub fn advance(&mut self, alloc: Global, buffer: &mut [u8], now: u64) -> Result<(), AllocError>
+        // Wants: room for a byte or more.
         requires { 0 < length buffer.old }
     {
         let ready = mem::replace(&mut self.ready, Vec::new(alloc));

@@ -14,6 +14,8 @@ pub trait Listener: Drop {
 
     /// The limits of each connection.
     fn limits(&self) -> Limits
+        // Proved: What may be asked at each place where others come: messages by POST alone,
+        // looking by GET or HEAD, orders by POST, and looking there by GET.
         ensures { result.methods ≡ methods };
 
     /// Has it told under this token that somebody waits.

@@ -46,6 +46,9 @@ impl Master {
     /// A master of this name with these workers, none of whom has a part of its ticket. Refuses
     /// `SameName` where two of the names are equal (our own), and else `Memory`.
     pub fn new(alloc: Global, name: Id, workers: Ids, ticket: Ticket) -> Result<Master, Refusal>
+        // Proved: A master begins with no record; distinct names are refused for want of memory
+        // alone.
+        // By `ok`, `kept`, `refused`, `memory`, `only`; `are_apart`.
         ensures ok { IfOk result (λ m. m ≡ master.known name workers ticket []) }
         ensures kept { IfOk result (λ m. IsKept m) }
         ensures refused { IsErrOf result Refusal.SameName → are_distinct (name ∷ workers) ≡ false }
@@ -79,6 +82,8 @@ impl Master {
         ticket: Ticket,
         records: Vec<SpawnRec>,
     ) -> Result<Master, Refusal>
+        // Proved: Stored parts are taken just if some master could have them.
+        // By `ok`, `kept`, `taken`, `refused`, `memory`, `only`; `laws::a_kept_master_is_stored`.
         ensures ok { IfOk result (λ m. m ≡ master.known name workers ticket records.items) }
         ensures kept { IfOk result (λ m. IsKept m) }
         ensures taken { OnOk result
@@ -135,6 +140,9 @@ impl Master {
     /// ticket is valid; each record of a spawn that is out is good in it, and no two of those claim
     /// one node or resource.
     pub fn records(&self) -> &[SpawnRec]
+        // Proved: A master's names are distinct, its ticket valid, its records numbered, those out
+        // good and apart.
+        // By `records`, `kept`; `master::Master::name`, `Master::workers`, `Master::ticket`.
         ensures records { result.now ≡ self.now.records }
         ensures kept { IsKept self.now }
     {
@@ -144,6 +152,8 @@ impl Master {
     /// Who holds a node or a resource: the spawn that is out and claims it, or else the master.
     /// `None` where the id is unknown. Needs no memory.
     pub fn holder_of(&self, id: &Id) -> Option<Holder>
+        // Proved: A master may change what it holds.
+        // By `Master::may_change`; `laws::what_a_master_may_change_it_holds`: `held`, `edits`.
         ensures { result ≡ master.holder self.now id.now }
     {
         self.holders.holder_of(&self.ticket, id)
@@ -162,6 +172,8 @@ impl Master {
 
     /// What its ticket shows of the spawns that are out (JDF 1.5, 4.4). Refuses `Memory` alone.
     pub fn shown(&self, alloc: Global) -> Result<Marks, Refusal>
+        // Proved: A master shows the marks of its spawns that are out.
+        // By `ok`, `memory`.
         ensures ok { IfOk result
             (λ marks. marks ≡ marking.marks self.now.ticket.rows self.now.records) }
         ensures memory { IfErr result (λ e. e ≡ Refusal.Memory) }
@@ -178,9 +190,13 @@ impl Master {
     /// to send once more, or to ask, as `NotOut` where no spawn that is out has the number. Then
     /// refuses `Memory`. A refusal changes nothing.
     pub fn order(&mut self, alloc: Global, order: Order, at: u64) -> Result<Done, Refusal>
+        // Proved: An order does just what it says, and what goes out is told.
+        // By `ok`, `err`.
         ensures ok { IfOk result
             (λ done. done_step done self.new ≡ orders.order_step order at self.old) }
         ensures err { OnErr result (self.new ≡ self.old) }
+        // Proved: An order is refused for the first reason, without memory.
+        // By `refused`, `memory`.
         ensures refused { IfErr (orders.order_step order at self.old).reply
             (λ e. result ≡ Err e) }
         ensures memory { IfOk (orders.order_step order at self.old).reply
@@ -199,9 +215,13 @@ impl Master {
     /// is out: that is then withdrawn. A command is answered, refused or not; an answer isn't, and
     /// takes no memory unless it frees a spawn. Where memory runs out nothing is changed.
     pub fn take(&mut self, alloc: Global, message: Message, at: u64) -> Result<Outcome, AllocError>
+        // Proved: Any message is taken or refused for the first reason; only a part that fits a
+        // spawn that is out is merged, and only a spawn that is out is freed.
+        // By `ok`, `err`.
         ensures ok { IfOk result
             (λ outcome. outcome_step outcome self.new ≡ messages.take_step message at self.old) }
         ensures err { OnErr result (self.new ≡ self.old) }
+        // Proved: An answer that frees no spawn needs no memory.
         ensures answers { is_answer message.body ≡ true
             → IfOk (messages.take_step message at self.old).reply (λ r. is_freed r ≡ false)
             → IsOk result }

@@ -160,6 +160,8 @@ impl Master {
     /// What it takes a message as, and what a command is told, unless it refuses it. Needs no
     /// memory.
     pub fn taken_as(&self, body: &Body) -> Taken
+        // Proved: What a message is taken as, and what its command is told, is told before.
+        // By `reply`, `told`.
         ensures reply { (at : ℕ) → result.reply ≡ (messages.taken body.now at self.now).reply }
         ensures told { (at : ℕ) → result.told ≡ (messages.taken body.now at self.now).told }
     {

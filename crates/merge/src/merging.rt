@@ -62,8 +62,11 @@ pub fn merge_fitting(
     part: Part,
     at: u64,
 ) -> Result<(), Refusal>
+    // Wants: a good record, and a part that fits it.
     requires good { IsGood ticket.old.rows spawn.old }
     requires fits { Fits ticket.old spawn.old part }
+    // Proved: A part that is known to fit is merged so, and memory alone is refused.
+    // By `merged`, `phase`, `ticket`, `spawn`, `memory`.
     ensures merged { OnOk result (ticket.new ≡ put ticket.old spawn.old part at) }
     ensures phase { OnOk result (spawn.new ≡ record spawn.old { phase = Merged }) }
     ensures ticket { OnErr result (ticket.new ≡ ticket.old) }
@@ -92,11 +95,17 @@ pub fn merge(
     part: Part,
     at: u64,
 ) -> Result<(), Refusal>
+    // Wants: a good record that is out.
     requires out { is_out spawn.old ≡ true }
     requires good { IsGood ticket.old.rows spawn.old }
 
+    // Proved: Each row of the claim becomes the part's, an audit tells of it, and nothing else
+    // changes; what is refused changes nothing.
+    // By `merged`, `phase`, `ticket`, `spawn`.
     ensures merged { OnOk result (ticket.new ≡ put ticket.old spawn.old part at) }
     ensures phase { OnOk result (spawn.new ≡ record spawn.old { phase = Merged }) }
+    // Proved: A part is merged just if it fits, else refused without memory.
+    // By `fits`, `wrong_shape`, `memory`; `fits`.
     ensures fits { OnOk result (Fits ticket.old spawn.old part) }
 
     // A refusal changes nothing.

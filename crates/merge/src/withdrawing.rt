@@ -38,8 +38,12 @@ pub fn withdraw(
     spawn: &mut SpawnRec,
     at: u64,
 ) -> Result<(), Refusal>
+    // Wants: a good record that is out.
     requires out { is_out spawn.old ≡ true }
     requires good { IsGood ticket.old.rows spawn.old }
+    // Proved: As a spawn is withdrawn a note tells of it, and nothing else changes; memory alone
+    // is refused.
+    // By `withdrawn`, `phase`, `ticket`, `spawn`, `memory`.
     ensures withdrawn { OnOk result (ticket.new ≡ withdrawals.withdrawn ticket.old spawn.old at) }
     ensures phase { OnOk result (spawn.new ≡ record spawn.old { phase = Withdrawn }) }
     ensures ticket { OnErr result (ticket.new ≡ ticket.old) }

@@ -58,6 +58,8 @@ impl<S: Drop> Asked<S> {
     /// Takes its response, whole, at this moment. Where memory runs out for that, the client is
     /// closed.
     pub fn answer(self, response: &[u8], now: u64) -> Result<Client<S>, AllocError>
+        // Proved: To what owes a response, and to that alone, one can be given, whole.
+        // By `ok`, `out`; `Asked::invariant`.
         ensures ok { IfOk result (λ c. c ≡ record {
           peer = peers.responded response.now now self.peer;
           stream = self.stream;

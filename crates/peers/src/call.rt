@@ -66,6 +66,12 @@ fn read_on<S: Read>(exchange: &mut Exchange, stream: &mut Counted<S>, buffer: &m
 impl<S> Call<S> {
     /// A call with this request, which begins at this moment, in milliseconds.
     pub fn new(alloc: Global, request: Vec<u8>, limits: CallLimits, stream: S, now: u64) -> Call<S>
+        // Proved: A call of another server writes in a turn what comes next of its request, and
+        // nothing else, or reads. Its response is what the bytes carry that came before and in
+        // this turn, also where it comes before the request was written whole; where there is
+        // none, the bytes are refused so, or a read failed, memory ran out, or its deadline came.
+        // From its deadline on it doesn't go on, and after either there is no call.
+        // By `Call::advance`.
         ensures { result ≡ record {
           exchange = exchanges.begun request.items limits now;
           stream = stream;
@@ -86,6 +92,8 @@ impl<S> Call<S> {
 
     /// How many bytes are kept of it: its request, and what came of its response.
     pub fn held(&self) -> usize
+        // Proved: How many bytes are kept of a call, its deadline and its stream are told.
+        // By `Call::deadline`, `Call::stream`.
         ensures { result ≡ exchanges.kept_bytes self.now.exchange }
     {
         self.exchange.held()
@@ -131,6 +139,7 @@ impl<S: Read + Write + Drop> Call<S> {
     /// what it has of the response, and takes that also where the request wasn't written whole. A
     /// request that can't be written is no failure: the response may tell why.
     pub fn advance(self, alloc: Global, buffer: &mut [u8], now: u64) -> CallTurn<S>
+        // Wants: room for a byte or more.
         requires { 0 < length buffer.old }
         ensures { calls.TurnsTo S.remaining S.contents now self result }
     {

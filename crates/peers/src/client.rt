@@ -147,6 +147,8 @@ impl<S> Client<S> {
 
     /// How many bytes are kept of it: of its request, and of what is written to it.
     pub fn held(&self) -> usize
+        // Proved: How many bytes are kept of a connection, and its deadline, are told.
+        // By `Client::deadline`, `Asked::held`; `Asked::deadline`: `value`, `waits`; `Peer::held`.
         ensures { result ≡ peers.kept_bytes self.now.peer }
     {
         self.peer.held()
@@ -164,7 +166,14 @@ impl<S: Read + Write + Drop> Client<S> {
     /// Gives it a turn: reads of its stream and writes to it what may be read and written at this
     /// moment.
     pub fn advance(self, alloc: Global, buffer: &mut [u8], now: u64) -> Turn<S>
+        // Wants: room for a byte or more.
         requires { 0 < length buffer.old }
+        // Proved: Beside its stream: a request is handed out as what the bytes carry that came
+        // before and in this turn, and why one is refused by the same bytes; then a response is
+        // owed, by the type.
+        // By `Client::new`, `Client::stream`.
+        // Proved: In each turn of a client what is written is the next piece of what is to be
+        // written, behind what was; `Written` tells that the response is written whole.
         ensures { turned.TurnsTo S.remaining S.contents now self result }
     {
         let Client { mut peer, stream } = self;

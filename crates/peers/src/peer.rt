@@ -57,6 +57,10 @@ impl Model for Peer {
 impl Peer {
     /// A connection that was accepted at this moment.
     pub fn new(alloc: Global, limits: Limits, now: u64) -> Peer
+        // Proved: A connection reads until its request is whole or refused, and hands it out once,
+        // as what its own bytes carry; from then on it reads nothing until its response was
+        // written.
+        // By `Peer::on_readable`: `reading`, `quiet`; `Peer::phase`.
         ensures { result ≡ peers.accepted limits now }
     {
         Peer {
@@ -103,6 +107,10 @@ impl Peer {
 
     /// Closes it, if its deadline has come.
     pub fn on_time(&mut self, now: u64)
+        // Proved: From its deadline on `on_time` closes a connection, in each phase; `new`,
+        // `respond`, `on_readable` and `on_writable` set the next one as the phase changes.
+        // By `Peer::deadline`, `Peer::new`; `Peer::respond`: `ok`; `Peer::on_readable`: `reading`;
+        // `Peer::on_writable`.
         ensures { self.new ≡ peers.at_time now self.old }
     {
         if self.deadline <= now {
@@ -113,7 +121,11 @@ impl Peer {
     /// Takes the response to its request, whole. At an `Err`, where memory runs out, it still waits
     /// for one.
     pub fn respond(&mut self, response: &[u8], now: u64) -> Result<(), AllocError>
+        // Wants: a connection that waits for its response.
         requires { self.old.phase ≡ phases.Waiting }
+        // Proved: The interim response is given where the head asks for it, once, and before the
+        // response; else nothing is written until a response was given.
+        // By `ok`, `out`, `err`; `Peer::on_readable`: `reading`, `unanswered`; `Peer::invariant`.
         ensures ok { OnOk result (self.new ≡ peers.responded response.now now self.old) }
         ensures out { OnOk result (self.new.out ≡ peers.interim self.old.asked ++ response.now) }
         ensures err { OnErr result (self.new ≡ self.old) }
@@ -148,6 +160,9 @@ impl Peer {
 
     /// Makes one write to its stream, if something is to be written.
     pub fn on_writable<T: Write>(&mut self, stream: &mut Counted<T>, now: u64) -> Event
+        // Proved: What a connection writes is what comes next of the interim response and the
+        // response, and nothing else.
+        // By `Peer::wants_write`.
         ensures { peers.Writes T.contents now stream.old stream.new self.old self.new result }
     {
         if self.phase == Phase::Closed || !self.wants_write() {
@@ -309,9 +324,13 @@ impl Peer {
         buffer: &mut [u8],
         now: u64,
     ) -> Event
+        // Wants: room for a byte or more.
         requires { 0 < length buffer.old }
+        // Not proved: that so much is read behind a response, and no more.
         ensures reading { self.old.phase ≡ phases.Reading →
             peers.Reads T.remaining now stream.old stream.new self.old self.new result }
+        // Proved: Of what comes behind the response nothing is kept, and what is counted of it
+        // stays within a bound.
         ensures lingering { self.old.phase ≡ phases.Lingering →
             peers.Lingers self.old self.new result }
         ensures quiet { peers.is_quiet self.old.phase ≡ true →

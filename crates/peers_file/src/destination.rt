@@ -56,6 +56,11 @@ impl Destination {
 
     /// The URL that a text is, by the URL Standard, if a message can be sent there.
     pub fn of(alloc: Global, text: &str) -> Result<Option<Destination>, AllocError>
+        // Proved: A text is a URL that a message can be sent to just where it is one by the URL
+        // Standard, of HTTP, with no user, query or fragment, whose host and path can stand in a
+        // head; these, and its port, are told.
+        // By `Destination::host`, `Destination::port`; `Destination::authority`,
+        // `Destination::path`: `value`, `fits`.
         ensures { IfOk result (λ found. found ≡ destinations.destination_in text.now) }
     {
         match Url::parse(alloc, text) {

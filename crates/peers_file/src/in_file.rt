@@ -28,6 +28,8 @@ fn no_table(memory: bool) -> Refused
 /// The table in a peers' file. Refuses `LoadFailed` where that can't be read or is none, and
 /// `Memory`.
 pub fn peers_in_file<R: Files>(rt: &R, alloc: Global, path: &str) -> Result<PeerTable, Refused>
+    // Proved: A table from a file is read or refused for want of memory, or since the file can't
+    // be loaded.
     ensures { IfErr result IsNoTable }
 {
     let Ok(file) = fs::open(rt, path) else {

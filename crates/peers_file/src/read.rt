@@ -25,6 +25,10 @@ fn table_in<S: Source>(alloc: Global, value: &S) -> Result<PeerTable, Refusal>
 /// `NotProfile`: where it is no object of texts, a member's name is none of these, or a text is no
 /// URL that a message can be sent to; `Memory` may come before any.
 pub fn peers_of(alloc: Global, bytes: &[u8]) -> Result<PeerTable, Refusal>
+    // Proved: A table of peers is read just where the bytes are an object of patterns and of URLs
+    // that a message can be sent to; what it holds is just that, and else the first refusal is
+    // told.
+    // By `ok`, `refused`.
     ensures ok { IfOk result (λ table. IsReadAs table_read bytes.now (Ok table)) }
     ensures refused { IfErr result (IsRefusalOf table_read bytes.now) }
 {

@@ -73,6 +73,10 @@ impl PeerTable {
     /// The URL of a name: that under the name itself, or else under the longest of what it begins
     /// with. So many look-ups are made as it has bytes, and two more.
     pub fn url_of(&self, name: &str) -> Option<&Destination>
+        // Proved: A name has the URL under a pattern which it fits, so that none which it fits
+        // tells more of it and has one: the name itself tells most, and then the longest front; or
+        // no pattern that it fits has one.
+        // By `PeerTable::knows`.
         ensures { tables.IsUrlOf name.now self.now (option_copied result) }
     {
         let name = name.as_bytes();
@@ -85,6 +89,8 @@ impl PeerTable {
 
     /// How many URLs it has: one under each pattern.
     pub fn len(&self) -> usize
+        // Proved: The URLs of a table are told by their places.
+        // By `PeerTable::url_at`.
         ensures { result ≡ length self.now }
     {
         self.rows.len()

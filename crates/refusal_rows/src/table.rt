@@ -38,6 +38,7 @@ fn text_in(table: &[Row], number: &str) -> Option<&'static str>
 
 /// The text of the refusal that has this number, written in digits, where one has.
 pub fn text_of(number: &str) -> Option<&'static str>
+    // Not proved: that the rows are those of `REFUSALS.md`: `refusal_rows.py` looks it up.
     ensures { option_map (λ text. text.now) result ≡ rows.text_of number.now }
 {
     text_in(all_rows(), number)

@@ -62,6 +62,7 @@ pub fn refuse_errands<S: Drop, A: Told<S>>(
     refused: Refused,
     now: u64,
 ) -> Vec<A>
+    // Wants: room for each response.
     requires { line.HasRoom (length errands.items) room }
     ensures { AreToldOf (A.is_told now) refused (line.waiting_of errands.items) result.items }
 {
@@ -130,7 +131,17 @@ pub fn answer_all<K: Keep, S: Drop, A: Told<S>>(
     at: u64,
     now: u64,
 ) -> (Vec<A>, Option<Saved>)
+    // Wants: room for each response.
     requires { line.HasRoom (length errands.items) room }
+    // Proved: Each client who waits for a controller gets the response to what came of the
+    // client's own request: what clients have come for came to it one after the other, it is one
+    // that is addressed, and the state behind the last is held before any response is given; so a
+    // 200 tells of a step that is saved. What the message was taken as is told, and who sent it.
+    // By `steps`, `place`; `Room::new`, `Answered::tell`.
+    // Not proved: that memory doesn't run out for a response.
+    // Proved: Where the controller can't be loaded or saved, or isn't one that is addressed, each
+    // is refused with a status of 503, and what is held is what was, or the state behind the last.
+    // By `steps`; `refuse_errands`, `refuse`.
     ensures steps { TellsLine (A.is_told now) K.is_honest K.held K.place K.count K.load_fails
         K.save_fails to.entry at keep.old keep.new errands.items result.0.items result.1 }
     ensures place { K.place keep.new ≡ K.place keep.old }

@@ -123,6 +123,11 @@ impl<S: Drop> Told<S> for Ordered<S> {
         came: Result<TakenBytes, Refused>,
         now: u64,
     ) -> Ordered<S>
+        // Proved: Each who gave an order over the local socket has, under its own number, the
+        // response to what came of its own order: a 200 that tells the reply and its spawn, or why
+        // the controller refused the order and, of 12, the spawn that holds. What is told of it
+        // and the reply are those of the same step.
+        // By `answer_all`: `steps`, `place`; `refuse_errands`, `Told::tell`.
         ensures { HasReply now came waiting result }
     {
         let Waiting { key, asked } = waiting;

@@ -55,6 +55,10 @@ impl SavedStates {
 
     /// Keeps that of a path, as far as there is room.
     pub fn keep(&mut self, path: String, saved: Saved) -> Result<(), AllocError>
+        // Proved: A controller is kept in memory for one path, once, before the others, of which
+        // the last may go; or it isn't kept, and the others stay. What is taken out is what was
+        // kept for the path.
+        // By `SavedStates::take`: `value`, `others`, `gone`; `SavedStates::new`.
         ensures { Keeps path saved self.old self.new }
     {
         drop(self.take(path.as_str()));

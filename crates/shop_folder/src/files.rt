@@ -120,6 +120,9 @@ pub fn files_in<R: Files + Alloc + Clone + Drop>(
     alloc: Global,
     folder: &str,
 ) -> io::Result<Vec<FolderFile>>
+    // Proved: Each file that is found in a folder lies where its controller does: under its own
+    // name, or, of a worker, under its master's in the folder of its own.
+    // Not proved: which files a folder has.
     ensures { IfOk result (λ files. All (LiesIn folder.now) files.items) }
 {
     let names = names_in(rt, alloc, folder)?;

@@ -14,6 +14,7 @@ fn has_no_dot(name: &str) -> bool
 /// Whether a text may name a controller of a folder: a name of our profile without a dot. So no
 /// name leads out of the folder, or to what a save or an editor puts beside a file.
 pub fn is_file_name(text: &str) -> bool
+    // Proved: What may name a file of a folder is a name without a dot.
     ensures { result ≡ names.is_file_name text.now }
 {
     is_name(text) && has_no_dot(text)

@@ -22,6 +22,8 @@ impl Owner {
 
     /// As one that is addressed.
     pub fn as_addressee(&self) -> Addressee<'_>
+        // Proved: Whose a file is addresses the controllers that the file is for, and no others.
+        // By `owner`, `same`; `Owner::copy`.
         ensures owner { addressed_owner result ≡ self.now }
         ensures same { (c : AnyController) → is_addressed result c ≡ is_owner self.now c }
     {

@@ -17,6 +17,8 @@ impl<'a> Place<'a> {
     /// What lies at a path: a folder where the system says that it leads to one, also through
     /// a link, and a file where it says another thing or nothing.
     pub fn at<R: Files>(rt: &R, path: &'a str) -> Place<'a>
+        // Proved: What lies at a path tells that path.
+        // By `Place::path`.
         ensures { path_of result ≡ path.now }
     {
         match fs::metadata(rt, path) {

@@ -43,6 +43,10 @@ pub fn file_for(
     receiver: &str,
     sender: &str,
 ) -> Result<Option<String>, AllocError>
+    // Proved: A message leads to the file of its receiver's name; or in the folder of that name to
+    // the file of its sender's; or to none, where nothing lies there or the name may not name a
+    // file.
+    // By `in_folder`.
     ensures { IfOk result (λ file. option_map (λ path. string_bytes path) file
         ≡ routes.file_for folder.now lies receiver.now sender.now) }
 {

@@ -148,6 +148,10 @@ pub fn metrics_text(
     gauges: &Gauges,
     each: &[OfController<'_>],
 ) -> Result<String, AllocError>
+    // Proved: What is counted is told in Prometheus's text, byte by byte. A count goes as far as
+    // 64 bits do, and stays there; a request counts under its own status, where that is one that
+    // is counted, and no other count changes.
+    // By `Counts::new`, `Counts::note_status`, `Counts::note_turn`, `Counts::note_save`.
     ensures { IfOk result (λ made. string_bytes made
         ≡ metrics.metrics_text counts.now gauges.now each.now) }
 {

@@ -109,6 +109,8 @@ pub fn list_json(
     shop: &Shop<'_>,
     works: &[OpenWork<'_>],
 ) -> Result<Vec<u8>, AllocError>
+    // Proved: The work of a shop as JSON has each as `list --json` tells it, and each that was
+    // refused or is late once more.
     ensures { IfOk result (λ text. text.items ≡ list.list_line shop.entry.now works.now) }
 {
     let mut out = Writer::new(Vec::new(alloc));

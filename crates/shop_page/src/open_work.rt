@@ -33,6 +33,9 @@ impl OpenWork<'_> {
 
     /// Whether its message has no answer yet, at a time in seconds since 1970, and waits too long.
     pub fn waits_long(&self, now: u64) -> bool
+        // Proved: A message waits too long where it has no answer after 60 seconds; one that was
+        // refused has its refusal's number.
+        // By `OpenWork::refusal`.
         ensures { result ≡ delays.is_late now self.now }
     {
         match self.delivery {

@@ -103,6 +103,13 @@ pub fn shop_page(
     shop: &Shop<'_>,
     works: &[OpenWork<'_>],
 ) -> Result<String, AllocError>
+    // Proved: A row tells the controller, the job, the spawn, how far it is, with whom, the node,
+    // its name and Status, since when, how long, and what its message was refused as, each escaped
+    // as in a picture.
+    // Proved: The page of a shop is one text for its time and its open work: its figures, then a
+    // table of what was refused, one of what waits too long for an answer, and one of all that is
+    // out. Each work has its own row in a table, once, in order, as far as a table has rows; how
+    // many are left out is told.
     ensures { IfOk result (λ page. string_bytes page ≡ pages.page shop.entry.now works.now) }
 {
     let late = late_of(alloc, works, shop.now)?;

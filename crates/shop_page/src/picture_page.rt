@@ -9,6 +9,7 @@ use std::alloc::{AllocError, Global};
 /// The page of a controller, as its file is named in what is served: its picture, which is SVG, and
 /// a way back to all.
 pub fn controller_page(alloc: Global, controller: &str, picture: &str) -> Result<String, AllocError>
+    // Proved: The page of a controller is its picture, whole, between head and foot.
     ensures { IfOk result (λ page. string_bytes page
         ≡ cells.controller_page controller.now picture.now) }
 {

@@ -87,6 +87,7 @@ fn print_entries(alloc: Global, out: &mut Writer, entries: &[Entry]) -> Result<(
 /// The entries of a worker in the order in which they were taken or declined, as a JSON array of
 /// objects: when, how it ended, the part where it keeps one, how far, and the spawn.
 pub fn worker_json(alloc: Global, worker: &Worker) -> Result<Vec<u8>, AllocError>
+    // Proved: What a worker shows has each of its entries, with the part while it keeps one.
     ensures { IfOk result (λ text. text.items ≡ shown.worker_line worker.now) }
 {
     let mut out = Writer::new(Vec::new(alloc));

@@ -7,6 +7,8 @@ ghost use Rattle.spawn.specs.Stored.{StandingIsATest};
 
 /// A spawn that is out holds just what it claims, where the records stand well beside the ticket.
 pub fn a_spawn_that_is_out_holds_its_claim()
+    // Proved: A spawn that is out holds just its claim.
+    // By `claimed`, `held`.
     ensures claimed { law.ClaimIsHeld }
     ensures held { law.HeldIsClaimed }
 {}
@@ -14,12 +16,15 @@ pub fn a_spawn_that_is_out_holds_its_claim()
 /// The parent of a node that is out is held by the master, where the records stand well beside the
 /// ticket.
 pub fn the_parent_of_a_spawned_node_is_the_masters()
+    // Proved: The master holds the parent of a node that is out.
     ensures { law.ParentIsMasters }
 {}
 
 /// As a spawn goes out that isn't refused, the records go on to stand well beside the ticket: the
 /// claims of spawns that are out share nothing.
 pub fn a_spawn_keeps_claims_apart()
+    // Proved: Claims stay apart as one more goes out, and as the master edits what it holds.
+    // By `laws::an_edit_keeps_claims`: `claims`, `apart`.
     ensures { law.SpawnKeepsApart }
 {}
 
@@ -27,6 +32,8 @@ pub fn a_spawn_keeps_claims_apart()
 /// to stand well beside the ticket. The master then holds what the spawn claimed, and all else has
 /// the holder that it had.
 pub fn a_spawn_that_ends_gives_its_claim_back()
+    // Proved: As a spawn ends the master holds what it claimed, and other holders stay.
+    // By `apart`, `claimed`, `others`.
     ensures apart { law.EndKeepsApart }
     ensures claimed { law.EndedClaimIsMasters }
     ensures others { law.EndKeepsOthers }
@@ -34,6 +41,9 @@ pub fn a_spawn_that_ends_gives_its_claim_back()
 
 /// The part of a good record is sound.
 pub fn the_part_of_a_good_record_is_sound()
+    // Proved: A good record's part is sound, and the same while its claim, its ancestors and the
+    // job's id are.
+    // By `laws::a_part_stays_while_its_claim_does`.
     ensures { law.PartIsSound }
 {}
 
@@ -53,6 +63,8 @@ pub fn an_edit_keeps_claims()
 /// The part of a good record shows what the spawn claims as it stands in the ticket, and nothing
 /// else.
 pub fn a_part_shows_its_claim()
+    // Proved: A good record's part shows what is claimed as it stands, and nothing else.
+    // By `claimed`, `no_more`; `laws::rows_below_a_node_have_its_places`.
     ensures claimed { law.PartShowsClaim }
     ensures no_more { law.PartShowsNoMore }
 {}
@@ -73,6 +85,9 @@ pub fn whether_records_stand_well_is_a_test()
 /// holds changes none, a spawn gives its claim to it, which none held, and the end of a spawn gives
 /// the claim back.
 pub fn holders_are_kept_in_step()
+    // Proved: The table that is kept stays in step with edits, spawns and ends of spawns, and a
+    // claim that isn't refused is free.
+    // By `edits`, `free`, `spawns`, `ends`.
     ensures edits { holdings.EditKeepsTable }
     ensures free { holdings.ClaimIsFree }
     ensures spawns { holdings.SpawnKeepsTable }

@@ -17,6 +17,9 @@ pub enum Addressee<'a> {
 impl<'a> Addressee<'a> {
     /// Whether a controller is one that is addressed.
     pub fn is(self, controller: &AnyController) -> bool
+        // Proved: Which controller is addressed: any, the one of a name, or the worker of a name
+        // that works for a master.
+        // By `AnyController::name`.
         ensures { result ≡ is_addressed self.entry controller.now }
     {
         match self {

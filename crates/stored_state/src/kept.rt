@@ -64,12 +64,18 @@ impl<C: Stored, K: Keep> Kept<C, K> {
     /// A new controller beside its keeper, which holds its state from then on. Refuses `SaveFailed`
     /// and `Memory`.
     pub fn create(alloc: Global, controller: C, mut keep: K) -> Result<Kept<C, K>, Refused>
+        // Proved: A new controller's state is held, and read again as it; only a failed save or
+        // memory prevents that.
+        // By `controller`, `held`, `again`, `honest`, `fresh`, `only`, `failures`.
         ensures controller { IfOk result (λ kept. kept.controller ≡ controller) }
         ensures held { IfOk result (λ kept. K.is_honest kept.keep ≡ true →
             K.held kept.keep ≡ compact_text (C.state_data controller)) }
         ensures again { IfOk result (λ kept. K.is_honest kept.keep ≡ true →
             IsReadAs C.state_read (K.held kept.keep) (Ok kept.controller)) }
         ensures honest { IfOk result (λ kept. K.is_honest kept.keep ≡ K.is_honest keep) }
+        // Proved: No call changes the keeper's place.
+        // By `place`; `Kept::open`, `Kept::order`, `Kept::take`, `Kept::reload`, `Opened::order`,
+        // `Opened::take`, `open_any`, `Snapshot::of`, `Snapshot::open`, `take_all`: `place`.
         ensures place { IfOk result (λ kept. K.place kept.keep ≡ K.place keep) }
         ensures fresh { IfOk result (λ kept. kept.stale ≡ false) }
         ensures only { IfErr result (λ e. (e ≡ SaveFailed) ⊎ (e ≡ Core Memory)) }
@@ -86,6 +92,8 @@ impl<C: Stored, K: Keep> Kept<C, K> {
     /// The controller whose state a keeper holds, beside the keeper, which holds it on. Refuses
     /// `LoadFailed`, what the bytes held are refused for, and `Memory`.
     pub fn open(alloc: Global, mut keep: K) -> Result<Kept<C, K>, Refused>
+        // Proved: An opened controller is what the bytes held are read as.
+        // By `controller`, `held`, `honest`, `fresh`, `refused`, `failures`.
         ensures controller { IfOk result (λ kept. K.is_honest keep ≡ true →
             IsReadAs C.state_read (K.held keep) (Ok kept.controller)) }
         ensures held { IfOk result (λ kept. HoldsSame K.is_honest K.held keep kept.keep) }
@@ -182,6 +190,9 @@ impl<C: Stored, K: Keep> Kept<C, K> {
     /// want of memory, and where the state can't be saved, `Memory` or `SaveFailed`, it is stale
     /// from then on.
     pub fn order(&mut self, alloc: Global, order: C::Order, at: u64) -> Result<OrderBytes, Refused>
+        // Proved: A step is saved before its reply and message are told.
+        // By `reply`, `message`, `state`, `held`, `again`, `fresh`; `Kept::take`: `ok`, `held`,
+        // `again`, `fresh`.
         ensures reply { IfOk result (λ given. given.reply
             ≡ (C.order_step order at self.old.controller).reply) }
         ensures message { IfOk result (λ given. option_map (λ b. b.items) given.message
@@ -193,13 +204,23 @@ impl<C: Stored, K: Keep> Kept<C, K> {
             K.held self.new.keep ≡ compact_text (C.state_data self.new.controller)) }
         ensures again { OnOk result (K.is_honest self.old.keep ≡ true →
             IsReadAs C.state_read (K.held self.new.keep) (Ok self.new.controller)) }
+        // Proved: `Stale` is answered just while a controller is stale, whatever else is wrong,
+        // and then nothing is tried.
+        // By `stale`, `refused`; `Kept::take`, `Opened::order`, `Opened::take`: `stale`,
+        // `refused`; `Kept::is_stale`, `Kept::controller`.
         ensures stale { (self.old.stale ≡ true) ↔ IsErrOf result Stale }
+        // Proved: Where a step isn't saved nothing of it is told: all is as it was, or the old or
+        // new state is held and the controller stale.
+        // By `refused`, `honest`, `counted`; `Kept::take`: `refused`, `honest`, `counted`.
         ensures honest { K.is_honest self.new.keep ≡ K.is_honest self.old.keep }
         ensures place { K.place self.new.keep ≡ K.place self.old.keep }
         ensures counted { K.count self.old.keep ≤ K.count self.new.keep }
         ensures refused { IfErr result (GivesNothing K.is_honest K.held K.count K.save_fails
             (λ e. e ≡ Memory) (λ text. text ≡ compact_text (C.state_data
             (C.order_step order at self.old.controller).next)) self.old self.new) }
+        // Proved: The controller that is shown where a step isn't saved is the one before it, or
+        // the one after it.
+        // By `shown`; `Kept::take`: `shown`.
         ensures shown { OnErr result (ShowsEither self.old
             (λ c. c ≡ (C.order_step order at self.old.controller).next) self.new) }
     {
@@ -222,6 +243,8 @@ impl<C: Stored, K: Keep> Kept<C, K> {
             × (given.reply ≡ (C.take_step m at self.old.controller).reply)
             × (option_map (λ b. b.items) given.answer
             ≡ option_map message_text (C.take_step m at self.old.controller).sent))) }
+        // Proved: Who sent a message is told as the message says.
+        // By `sender`; `Opened::take`: `sender`.
         ensures sender { IfOk result (λ given. IsSentBy bytes.now given.sender) }
         ensures fresh { OnOk result (self.new.stale ≡ false) }
         ensures held { OnOk result (K.is_honest self.old.keep ≡ true →
@@ -256,6 +279,8 @@ impl<C: Stored, K: Keep> Kept<C, K> {
     /// `LoadFailed`, what the bytes held are refused for, and `Memory`, and then it stays as it
     /// was.
     pub fn reload(&mut self, alloc: Global) -> Result<(), Refused>
+        // Proved: A reload gives the controller that is held.
+        // By `controller`, `fresh`, `held`, `honest`, `counted`.
         ensures controller { OnOk result (K.is_honest self.old.keep ≡ true →
             IsReadAs C.state_read (K.held self.old.keep) (Ok self.new.controller)) }
         ensures fresh { OnOk result (self.new.stale ≡ false) }
@@ -263,6 +288,9 @@ impl<C: Stored, K: Keep> Kept<C, K> {
         ensures honest { K.is_honest self.new.keep ≡ K.is_honest self.old.keep }
         ensures place { K.place self.new.keep ≡ K.place self.old.keep }
         ensures counted { K.count self.old.keep ≤ K.count self.new.keep }
+        // Proved: Where a reload is refused the controller stays as it was, and `LoadFailed` comes
+        // only where the keeper failed.
+        // By `refused`, `shown`, `stale`, `fails`, `failures`.
         ensures refused { IfErr result
             (IsNotLoaded C.state_read (K.is_honest self.old.keep) (K.held self.old.keep)) }
         ensures shown { OnErr result (self.new.controller ≡ self.old.controller) }

@@ -39,6 +39,7 @@ impl<C: Stored, K: Keep> Model for KeptSeat<C, K> {
 impl<C: Stored, K: Keep> KeptSeat<C, K> {
     /// That of a controller beside an honest keeper, which holds its state.
     pub fn of(beside: Kept<C, K>) -> KeptSeat<C, K>
+        // Wants: an honest keeper that holds the controller's state.
         requires honest { K.is_honest beside.keep ≡ true }
         requires again { IsReadAs C.state_read (K.held beside.keep) (Ok beside.controller) }
         ensures { result ≡ beside }
@@ -117,6 +118,10 @@ impl<C: Stored, K: Keep> Seat<C> for KeptSeat<C, K> {
         cause: Cause<C::Order>,
         at: u64,
     ) -> Result<OrderBytes, Refused>
+        // Proved: A controller beside an honest keeper is a seat too; where it is open which is
+        // held, it is read again before the next step.
+        // By `reply`, `message`, `read`, `state`, `fresh`, `err`; `KeptSeat::stop`: `reply`,
+        // `state`, `fresh`, `err`; `KeptSeat::of`.
         ensures reply { IfOk result (λ given. given.reply
             ≡ (caused C.order_step C.take_step cause at
             (kept_in C.state_read K.held self.old)).reply) }

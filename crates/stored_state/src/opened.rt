@@ -46,6 +46,9 @@ impl<K: Keep> Opened<K> {
     /// its state. Refuses `Stale` while it is stale; else what the bytes are refused for, which
     /// changes nothing; and else as `Kept::order` does.
     pub fn order(&mut self, alloc: Global, bytes: &[u8], at: u64) -> Result<OrderBytes, Refused>
+        // Proved: What comes of the bytes of an order or a message is the reply and text of their
+        // step, which is saved, whichever the controller is.
+        // By `ok`, `honest`, `counted`; `Opened::take`: `ok`, `honest`, `counted`.
         ensures ok { IfOk result (λ given. GivesStep K.is_honest K.held text_of
             (IsOrdered at bytes.now (controller_in self.old)) (held_in self.new)
             given.reply (option_map (λ b. b.items) given.message)) }
@@ -53,6 +56,9 @@ impl<K: Keep> Opened<K> {
         ensures honest { K.is_honest (keep_in self.new) ≡ K.is_honest (keep_in self.old) }
         ensures place { K.place (keep_in self.new) ≡ K.place (keep_in self.old) }
         ensures counted { K.count (keep_in self.old) ≤ K.count (keep_in self.new) }
+        // Proved: Where an order or a message gives no step, it is told why not, and what that
+        // leaves.
+        // By `refused`; `Opened::take`: `refused`.
         ensures refused { IfErr result (GivesNothing K.is_honest K.held K.count K.save_fails
             (IsNoOrder bytes.now (controller_in self.old))
             (IsLeft text_of (IsOrdered at bytes.now (controller_in self.old)))
@@ -100,6 +106,9 @@ impl<K: Keep> Opened<K> {
 /// on. Refuses `LoadFailed`; `NotJson`; `NotProfile` where not exactly one of the members `Master`
 /// and `Worker` is there; what the state of the one that is there is refused for; and `Memory`.
 pub fn open_any<K: Keep>(alloc: Global, mut keep: K) -> Result<Opened<K>, Refused>
+    // Proved: A controller is opened as what the bytes held are read as, also without knowing
+    // whose state it is.
+    // By `controller`, `held`, `honest`, `fresh`, `refused`, `failures`; `kind_of`.
     ensures controller { IfOk result (λ opened. K.is_honest keep ≡ true →
         IsReadAs any_state_read (K.held keep) (Ok (controller_in opened))) }
     ensures held { IfOk result

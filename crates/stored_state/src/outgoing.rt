@@ -69,6 +69,9 @@ impl AnyController {
     /// controller that is to have its part. A master's is out until it is merged or withdrawn, and
     /// a worker's from the end of the work until its master has it.
     pub fn out(&self, alloc: Global) -> Result<Vec<(SpawnId, &Id)>, AllocError>
+        // Proved: What a controller has out is told, in turn, each beside who is to have it: of a
+        // master the parts whose spawns are out, of a worker those whose work has ended and that
+        // haven't come.
         ensures { IfOk result
             (λ all. map out.seen all.items ≡ out.out_of self.now) }
     {

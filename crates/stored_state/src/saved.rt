@@ -59,6 +59,9 @@ impl Saved {
 
     /// The text of its state, which is read as it.
     pub fn text(&self) -> &[u8]
+        // Proved: A controller that is kept beside the text of its state is the one that is read
+        // of that text.
+        // By `text`, `again`; `Saved::controller`, `Saved::len`.
         ensures text { result.now ≡ text_of self.now }
         ensures again { IsReadAs any_state_read result.now (Ok self.now) }
     {

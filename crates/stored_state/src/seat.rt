@@ -44,6 +44,13 @@ pub trait Seat<C: Stored>: Drop {
         cause: Cause<C::Order>,
         at: u64,
     ) -> Result<OrderBytes, Refused>
+        // Proved: A seat is a controller beside what it is started again from: its step is made
+        // and held before anything of it is given out; of one that is refused the controller
+        // before it is held, or the one that it leads to; a stop and a restart leave the
+        // controller that is held.
+        // By `reply`, `message`, `read`, `state`, `fresh`, `err`; `Seat::stop`: `reply`, `state`,
+        // `fresh`, `err`, `sure`; `Seat::restart`: `state`, `fresh`; `Seat::name`;
+        // `Seat::controller`: `kept`, `fresh`.
         ensures reply { IfOk result (λ given. given.reply
             ≡ (caused C.order_step C.take_step cause at (kept self.old)).reply) }
         ensures message { IfOk result (λ given. option_map (λ b. b.items) given.message

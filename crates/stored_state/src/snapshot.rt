@@ -42,6 +42,9 @@ impl Model for Snapshot {
 impl Snapshot {
     /// That of what a keeper holds, which it holds on. Refuses as `open_any` does.
     pub fn of<K: Keep>(alloc: Global, keep: &mut K) -> Result<Snapshot, Refused>
+        // Proved: What a keeper held at a moment is its text and the controller that it is read
+        // as.
+        // By `text`, `again`, `held`, `honest`, `refused`, `failures`, `counted`, `fails`.
         ensures text { IfOk result (λ snapshot. K.is_honest keep.old ≡ true →
             snapshot.text ≡ K.held keep.old) }
         ensures again { IfOk result (λ snapshot.
@@ -88,6 +91,10 @@ impl Snapshot {
     /// `open_any`, but that a text that is the same still isn't read once more. Refuses as that
     /// does.
     pub fn open<K: Keep>(self, alloc: Global, mut keep: K) -> Result<Opened<K>, Refused>
+        // Proved: With what a keeper held at a moment it is opened as by `open_any`.
+        // By `controller`, `held`, `honest`, `fresh`, `refused`, `failures`;
+        // `Snapshot::controller`.
+        // Not proved: that a text which is the same still isn't read once more.
         ensures controller { IfOk result (λ opened. K.is_honest keep ≡ true →
             IsReadAs any_state_read (K.held keep) (Ok (controller_in opened))) }
         ensures held { IfOk result

@@ -197,6 +197,7 @@ impl<C: Stored> Station<C> {
     /// Stores what a step led to. The controller that it was makes the same step, and is the second
     /// value then; where memory runs out there is none.
     fn store(&mut self, alloc: Global, next: Option<Station<C>>, cause: Cause<C::Order>, at: u64)
+        // Wants: the state that the step leads to.
         requires { (caused C.order_step C.take_step cause at self.old).next
             ≡ unwrap_or next self.old }
         ensures { self.new ≡ unwrap_or next self.old }
@@ -244,6 +245,10 @@ where
         cause: Cause<C::Order>,
         at: u64,
     ) -> Result<OrderBytes, Refused>
+        // Proved: A controller beside the text of its state is a seat, at which a step that is
+        // refused is never held.
+        // By `reply`, `message`, `read`, `state`, `err`; `Station::stop`: `reply`, `state`, `err`;
+        // `Station::text`: `text`, `again`; `Station::new`, `Station::controller`.
         ensures reply { IfOk result (λ given. given.reply
             ≡ (caused C.order_step C.take_step cause at self.old).reply) }
         ensures message { IfOk result (λ given. option_map (λ b. b.items) given.message

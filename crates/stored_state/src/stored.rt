@@ -10,6 +10,8 @@ use worker_core::Worker;
 /// A controller that is stored (our own). Where its reply tells that nothing changes, its state
 /// stays as it was; and no step changes its name.
 pub trait Stored: Controller + StateForm {
+    // Proved: Where the reply tells that nothing changes, nothing does.
+    // By `Stored::take_rests`.
     ghost order_rests: { (order : Self.Order) (at : ℕ) (c : Self)
         → rests (Self.Controller.order_step order at c).reply ≡ true
         → (Self.Controller.order_step order at c).next ≡ c };
@@ -18,6 +20,8 @@ pub trait Stored: Controller + StateForm {
         → rests_on m.body (Self.Controller.take_step m at c).reply ≡ true
         → (Self.Controller.take_step m at c).next ≡ c };
 
+    // Proved: No step changes a controller's name.
+    // By `Stored::take_names`.
     ghost order_names: { (order : Self.Order) (at : ℕ) (c : Self)
         → Self.Controller.own_name (Self.Controller.order_step order at c).next
         ≡ Self.Controller.own_name c };

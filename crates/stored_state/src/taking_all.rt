@@ -314,9 +314,18 @@ pub fn take_all<K: Keep>(
     all: Vec<Coming>,
     at: u64,
 ) -> Result<(Vec<Result<TakenBytes, Refusal>>, Option<Saved>), Refused>
+    // Proved: All that comes to a controller with one save, messages and orders, comes to it one
+    // after the other, each to the controller that the one before left, with a save behind the
+    // last; of each its own is given out, in turn, and who sent it. Where the controller isn't one
+    // that is addressed nothing is taken.
+    // By `ok`, `each`.
     ensures ok { IfOk result (λ taken. TakesAll K.is_honest K.held to.entry at all.items taken.0.items
         taken.1 keep.old keep.new) }
     ensures each { IfOk result (λ taken. length taken.0.items ≡ length all.items) }
+    // Proved: Where the state isn't loaded, is that of a controller that isn't addressed, or
+    // memory runs out, what was held is held; where the save fails that or the text behind the
+    // last step.
+    // By `refused`, `place`, `honest`, `counted`.
     ensures honest { K.is_honest keep.new ≡ K.is_honest keep.old }
     ensures place { K.place keep.new ≡ K.place keep.old }
     ensures counted { K.count keep.old ≤ K.count keep.new }

@@ -88,6 +88,8 @@ pub fn output_of<C: Command, R: Read>(
     alloc: Global,
     reader: &mut Counted<R>,
 ) -> Result<Output, Fault>
+    // Proved: A command's output is made of the whole input, and either written or given up.
+    // By `done`, `refused`; `finish`: `done`, `gives_up`; `Command::output`: `done`, `refused`.
     ensures done { IfOk result (λ o. IsOutputOf C.is_output (used R.remaining reader.old reader.new)
         o.text.items o.refused) }
     ensures refused { IfErr result
@@ -108,6 +110,10 @@ pub fn run_command<C: Command, R: Read, W: Write, F: Write>(
     writer: &mut Counted<W>,
     faults: &mut Counted<F>,
 ) -> u8
+    // Proved: All of a command's output was written and nothing told, with status 1 where
+    // something was refused, else 0; or one fault was told, as far as that could be written, and
+    // the status is the fault's: then nothing was written, or where a write failed a front of the
+    // output.
     ensures { Ends C.is_output C.is_refusal (used R.remaining reader.old reader.new)
         (used W.contents writer.old writer.new) (used F.contents faults.old faults.new) result }
 {

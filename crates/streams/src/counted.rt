@@ -9,6 +9,8 @@ use std::marker::Model;
 
 /// Whether a read that answers this may be made again: it was interrupted, or would have blocked.
 pub fn is_interruption(error: &io::Error) -> bool
+    // Proved: A read that was interrupted or would have blocked may be made again, and no other
+    // that answered an error.
     ensures { result ≡ counts.is_interruption (error_kind error.now) }
 {
     matches!(error.kind(), ErrorKind::Interrupted | ErrorKind::WouldBlock)
@@ -64,6 +66,8 @@ impl<T> Counted<T> {
 
     /// How many calls were made.
     pub fn calls(&self) -> u64
+        // Proved: The counts of calls are told, and the stream inside is handed out.
+        // By `Counted::failures`, `Counted::interruptions`, `Counted::new`, `Counted::into_inner`.
         ensures { result ≡ self.now.calls }
     {
         self.calls
@@ -89,6 +93,12 @@ impl<R: ReadOnce> Counted<R> {
     /// Makes one read, and counts it.
     pub(crate) fn pass_read(&mut self, buffer: &mut [u8]) -> io::Result<usize>
         requires room { ¬ IsFull self.old }
+        // Proved: A call that is counted is one call of the stream inside, whatever that does, and
+        // so is a flush: proved of any stream whose calls can be told apart.
+        // By `once`, `called`; `Counted::pass_write`: `once`, `called`; `Counted::pass_flush`:
+        // `once`, `counts`.
+        // Not proved: that `read`, `write` and `flush` make one of these calls, and these one of a
+        // stream of the standard library: it is read, and tested, in the lines that hand them on.
         ensures once { R.is_read self.old.inner self.new.inner buffer.old buffer.new result }
         ensures called { CountsRead self.old self.new result }
     {

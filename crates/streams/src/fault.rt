@@ -34,6 +34,8 @@ impl Fault {
 
     /// The line that tells the fault: its number and its name.
     pub fn line(&self) -> &'static str
+        // Proved: Each fault has its line and status.
+        // By `Fault::status`, `refusal_line`, `refused_line`, `Refused::number`, `Refused::name`.
         ensures { result.now ≡ faults.fault_line self.now }
     {
         match self {

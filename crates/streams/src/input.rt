@@ -30,6 +30,8 @@ fn zeros(alloc: Global, size: usize) -> Result<Vec<u8>, AllocError>
 /// Refuses `TooLarge` more bytes than `MAX_INPUT_BYTES`, and then no more is read; `ReadFailed`;
 /// and `Memory`.
 pub fn read_input<R: Read>(alloc: Global, reader: &mut Counted<R>) -> Result<Vec<u8>, Fault>
+    // Proved: Input is read whole within its limits.
+    // By `ok`, `err`.
     ensures ok { IfOk result (λ v. IsInput (used R.remaining reader.old reader.new) v.items) }
     ensures err { IfErr result (IsUnread (used R.remaining reader.old reader.new)) }
 {

@@ -13,6 +13,8 @@ use std::io::Write;
 /// Writes the bytes. Refuses `WriteFailed` where a write fails, takes no byte or is interrupted,
 /// and then a front of the bytes was written.
 pub fn write_bytes<W: Write>(writer: &mut Counted<W>, bytes: &[u8]) -> Result<(), Fault>
+    // Proved: Output is written whole, or a front of it where a write failed.
+    // By `ok`, `front`, `fault`; `tell`.
     ensures ok { OnOk result (Writes (used W.contents writer.old writer.new) bytes.now) }
     ensures front { OnErr result (WritesFront (used W.contents writer.old writer.new) bytes.now) }
     ensures fault { IfErr result (λ f. f ≡ Device WriteFailed) }

@@ -11,6 +11,11 @@ impl<R: Read> Read for Counted<R> {
     ghost remaining = { λ c. R.remaining c.inner };
 
     fn read(&mut self, buffer: &mut [u8]) -> io::Result<usize>
+        // Proved: Each read and each write is counted by what it answers, but for one of an empty
+        // buffer, which isn't passed on; its bytes are those of the stream inside. Once 2^64 - 1
+        // were counted, each fails. A flush isn't counted.
+        // By `bound`, `bytes`, `empty`, `full`, `called`; `Counted::write`: `bound`, `bytes`,
+        // `empty`, `full`, `called`; `Counted::flush`: `bytes`, `counts`.
         ensures bound { ReadsAtMost result buffer.new }
         ensures bytes { ReadConsumes (R.remaining self.old.inner)
             (R.remaining self.new.inner) result

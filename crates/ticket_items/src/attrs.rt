@@ -43,6 +43,8 @@ impl Attrs {
 
     /// No attribute.
     pub fn new(alloc: Global) -> Attrs
+        // Proved: A pool of attributes begins with none.
+        // By `Attrs::with_capacity`.
         ensures { result ≡ [] }
     {
         Attrs {
@@ -91,6 +93,9 @@ impl Attrs {
 
     /// Sets the text of a name, in place of one that is there. Without memory nothing changes.
     pub fn set(&mut self, name: Name, text: Text) -> Result<(), AllocError>
+        // Proved: An attribute is set under its name, in place of one that is there, and found by
+        // it.
+        // By `ok`, `err`; `Attrs::get`.
         ensures ok { OnOk result (self.new ≡ with_attr name text self.old) }
         ensures err { OnErr result (self.new ≡ self.old) }
     {
@@ -110,6 +115,8 @@ impl Attrs {
 
     /// The names with their texts, in byte order of the names.
     pub fn iter(&self) -> AttrsIter<'_>
+        // Proved: Attributes are told in byte order of their names, each once.
+        // By `rest`, `ordered`; `Attrs::len`, `Attrs::is_empty`.
         ensures rest { result ≡ self.now }
         ensures ordered { IsInOrder self.now }
     {

@@ -10,6 +10,8 @@ pub trait Duplicate: Clone {
 
     /// An equal copy.
     final fn copy(&self, _alloc: Global) -> Result<Self, AllocError>
+        // Proved: A copy is equal to what was copied.
+        // By `copies`.
         ensures { IfOk result (λ copied. copied ≡ self.now) }
     {
         self.clone()

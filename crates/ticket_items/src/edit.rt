@@ -63,6 +63,9 @@ impl Edit {
     /// The id that it changes: that of a resource where it gives a resource another Status or an
     /// attribute, and else that of a node.
     pub fn target(&self) -> &Id
+        // Proved: What an edit changes, whether that is a node, whether it adds to the tree, and
+        // the id that it adds, is told.
+        // By `Edit::is_of_node`, `Edit::is_structural`, `Edit::added_id`.
         ensures { result.now ≡ edits.target self.now }
     {
         match self {

@@ -33,6 +33,9 @@ impl Id {
 
     /// The id that the text is. Refuses `BadId` where it is none, and then needs no memory.
     pub fn new(alloc: Global, text: &str) -> Result<Id, Refusal>
+        // Proved: An id, name and text is accepted just within its limits.
+        // By `ok`, `refused`, `memory`; `Name::new`, `Text::new`: `ok`, `refused`, `memory`;
+        // `is_name`, `is_text`.
         ensures ok { IfOk result (λ id. (id ≡ text.now) × (names.is_name text.now ≡ true)) }
         ensures refused { names.is_name text.now ≡ false → result ≡ Err Refusal.BadId }
         ensures memory { names.is_name text.now ≡ true → IfErr result (λ e. e ≡ Refusal.Memory) }
@@ -45,6 +48,7 @@ impl Id {
 
     /// The id of a text that is one, as `is_name` tells.
     pub fn known(alloc: Global, text: &str) -> Result<Id, AllocError>
+        // Wants: the bytes of a valid id.
         requires { names.is_name text.now ≡ true }
         ensures { IfOk result (λ id. id ≡ text.now) }
     {
@@ -62,6 +66,9 @@ impl Id {
 
     /// Its characters.
     pub fn as_str(&self) -> &str
+        // Proved: An id, a name and a text keeps its characters, and they are valid.
+        // By `value`, `valid`; `Name::as_str`, `Text::as_str`: `value`, `valid`; `Id::known`,
+        // `Name::known`, `Text::known`.
         ensures value { result.now ≡ self.now }
         ensures valid { names.is_name self.now ≡ true }
     {
@@ -71,6 +78,7 @@ impl Id {
 
 /// Whether an id is among these.
 pub fn is_among(ids: &[Id], id: &Id) -> bool
+    // Proved: An id is told among others.
     ensures { result ≡ mem id.now ids.now }
 {
     ids.iter().any(|other| *other == *id)

@@ -49,6 +49,8 @@ impl<T: Drop> Items<T> {
 
     /// The list of these.
     pub fn new(items: Vec<T>) -> Items<T>
+        // Proved: A list is what it was made of, and grows at its end.
+        // By `Items::as_slice`, `Items::into_vec`; `Items::push`: `ok`, `err`.
         ensures { result ≡ items.items }
     {
         Items { items }

@@ -43,6 +43,7 @@ impl Name {
 
     /// The name of a text that is one, as `is_name` tells.
     pub fn known(alloc: Global, text: &str) -> Result<Name, AllocError>
+        // Wants: the bytes of a valid name.
         requires { names.is_name text.now ≡ true }
         ensures { IfOk result (λ name. name ≡ text.now) }
     {

@@ -85,6 +85,9 @@ impl Refusal {
 
     /// The refusal's number.
     pub fn number(self) -> u16
+        // Proved: Each refusal has its number and name, and one of what a spawn holds tells that
+        // spawn.
+        // By `Refusal::name`, `Refusal::holder`.
         ensures { result ≡ refusals.number_of self }
     {
         match self {

@@ -25,6 +25,7 @@ impl Resource {
 
     /// Whether it has the id, name and Class of another, as a resource and its copy have.
     pub fn is_alike(&self, other: &Resource) -> bool
+        // Proved: Whether two resources have one id, name and Class is told.
         ensures { result ≡ is_alike self.now other.now }
     {
         self.id == other.id && self.name == other.name && self.class == other.class
@@ -47,7 +48,10 @@ impl Items<Resource> {
 
     /// Gives the resource of an id another Status.
     pub fn set_status(&mut self, id: &Id, status: Name)
+        // Wants: resources of distinct ids.
         requires { are_distinct (map (λ x. x.id) self.old) ≡ true }
+        // Proved: A resource changes by its id in its list.
+        // By `Items::set_attr`: `ok`, `err`; `Items::replace`: `items`, `place`.
         ensures { self.new ≡ with_item id.now (λ x. record x { status = status }) self.old }
     {
         if let Some(place) = place_in(self.items.as_slice(), id) {
@@ -57,6 +61,7 @@ impl Items<Resource> {
 
     /// Gives the resource of an id an attribute.
     pub fn set_attr(&mut self, id: &Id, name: Name, value: Text) -> Result<(), AllocError>
+        // Wants: resources of distinct ids.
         requires { are_distinct (map (λ x. x.id) self.old) ≡ true }
         ensures ok { OnOk result (self.new
             ≡ with_item id.now (λ x. record x { attrs = with_attr name value x.attrs }) self.old) }
@@ -71,6 +76,7 @@ impl Items<Resource> {
     /// Puts a resource in the place of the one of its id, which is looked for from a place on and
     /// then in front of it. Returns where it stands.
     pub fn replace(&mut self, resource: Resource, from: usize) -> usize
+        // Wants: resources of distinct ids.
         requires { are_distinct (map (λ x. x.id) self.old) ≡ true }
         ensures items { self.new ≡ with_item resource.id (λ _. resource) self.old }
         ensures place { IfSome (position (λ x. bytes_eq x.id resource.id) self.old)

@@ -88,6 +88,8 @@ impl SpawnId {
     /// The spawn of a number. Refuses `TooManySpawns` where it isn't one of 1 to 999,999,999. Needs
     /// no memory.
     pub fn new(number: u32) -> Result<SpawnId, Refusal>
+        // Proved: A spawn's number is just one of 1 to 999,999,999.
+        // By `ok`, `refused`; `SpawnId::number`: `value`, `valid`.
         ensures ok { is_spawn_number number ≡ true → result ≡ Ok number }
         ensures refused { is_spawn_number number ≡ false → result ≡ Err Refusal.TooManySpawns }
     {
@@ -100,6 +102,8 @@ impl SpawnId {
     /// The spawn that a text names: `S`, and the number without leading zeros. Refuses `BadId`
     /// where it names none. Needs no memory.
     pub fn parse(text: &str) -> Result<SpawnId, Refusal>
+        // Proved: A text names a spawn just if it is `S` and its number.
+        // By `ok`, `named`, `read`; `SpawnId::to_id`: `id`, `valid`.
         ensures ok { IfOk result (λ s. (text.now ≡ spawn_text s) × (is_spawn_number s ≡ true)) }
         ensures named { (n : ℕ) → is_spawn_number n ≡ true → text.now ≡ spawn_text n
             → result ≡ Ok n }

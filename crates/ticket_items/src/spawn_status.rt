@@ -15,6 +15,7 @@ pub enum SpawnStatus {
 impl SpawnStatus {
     /// Its word in the standard.
     pub fn word(self) -> &'static str
+        // Proved: What a resource shows of spawns has a word.
         ensures { result.now ≡ words.status_word self }
     {
         match self {

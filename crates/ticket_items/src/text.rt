@@ -40,6 +40,7 @@ impl Text {
 
     /// The text of one that is short enough, as `is_text` tells.
     pub fn known(alloc: Global, text: &str) -> Result<Text, AllocError>
+        // Wants: the bytes of a valid text.
         requires { names.is_text text.now ≡ true }
         ensures { IfOk result (λ t. t ≡ text.now) }
     {

@@ -83,6 +83,9 @@ pub fn are_distinct_with(
     rw: &[Resource],
     ro: &[Resource],
 ) -> Result<bool, AllocError>
+    // Proved: Whether the rows of a part are of distinct ids with its copies, and their links
+    // resolved, is told.
+    // By `are_resolved_with`.
     ensures { IfOk result (λ distinct. distinct
         ≡ id_lists.are_distinct (valid.ids (with_copies rows.now rw.now ro.now))) }
 {

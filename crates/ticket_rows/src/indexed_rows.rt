@@ -51,6 +51,9 @@ impl IndexedRows {
 
     /// These nodes; none where an id stands twice.
     pub fn of(alloc: Global, rows: Vec<NodeRow>) -> Result<Option<IndexedRows>, AllocError>
+        // Proved: Rows are indexed just where their ids are distinct, and then it is told whether
+        // their links are resolved.
+        // By `IndexedRows::are_resolved`.
         ensures { IfOk result (λ made. made
             ≡ (if are_distinct (ids rows.items) then Some rows.items else None)) }
     {
@@ -70,6 +73,10 @@ impl IndexedRows {
 
     /// Where the row of a node stands.
     pub fn place(&self, id: &Id) -> Option<usize>
+        // Proved: By the index, which is always that of its rows, places, nodes, resources, homes
+        // and what stands below are found.
+        // By `IndexedRows::node`, `IndexedRows::is_below`, `IndexedRows::resource`,
+        // `IndexedRows::home_of`, `IndexedRows::rows`; `IndexedRows::subtree`: `found`, `known`.
         ensures { result ≡ position (λ r. bytes_eq r.id id.now) self.now }
     {
         self.index.node(id)
@@ -103,6 +110,7 @@ impl IndexedRows {
 
     /// The resource of an id.
     pub fn resource(&self, id: &Id) -> Option<&Resource>
+        // Wants: valid rows.
         requires { IsValid self.now }
         ensures { option_copied result ≡ homes.resource_of self.now id.now }
     {
@@ -152,6 +160,7 @@ impl IndexedRows {
 
     /// Where the nodes below a node stand, itself among them: the first row, and the end.
     pub fn subtree(&self, id: &Id) -> Option<(usize, usize)>
+        // Wants: valid rows.
         requires { IsValid self.now }
         ensures found { IfSome result (λ b. BoundsNodesBelow self.now id.now b.0 b.1) }
         ensures known { is_some result ≡ has_node self.now id.now }
@@ -164,6 +173,7 @@ impl IndexedRows {
 
     /// Whether the node `lower` is `upper` or below it.
     pub fn is_below(&self, lower: &Id, upper: &Id) -> bool
+        // Wants: valid rows.
         requires { IsValid self.now }
         ensures { result ≡ tree.is_below (node_places self.now) lower.now upper.now }
     {
@@ -207,6 +217,7 @@ impl IndexedRows {
 
     /// Whether each link names a resource that is at home at its node or above it.
     pub fn are_resolved(&self) -> bool
+        // Wants: rows that are a tree, of distinct ids.
         requires tree { is_outline (depths self.now) ≡ true }
         requires distinct { are_distinct (ids self.now) ≡ true }
         ensures { result ≡ valid.are_resolved self.now }

@@ -21,6 +21,7 @@ pub const MAX_DEPTH: u32 = 32;
 
 /// Whether a Status is the one that only a spawned node shows.
 pub fn is_reserved(status: &Name) -> bool
+    // Proved: The Status that a spawned node shows is told.
     ensures { result ≡ valid.is_reserved status.now }
 {
     status.as_str() == SPAWNED
@@ -28,6 +29,8 @@ pub fn is_reserved(status: &Name) -> bool
 
 /// Whether the depths are those of a tree in preorder.
 pub fn is_outline(rows: &[NodeRow]) -> bool
+    // Proved: Tests say just whether rows are a tree, unreserved and shallow.
+    // By `are_unreserved`, `are_shallow`.
     ensures { result ≡ outline.is_outline (depths rows.now) }
 {
     let Some((root, later)) = rows.split_first() else {
@@ -73,6 +76,8 @@ pub fn are_shallow(rows: &[NodeRow]) -> bool
 
 /// The row of a node.
 pub fn node<'a>(rows: &'a [NodeRow], id: &Id) -> Option<&'a NodeRow>
+    // Proved: Rows, places and resources are found.
+    // By `rows::place_of`, `pools::resource`, `pools::has_id`, `holds`.
     ensures { option_copied result ≡ row_of rows.now id.now }
 {
     rows.iter().find(|row| row.id == *id)

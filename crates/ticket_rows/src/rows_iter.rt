@@ -69,6 +69,8 @@ impl<'a> Rows<'a> {
 
     /// These nodes.
     pub fn new(rows: &'a [NodeRow]) -> Rows<'a>
+        // Proved: A run of rows that is lent is told by length, place and bounds.
+        // By `Rows::len`, `Rows::at`, `Rows::get`, `Rows::first`, `Rows::between`.
         ensures { result ≡ rows.now }
     {
         Rows {
@@ -94,6 +96,7 @@ impl<'a> Rows<'a> {
 
     /// The node at a place.
     pub fn at(&self, place: usize) -> &'a NodeRow
+        // Wants: a place that is there.
         requires { place < length self.now }
         ensures { result.now ≡ slice_index_or self.now place result.now }
     {
@@ -120,6 +123,7 @@ impl<'a> Rows<'a> {
 
     /// The nodes from one place up to another.
     pub fn between(&self, from: usize, to: usize) -> Rows<'a>
+        // Wants: bounds that are there.
         requires apart { from ≤ to }
         requires within { to ≤ length self.now }
         ensures { result ≡ take (to - from) (drop from self.now) }

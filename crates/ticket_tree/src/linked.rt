@@ -17,6 +17,7 @@ fn links(row: &NodeRow, id: &Id) -> bool
 
 /// Whether some row links the resource of an id.
 pub fn is_linked(rows: &Rows<'_>, id: &Id) -> bool
+    // Proved: Whether rows link a resource is told.
     ensures { result ≡ part.is_linked rows.now id.now }
 {
     for place in 0..rows.len() {

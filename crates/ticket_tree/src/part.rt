@@ -101,6 +101,8 @@ impl Part {
         rw: Resources,
         ro: Resources,
     ) -> Result<Part, Refusal>
+        // Proved: A part is made just of rows that are valid with its copies.
+        // By `ok`, `valid`, `err`; `Part::known`.
         ensures ok { IfOk result (λ p. p ≡ part.copied job spawn_id ancestors rows.items rw ro) }
         ensures valid { OnOk result (IsValid (with_copies rows.items rw ro)) }
         ensures err { IfErr result
@@ -123,6 +125,7 @@ impl Part {
         rw: Resources,
         ro: Resources,
     ) -> Part
+        // Wants: rows that are valid with the copies.
         requires { IsValid (with_copies rows.items rw ro) }
         ensures { result ≡ part.copied job spawn_id ancestors rows.items rw ro }
     {
@@ -138,6 +141,9 @@ impl Part {
 
     /// The job's id.
     pub fn job(&self) -> &Name
+        // Proved: A part is read as it is.
+        // By `Part::ancestors`, `Part::rw`, `Part::ro`; `Part::spawn_id`: `id`, `valid`;
+        // `Part::rows`: `rows`, `valid`; `Part::into_rows`: `rows`, `copies`, `valid`.
         ensures { result.now ≡ self.now.job_id }
     {
         &self.job
@@ -184,6 +190,7 @@ impl Part {
     /// and from all ids of the part, no node is deeper than 32 below them, and each copy is linked
     /// by some row. Needs no memory.
     pub fn is_sound(&self) -> bool
+        // Proved: Whether a part can have come from a ticket is told.
         ensures { result ≡ part.is_sound self.now }
     {
         let ancestors = self.ancestors.as_slice();
@@ -203,7 +210,10 @@ impl Part {
     /// `ReservedStatus`, which need no memory, and then `Memory`; never `Memory` where the edit
     /// gives another Status. A refusal changes nothing.
     pub fn apply(&mut self, _alloc: Global, edit: Edit, at: u64) -> Result<(), Refusal>
+        // Wants: an edit that adds nothing to the tree.
         requires { is_structural edit ≡ false }
+        // Proved: An edit of a part changes a node, a resource or a copy to change, or is refused.
+        // By `ok`, `err`, `refused`, `memory`.
         ensures ok { OnOk result (self.new ≡ part.edited_part edit at self.old) }
         ensures err { OnErr result (self.new ≡ self.old) }
         ensures refused { IfSome (part.refusal_of_part edit self.old) (λ e. result ≡ Err e) }

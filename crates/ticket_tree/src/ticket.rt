@@ -43,9 +43,13 @@ impl Ticket {
     /// the row before), `ReservedStatus`, `DuplicateId`, `TooDeep` and `UnresolvedLink` that the
     /// rows have. The first two need no memory.
     pub fn from_rows(alloc: Global, job: Name, rows: Vec<NodeRow>) -> Result<Ticket, Refusal>
+        // Proved: Rows become a ticket just if they are valid, else their first fault is answered.
+        // By `ok`, `valid`, `err`.
         ensures ok { IfOk result (λ t. t ≡ record { job_id = job; rows = rows.items }) }
         ensures valid { OnOk result (IsValid rows.items) }
         ensures err { IfErr result (λ e. (e ≡ Refusal.Memory) ⊎ (fault_of rows.items ≡ Some e)) }
+        // Proved: What is no tree, or reserved, is refused without memory.
+        // By `not_a_tree`, `reserved`; `Part::new`: `not_a_tree`, `reserved`.
         ensures not_a_tree { fault_of rows.items ≡ Some Refusal.NotATree
             → result ≡ Err Refusal.NotATree }
         ensures reserved { fault_of rows.items ≡ Some Refusal.ReservedStatus
@@ -72,6 +76,9 @@ impl Ticket {
 
     /// The job's id.
     pub fn job(&self) -> &Name
+        // Proved: Nodes, resources, homes and what is below are found.
+        // By `Ticket::resource`, `Ticket::home_of`, `Ticket::is_below`; `Ticket::node`: `found`,
+        // `valid`; `Ticket::subtree`: `found`, `known`.
         ensures { result.now ≡ self.now.job_id }
     {
         &self.job
@@ -79,6 +86,8 @@ impl Ticket {
 
     /// The nodes in preorder.
     pub fn rows(&self) -> Rows<'_>
+        // Proved: A ticket is always valid.
+        // By `rows`, `valid`.
         ensures rows { result ≡ self.now.rows }
         ensures valid { IsValid self.now.rows }
     {
@@ -118,6 +127,8 @@ impl Ticket {
 
     /// The ticket at a node. `None` where no node has the id. Needs no memory.
     pub fn at(&self, node: &Id) -> Option<At<'_>>
+        // Proved: At a node the rows around it are shown, and how deep it stands.
+        // By `known`, `at`, `valid`; `Ticket::rows_below`: `rows`, `valid`; `At::levels`.
         ensures known { is_some result ≡ has_node self.now.rows node.now }
         ensures at { IfSome result (λ a. IsAt self.now.rows node.now a) }
         ensures valid { IsValid self.now.rows }
@@ -163,11 +174,17 @@ impl Ticket {
     /// memory, and then `Memory`; never `Memory` where the edit gives another Status, which takes
     /// none. A refusal changes nothing.
     pub fn apply(&mut self, alloc: Global, edit: Edit, at: u64) -> Result<(), Refusal>
+        // Proved: Each edit does just what it says.
+        // By `ok`, `err`.
         ensures ok { OnOk result (self.new ≡ edited edit at self.old) }
         ensures err { OnErr result (self.new ≡ self.old) }
+        // Proved: An edit is refused for the first reason that holds, without memory.
+        // By `refused`, `memory`; `Ticket::check`.
         ensures refused { IfSome (refusal_of edit self.old.rows) (λ e. result ≡ Err e) }
         ensures memory { IfNone (refusal_of edit self.old.rows)
             (IfErr result (λ e. e ≡ Refusal.Memory)) }
+        // Proved: A new Status takes no memory.
+        // By `in_place`; `Part::apply`: `in_place`.
         ensures in_place { grows edit ≡ false
             → IfNone (refusal_of edit self.old.rows) (IsOk result) }
     {
@@ -177,6 +194,8 @@ impl Ticket {
     /// Puts an audit last at a node. Refuses `UnknownNode`, which needs no memory, and then
     /// `Memory`. A refusal changes nothing.
     pub fn append(&mut self, _alloc: Global, node: &Id, audit: Audit) -> Result<(), Refusal>
+        // Proved: An audit goes last at its node, and nothing else changes.
+        // By `ok`, `err`, `refused`, `memory`.
         ensures ok { OnOk result (self.new
             ≡ record self.old { rows = appended node.now audit self.old.rows }) }
         ensures err { OnErr result (self.new ≡ self.old) }
@@ -191,7 +210,10 @@ impl Ticket {
     /// Type, job part, links and ids of resources, and the new Status isn't `Spawned`. Needs no
     /// memory.
     pub fn replace_node(&mut self, row: NodeRow)
+        // Wants: a node that may stand in place of the one of its id.
         requires { MayReplaceNode self.old.rows row }
+        // Proved: A node or a resource is put in place of the one of its id.
+        // By `Ticket::replace_resource`.
         ensures { self.new ≡ record self.old { rows = replaced_node row self.old.rows } }
     {
         one_row::replace_node(&mut self.rows, row);
@@ -200,6 +222,7 @@ impl Ticket {
     /// Puts a resource in the place of the one of its id, which has the same name and Class. Needs
     /// no memory.
     pub fn replace_resource(&mut self, resource: Resource)
+        // Wants: a resource that may stand in place of the one of its id.
         requires { MayReplaceResource self.old.rows resource }
         ensures { self.new ≡ record self.old { rows = replaced_resource resource self.old.rows } }
     {

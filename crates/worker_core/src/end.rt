@@ -13,6 +13,8 @@ impl End {
 
     /// The Status of the node of a part whose work ended so.
     pub fn word(self) -> &'static str
+        // Proved: An end has its word, and the Status of the queue entry that it leaves.
+        // By `End::status`.
         ensures { result.now ≡ worker.end_word self }
     {
         match self {

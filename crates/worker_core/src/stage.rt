@@ -21,6 +21,9 @@ impl Stage {
 
     /// Whether the part may be changed.
     pub fn is_open(self) -> bool
+        // Proved: An entry tells whether it is open, whether it was declined, and what a command
+        // on it is told.
+        // By `Stage::is_declined`, `Stage::told`.
         ensures { result ≡ worker.is_open_stage self }
     {
         match self {

@@ -43,6 +43,8 @@ impl Worker {
     /// A worker of this name, with no entry, whose parts are its master's. Refuses `SameName` where
     /// the two names are equal (our own). Needs no memory.
     pub fn new(alloc: Global, name: Id, master: Id) -> Result<Worker, Refusal>
+        // Proved: A worker begins with no entry; equal names, and nothing else, are refused.
+        // By `ok`, `refused`, `only`.
         ensures ok { IfOk result (λ w. w ≡ worker.known name master []) }
         ensures refused { IsErrOf result Refusal.SameName ↔ (name ≡ master) }
         ensures only { IfErr result (λ e. e ≡ Refusal.SameName) }
@@ -68,6 +70,8 @@ impl Worker {
         master: Id,
         entries: Vec<Entry>,
     ) -> Result<Worker, Refusal>
+        // Proved: Stored parts are taken just if some worker could have them.
+        // By `ok`, `kept`, `taken`, `refused`, `memory`, `only`; `laws::a_kept_worker_is_stored`.
         ensures ok { IfOk result (λ w. w ≡ worker.known name master entries.items) }
         ensures kept { IfOk result (λ w. IsKept w) }
         ensures taken { OnOk result
@@ -110,6 +114,9 @@ impl Worker {
     /// is a valid ticket with its copies, and sound; and the node of one that is finished has the
     /// Status of its end.
     pub fn entries(&self) -> &[Entry]
+        // Proved: A worker has one entry a spawn, with a sound part until it is closed unless it
+        // was declined, a finished one with the Status of its end.
+        // By `entries`, `kept`; `worker::Worker::name`, `Worker::master`.
         ensures entries { result.now ≡ self.now.entries }
         ensures kept { IsKept self.now }
     {
@@ -120,6 +127,8 @@ impl Worker {
     /// and the id is that of a node of its part, of a resource of the part's pools, or of a copy
     /// that may be changed. Needs no memory.
     pub fn may_change(&self, spawn: SpawnId, id: &Id) -> bool
+        // Proved: A worker may change what stands in an open entry, but for copies to read.
+        // By `laws::what_a_worker_may_change_is_in_an_open_entry`: `held`, `edits`.
         ensures { result ≡ worker.may_change self.now.entries spawn id.now }
     {
         self.entries.may_change(spawn, id)
@@ -134,9 +143,13 @@ impl Worker {
     /// once more as `NotDone` while the entry is open, and `Acknowledged` once it is closed. Then
     /// refuses `Memory`. A refusal changes nothing.
     pub fn order(&mut self, alloc: Global, order: Order, at: u64) -> Result<Done, Refusal>
+        // Proved: An order does just what it says to one entry, and what goes back is told.
+        // By `ok`, `err`; `Order::spawn`.
         ensures ok { IfOk result
             (λ done. done_step done self.new ≡ orders.order_step order at self.old) }
         ensures err { OnErr result (self.new ≡ self.old) }
+        // Proved: An order is refused for the first reason, without memory.
+        // By `refused`, `memory`.
         ensures refused { IfErr (orders.order_step order at self.old).reply
             (λ e. result ≡ Err e) }
         ensures memory { IfOk (orders.order_step order at self.old).reply
@@ -155,6 +168,8 @@ impl Worker {
     /// What it takes a message as, and what a command is told, unless it refuses it. Needs no
     /// memory.
     pub fn taken_as(&self, body: &Body) -> Taken
+        // Proved: What a message is taken as, and what its command is told, is told before.
+        // By `reply`, `told`.
         ensures reply { (at : ℕ) → result.reply ≡ (messages.taken body.now at self.now).reply }
         ensures told { (at : ℕ) → result.told ≡ (messages.taken body.now at self.now).told }
     {
@@ -174,9 +189,13 @@ impl Worker {
     /// was declined with `Declined`; an answer isn't, and takes no memory. Where memory runs out
     /// nothing is changed.
     pub fn take(&mut self, alloc: Global, message: Message, at: u64) -> Result<Outcome, AllocError>
+        // Proved: Any message is taken or refused for the first reason, and a command answered
+        // either way.
+        // By `ok`, `err`.
         ensures ok { IfOk result
             (λ outcome. outcome_step outcome self.new ≡ messages.take_step message at self.old) }
         ensures err { OnErr result (self.new ≡ self.old) }
+        // Proved: An answer needs no memory.
         ensures answers { is_answer message.body ≡ true → IsOk result }
     {
         do_take(

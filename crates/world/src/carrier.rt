@@ -12,6 +12,8 @@ pub trait Carrier: Drop {
     /// Takes the text of a message to its receiver, where just that text came. Where another came,
     /// or none, it is lost, for what this refuses.
     fn carry(&mut self, alloc: Global, text: &[u8]) -> Result<(), Refused>
+        // Proved: What hands over a text itself brings each.
+        // By `Carrier::carry_back`.
         ensures { is_direct ≡ true → IsOk result };
 
     /// Takes what the receiver gives out of its step back to the sender, where just that came.

@@ -6,6 +6,7 @@ ghost use Rattle.world.specs.Laws as law;
 /// A message that was sent is taken by its receiver, whenever it comes and however often: no
 /// controller of a shop refuses what another sent.
 pub fn what_was_sent_is_taken()
+    // Proved: What a controller sent, its receiver takes, whenever it comes.
     ensures { law.SentIsTaken }
 {}
 

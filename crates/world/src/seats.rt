@@ -60,6 +60,7 @@ impl<M: Seat<Master>, W: Seat<Worker>> Seats<M, W> {
 
     /// A master and its workers, each at its seat. Nothing was sent.
     pub fn new(alloc: Global, master: M, workers: Vec<W>) -> Seats<M, W>
+        // Wants: controllers that are in order.
         requires { state.IsKept (state.state (M.kept master) (map W.kept workers.items) []) }
         ensures { result ≡ state.state (M.kept master) (map W.kept workers.items) [] }
     {
@@ -73,6 +74,10 @@ impl<M: Seat<Master>, W: Seat<Worker>> Seats<M, W> {
     /// The master, where it is known which it is. Its ticket, and what that shows of the spawns
     /// that are out, are those of the one ticket with one table of holders that is shown.
     pub fn master(&self) -> Option<&Master>
+        // Proved: A shop over seats shows its master, its seats and its messages as a world does.
+        // By `master`, `seen`, `marks`; `Seats::master_seat`: `master`, `seen`, `marks`;
+        // `Seats::messages`: `messages`, `texts`, `kept`, `told`; `Seats::new`,
+        // `Seats::worker_seat`.
         ensures master { IfSome result (λ m. m.now ≡ self.now.controllers.master) }
         ensures seen { IfSome result (λ m. m.now.ticket ≡ ticket_seen (shows self.now).shop) }
         ensures marks { IfSome result (λ m. marks m.now.ticket.rows m.now.records
@@ -295,11 +300,18 @@ impl<M: Seat<Master>, W: Seat<Worker>> Seats<M, W> {
     ) -> Result<Answer, Refused>
         ensures said { IfOk result (λ a. a ≡ replay.answer_to event (shows self.old)) }
         ensures shown { OnOk result (shows self.new ≡ replay.after event (shows self.old)) }
+        // Proved: Where an event at seats is refused, by a save that fails, a text that doesn't
+        // come, or memory, it is as if its controller had stopped in it, before its state was
+        // stored or before its message was sent.
+        // By `err`, `cut`; `Seats::run`: `err`, `cut`; `laws::failed_save_is_stop`.
         ensures cut { OnErr result
             (IsStopped replay.machine event (shows self.old) (shows self.new)) }
         ensures answer { IfOk result (λ a. a ≡ happening.answer_to event self.old) }
         ensures state { OnOk result (self.new ≡ happening.after event self.old) }
         ensures err { OnErr result (IsStopped happening.machine event self.old self.new) }
+        // Proved: Where no seat ever holds a step that it refuses, and each text comes, an event
+        // that is refused changes nothing.
+        // By `sure`; `Seats::run`: `sure`.
         ensures sure { OnErr result (M.is_sure ≡ true → W.is_sure ≡ true → R.is_direct ≡ true
             → self.new ≡ self.old) }
         ensures unmade { happening.reaches event self.old ≡ false → IsOk result }
@@ -344,6 +356,11 @@ impl<M: Seat<Master>, W: Seat<Worker>> Seats<M, W> {
         alloc: Global,
         events: Vec<Event>,
     ) -> Result<Vec<Answer>, Refused>
+        // Proved: Over any seats, and whatever carries the texts, **the answers and what is shown
+        // are those of one ticket with one table of holders**: a text counts as come only where it
+        // is the one that was sent.
+        // By `said`, `shown`, `answers`, `state`, `once`, `merges`, `alone`, `held`;
+        // `Seats::step`: `said`, `shown`, `answer`, `state`, `unmade`, `alone`, `held`.
         ensures said { IfOk result
             (λ answers. answers.items ≡ replay.answers_to events.items (shows self.old)) }
         ensures shown { OnOk result

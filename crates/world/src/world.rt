@@ -55,8 +55,13 @@ impl World {
     /// all. Refuses `SameName` where two of the names are equal (our own), whatever memory there
     /// is, and else `Memory`.
     pub fn new(alloc: Global, name: Id, workers: Ids, ticket: Ticket) -> Result<World, Refusal>
+        // Proved: Before anything happened the master holds all, and what is shown is the ticket.
+        // By `ok`, `shown`.
         ensures ok { IfOk result (λ w. w ≡ state.opening name workers ticket) }
         ensures shown { IfOk result (λ w. shows w ≡ replay.opening name workers ticket) }
+        // Proved: Equal names are refused as `SameName`, whatever memory there is, and distinct
+        // ones never.
+        // By `refused`, `memory`, `only`.
         ensures refused { IsErrOf result Refusal.SameName
             ↔ (are_distinct (name ∷ workers) ≡ false) }
         ensures memory { are_distinct (name ∷ workers) ≡ true
@@ -83,6 +88,8 @@ impl World {
     /// The master. Its ticket, and what that shows of the spawns that are out, are those of the one
     /// ticket with one table of holders that the world shows.
     pub fn master(&self) -> &Master
+        // Proved: The master's ticket and marks are those of the one ticket.
+        // By `master`, `seen`, `marks`; `laws::ticket_is_seen`, `laws::marks_are_shown`.
         ensures master { result.now ≡ self.now.controllers.master }
         ensures seen { result.now.ticket ≡ ticket_seen (shows self.now).shop }
         ensures marks { marks result.now.ticket.rows result.now.records
@@ -93,6 +100,7 @@ impl World {
 
     /// The worker of a name.
     pub fn worker(&self, name: &Id) -> Option<&Worker>
+        // Proved: A worker is found by its name.
         ensures { option_copied result ≡ state.worker_of self.now.controllers.workers name.now }
     {
         let station = self.seats.worker_seat(name)?;
@@ -101,6 +109,9 @@ impl World {
 
     /// The text of the state of the controller of a name, from which it is started again.
     pub fn stored(&self, name: &Id) -> Option<&[u8]>
+        // Proved: The text of each controller's state is the one that a keeper would hold, and is
+        // read again as the controller.
+        // By `text`, `again`.
         ensures text { option_copied result ≡ texts.text_of self.now.controllers name.now }
         ensures again { IfSome result (λ text.
             texts.IsReadAgain self.now.controllers name.now text.now) }
@@ -123,9 +134,18 @@ impl World {
     /// where an entry is closed, its part was put in. While a spawn is out, the part that goes out
     /// with it has what it holds as it is seen, and the one that comes back as it is now.
     pub fn messages(&self) -> &[Vec<u8>]
+        // Proved: The text of each message is the one that a controller beside its keeper would
+        // give out, and is read again as the message.
+        // By `messages`, `texts`.
         ensures messages { messages_in (map (λ t. t.items) result.now) ≡ self.now.messages }
         ensures texts { map (λ t. t.items) result.now ≡ map message_text self.now.messages }
+        // Proved: Of one spawn one part goes out, one comes back and one command gives it up,
+        // however often, between the master and its worker.
+        // Proved: A spawn is had back without its part only where its worker has declined it, and
+        // its part is put in only where the work on it has ended.
         ensures kept { state.IsKept self.now }
+        // Proved: While a spawn is out, its part goes out with what it holds as it is seen, and
+        // comes back with it as it is now.
         ensures told { AreTold self.now }
     {
         self.seats.messages()
@@ -143,9 +163,13 @@ impl World {
     pub fn step(&mut self, alloc: Global, event: Event) -> Result<Answer, AllocError>
         ensures said { IfOk result (λ a. a ≡ replay.answer_to event (shows self.old)) }
         ensures shown { OnOk result (shows self.new ≡ replay.after event (shows self.old)) }
+        // Proved: An event is one controller's step, stored and sent as far as its stop lets it,
+        // or none.
+        // By `answer`, `state`.
         ensures answer { IfOk result (λ a. a ≡ happening.answer_to event self.old) }
         ensures state { OnOk result (self.new ≡ happening.after event self.old) }
         ensures err { OnErr result (self.new ≡ self.old) }
+        // Proved: What comes to no controller needs no memory.
         ensures unmade { happening.reaches event self.old ≡ false → IsOk result }
         ensures alone { (c d : Changer) (x : List ℕ)
             → MayChange self.new c x → MayChange self.new d x → c ≡ d }
@@ -166,23 +190,42 @@ impl World {
     /// part of each spawn is put in at most once, of which the audits of the node above tell, where
     /// the world was in its beginning, just as the answers do.
     pub fn run(&mut self, alloc: Global, events: Vec<Event>) -> Result<Vec<Answer>, AllocError>
+        // Proved: **Whatever happens, the answers and what is shown are those of one ticket with
+        // one table of holders: the original with the master's edits, its spawns and withdrawals,
+        // and exactly the merged returns put in, in merge order.**
+        // By `said`, `shown`; `World::step`: `said`, `shown`; `laws::events_are_replayed`.
         ensures said { IfOk result
             (λ answers. answers.items ≡ replay.answers_to events.items (shows self.old)) }
         ensures shown { OnOk result
             (shows self.new ≡ replay.after_all events.items (shows self.old)) }
+        // Proved: Where memory runs out, what is shown is what fewer of the events leave.
         ensures cut { OnErr result ((k : ℕ) × (k < length events.items)
             × (shows self.new ≡ replay.after_all (take k events.items) (shows self.old))) }
+        // Proved: Events come one after the other, and each is answered; where memory runs out,
+        // those before it have come.
+        // By `answers`, `state`, `err`.
         ensures answers { IfOk result
             (λ answers. answers.items ≡ happening.answers_to events.items self.old) }
         ensures state { OnOk result (self.new ≡ happening.after_all events.items self.old) }
         ensures err { OnErr result ((k : ℕ) × (k < length events.items)
             × (self.new ≡ happening.after_all (take k events.items) self.old)) }
+        // Proved: Of each spawn at most one answer tells that it was merged, and none once nothing
+        // of it is out.
+        // By `once`; `laws::each_spawn_is_merged_once`.
         ensures once { IfOk result (λ answers. AreMergedOnce answers.items) }
+        // Proved: In a run from the beginning on, the audits above a spawned node tell, past those
+        // of the beginning, of its merge once if an answer does, else never.
+        // By `merges`; `laws::merges_are_told`.
         ensures merges { IfOk result (λ answers. (name : List ℕ) (workers : List (List ℕ))
             (ticket : Job) → self.old ≡ state.opening name workers ticket
             → AreToldAbove ticket answers.items (shows self.new).shop) }
+        // Proved: After any events no two may change one node or resource.
+        // By `alone`; `World::step`: `alone`; `laws::no_two_may_change_one`.
         ensures alone { (c d : Changer) (x : List ℕ)
             → MayChange self.new c x → MayChange self.new d x → c ≡ d }
+        // Proved: The master may change just what it holds in what is shown, a worker just what an
+        // open spawn to it holds.
+        // By `held`; `World::step`: `held`; `laws::holders_may_change`.
         ensures held { (c : Changer) (x : List ℕ)
             → MayChange self.new c x ↔ Holds (shows self.new).shop c x }
     {

@@ -13,6 +13,7 @@ impl Answer {
 
     /// That of an event at which no controller makes a step.
     pub fn without_step(word: Word) -> Answer
+        // Proved: An event without a step has an answer without a number.
         ensures { result ≡ record { word = word; number = None } }
     {
         Answer { word, number: None }

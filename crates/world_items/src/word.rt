@@ -22,6 +22,7 @@ impl Word {
 
     /// What a controller replies, or why it refuses.
     pub fn of(reply: Result<Reply, Refusal>) -> Word
+        // Proved: A reply and a refusal have a word.
         ensures { result ≡ word_of reply }
     {
         match reply {

@@ -53,6 +53,7 @@ fn word_text(alloc: Global, word: &Word) -> Result<String, AllocError>
 /// it, or `Stopped`, `Restarted` or `NoMessage`; and behind that `#` and the number of the message
 /// that was sent, if one was. Such as `Spawned S1 #1`, `Refused 12 NotHeld S1` and `Edited`.
 pub fn answer_text(alloc: Global, answer: &Answer) -> Result<String, AllocError>
+    // Proved: An answer's text is its reply or refusal, and the number of the message sent.
     ensures { IfOk result (λ text. string_bytes text ≡ texts.answer_text answer.now) }
 {
     let text = word_text(alloc, &answer.word)?;

@@ -54,6 +54,9 @@ fn script_in<S: Source>(alloc: Global, value: &S, stops: bool) -> Result<Script,
 /// and `SameName` (our own: where two of the names of the master and its workers are equal), each
 /// looked for in all of it before the next one is; `Memory` may come before any.
 pub fn script_of(alloc: Global, bytes: &[u8]) -> Result<Script, Refusal>
+    // Proved: Bytes are read as the script that the form says, or refused for the first fault; so
+    // is one in which no controller stops.
+    // By `ok`, `refused`; `running_script_of`: `ok`, `refused`.
     ensures ok { IfOk result (λ script. IsReadAs bytes.now (Ok script)) }
     ensures refused { IfErr result (IsRefusalOf bytes.now) }
 {

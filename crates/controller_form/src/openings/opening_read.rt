@@ -49,6 +49,8 @@ fn opening_in<S: Source>(alloc: Global, value: &S) -> Result<Opening, Refusal>
 /// `DuplicateId`, `TooDeep`, `UnresolvedLink` and `SameName` (our own: where two of the names are
 /// equal), each looked for in all of it before the next one is; `Memory` may come before any.
 pub fn opening_of(alloc: Global, bytes: &[u8]) -> Result<Opening, Refusal>
+    // Proved: Bytes are read as the controller that begins so.
+    // By `ok`, `refused`.
     ensures ok { IfOk result (λ o. IsReadAs form.opening_read bytes.now (Ok o)) }
     ensures refused { IfErr result (IsRefusalOf form.opening_read bytes.now) }
 {

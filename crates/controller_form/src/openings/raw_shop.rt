@@ -30,6 +30,7 @@ impl Form for RawShop {
     /// What is found under the members `Master`, `Workers` and `Ticket` of a value, which may have
     /// others.
     #[tactic(auto, unfolding(crate::specs::Openings::ShopForm::shop_draft), using(json_items::proofs::Tests::all_true))]
+    // Proved: The beginning of a shop is found as its form says.
     fn find<S: Source>(alloc: Global, value: &S) -> Result<Judged<RawShop>, Refusal> {
         let found = find_three(alloc, value, "Master", "Workers", "Ticket")?;
         Ok(found.map(|((master, workers), ticket)| RawShop {
@@ -51,6 +52,7 @@ impl Raw for RawShop {
 
     /// Refuses the first fault of its ticket, then `SameName` where two of the names are equal;
     /// `Memory` may come before any but what a resource shows of spawns.
+    // Proved: A beginning of a shop that was found is built where nothing else is wrong.
     fn build(self, alloc: Global) -> Result<Shop, Refusal> {
         let ticket = self.ticket.build(alloc)?;
         if !are_apart(alloc, &self.master, self.workers.as_slice())? {

@@ -53,6 +53,8 @@ pub fn find_master_order<S: Source>(alloc: Global, value: &S) -> Result<Judged<O
 /// worker of a spawn to give it up. Refuses the first of `NotProfile`, `BadId` (also where the
 /// SpawnID names no spawn) and `BadText` that stands in it, and `Memory`.
 pub fn master_order_of<S: Source>(alloc: Global, value: &S) -> Result<Order, Refusal>
+    // Proved: An order is read as its form says, or refused for its first fault.
+    // By `worker_order_of`, `find_master_order`, `find_worker_order`.
     ensures { Answers result (forms.master_order_read (S.content value.now)) }
 {
     find_master_order(alloc, value)?

@@ -51,10 +51,14 @@ pub trait StateForm: Drop {
     /// `of_parts` refuses), each looked for in all of it before the next one is; `Memory` may come
     /// before any but the first two.
     fn state_of<S: Source>(alloc: Global, value: &S) -> Result<Self, Refusal>
+        // Proved: A state of either format is read as its form says, its format first, or refused
+        // for its first fault.
         ensures { Answers result (state_read (S.content value.now)) };
 
     /// The same controller twice.
     final fn pair_of<S: Source>(alloc: Global, value: &S) -> Result<(Self, Self), Refusal>
+        // Proved: A state is read so as two equal controllers, or refused for its first fault.
+        // By `first`, `second`, `refused`.
         ensures first { IfOk result (λ pair. state_read (S.content value.now) ≡ Ok pair.0) }
         ensures second { IfOk result (λ pair. state_read (S.content value.now) ≡ Ok pair.1) }
         ensures refused { IfErr result (λ e. (e ≡ Refusal.Memory)
@@ -67,6 +71,8 @@ pub trait StateForm: Drop {
 
     /// The text of its state, which is read as this controller.
     final fn state_text(&self, alloc: Global) -> Result<Vec<u8>, AllocError>
+        // Proved: The text of a stored state is read again as the same controller.
+        // By `text`, `again`.
         ensures text { IfOk result (λ b. b.items ≡ compact_text (state_data self.now)) }
         ensures again { IfOk result (λ b. IsReadAs state_read b.items (Ok self.now)) }
     {
@@ -79,6 +85,11 @@ pub trait StateForm: Drop {
     /// is, where that can tell it.
     final fn state_value(&self, alloc: Global) -> Result<Value, AllocError>
         ensures value { IfOk result (λ v. view v ≡ state_data self.now) }
+        // Proved: A stored state is read again as the same controller, and so is what the first
+        // format tells of it, where that can tell it: as a value and token by token.
+        // By `again`, `first`, `plain`, `nests`; `StateForm::print_state`: `again`, `first`,
+        // `plain`, `nests`; `StateForm::state_value`: `value`; `StateForm::print_state`:
+        // `printed`.
         ensures again { IfOk result (λ v. state_read (view v) ≡ Ok self.now) }
         ensures first { OnOk result (has_first self.now ≡ true →
             state_read (first_data self.now) ≡ Ok self.now) }

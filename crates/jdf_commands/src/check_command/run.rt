@@ -100,6 +100,12 @@ pub fn run_check<R: Read, W: Write, F: Write>(
     writer: &mut Counted<W>,
     faults: &mut Counted<F>,
 ) -> u8
+    // Proved: `check` says `ok` of bytes just where the reader of their kind takes them, and else
+    // tells first the number and the name of what that reader refuses them for, and behind that
+    // others only where all is asked for; its status is 0 or 1 by that. The kind is the one that
+    // is named, or that the members tell.
+    // Not proved: where in the bytes a refusal is, and what is told of others: `.ci/places.py`
+    // tries it.
     ensures { EndsCheck (option_map (λ word. word.now) kind.entry) all
         (used R.remaining reader.old reader.new) (used W.contents writer.old writer.new)
         (used F.contents faults.old faults.new) result }

@@ -36,6 +36,7 @@ pub fn run_edit<R: Read, W: Write, F: Write>(
     writer: &mut Counted<W>,
     faults: &mut Counted<F>,
 ) -> u8
+    // Proved: `edit` writes each edit's line and the ticket that they leave, or tells why not.
     ensures { Ends IsOutput IsRefusalOf (used R.remaining reader.old reader.new)
         (used W.contents writer.old writer.new) (used F.contents faults.old faults.new) result }
 {

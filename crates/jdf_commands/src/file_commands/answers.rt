@@ -152,6 +152,10 @@ fn line_of(alloc: Global, refusal: Option<u16>, message: &Message) -> Result<Str
 /// where the answer refuses, a line that tells who did. Such as `Noted S1 Running`. Refuses
 /// `Memory` alone.
 pub fn answer_output(alloc: Global, given: &TakenBytes, message: &Message) -> Result<Output, Fault>
+    // Proved: What is written of the answer to a message is the reply, with the Status of the
+    // queue entry behind it where the answer was taken and tells one; the text that goes out; and
+    // who refused, where the answer was taken and refuses.
+    // By `ok`, `memory`; `refused_by`.
     ensures ok { IfOk result (λ output. answers.IsOfAnswer message.now given.now.reply
         (option_map (λ b. b.items) given.now.answer) output.text.items output.refused) }
     ensures memory { IfErr result (λ f. f ≡ Input (Core Memory)) }

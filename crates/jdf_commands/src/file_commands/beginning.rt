@@ -78,6 +78,10 @@ pub fn begin<K: Keep>(
     input: &[u8],
     to: Addressee<'_>,
 ) -> Result<Opened<K>, Fault>
+    // Proved: What the input of `new` begins stands beside its keeper, which holds it then, if it
+    // is honest, in the same place, where it is a controller that is addressed; else it says why
+    // not.
+    // By `ok`, `refused`.
     ensures ok { IfOk result (λ opened. begins.IsBegunAs K.is_honest K.held K.place keep to.entry
         input.now (held_in opened)) }
     ensures refused { IfErr result (begins.IsNotBegun K.save_fails keep to.entry input.now) }
@@ -101,6 +105,9 @@ fn new_output<K: Keep, I: Read>(
     to: Addressee<'_>,
     reader: &mut Counted<I>,
 ) -> Result<(Output, Opened<K>), Fault>
+    // Proved: `new` writes nothing; where a controller is there already it reads nothing either,
+    // and gives up as 57.
+    // By `ok`, `refused`.
     ensures ok { IfOk result (λ begun. Begins K.is_honest K.held K.place is_there keep to.entry
         (used I.remaining reader.old reader.new) (held_in begun.1)
         begun.0.text.items begun.0.refused) }

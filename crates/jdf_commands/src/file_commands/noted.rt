@@ -35,6 +35,9 @@ pub fn finish_noting<W: Write, F: Write>(
     writer: &mut Counted<W>,
     faults: &mut Counted<F>,
 ) -> u8
+    // Proved: Notes are told behind an output, or a front of them where a write failed, and do
+    // nothing to the status.
+    // By `done`, `gives_up`.
     ensures done { IfOk made (λ noted. GivesOutNoting noted.output.text.items
         noted.output.refused noted.notes.items (used W.contents writer.old writer.new)
         (used F.contents faults.old faults.new) result) }

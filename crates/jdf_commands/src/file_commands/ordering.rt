@@ -61,6 +61,11 @@ fn order_held<K: Keep, J: Journal>(
     by: Option<&str>,
     journal: &mut J,
 ) -> Result<(OrderBytes, Opened<K>), Fault>
+    // Proved: What an order or a message to the controller that a keeper holds gives out is the
+    // reply and the text of one step of it, and the controller beside its keeper as it is then: an
+    // honest one holds the state that the step leaves, in the same place. Else it says why not,
+    // and what that leaves.
+    // By `ok`, `refused`; `take_held`: `ok`, `refused`.
     ensures ok { IfOk result (λ given. GivesHeld K.is_honest K.held K.place (IsOrdered at)
         input.now keep (held_in given.1)
         given.0.reply (option_map (λ b. b.items) given.0.message)) }
@@ -184,6 +189,10 @@ pub fn order_in_file<R: Locks, I: Read, J: Journal>(
     reader: &mut Counted<I>,
     journal: &mut J,
 ) -> Result<Ordered, Fault>
+    // Proved: What an order or a message to the controller in a file gives out is the reply and
+    // the text of a step of a controller that was kept in the file's place, before it and then. Of
+    // an order it gives out too what the reply and the controller as it is then have noted.
+    // By `ok`, `refused`; `take_in_file`: `ok`, `refused`.
     ensures ok { IfOk result (λ given. GivesNoting
         (λ after. GivesStepOf calls.is_honest calls.held calls.place (IsOrdered at)
         (calls.kept_in file.now) (used I.remaining reader.old reader.new) after
@@ -191,6 +200,9 @@ pub fn order_in_file<R: Locks, I: Read, J: Journal>(
         (notes_of_order given.reply) given.notes.items) }
     ensures refused { IfErr result (DoesNone IsNoOrder (IsOrdered at)
         file.now (used I.remaining reader.old reader.new)) }
+    // Proved: An honest journal gets the line of the step of an order or a message in a file, or
+    // misses it, which is told; where nothing was saved it is left as it was.
+    // By `journal`, `unsaved`; `take_in_file`: `journal`, `unsaved`.
     ensures journal { IfOk result (λ given. J.is_honest journal.old ≡ true →
         OrdersJournaled J.held J.is_missed at (calls.kept_in file.now)
         (used I.remaining reader.old reader.new) given.reply

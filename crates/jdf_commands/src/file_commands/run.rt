@@ -165,6 +165,19 @@ pub fn run_file<R: Locks + Clock + Alloc + Clone + Drop, I: Read, W: Write, F: W
     faults: &mut Counted<F>,
     journal: &mut J,
 ) -> u8
+    // Proved: `show` writes a master's ticket with its marks, a worker's entries, or the picture
+    // of either; and `show` and an edit note each part that a worker keeps with 786,432 bytes or
+    // more.
+    // By `worker_text`.
+    // Proved: `list` writes the list of the controller, what is open and then all others, or what
+    // is open alone, to the moment that is named; of a folder, that of each file in its order that
+    // holds its own controller, and it notes each other.
+    // Proved: A call over the network is none of files: nothing is read, and it is refused as 61.
+    // Proved: A call ends with what its command writes, at its file and time, or with the line and
+    // the status of a fault.
+    // By `call_output`: `ok`, `refused`.
+    // Not proved: what stands in a file: the clauses say which place was loaded and saved, and
+    // neither what it held nor why it was refused.
     ensures { EndsCall call.now (used I.remaining reader.old reader.new)
         (used W.contents writer.old writer.new) (used F.contents faults.old faults.new) result }
 {

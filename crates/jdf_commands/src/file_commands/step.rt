@@ -55,6 +55,9 @@ pub fn step_output(
     reply: Result<Reply, Refusal>,
     message: &Option<Vec<u8>>,
 ) -> Result<Output, Fault>
+    // Proved: What is written of a step is its reply and its text, and of an order what was noted
+    // stays beside it.
+    // By `lines`, `status`, `memory`; `order_noted`: `lines`, `status`, `notes`, `memory`.
     ensures lines { IfOk result (λ output. output.text.items
         ≡ steps.step_lines reply (option_map (λ b. b.items) message.now)) }
     ensures status { IfOk result (λ output. output.refused ≡ steps.is_refused reply) }

@@ -41,6 +41,9 @@ pub fn run_world<R: Read, W: Write, F: Write>(
     writer: &mut Counted<W>,
     faults: &mut Counted<F>,
 ) -> u8
+    // Proved: `world` writes, for a script, the answers of one ticket with one table, and that
+    // ticket.
+    // By `world_output::push_line`.
     ensures { Ends IsOutput IsRefusalOf (used R.remaining reader.old reader.new)
         (used W.contents writer.old writer.new) (used F.contents faults.old faults.new) result }
 {

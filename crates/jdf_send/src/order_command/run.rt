@@ -194,6 +194,15 @@ pub fn run_send_order<R: Locks + Net + Clock, I: Read, W: Write, F: Write, J: Jo
     faults: &mut Counted<F>,
     journal: &mut J,
 ) -> u8
+    // Proved: `order --send` writes the line of the reply of a step that was saved, as `order`
+    // does; where a message goes out and that line was written with status 0, it writes behind it
+    // what `answer_output` of `jdf_commands` writes of some answer that the controller in the file
+    // has taken, or nothing, where there is none, where another status came, where no URL is known
+    // for the receiver, or where the fault is told. Or memory runs out for the URL or for that
+    // line, or the text begins with `@`, and memory runs out for the peers' file that it names or
+    // that can't be loaded; or it gives up as `order` does; or it reads and writes nothing, with
+    // status 2. The status is one of 0 to 4.
+    // Not proved: that status 2 is for what is no URL: cases show it.
     ensures { EndsSendOrder order.now.file order.now.at order.now.url.now
         (used I.remaining reader.old reader.new) (used W.contents writer.old writer.new)
         (used F.contents faults.old faults.new) result }

@@ -195,6 +195,12 @@ pub fn run_send<R: Files + Net + Clock, I: Read, W: Write, F: Write>(
     writer: &mut Counted<W>,
     faults: &mut Counted<F>,
 ) -> u8
+    // Proved: `send` gives out some answer, on a line; where that refuses, it tells who did behind
+    // it, with status 1, and where it is no message why, with that fault's status. Or it writes
+    // nothing, with status 1; or with 2, and then it reads nothing either; or it gives up, with
+    // the fault's line and status.
+    // Not proved: that the answer is the one that came, and that 2 is for what is no URL: tests
+    // show it.
     ensures { EndsSend (used I.remaining reader.old reader.new)
         (used W.contents writer.old writer.new) (used F.contents faults.old faults.new) result }
 {

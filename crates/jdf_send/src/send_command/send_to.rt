@@ -37,6 +37,10 @@ impl SendTo {
     /// file. Nothing where it is neither. Refuses `LoadFailed` where that file can't be read or has
     /// no such table, and `Memory`.
     pub(crate) fn of<R: Files>(rt: &R, alloc: Global, text: &str) -> Result<Option<SendTo>, Fault>
+        // Proved: `send` and `order --send` send to the URL that the text is; or, where that
+        // begins with `@`, to the one that the table has for the receiver of the message, if it
+        // has one.
+        // By `ok`, `err`; `SendTo::destination`.
         ensures ok { IfOk result (IsPlaceIn text.now) }
         ensures err { IfErr result (IsNoPlace text.now) }
     {
@@ -60,6 +64,7 @@ impl SendTo {
         alloc: Global,
         message: &[u8],
     ) -> Result<Option<&Destination>, Fault>
+        // Not proved: that `send` and `order --send` connect to that URL: tests show it.
         ensures { IfOk result (λ found. GoesTo self.now message.now (option_copied found)) }
     {
         match self {

@@ -65,6 +65,9 @@ pub fn find_list_in<W, T: FormIn<W>, S: Source>(
     name: &str,
     setting: &W,
 ) -> Result<Judged<Items<T>>, Refusal>
+    // Proved: What is found of a list, of one more item of it, and of a text as an id is what its
+    // form says.
+    // By `push_found`, `id_in`.
     ensures { Reads (list_all T.names_valid) (list_all T.texts_valid) result
         (option_and_then (list_form (T.form_in setting.now)) (get name.now (S.content value.now))) }
 {

@@ -21,6 +21,9 @@ pub fn find_under<T: Form, S: Source>(
     value: &S,
     name: &str,
 ) -> Result<Judged<T>, Refusal>
+    // Proved: What is found under names is what the form of each says.
+    // By `find_pool`, `find_attrs`, `find_two`, `find_three`, `find_four`, `find_five`,
+    // `text_under`, `number_under`.
     ensures { Reads T.has_names T.has_texts result
         (option_and_then T.form (get name.now (S.content value.now))) }
 {
@@ -58,6 +61,7 @@ pub fn first_of_two(one: Refusal, other: Option<Refusal>) -> Refusal
 
 /// Two that were found, together.
 pub fn both<A: Drop, B: Drop>(one: Judged<A>, other: Judged<B>) -> Judged<(A, B)>
+    // Proved: Of two things that were found the first fault stays.
     ensures { (names : A → Bool) (texts : A → Bool) (read : Option A)
         → (other_names : B → Bool) (other_texts : B → Bool) (other_read : Option B)
         → Finds (first_fault names texts) one read
@@ -167,6 +171,8 @@ pub fn find_pool<T: Form, S: Source>(
 /// The whole that a value is. Refuses the first of `NotProfile`, `BadId` and `BadText` that stands
 /// in it, and `Memory`.
 pub fn whole_in<T: Form, S: Source>(alloc: Global, value: &S) -> Result<T, Refusal>
+    // Proved: A value that is wanted whole is answered, or refused as `NotProfile` where nothing
+    // of its form is there, or for the first of `BadId` and `BadText`.
     ensures { Answers result
         (judged (first_fault T.has_names T.has_texts) (T.form (S.content value.now))) }
 {

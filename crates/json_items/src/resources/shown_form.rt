@@ -37,6 +37,9 @@ fn are_only(texts: &[AnyText], text: &str) -> bool
 impl Shown {
     /// Nothing, which absent members mean too.
     pub fn nothing(alloc: Global) -> Shown
+        // Proved: What a resource shows of spawns is told.
+        // By `Shown::rw`, `Shown::ro`, `Shown::shows_nothing`, `Shown::is_change`,
+        // `Shown::is_read`.
         ensures { result ≡ shown.nothing_shown }
     {
         Shown {

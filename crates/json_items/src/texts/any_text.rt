@@ -24,6 +24,8 @@ impl Model for AnyText {
 impl AnyText {
     /// This text.
     pub fn new(alloc: Global, text: &str) -> Result<AnyText, AllocError>
+        // Proved: A text is what it was made of.
+        // By `AnyText::as_str`.
         ensures { IfOk result (λ any. any ≡ text.now) }
     {
         let text = String::from_str(alloc, text)?;

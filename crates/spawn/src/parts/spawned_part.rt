@@ -39,6 +39,7 @@ fn part_at(alloc: Global, ticket: &Ticket, spawn: &SpawnRec, at: &At<'_>) -> Res
 /// it went out. While no row of what was spawned changes and none is added there, it is the same
 /// part each time. The record is good in the ticket. Refuses `Memory` alone.
 pub fn part_for(alloc: Global, ticket: &Ticket, spawn: &SpawnRec) -> Result<Part, Refusal>
+    // Wants: a good record that is out.
     requires out { is_out spawn.now ≡ true }
     requires good { IsGood ticket.now.rows spawn.now }
     ensures ok { IfOk result (λ p. p ≡ parts.part_for ticket.now spawn.now) }

@@ -103,6 +103,9 @@ fn has_copies(at: &At<'_>, spawn: &SpawnRec) -> bool
 /// each once and in ticket order, those to read alone with the name and Class that they have there.
 /// Needs no memory.
 pub fn is_good(ticket: &Ticket, spawn: &SpawnRec) -> bool
+    // Proved: A record is good just if its node has a parent and its copies are those linked from
+    // above.
+    // By `are_good`.
     ensures { IsTrue result ↔ IsGood ticket.now.rows spawn.now }
 {
     match ticket.at(&spawn.node) {

@@ -15,6 +15,9 @@ pub trait OfResource {
 
     /// Whether it is the resource's id, or a copy of the resource.
     fn is_of(&self, resource: &Resource) -> bool
+        // Proved: Whether an id or a copy is a resource's is told, and what stands behind the
+        // first of some where it is.
+        // By `behind`.
         ensures { result ≡ is_of resource.now self.now };
 }
 

@@ -39,6 +39,8 @@ fn stands(ticket: &Ticket, spawn: &SpawnRec) -> bool
 /// Whether each record, also one that was merged or withdrawn, stands in a ticket: its node is one
 /// below another, and its copies are of resources. Needs no memory.
 pub fn stand_in(ticket: &Ticket, records: &[SpawnRec]) -> bool
+    // Proved: Stored records are tested as a whole.
+    // By `are_apart`: `apart`; `laws::whether_records_stand_well_is_a_test`.
     ensures { result ≡ list_all (stands_in ticket.now.rows) records.now }
 {
     records.iter().all(|spawn| stands(ticket, spawn))

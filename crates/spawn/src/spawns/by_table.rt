@@ -26,7 +26,12 @@ pub fn spawn_by_table(
     rw: Ids,
     at: u64,
 ) -> Result<(SpawnId, Part), Refusal>
+    // Wants: the table of these records.
     requires table { IsTable ticket.old.rows records.old.items holders.old }
+    // Proved: A spawn beside the table is the same spawn, and leaves the table that of what it
+    // made, or of what it left.
+    // By `ticket`, `records`, `table`, `id`, `part`, `refused`, `memory`, `ticket_stays`,
+    // `records_stay`.
     ensures ticket { OnOk result (ticket.new
         ≡ spawning.spawned ticket.old
         (spawning.new_record ticket.old.rows number node worker rw at)) }

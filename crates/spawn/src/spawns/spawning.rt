@@ -269,17 +269,24 @@ pub fn spawn(
     rw: Ids,
     at: u64,
 ) -> Result<(SpawnId, Part), Refusal>
+    // Proved: Where a spawn isn't refused its record is last, its audit stands at the parent, and
+    // nothing else changes; else nothing does.
+    // By `ticket`, `records`, `id`, `ticket_stays`, `records_stay`.
     ensures ticket { OnOk result (ticket.new
         ≡ spawning.spawned ticket.old
         (spawning.new_record ticket.old.rows number node worker rw at)) }
     ensures records { OnOk result (records.new.items
         ≡ records.old.items ++ spawning.new_record ticket.old.rows number node worker rw at ∷ []) }
     ensures id { IfOk result (λ s. s.0 ≡ number) }
+    // Proved: The record of a spawn is good, and the part is the one made of it.
+    // By `good`, `part`; `part_for`: `ok`, `memory`.
     ensures part { IfOk result (λ s. s.1
         ≡ parts.part_for ticket.new
         (spawning.new_record ticket.old.rows number node worker rw at)) }
     ensures good { OnOk result (IsGood ticket.new.rows
         (spawning.new_record ticket.old.rows number node worker rw at)) }
+    // Proved: A spawn is refused for its first reason, without memory.
+    // By `refused`, `memory`; `may_spawn`.
     ensures refused { IfSome (spawn_refusal ticket.old.rows records.old.items number node rw)
         (λ e. result ≡ Err e) }
     ensures memory { IfNone (spawn_refusal ticket.old.rows records.old.items number node rw)

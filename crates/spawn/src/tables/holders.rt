@@ -58,6 +58,9 @@ impl Holders {
         ticket: &Ticket,
         records: &[SpawnRec],
     ) -> Result<Option<Holders>, AllocError>
+        // Proved: The table of holders is kept by id, just where no two claims meet.
+        // By `test`, `table`; `Holders::new`: `none`, `table`; `Holders::get`,
+        // `Holders::holder_of`.
         ensures test { IfOk result (λ found. is_some found
             ≡ stored.are_apart (places ticket.now.rows) records.now) }
         ensures table { IfOk result (λ found. IfSome found
@@ -102,7 +105,11 @@ impl Holders {
         ticket: &Ticket,
         spawn: &SpawnRec,
     ) -> Result<(), AllocError>
+        // Wants: a claim that no spawn holds.
         requires { IsFree (claims ticket.now.rows spawn.now) self.old }
+        // Proved: The table that is kept changes by a claim given to its spawn, or given back to
+        // the master; only the first may want memory, and then each id is held as before.
+        // By `ok`, `err`; `Holders::free`: `given`.
         ensures ok { OnOk result (IsGiven (claims ticket.now.rows spawn.now)
             (Some spawn.now.id) self.old self.new) }
         ensures err { OnErr result (IsSame self.old self.new) }
@@ -225,6 +232,7 @@ impl Holders {
 }
 
 impl Clone for Holders {
+    // Proved: A clone of the table that is kept is equal.
     ghost is_clone = { λ holders copied. copied ≡ holders };
 
     fn clone(&self) -> Result<Holders, AllocError> {

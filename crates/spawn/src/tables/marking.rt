@@ -126,6 +126,8 @@ fn marked_nodes(alloc: Global, rows: &Rows<'_>, spawned: &IdSet<'_>) -> Result<V
 /// spawns in rising order, each as often as records tell of it. All in ticket order. Refuses
 /// `Memory` alone.
 pub fn marked(alloc: Global, ticket: &Ticket, records: &[SpawnRec]) -> Result<Marks, Refusal>
+    // Proved: Marks are those of spawns that are out.
+    // By `ok`, `memory`; `SpawnRec::is_out`.
     ensures ok { IfOk result (λ m. m ≡ marking.marks ticket.now.rows records.now) }
     ensures memory { IfErr result (λ e. e ≡ Refusal.Memory) }
 {

@@ -32,6 +32,7 @@ pub(crate) fn stands(ticket: &Ticket, id: &Id) -> bool
 /// Who holds a node or a resource: the first spawn that is out and claims it, or else the master.
 /// `None` where the id is unknown. Needs no memory.
 pub fn holder_of(ticket: &Ticket, records: &[SpawnRec], id: &Id) -> Option<Holder>
+    // Proved: One table tells who holds an id.
     ensures { result ≡ table.holder_of ticket.now.rows records.now id.now }
 {
     let node = stand_of(ticket, id)?;

@@ -46,6 +46,7 @@ fn changed_place(rows: &IndexedRows, edit: &Edit) -> Result<usize, Refusal>
 
 /// Why an edit is refused, if it is.
 pub fn check(rows: &IndexedRows, edit: &Edit) -> Result<(), Refusal>
+    // Wants: valid rows.
     requires { IsValid rows.now }
     ensures { MatchResult result (λ _. refusal_of edit.now rows.now ≡ None)
         (λ e. refusal_of edit.now rows.now ≡ Some e) }
@@ -103,7 +104,11 @@ pub(crate) fn change(
 
 /// Does an edit. One that puts nothing more into the rows takes no memory.
 pub fn apply(alloc: Global, rows: &mut IndexedRows, edit: Edit, at: u64) -> Result<(), Refusal>
+    // Wants: valid rows.
     requires { IsValid rows.old }
+    // Proved: An edit does just what it says, or is refused for the first reason, and valid rows
+    // stay valid.
+    // By `ok`, `refused`, `memory`, `in_place`, `valid`; `check`.
     ensures ok { OnOk result (rows.new ≡ edited_rows edit at rows.old) }
     ensures err { OnErr result (rows.new ≡ rows.old) }
     ensures refused { IfSome (refusal_of edit rows.old) (λ e. result ≡ Err e) }

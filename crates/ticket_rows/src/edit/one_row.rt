@@ -13,7 +13,11 @@ use ticket_items::{Audit, Id, NodeRow, Refusal, Resource};
 
 /// Puts an audit last at a node.
 pub fn append(rows: &mut IndexedRows, node: &Id, audit: Audit) -> Result<(), Refusal>
+    // Wants: valid rows.
     requires { IsValid rows.old }
+    // Proved: An audit goes last at its node, or is refused for want of that node, and valid rows
+    // stay valid.
+    // By `ok`, `err`, `refused`, `memory`, `valid`.
     ensures ok { OnOk result (rows.new ≡ one.appended node.now audit rows.old) }
     ensures err { OnErr result (rows.new ≡ rows.old) }
     ensures refused { IfSome (node_refusal node.now rows.old) (λ e. result ≡ Err e) }
@@ -28,8 +32,12 @@ pub fn append(rows: &mut IndexedRows, node: &Id, audit: Audit) -> Result<(), Ref
 
 /// Puts a node in the place of the one of its id, as deep as that one.
 pub fn replace_node(rows: &mut IndexedRows, row: NodeRow)
+    // Wants: valid rows, and a node that may stand in place of the one of its id.
     requires valid { IsValid rows.old }
     requires may { MayReplaceNode rows.old row }
+    // Proved: A node or a resource is put in place of the one of its id, and valid rows stay
+    // valid.
+    // By `rows`, `valid`; `one_row::replace_resource`: `rows`, `valid`.
     ensures rows { rows.new ≡ one.replaced_node row rows.old }
     ensures valid { IsValid rows.new }
 {
@@ -42,6 +50,7 @@ pub fn replace_node(rows: &mut IndexedRows, row: NodeRow)
 
 /// Puts a resource in the place of the one of its id.
 pub fn replace_resource(rows: &mut IndexedRows, resource: Resource)
+    // Wants: valid rows, and a resource that may stand in place of the one of its id.
     requires valid { IsValid rows.old }
     requires may { MayReplaceResource rows.old resource }
     ensures rows { rows.new ≡ one.replaced_resource resource rows.old }

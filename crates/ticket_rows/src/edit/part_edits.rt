@@ -75,8 +75,12 @@ pub fn apply(
     edit: Edit,
     at: u64,
 ) -> Result<(), Refusal>
+    // Wants: rows and copies of distinct ids, and an edit that adds nothing to the tree.
     requires apart { AreApart rows.old.items copies.old }
     requires plain { is_structural edit ≡ false }
+    // Proved: An edit of a part does just what it says to its rows and its copies, or is refused
+    // for the first reason.
+    // By `rows`, `copies`, `refused`, `memory`, `in_place`, `rows_stay`, `copies_stay`.
     ensures rows { OnOk result (rows.new.items ≡ edited_rows edit at rows.old.items) }
     ensures copies { OnOk result (copies.new ≡ edited_copies edit copies.old) }
     ensures rows_stay { OnErr result (rows.new.items ≡ rows.old.items) }
