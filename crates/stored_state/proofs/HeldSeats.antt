@@ -9,7 +9,7 @@ use Rattle.ticket_items.specs.declared.refusal.Refusal.{Refusal}
 use Rattle.json_profile.specs.ReadAs.{IsReadAs}
 use Rattle.stored_state.specs.Cause.{caused}
 use Rattle.stored_state.specs.Held.{GivesNothing, Held, HoldsOldOrNext, HoldsSame, ShowsEither}
-use Rattle.stored_state.specs.Seat.{IsOldOrNext, IsSeat, kept_in, read_in}
+use Rattle.stored_state.specs.Seat.{IsSeat, kept_in, read_in}
 use Rattle.stored_state.specs.declared.cause.Cause.{Cause}
 use Rattle.stored_state.specs.declared.cause.Cause.TheVariants as causes
 use Rattle.streams.specs.declared.refused.Refused.{Refused}

@@ -1,5 +1,5 @@
 -- What is shown where it isn't known how far an event came: what one ticket with one table of holders shows where its controller stopped in it.
-use Rattle.std.proofs.Common.{◌≡◌, ◌∙◌, ◌⊎◌, ◌<◌, inl, inr, ℕ, zero, suc, List, [], ◌∷◌, length, take, Result, Ok, Err, OnErr, Some, slice_get, ap, arith, refl, subst, sym}
+use Rattle.std.proofs.Common.{◌≡◌, ◌∙◌, ◌⊎◌, ◌<◌, inl, inr, ℕ, zero, suc, List, [], ◌∷◌, length, take, Result, Ok, Err, OnErr, ap, arith, refl, subst, sym}
 use Rattle.controller.specs.Step.{Step}
 use Rattle.controller.specs.declared.message.Message.{Message}
 use Rattle.world.proofs.AlwaysKept.{kept_after_all}

@@ -1,5 +1,5 @@
 -- Where it isn't known how far a step came, and nothing was sent, it is as if its controller had stopped in it.
-use Rattle.std.proofs.Common.{◌≡◌, ◌∙◌, inl, inr, ℕ, List, set, Result, Ok, Err, OnErr, ap, refl, sym}
+use Rattle.std.proofs.Common.{◌≡◌, ◌∙◌, inl, inr, ℕ, List, set, Result, Ok, Err, OnErr, refl, sym}
 use Rattle.controller.specs.Step.{Step}
 use Rattle.controller.specs.declared.message.Message.{Message}
 use Rattle.master_core.specs.Master as master

@@ -1,4 +1,4 @@
-use Rattle.std.proofs.Common.{◌≡◌, ◌∙◌, ap, option_map}
+use Rattle.std.proofs.Common.{◌∙◌, ap}
 use Rattle.stored_state.proofs.MessageTexts.{sent_back, sent_text}
 use Rattle.stored_state.specs.Cause.{caused}
 use Rattle.world.specs.Settling.{number_of, with_sent}

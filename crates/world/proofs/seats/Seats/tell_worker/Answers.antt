@@ -6,7 +6,7 @@ use Rattle.world.proofs.AlwaysKept.{worker_keeps}
 use Rattle.world.proofs.Answered.{on_ok}
 use Rattle.world.proofs.Seated.{map-get_or, map-set}
 use Rattle.world.proofs.Settled.{found_answers, found_settled_as, found_settles, none_answers, none_settles}
-use Rattle.world.proofs.Unknown.{not_made, worker_same, worker_unknown}
+use Rattle.world.proofs.Unknown.{worker_same, worker_unknown}
 use Rattle.world.proofs.WorkerPlaces.{StandsAt, found, found_own, kept_there, name_of, none_there, settled_there}
 use Rattle.world.specs.Happening.{ComesTo, IsUnknown, settled, settled_word, worker_step}
 use Rattle.world.specs.State.{IsKept, State, is_named, state, worker_of}
