@@ -1,7 +1,7 @@
 use crate::cell::Cell;
 use crate::holder::Holder;
 use crate::sharing;
-use crate::swapped::Swapped;
+use crate::swapped::SwapResult;
 use keepers::{Keep, KeepFault};
 use std::alloc::Global;
 use std::marker::Model;
@@ -19,9 +19,9 @@ pub struct CellKeep<C: Cell> {
 }
 
 impl<C: Cell> Model for CellKeep<C> {
-    ghost use Rattle.cells.specs.Kept.{Kept};
+    ghost use Rattle.cells.specs.Kept.{CellKeepView};
 
-    ghost Value = { Kept C };
+    ghost Value = { CellKeepView C };
 
     ghost view = { λ a. record {
       cell = a.cell;
@@ -33,14 +33,15 @@ impl<C: Cell> Model for CellKeep<C> {
 
 impl<C: Cell> CellKeep<C> {
     ghost use Rattle.std.specs.Prelude.{◌≡◌, ◌≤◌, false};
-    ghost use Rattle.cells.specs.Chain.{nothing};
-    ghost use Rattle.cells.specs.Keeping.{has_read, idle};
+    ghost use Rattle.cells.specs.Chain.{no_version};
+    ghost use Rattle.cells.specs.Keeping.{has_read, new_holding};
     ghost use Rattle.cells.specs.Kept.{holds};
     ghost use Rattle.keepers.specs.Keeper.{CountRose};
 
     /// A keeper over this cell, of which no call failed yet. It loads before it saves.
     pub fn over(alloc: Global, cell: C) -> CellKeep<C>
-        ensures { result ≡ record { cell = cell; holding = idle; is_conflict = false; count = 0 } }
+        ensures { result ≡ record { cell = cell; holding = new_holding; is_conflict = false; count =
+            0 } }
     {
         CellKeep {
             cell,
@@ -55,7 +56,7 @@ impl<C: Cell> CellKeep<C> {
     pub fn over_new(alloc: Global, cell: C) -> CellKeep<C>
         ensures { result ≡ record {
           cell = cell;
-          holding = has_read nothing;
+          holding = has_read no_version;
           is_conflict = false;
           count = 0;
         } }
@@ -107,7 +108,7 @@ impl<C: Cell> CellKeep<C> {
 impl<C: Cell> Keep for CellKeep<C> {
     ghost use Rattle.std.specs.Prelude.{◌≡◌, ◌<◌, [], false, true, IfOk, IfSome, IsErrOf, OnErr, OnOk};
     ghost use Rattle.cells.specs.Calls.{IsNot, Sends};
-    ghost use Rattle.cells.specs.Chain.{held};
+    ghost use Rattle.cells.specs.Chain.{newest};
     ghost use Rattle.cells.specs.Keeping.{has_read, swap_of};
     ghost use Rattle.cells.specs.Kept.{IsOfLoad, IsOfSave, IsSettled, IsSwapped, holds};
     ghost use Rattle.keepers.specs.Keeper.{CountRose, CountsFailure};
@@ -143,10 +144,10 @@ impl<C: Cell> Keep for CellKeep<C> {
         ensures sends { C.is_honest ≡ true → Sends (C.view self.old.cell)
             (IsOfLoad self.old.holding) (C.view self.new.cell) }
         ensures value { C.is_honest ≡ true → IfOk result (λ bytes.
-            (bytes.items ≡ (held (C.view self.new.cell).chain).bytes)
-            × (0 < (held (C.view self.new.cell).chain).revision)) }
+            (bytes.items ≡ (newest (C.view self.new.cell).chain).bytes)
+            × (0 < (newest (C.view self.new.cell).chain).revision)) }
         ensures has { C.is_honest ≡ true →
-            OnOk result (self.new.holding ≡ has_read (held (C.view self.new.cell).chain)) }
+            OnOk result (self.new.holding ≡ has_read (newest (C.view self.new.cell).chain)) }
         ensures settled { C.is_honest ≡ true → OnOk result
             (IsSettled self.old.holding (C.view self.old.cell) (C.view self.new.cell)) }
         ensures conflict { self.new.is_conflict ≡ false }
@@ -174,7 +175,7 @@ impl<C: Cell> Keep for CellKeep<C> {
         ensures made { C.is_honest ≡ true → holds self.old.holding bytes.now ≡ false →
             OnOk result (IsSwapped self.old.holding bytes.now
             (C.view self.old.cell) (C.view self.new.cell)
-            × (self.new.holding ≡ has_read (held (C.view self.new.cell).chain))) }
+            × (self.new.holding ≡ has_read (newest (C.view self.new.cell).chain))) }
         ensures conflict { C.is_honest ≡ true → self.new.is_conflict ≡ true →
             IfSome self.old.holding.has
             (λ v. IsNot (C.view self.old.cell) (swap_of v bytes.now) (C.view self.new.cell)) }
@@ -189,12 +190,12 @@ impl<C: Cell> Keep for CellKeep<C> {
             return Ok(());
         }
         match sharing::save(&mut self.cell, &mut self.holder, bytes) {
-            Ok(Swapped::Made(_)) => Ok(()),
-            Ok(Swapped::Other) => {
+            Ok(SwapResult::Made(_)) => Ok(()),
+            Ok(SwapResult::Other) => {
                 self.is_conflict = true;
                 Err(self.fail())
             }
-            Ok(Swapped::Unknown) | Err(KeepFault::Failed) => Err(self.fail()),
+            Ok(SwapResult::Unknown) | Err(KeepFault::Failed) => Err(self.fail()),
             Err(KeepFault::Memory) => Err(KeepFault::Memory),
         }
     }

@@ -3,13 +3,13 @@ ghost use Rattle.std.specs.Prelude.{IfErr, IfOk, IfSome, IsNone, IsSome, OnErr, 
 ghost use Rattle.std.specs.Prelude.{option_map};
 ghost use Rattle.keepers.specs.declared.keep_fault.KeepFault.TheVariants.{Failed};
 ghost use Rattle.cells.specs.Calls.{Goes, Swaps};
-ghost use Rattle.cells.specs.Chain.{held, nothing};
+ghost use Rattle.cells.specs.Chain.{newest, no_version};
 ghost use Rattle.cells.specs.Keeping.{after_swap, after_touch, can_swap, can_touch};
-ghost use Rattle.cells.specs.Keeping.{has_read, idle, swap_of, touch_of};
+ghost use Rattle.cells.specs.Keeping.{has_read, new_holding, swap_of, touch_of};
 
 use crate::cell::Cell;
-use crate::swapped::Swapped;
-use crate::versioned::Versioned;
+use crate::swapped::SwapResult;
+use crate::versioned::VersionedValue;
 use keepers::KeepFault;
 use std::alloc::Global;
 use std::marker::Model;
@@ -20,7 +20,7 @@ use std::marker::Model;
 #[derive(Drop)]
 pub struct Holder {
     alloc: Global,
-    has: Option<Versioned>,
+    has: Option<VersionedValue>,
     is_open: bool,
 }
 
@@ -35,7 +35,7 @@ impl Model for Holder {
 impl Holder {
     /// It has nothing yet.
     pub fn new(alloc: Global) -> Holder
-        ensures { result ≡ idle }
+        ensures { result ≡ new_holding }
     {
         Holder {
             alloc,
@@ -46,17 +46,17 @@ impl Holder {
 
     /// It has read that nothing was ever held.
     pub fn of_nothing(alloc: Global) -> Holder
-        ensures { result ≡ has_read nothing }
+        ensures { result ≡ has_read no_version }
     {
         Holder {
             alloc,
-            has: Some(Versioned::new(0, Vec::new(alloc))),
+            has: Some(VersionedValue::new(0, Vec::new(alloc))),
             is_open: false,
         }
     }
 
     /// What it read or made last.
-    pub fn has(&self) -> Option<&Versioned>
+    pub fn has(&self) -> Option<&VersionedValue>
         ensures { option_map (λ v. v.now) result ≡ self.now.has }
     {
         self.has.as_ref()
@@ -77,10 +77,10 @@ impl Holder {
         ensures goes { C.is_honest ≡ true → self.old.is_open ≡ false →
             Goes (C.view cell.old) (C.view cell.new) }
         ensures ok { C.is_honest ≡ true →
-            OnOk result (self.new ≡ has_read (held (C.view cell.new).chain)) }
+            OnOk result (self.new ≡ has_read (newest (C.view cell.new).chain)) }
         ensures has { OnOk result (IsSome self.new.has) }
         ensures closed { self.new.is_open ≡ self.old.is_open }
-        ensures err { self.old.is_open ≡ false → OnErr result (self.new ≡ idle) }
+        ensures err { self.old.is_open ≡ false → OnErr result (self.new ≡ new_holding) }
     {
         if self.is_open {
             return Err(KeepFault::Failed);
@@ -92,7 +92,7 @@ impl Holder {
 
     /// Asks for these bytes in place of what it has. Refuses `Failed` where it has nothing or is
     /// open, and `Memory`: then nothing is sent.
-    pub fn swap<C: Cell>(&mut self, cell: &mut C, bytes: &[u8]) -> Result<Swapped, KeepFault>
+    pub fn swap<C: Cell>(&mut self, cell: &mut C, bytes: &[u8]) -> Result<SwapResult, KeepFault>
         ensures err { OnErr result ((self.new ≡ self.old) × (cell.new ≡ cell.old)) }
         ensures failed { (result ≡ Err Failed) ↔ (can_swap self.old ≡ false) }
         ensures sent { OnOk result (can_swap self.old ≡ true) }
@@ -122,16 +122,16 @@ impl Holder {
     }
 
     /// Notes the answer to a swap by these bytes.
-    fn note_swap(&mut self, answer: Swapped, bytes: Vec<u8>)
+    fn note_swap(&mut self, answer: SwapResult, bytes: Vec<u8>)
         ensures { self.new ≡ after_swap answer bytes.items self.old }
     {
         match answer {
-            Swapped::Made(revision) => self.has = Some(Versioned::new(revision, bytes)),
-            Swapped::Other => {
+            SwapResult::Made(revision) => self.has = Some(VersionedValue::new(revision, bytes)),
+            SwapResult::Other => {
                 drop(bytes);
                 self.has = None;
             }
-            Swapped::Unknown => {
+            SwapResult::Unknown => {
                 drop(bytes);
                 self.is_open = true;
             }
@@ -140,7 +140,7 @@ impl Holder {
 
     /// Asks for a later revision of what it has, where a swap of it is open. Once that is answered,
     /// the swap was made or never will be, and it has nothing: it reads again.
-    pub fn touch<C: Cell>(&mut self, cell: &mut C) -> Option<Swapped>
+    pub fn touch<C: Cell>(&mut self, cell: &mut C) -> Option<SwapResult>
         ensures none { IsNone result → (self.new ≡ self.old) × (cell.new ≡ cell.old) }
         ensures some { is_some result ≡ can_touch self.old }
         ensures swaps { C.is_honest ≡ true → IfSome result (λ answer. IfSome self.old.has (λ v.
@@ -166,10 +166,10 @@ impl Holder {
     }
 
     /// Notes the answer to a touch.
-    fn note_touch(&mut self, answer: Swapped)
+    fn note_touch(&mut self, answer: SwapResult)
         ensures { self.new ≡ after_touch answer self.old }
     {
-        if !matches!(answer, Swapped::Unknown) {
+        if !matches!(answer, SwapResult::Unknown) {
             self.has = None;
             self.is_open = false;
         }

@@ -45,10 +45,10 @@ pub fn answer_to(
     name: &Id,
     message: &Message,
     at: u64,
-    told: Result<QueueStatus, u16>,
+    response: Result<QueueStatus, u16>,
 ) -> Result<Option<Message>, AllocError>
     ensures answer { IfOk result (λ answer. answer
-        ≡ replies.answer_to name.now message.now at told) }
+        ≡ replies.answer_to name.now message.now at response) }
     ensures answers { replies.is_answer message.now.body ≡ true → IsOk result }
 {
     match command_given(&message.body) {
@@ -60,7 +60,7 @@ pub fn answer_to(
             body: Body::Answer {
                 of: command,
                 spawn_id: spawn_in(&message.body),
-                result: told,
+                result: response,
             },
         })),
     }
@@ -78,14 +78,14 @@ pub fn outcome_of(
 ) -> Result<Outcome, AllocError>
     ensures reply { IfOk result (λ outcome. outcome.reply ≡ steps.reply_of taken) }
     ensures answer { IfOk result (λ outcome. outcome.answer
-        ≡ replies.answer_to name.now message.now at (steps.told_of taken)) }
+        ≡ replies.answer_to name.now message.now at (steps.response_of taken)) }
     ensures answers { replies.is_answer message.now.body ≡ true → IsOk result }
 {
-    let told = match &taken {
-        Ok(taken) => taken.told,
+    let response = match &taken {
+        Ok(taken) => taken.response,
         Err(refusal) => Err(refusal.number()),
     };
-    let answer = answer_to(alloc, name, message, at, told)?;
+    let answer = answer_to(alloc, name, message, at, response)?;
     Ok(Outcome {
         reply: taken.map(|taken| taken.reply),
         answer,

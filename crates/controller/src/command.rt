@@ -15,7 +15,7 @@ impl Command {
     ghost use Rattle.controller.specs.Words as words;
 
     /// The command of a Type.
-    pub fn named(kind: &str) -> Option<Command>
+    pub fn of_type(kind: &str) -> Option<Command>
         ensures { result ≡ command_named kind.now }
     {
         if kind == "SubmitQueueEntry" {

@@ -61,7 +61,7 @@ impl Reply {
 
     /// The spawn that it tells of. That something is edited tells of none.
     pub fn spawn(self) -> Option<SpawnId>
-        ensures { result ≡ replies.spawn_told self }
+        ensures { result ≡ replies.spawn_of_reply self }
     {
         match self {
             Reply::Edited => None,

@@ -28,7 +28,7 @@ mod standing;
 mod start;
 mod status;
 mod target;
-mod told;
+mod head_says;
 mod wanted;
 mod whole;
 
@@ -49,5 +49,5 @@ pub use served::{missing_bytes, refusal_body, refused_bytes, served_bytes};
 pub use standing::Standing;
 pub use status::status_of;
 pub use target::{last_segment, path_of};
-pub use wanted::Wanted;
-pub use whole::Whole;
+pub use wanted::Need;
+pub use whole::WholeMessage;

@@ -4,7 +4,7 @@ ghost use Rattle.std.specs.Prelude.{◌≡◌, true, OnOk, OnErr, IfErr};
 ghost use Rattle.std.specs.Char.{is_ascii_graphic};
 ghost use Rattle.std.specs.List.{list_all};
 ghost use Rattle.streams.specs.declared.refused.Refused.TheVariants.{WriteFailed};
-ghost use Rattle.streams.specs.Streams.{used, Writes, WritesFront};
+ghost use Rattle.streams.specs.Streams.{Writes, WritesFront, traffic};
 ghost use Rattle.http_message.specs.Texts.{request_text, request_to};
 ghost use Rattle.http_message.specs.Texts as texts;
 
@@ -38,9 +38,9 @@ fn write_request<'a, W: Write>(
     target: &'a [u8],
     body: &'a [u8],
 ) -> Result<(), Refused>
-    ensures ok { OnOk result (Writes (used W.contents writer.old writer.new)
+    ensures ok { OnOk result (Writes (traffic W.contents writer.old writer.new)
         (request_to host.now target.now body.now)) }
-    ensures front { OnErr result (WritesFront (used W.contents writer.old writer.new)
+    ensures front { OnErr result (WritesFront (traffic W.contents writer.old writer.new)
         (request_to host.now target.now body.now)) }
     ensures refusal { IfErr result (λ e. e ≡ WriteFailed) }
 {
@@ -73,9 +73,9 @@ pub fn send_to<W: Write>(
 ) -> Result<(), Refused>
     requires host { texts.is_word host.now ≡ true }
     requires target { texts.is_word target.now ≡ true }
-    ensures ok { OnOk result (Writes (used W.contents writer.old writer.new)
+    ensures ok { OnOk result (Writes (traffic W.contents writer.old writer.new)
         (request_to host.now target.now body.now)) }
-    ensures front { OnErr result (WritesFront (used W.contents writer.old writer.new)
+    ensures front { OnErr result (WritesFront (traffic W.contents writer.old writer.new)
         (request_to host.now target.now body.now)) }
     ensures refusal { IfErr result (λ e. e ≡ WriteFailed) }
 {
@@ -86,9 +86,9 @@ pub fn send_to<W: Write>(
 /// our own. It takes no memory. Refuses `WriteFailed` where a write fails.
 pub fn send<W: Write>(writer: &mut Counted<W>, body: &[u8]) -> Result<(), Refused>
     ensures ok { OnOk result
-        (Writes (used W.contents writer.old writer.new) (request_text body.now)) }
+        (Writes (traffic W.contents writer.old writer.new) (request_text body.now)) }
     ensures front { OnErr result
-        (WritesFront (used W.contents writer.old writer.new) (request_text body.now)) }
+        (WritesFront (traffic W.contents writer.old writer.new) (request_text body.now)) }
     ensures refusal { IfErr result (λ e. e ≡ WriteFailed) }
 {
     send_to(writer, "127.0.0.1", "/jmf", body)

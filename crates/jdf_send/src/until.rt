@@ -28,7 +28,7 @@ impl<'a, R: Clock, S: Drop> Until<'a, R, S> {
     }
 
     /// The time that is left, which is some.
-    fn left(&self) -> io::Result<Duration>
+    fn remaining_time(&self) -> io::Result<Duration>
         ensures some { IfOk result (λ left. 0 < as_nanos left) }
     {
         time_left(self.clock, self.start, self.limit)
@@ -69,7 +69,7 @@ impl<'a, R: Clock, S: Read + OpenStream + Drop> Read for Until<'a, R, S> {
     ghost remaining = { λ _. None };
 
     fn read(&mut self, buffer: &mut [u8]) -> io::Result<usize> {
-        let left = self.left()?;
+        let left = self.remaining_time()?;
         self.stream.set_read_timeout(Some(left))?;
         self.stream.read(buffer)
     }
@@ -81,7 +81,7 @@ impl<'a, R: Clock, S: Write + OpenStream + Drop> Write for Until<'a, R, S> {
     ghost contents = { λ _. None };
 
     fn write(&mut self, bytes: &[u8]) -> io::Result<usize> {
-        let left = self.left()?;
+        let left = self.remaining_time()?;
         self.stream.set_write_timeout(Some(left))?;
         self.stream.write(bytes)
     }

@@ -11,7 +11,7 @@ mod jmf;
 pub mod laws;
 mod refused;
 mod responses;
-mod said;
+mod family;
 
 pub use controller::{Body, Command, Done, Message, Outcome, QueueStatus, Reply};
 pub use decoding::decode;

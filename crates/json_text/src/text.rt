@@ -10,7 +10,7 @@ ghost use Rattle.json_text.specs.Printed.{data_tokens, IsReadAgain};
 use json::Writer;
 
 /// The text of data that was printed, which is read as it, behind what stood before.
-pub fn finished(out: Writer) -> Vec<u8>
+pub fn written_text(out: Writer) -> Vec<u8>
     ensures text { (d : Data) → out.tokens ≡ data_tokens d
         → result.items ≡ out.before ++ compact_text d }
     ensures again { (d : Data) → out.before ≡ [] → out.tokens ≡ data_tokens d → IsReadAgain d

@@ -11,7 +11,7 @@ use crate::event::Event;
 use crate::limits::Limits;
 use crate::phase::Phase;
 use crate::writing::write_some;
-use http_message::{Arrival, Incoming, Kind, Standing, Wanted, Whole};
+use http_message::{Arrival, Incoming, Kind, Standing, Need, WholeMessage};
 use std::alloc::{AllocError, Global};
 use std::io::{ErrorKind, Read, Write};
 use std::marker::Model;
@@ -36,9 +36,9 @@ pub struct Peer {
 }
 
 impl Model for Peer {
-    ghost use Rattle.peers.specs.Peer.{IsPeer, Seen};
+    ghost use Rattle.peers.specs.Peer.{IsPeer, PeerView};
 
-    ghost Value = { Seen };
+    ghost Value = { PeerView };
 
     ghost view = { λ p. record {
       limits = p.limits;
@@ -57,7 +57,7 @@ impl Model for Peer {
 impl Peer {
     /// A connection that was accepted at this moment.
     pub fn new(alloc: Global, limits: Limits, now: u64) -> Peer
-        ensures { result ≡ peers.accepted limits now }
+        ensures { result ≡ peers.new_peer limits now }
     {
         Peer {
             limits,
@@ -93,7 +93,7 @@ impl Peer {
     }
 
     /// How many bytes are kept of it: of its request, and of what is written to it.
-    pub fn held(&self) -> usize
+    pub fn held_bytes(&self) -> usize
         ensures { result ≡ peers.kept_bytes self.now }
     {
         self.incoming
@@ -114,7 +114,7 @@ impl Peer {
     /// for one.
     pub fn respond(&mut self, response: &[u8], now: u64) -> Result<(), AllocError>
         requires { self.old.phase ≡ phases.Waiting }
-        ensures ok { OnOk result (self.new ≡ peers.responded response.now now self.old) }
+        ensures ok { OnOk result (self.new ≡ peers.with_response_out response.now now self.old) }
         ensures out { OnOk result (self.new.out ≡ peers.interim self.old.asked ++ response.now) }
         ensures err { OnErr result (self.new ≡ self.old) }
     {
@@ -126,7 +126,7 @@ impl Peer {
 
     /// Closes it.
     fn close(&mut self)
-        ensures { self.new ≡ peers.closed self.old }
+        ensures { self.new ≡ peers.after_close self.old }
     {
         self.phase = Phase::Closed;
     }
@@ -181,14 +181,14 @@ impl Peer {
     /// Waits for its step from now on.
     fn wait(&mut self, now: u64)
         requires { self.old.phase ≡ phases.Reading }
-        ensures { self.new ≡ peers.waiting now self.old }
+        ensures { self.new ≡ peers.while_waiting now self.old }
     {
         self.phase = Phase::Waiting;
         self.deadline = now.saturating_add(self.limits.step);
     }
 
     /// Hands out the request, which is whole.
-    fn hand_out(&mut self, alloc: Global, whole: Whole, now: u64) -> Event
+    fn hand_out(&mut self, alloc: Global, whole: WholeMessage, now: u64) -> Event
         requires phase { self.old.phase ≡ phases.Reading }
         requires whole { IsWhole self.old.came.most self.old.came.kind self.old.came.bytes whole }
         ensures { peers.Decides now self.old self.new result }
@@ -207,7 +207,7 @@ impl Peer {
         &mut self,
         stream: &mut Counted<T>,
         buffer: &mut [u8],
-        wanted: &Wanted,
+        wanted: &Need,
         now: u64,
     ) -> Result<Event, AllocError>
         requires buffer { 0 < length buffer.old }

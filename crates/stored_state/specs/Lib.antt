@@ -10,7 +10,7 @@ pub mod Resting
 pub mod Rested
 pub mod Cause
 pub mod Station
-pub mod Told
+pub mod OrderOutcome
 pub mod Snapshot
 pub mod Saved
 pub mod TakingAll

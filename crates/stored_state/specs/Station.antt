@@ -4,7 +4,7 @@ use Rattle.serde_json.specs.Data.{Data}
 use Rattle.serde_json.specs.Written.{compact_text}
 use Rattle.json_profile.specs.ReadAs.{IsReadAs}
 use Rattle.ticket_items.specs.declared.refusal.Refusal.{Refusal}
-use Rattle.controller.specs.Step.{Step, leading}
+use Rattle.controller.specs.Step.{Step, with_state}
 use Rattle.controller.specs.declared.message.Message.{Message}
 
 -- the text is that of the state of a controller, and is read as it again
@@ -15,10 +15,10 @@ pub record IsStateText {C : Type 0} (state_data : C → Data) (state_read : Data
 
 -- a controller beside the text of its state and a second value of it, if there is one
 pub record IsStation {C : Type 0} (state_data : C → Data) (state_read : Data → Result C Refusal)
-    (c : C) (text : List ℕ) (spare : Option C) : Type 0 where
+    (c : C) (text : List ℕ) (twin : Option C) : Type 0 where
   pub text_is : IsStateText state_data state_read text c
-  pub same : IfSome spare (λ s. s ≡ c)
+  pub same : IfSome twin (λ s. s ≡ c)
 
 -- the step that is made so: where it leads to none, the controller stays as it is
-abbrev pub made_step : {C : Type 0} → C → Step (Option C) Message → Step C Message
-made_step c made = leading (λ next. unwrap_or next c) made
+abbrev pub step_of_pending : {C : Type 0} → C → Step (Option C) Message → Step C Message
+step_of_pending c made = with_state (λ next. unwrap_or next c) made

@@ -6,7 +6,7 @@ ghost use Rattle.ticket_items.specs.declared.refusal.Refusal.TheVariants.{Memory
 ghost use Rattle.jmf_message.specs.Decoded.{IsRefusalOf as IsUndecoded};
 ghost use Rattle.controller.specs.Words.{may_be_sent};
 ghost use Rattle.keepers.specs.Keeper.{CountRose};
-ghost use Rattle.stored_state.specs.Cause.{caused};
+ghost use Rattle.stored_state.specs.Cause.{step_on};
 ghost use Rattle.stored_state.specs.Held.{GivesNothing, HoldsSame, IsNotLoaded};
 ghost use Rattle.stored_state.specs.Held.{IsNotSaved, IsReadAs, ShowsEither};
 ghost use Rattle.stored_state.specs.Message.{IsOfMessage, message_text};
@@ -14,9 +14,9 @@ ghost use Rattle.stored_state.specs.Sender.{IsSentBy};
 ghost use Rattle.streams.specs.declared.refused.Refused.TheVariants.{Core, LoadFailed};
 ghost use Rattle.streams.specs.declared.refused.Refused.TheVariants.{SaveFailed, Stale};
 
-use crate::cause::{Cause, make};
+use crate::cause::{StepInput, make};
 use crate::order_bytes::OrderBytes;
-use crate::stored::Stored;
+use crate::stored::StoredController;
 use crate::storing::{load, save, save_step};
 use crate::taken_bytes::TakenBytes;
 use controller::{Message, Outcome};
@@ -31,16 +31,16 @@ use ticket_tree::Duplicate;
 /// is given out. Once a step could not be saved it is stale: another state may be held than is
 /// shown, and until it is loaded again no order and no message is taken.
 #[derive(Drop)]
-pub struct Kept<C: Stored, K: Keep> {
+pub struct Kept<C: StoredController, K: Keep> {
     controller: C,
     keep: K,
     stale: bool,
 }
 
-impl<C: Stored, K: Keep> Model for Kept<C, K> {
-    ghost use Rattle.stored_state.specs.Held.{Held};
+impl<C: StoredController, K: Keep> Model for Kept<C, K> {
+    ghost use Rattle.stored_state.specs.Held.{KeptState};
 
-    ghost Value = { Held C K };
+    ghost Value = { KeptState C K };
 
     ghost view = { λ kept. record {
       controller = kept.controller;
@@ -49,9 +49,9 @@ impl<C: Stored, K: Keep> Model for Kept<C, K> {
     } };
 }
 
-impl<C: Stored, K: Keep> Kept<C, K> {
+impl<C: StoredController, K: Keep> Kept<C, K> {
     /// A controller beside the keeper that holds its state.
-    pub(crate) fn fresh(controller: C, keep: K) -> Kept<C, K>
+    pub(crate) fn new_saved(controller: C, keep: K) -> Kept<C, K>
         ensures { result ≡ record { controller = controller; keep = keep; stale = false } }
     {
         Kept {
@@ -80,7 +80,7 @@ impl<C: Stored, K: Keep> Kept<C, K> {
         let text = controller.state_text(alloc)?;
         save(&mut keep, text.as_slice())?;
         drop(text);
-        Ok(Kept::fresh(controller, keep))
+        Ok(Kept::new_saved(controller, keep))
     }
 
     /// The controller whose state a keeper holds, beside the keeper, which holds it on. Refuses
@@ -98,7 +98,7 @@ impl<C: Stored, K: Keep> Kept<C, K> {
             × K.load_fails keep after × CountRose (K.count keep) (K.count after) }
     {
         let controller = load(alloc, &mut keep)?;
-        Ok(Kept::fresh(controller, keep))
+        Ok(Kept::new_saved(controller, keep))
     }
 
     /// Saves the state, and gives the text of what goes out, if anything does. It is stale from
@@ -134,17 +134,17 @@ impl<C: Stored, K: Keep> Kept<C, K> {
     fn step(
         &mut self,
         alloc: Global,
-        cause: Cause<C::Order>,
+        cause: StepInput<C::Order>,
         at: u64,
     ) -> Result<OrderBytes, Refused>
         requires { self.old.stale ≡ false }
         ensures reply { IfOk result (λ given. given.reply
-            ≡ (caused C.order_step C.take_step cause at self.old.controller).reply) }
+            ≡ (step_on C.order_step C.take_step cause at self.old.controller).reply) }
         ensures message { IfOk result (λ given. option_map (λ b. b.items) given.message
             ≡ option_map message_text
-            (caused C.order_step C.take_step cause at self.old.controller).sent) }
+            (step_on C.order_step C.take_step cause at self.old.controller).sent) }
         ensures state { OnOk result (self.new.controller
-            ≡ (caused C.order_step C.take_step cause at self.old.controller).next) }
+            ≡ (step_on C.order_step C.take_step cause at self.old.controller).next) }
         ensures fresh { OnOk result (self.new.stale ≡ false) }
         ensures held { OnOk result (K.is_honest self.old.keep ≡ true →
             K.held self.new.keep ≡ compact_text (C.state_data self.new.controller)) }
@@ -155,10 +155,10 @@ impl<C: Stored, K: Keep> Kept<C, K> {
         ensures counted { K.count self.old.keep ≤ K.count self.new.keep }
         ensures refused { IfErr result (GivesNothing K.is_honest K.held K.count K.save_fails
             (λ e. e ≡ Memory) (λ text. text ≡ compact_text (C.state_data
-            (caused C.order_step C.take_step cause at self.old.controller).next))
+            (step_on C.order_step C.take_step cause at self.old.controller).next))
             self.old self.new) }
         ensures shown { OnErr result (ShowsEither self.old (λ c. c
-            ≡ (caused C.order_step C.take_step cause at self.old.controller).next) self.new) }
+            ≡ (step_on C.order_step C.take_step cause at self.old.controller).next) self.new) }
     {
         let (Outcome { reply, answer }, _) = make(alloc, &mut self.controller, cause, at)?;
         let message = self.give_out(alloc, answer)?;
@@ -197,7 +197,7 @@ impl<C: Stored, K: Keep> Kept<C, K> {
             drop(order);
             return Err(Refused::Stale);
         }
-        self.step(alloc, Cause::Order(order), at)
+        self.step(alloc, StepInput::Order(order), at)
     }
 
     /// Gives the controller the message that bytes are, at a time in seconds since 1970, and saves
@@ -234,7 +234,7 @@ impl<C: Stored, K: Keep> Kept<C, K> {
         }
         let message = decode(alloc, bytes)?;
         let sender = message.sender.copy(alloc)?;
-        let given = self.step(alloc, Cause::Message(message), at)?;
+        let given = self.step(alloc, StepInput::Message(message), at)?;
         Ok(TakenBytes {
             sender: Some(sender),
             reply: given.reply,

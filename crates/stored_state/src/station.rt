@@ -3,12 +3,12 @@ ghost use Rattle.serde_json.specs.Written.{compact_text};
 ghost use Rattle.json_profile.specs.ReadAs.{IsReadAs};
 ghost use Rattle.controller.specs.Step.{outcome_step};
 ghost use Rattle.controller.specs.Words.{may_be_sent};
-ghost use Rattle.stored_state.specs.Cause.{caused};
-ghost use Rattle.stored_state.specs.Station.{made_step};
+ghost use Rattle.stored_state.specs.Cause.{step_on};
+ghost use Rattle.stored_state.specs.Station.{step_of_pending};
 
-use crate::cause::{Cause, make};
-use crate::made::Made;
-use crate::stored::Stored;
+use crate::cause::{StepInput, make};
+use crate::pending_step::PendingStep;
+use crate::stored::StoredController;
 use crate::storing::{controllers_of, message_text};
 use controller::Outcome;
 use std::alloc::{AllocError, Global};
@@ -19,13 +19,13 @@ use std::mem;
 /// may stand a second value of it, on which its next step is made, so that what is shown stays
 /// until all is done that may fail.
 #[derive(Drop)]
-pub struct Station<C: Stored> {
+pub struct Station<C: StoredController> {
     controller: C,
     text: Vec<u8>,
-    spare: Option<C>,
+    twin: Option<C>,
 }
 
-impl<C: Stored> Model for Station<C> {
+impl<C: StoredController> Model for Station<C> {
     ghost use Rattle.stored_state.specs.Station.{IsStation};
 
     ghost Value = { C };
@@ -33,28 +33,28 @@ impl<C: Stored> Model for Station<C> {
     ghost view = { λ station. station.controller };
 
     ghost invariant = { λ station. IsStation C.state_data C.state_read
-        station.controller station.text.items station.spare };
+        station.controller station.text.items station.twin };
 }
 
-impl<C: Stored> Station<C> {
+impl<C: StoredController> Station<C> {
     /// That of a controller, which is started from the text of its state.
     pub fn new(alloc: Global, controller: C) -> Result<Station<C>, AllocError>
         ensures { IfOk result (λ station. station ≡ controller) }
     {
-        let mut station = Station::alone(alloc, controller)?;
+        let mut station = Station::without_twin(alloc, controller)?;
         station.restart(alloc)?;
         Ok(station)
     }
 
     /// A controller beside the text of its state alone.
-    pub(crate) fn alone(alloc: Global, controller: C) -> Result<Station<C>, AllocError>
+    pub(crate) fn without_twin(alloc: Global, controller: C) -> Result<Station<C>, AllocError>
         ensures { IfOk result (λ station. station ≡ controller) }
     {
         let text = controller.state_text(alloc)?;
         Ok(Station {
             controller,
             text,
-            spare: None,
+            twin: None,
         })
     }
 
@@ -87,35 +87,36 @@ impl<C: Stored> Station<C> {
     pub fn restart(&mut self, alloc: Global) -> Result<(), AllocError>
         ensures { self.new ≡ self.old }
     {
-        let (controller, spare) = self.read(alloc)?;
+        let (controller, twin) = self.read(alloc)?;
         self.controller = controller;
-        self.spare = Some(spare);
+        self.twin = Some(twin);
         Ok(())
     }
 
     /// The second value of the controller. Where there is none it is started again.
-    fn second(&mut self, alloc: Global) -> Result<C, AllocError>
+    fn take_twin(&mut self, alloc: Global) -> Result<C, AllocError>
         ensures same { IfOk result (λ controller. controller ≡ self.old) }
         ensures state { self.new ≡ self.old }
     {
-        if self.spare.is_none() {
+        if self.twin.is_none() {
             self.restart(alloc)?;
         }
-        self.spare.take().ok_or(AllocError)
+        self.twin.take().ok_or(AllocError)
     }
 
     /// What is made of a step by which the second value came to the next. It is the same where it
     /// says so.
-    fn made(
+    fn finish_step(
         &mut self,
         alloc: Global,
         next: C,
         outcome: Outcome,
         is_same: bool,
-    ) -> Result<Made<C>, AllocError>
+    ) -> Result<PendingStep<C>, AllocError>
         requires sendable { IfSome outcome.answer (λ m. may_be_sent m.body ≡ true) }
         requires same { is_same ≡ true → next ≡ self.old }
-        ensures made { IfOk result (λ made. made_step self.old made ≡ outcome_step outcome next) }
+        ensures made { IfOk result (λ made. step_of_pending self.old made
+            ≡ outcome_step outcome next) }
         ensures state { self.new ≡ self.old }
     {
         let Outcome { reply, answer } = outcome;
@@ -123,27 +124,27 @@ impl<C: Stored> Station<C> {
         drop(answer);
         let sent = text?;
         if is_same {
-            self.spare = Some(next);
-            return Ok(Made::of(None, reply, sent));
+            self.twin = Some(next);
+            return Ok(PendingStep::of(None, reply, sent));
         }
-        let next = Station::alone(alloc, next)?;
-        Ok(Made::of(Some(next), reply, sent))
+        let next = Station::without_twin(alloc, next)?;
+        Ok(PendingStep::of(Some(next), reply, sent))
     }
 
     /// Its step, at a time in seconds since 1970, which isn't stored yet.
     pub fn step(
         &mut self,
         alloc: Global,
-        cause: Cause<C::Order>,
+        cause: StepInput<C::Order>,
         at: u64,
-    ) -> Result<Made<C>, AllocError>
-        ensures made { IfOk result (λ made. made_step self.old made
-            ≡ caused C.order_step C.take_step cause at self.old) }
+    ) -> Result<PendingStep<C>, AllocError>
+        ensures made { IfOk result (λ made. step_of_pending self.old made
+            ≡ step_on C.order_step C.take_step cause at self.old) }
         ensures state { self.new ≡ self.old }
     {
-        let mut next = self.second(alloc)?;
+        let mut next = self.take_twin(alloc)?;
         let (outcome, is_same) = make(alloc, &mut next, cause, at)?;
-        self.made(alloc, next, outcome, is_same)
+        self.finish_step(alloc, next, outcome, is_same)
     }
 
     /// Stores what a step led to, stops, and is started again from the text of that. Where memory
@@ -170,10 +171,10 @@ impl<C: Stored> Station<C> {
         let Station {
             controller,
             text,
-            spare,
+            twin,
         } = mem::replace(self, next);
         drop(text);
-        drop(spare);
+        drop(twin);
         controller
     }
 
@@ -183,10 +184,10 @@ impl<C: Stored> Station<C> {
         &mut self,
         alloc: Global,
         next: Option<Station<C>>,
-        cause: Cause<C::Order>,
+        cause: StepInput<C::Order>,
         at: u64,
     )
-        requires { (caused C.order_step C.take_step cause at self.old).next
+        requires { (step_on C.order_step C.take_step cause at self.old).next
             ≡ unwrap_or next self.old }
         ensures { self.new ≡ unwrap_or next self.old }
     {
@@ -198,7 +199,7 @@ impl<C: Stored> Station<C> {
         match make(alloc, &mut second, cause, at) {
             Ok((outcome, _)) => {
                 drop(outcome);
-                self.spare = Some(second);
+                self.twin = Some(second);
             }
             Err(_) => drop(second),
         }

@@ -1,6 +1,6 @@
 ghost use Rattle.std.specs.Prelude.{◌≡◌, ℕ, true};
 ghost use Rattle.controller.specs.declared.message.Message.{Message};
-ghost use Rattle.stored_state.specs.Resting.{rests, rests_on};
+ghost use Rattle.stored_state.specs.Resting.{is_idle, is_idle_on};
 
 use controller::Controller;
 use controller_form::StateForm;
@@ -9,17 +9,17 @@ use worker_core::Worker;
 
 /// A controller that is stored (our own). Where its reply tells that nothing changes, its state
 /// stays as it was.
-pub trait Stored: Controller + StateForm {
+pub trait StoredController: Controller + StateForm {
     ghost order_rests: { (order : Self.Order) (at : ℕ) (c : Self)
-        → rests (Self.Controller.order_step order at c).reply ≡ true
+        → is_idle (Self.Controller.order_step order at c).reply ≡ true
         → (Self.Controller.order_step order at c).next ≡ c };
 
     ghost take_rests: { (m : Message) (at : ℕ) (c : Self)
-        → rests_on m.body (Self.Controller.take_step m at c).reply ≡ true
+        → is_idle_on m.body (Self.Controller.take_step m at c).reply ≡ true
         → (Self.Controller.take_step m at c).next ≡ c };
 }
 
-impl Stored for Master {
+impl StoredController for Master {
     ghost use Rattle.stored_state.specs.Rested.{master_rests, master_rests_on};
 
     ghost order_rests = { master_rests };
@@ -27,7 +27,7 @@ impl Stored for Master {
     ghost take_rests = { master_rests_on };
 }
 
-impl Stored for Worker {
+impl StoredController for Worker {
     ghost use Rattle.stored_state.specs.Rested.{worker_rests, worker_rests_on};
 
     ghost order_rests = { worker_rests };

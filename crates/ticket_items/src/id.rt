@@ -40,11 +40,11 @@ impl Id {
         if !is_name(text) {
             return Err(Refusal::BadId);
         }
-        Ok(Id::known(alloc, text)?)
+        Ok(Id::from_valid(alloc, text)?)
     }
 
     /// The id of a text that is one, as `is_name` tells.
-    pub fn known(alloc: Global, text: &str) -> Result<Id, AllocError>
+    pub fn from_valid(alloc: Global, text: &str) -> Result<Id, AllocError>
         requires { names.is_name text.now ≡ true }
         ensures { IfOk result (λ id. id ≡ text.now) }
     {

@@ -28,10 +28,10 @@ impl Ticket {
     ghost use Rattle.std.specs.Prelude.{IfNone, IfSome, IsOk, MatchResult, is_some};
     ghost use Rattle.std.specs.Option.{option_copied};
     ghost use Rattle.ticket_items.specs.Edit.{grows};
-    ghost use Rattle.ticket_rows.specs.Edit.{edited, node_refusal, refusal_of};
+    ghost use Rattle.ticket_rows.specs.Edit.{job_after_edit, node_refusal, refusal_of};
     ghost use Rattle.ticket_rows.specs.Homes as homes;
     ghost use Rattle.ticket_rows.specs.Homes.{resource_of};
-    ghost use Rattle.ticket_rows.specs.OneRow.{MayReplaceNode, MayReplaceResource, appended};
+    ghost use Rattle.ticket_rows.specs.OneRow.{MayReplaceNode, MayReplaceResource, rows_with_audit};
     ghost use Rattle.ticket_rows.specs.OneRow.{replaced_node, replaced_resource};
     ghost use Rattle.ticket_rows.specs.Place.{BoundsNodesBelow, node_places};
     ghost use Rattle.ticket_rows.specs.Place as tree;
@@ -163,7 +163,7 @@ impl Ticket {
     /// memory, and then `Memory`; never `Memory` where the edit gives another Status, which takes
     /// none. A refusal changes nothing.
     pub fn apply(&mut self, alloc: Global, edit: Edit, at: u64) -> Result<(), Refusal>
-        ensures ok { OnOk result (self.new ≡ edited edit at self.old) }
+        ensures ok { OnOk result (self.new ≡ job_after_edit edit at self.old) }
         ensures err { OnErr result (self.new ≡ self.old) }
         ensures refused { IfSome (refusal_of edit self.old.rows) (λ e. result ≡ Err e) }
         ensures memory { IfNone (refusal_of edit self.old.rows)
@@ -178,7 +178,7 @@ impl Ticket {
     /// `Memory`. A refusal changes nothing.
     pub fn append(&mut self, _alloc: Global, node: &Id, audit: Audit) -> Result<(), Refusal>
         ensures ok { OnOk result (self.new
-            ≡ record self.old { rows = appended node.now audit self.old.rows }) }
+            ≡ record self.old { rows = rows_with_audit node.now audit self.old.rows }) }
         ensures err { OnErr result (self.new ≡ self.old) }
         ensures refused { IfSome (node_refusal node.now self.old.rows) (λ e. result ≡ Err e) }
         ensures memory { IfNone (node_refusal node.now self.old.rows)

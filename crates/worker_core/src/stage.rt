@@ -61,8 +61,8 @@ impl Stage {
 
     /// What a command of the spawn is told: the Status of the queue entry of the part, or the
     /// number of the refusal where that was declined.
-    pub fn told(self) -> Result<QueueStatus, u16>
-        ensures { result ≡ worker.told_of_stage self }
+    pub fn response(self) -> Result<QueueStatus, u16>
+        ensures { result ≡ worker.response_of_stage self }
     {
         match self {
             Stage::Open => Ok(QueueStatus::Running),

@@ -20,13 +20,13 @@ pub struct Worker {
 }
 
 impl Model for Worker {
-    ghost use Rattle.worker_core.specs.Worker.{IsKept, Known, known};
+    ghost use Rattle.worker_core.specs.Worker.{IsConsistent, State, state};
 
-    ghost Value = { Known };
+    ghost Value = { State };
 
     ghost view = { λ a. record { name = a.name; master = a.master; entries = a.entries } };
 
-    ghost invariant = { λ a. IsKept (known a.name a.master a.entries) };
+    ghost invariant = { λ a. IsConsistent (state a.name a.master a.entries) };
 }
 
 impl Worker {
@@ -38,12 +38,12 @@ impl Worker {
     ghost use Rattle.worker_core.specs.Orders as orders;
     ghost use Rattle.worker_core.specs.Stored as stored;
     ghost use Rattle.worker_core.specs.Worker as worker;
-    ghost use Rattle.worker_core.specs.Worker.{IsKept};
+    ghost use Rattle.worker_core.specs.Worker.{IsConsistent};
 
     /// A worker of this name, with no entry, whose parts are its master's. Refuses `SameName` where
     /// the two names are equal (our own). Needs no memory.
     pub fn new(alloc: Global, name: Id, master: Id) -> Result<Worker, Refusal>
-        ensures ok { IfOk result (λ w. w ≡ worker.known name master []) }
+        ensures ok { IfOk result (λ w. w ≡ worker.state name master []) }
         ensures refused { IsErrOf result Refusal.SameName ↔ (name ≡ master) }
         ensures only { IfErr result (λ e. e ≡ Refusal.SameName) }
     {
@@ -68,13 +68,13 @@ impl Worker {
         master: Id,
         entries: Vec<Entry>,
     ) -> Result<Worker, Refusal>
-        ensures ok { IfOk result (λ w. w ≡ worker.known name master entries.items) }
-        ensures kept { IfOk result (λ w. IsKept w) }
+        ensures ok { IfOk result (λ w. w ≡ worker.state name master entries.items) }
+        ensures kept { IfOk result (λ w. IsConsistent w) }
         ensures taken { OnOk result
-            (stored.is_worker (worker.known name master entries.items) ≡ true) }
+            (stored.is_worker (worker.state name master entries.items) ≡ true) }
         ensures refused { IsErrOf result Refusal.BadState
-            → stored.is_worker (worker.known name master entries.items) ≡ false }
-        ensures memory { stored.is_worker (worker.known name master entries.items) ≡ true
+            → stored.is_worker (worker.state name master entries.items) ≡ false }
+        ensures memory { stored.is_worker (worker.state name master entries.items) ≡ true
             → IfErr result (λ e. e ≡ Refusal.Memory) }
         ensures only { IfErr result (λ e. (e ≡ Refusal.BadState) ⊎ (e ≡ Refusal.Memory)) }
     {
@@ -111,7 +111,7 @@ impl Worker {
     /// Status of its end.
     pub fn entries(&self) -> &[Entry]
         ensures entries { result.now ≡ self.now.entries }
-        ensures kept { IsKept self.now }
+        ensures kept { IsConsistent self.now }
     {
         self.entries.as_slice()
     }
@@ -155,8 +155,9 @@ impl Worker {
     /// What it takes a message as, and what a command is told, unless it refuses it. Needs no
     /// memory.
     pub fn taken_as(&self, body: &Body) -> Taken
-        ensures reply { (at : ℕ) → result.reply ≡ (messages.taken body.now at self.now).reply }
-        ensures told { (at : ℕ) → result.told ≡ (messages.taken body.now at self.now).told }
+        ensures reply { (at : ℕ) → result.reply ≡ (messages.on_body body.now at self.now).reply }
+        ensures response { (at : ℕ) → result.response
+            ≡ (messages.on_body body.now at self.now).response }
     {
         taken_as(&self.entries, body)
     }

@@ -2,35 +2,35 @@
 //! message is sent as far as the stop lets it. A step that is lost isn't made.
 
 ghost use Rattle.std.specs.Prelude.{◌≡◌, IfOk, OnErr, OnOk};
-ghost use Rattle.stored_state.specs.Cause.{caused};
+ghost use Rattle.stored_state.specs.Cause.{step_on};
 ghost use Rattle.world_items.specs.Word.{word_of};
 ghost use Rattle.world.specs.Settling as settling;
 
-use crate::sent::Sent;
+use crate::sent::SentMessages;
 use std::alloc::{AllocError, Global};
-use stored_state::{Cause, Station, Stored};
+use stored_state::{StepInput, Station, StoredController};
 use ticket_tree::Duplicate;
 use world_items::{Answer, Stop, Word};
 
 /// A controller is told to do something, or a message comes to it. Where memory runs out nothing is
 /// changed.
-pub fn steps<C: Stored>(
+pub fn steps<C: StoredController>(
     alloc: Global,
     stored: &mut Station<C>,
-    messages: &mut Sent,
-    cause: Cause<C::Order>,
+    messages: &mut SentMessages,
+    cause: StepInput<C::Order>,
     at: u64,
     stop: Stop,
 ) -> Result<Answer, AllocError>
 where
     C::Order: Duplicate,
-    ensures answer { IfOk result (λ a. a ≡ settling.settled_answer stop messages.old
-        (word_of (caused C.order_step C.take_step cause at stored.old).reply)
-        (caused C.order_step C.take_step cause at stored.old).sent) }
-    ensures stored { OnOk result (stored.new ≡ settling.settled_state stop stored.old
-        (caused C.order_step C.take_step cause at stored.old).next) }
-    ensures messages { OnOk result (messages.new ≡ settling.settled_messages stop messages.old
-        (caused C.order_step C.take_step cause at stored.old).sent) }
+    ensures answer { IfOk result (λ a. a ≡ settling.answer_left stop messages.old
+        (word_of (step_on C.order_step C.take_step cause at stored.old).reply)
+        (step_on C.order_step C.take_step cause at stored.old).sent) }
+    ensures stored { OnOk result (stored.new ≡ settling.state_left stop stored.old
+        (step_on C.order_step C.take_step cause at stored.old).next) }
+    ensures messages { OnOk result (messages.new ≡ settling.messages_left stop messages.old
+        (step_on C.order_step C.take_step cause at stored.old).sent) }
     ensures err_stored { OnErr result (stored.new ≡ stored.old) }
     ensures err_messages { OnErr result (messages.new ≡ messages.old) }
 {

@@ -1,11 +1,11 @@
 use crate::apart::are_names_apart;
-use crate::sent::Sent;
+use crate::sent::SentMessages;
 use crate::stepping;
 use crate::workers::{new_workers, place_of, station_of};
 use master_core::Master;
 use std::alloc::{AllocError, Global};
 use std::marker::Model;
-use stored_state::{Cause, Station};
+use stored_state::{StepInput, Station};
 use ticket_tree::{Id, Ids, Refusal, Ticket};
 use worker_core::Worker;
 use world_items::{Answer, Event, Stop, What, Word};
@@ -17,17 +17,17 @@ use world_items::{Answer, Event, Stop, What, Word};
 pub struct World {
     master: Station<Master>,
     workers: Vec<Station<Worker>>,
-    messages: Sent,
+    messages: SentMessages,
 }
 
 impl Model for World {
-    ghost use Rattle.world.specs.State.{IsKept, State, state};
+    ghost use Rattle.world.specs.State.{IsConsistent, State, state};
 
     ghost Value = { State };
 
     ghost view = { λ a. state a.master a.workers.items a.messages };
 
-    ghost invariant = { λ a. IsKept (state a.master a.workers.items a.messages) };
+    ghost invariant = { λ a. IsConsistent (state a.master a.workers.items a.messages) };
 }
 
 impl World {
@@ -42,7 +42,7 @@ impl World {
     ghost use Rattle.stored_state.specs.Message.{message_text, messages_in};
     ghost use Rattle.world.specs.Changing.{Changer, Holds, MayChange};
     ghost use Rattle.world.specs.Happening as happening;
-    ghost use Rattle.world.specs.MergeAudits.{AreToldAbove};
+    ghost use Rattle.world.specs.MergeAudits.{MergeAuditsMatch};
     ghost use Rattle.world.specs.Once.{AreMergedOnce};
     ghost use Rattle.world.specs.Replay as replay;
     ghost use Rattle.world.specs.SeenTicket.{ticket_seen};
@@ -76,7 +76,7 @@ impl World {
             Ok(workers) => Ok(World {
                 master,
                 workers,
-                messages: Sent::new(alloc),
+                messages: SentMessages::new(alloc),
             }),
             Err(refusal) => {
                 drop(master);
@@ -129,8 +129,8 @@ impl World {
     pub fn messages(&self) -> &[Vec<u8>]
         ensures messages { messages_in (map (λ t. t.items) result.now) ≡ self.now.messages }
         ensures texts { map (λ t. t.items) result.now ≡ map message_text self.now.messages }
-        ensures kept { state.IsKept self.now }
-        ensures told { AreTold self.now }
+        ensures kept { state.IsConsistent self.now }
+        ensures tells { AreTold self.now }
     {
         self.messages.texts()
     }
@@ -139,17 +139,17 @@ impl World {
     fn tell_master(
         &mut self,
         alloc: Global,
-        cause: Cause<master_core::Order>,
+        cause: StepInput<master_core::Order>,
         at: u64,
         stop: Stop,
     ) -> Result<Answer, AllocError>
         requires { happening.ComesTo self.old.controllers.master.name self.old.messages cause }
         ensures answer { IfOk result (λ a. a
-            ≡ happening.settled_word stop self.old (happening.master_step cause at self.old)) }
+            ≡ happening.next_answer stop self.old (happening.master_step cause at self.old)) }
         ensures state { OnOk result (self.new
-            ≡ happening.settled stop self.old (happening.master_step cause at self.old)) }
+            ≡ happening.next_state stop self.old (happening.master_step cause at self.old)) }
         ensures err { OnErr result (self.new ≡ self.old) }
-        ensures kept { state.IsKept self.old }
+        ensures kept { state.IsConsistent self.old }
     {
         stepping::steps(alloc, &mut self.master, &mut self.messages, cause, at, stop)
     }
@@ -161,7 +161,7 @@ impl World {
         alloc: Global,
         place: Option<usize>,
         none: Word,
-        cause: Cause<worker_core::Order>,
+        cause: StepInput<worker_core::Order>,
         at: u64,
         stop: Stop,
     ) -> Result<Answer, AllocError>
@@ -170,15 +170,15 @@ impl World {
             × happening.ComesTo name self.old.messages cause }
         ensures answer { (name : List ℕ)
             → position (state.is_named name) self.old.controllers.workers ≡ place
-            → IfOk result (λ a. a ≡ happening.settled_word stop self.old
+            → IfOk result (λ a. a ≡ happening.next_answer stop self.old
             (happening.worker_step name none cause at self.old)) }
         ensures state { (name : List ℕ)
             → position (state.is_named name) self.old.controllers.workers ≡ place
-            → OnOk result (self.new ≡ happening.settled stop self.old
+            → OnOk result (self.new ≡ happening.next_state stop self.old
             (happening.worker_step name none cause at self.old)) }
         ensures err { OnErr result (self.new ≡ self.old) }
-        ensures unmade { is_some place ≡ false → IsOk result }
-        ensures kept { state.IsKept self.old }
+        ensures needs_no_memory { is_some place ≡ false → IsOk result }
+        ensures kept { state.IsConsistent self.old }
     {
         match place {
             None => {
@@ -201,26 +201,26 @@ impl World {
         stop: Stop,
     ) -> Result<Answer, AllocError>
         ensures answer { IfOk result (λ a. a
-            ≡ happening.settled_word stop self.old (happening.delivery_step number at self.old)) }
+            ≡ happening.next_answer stop self.old (happening.delivery_step number at self.old)) }
         ensures state { OnOk result (self.new
-            ≡ happening.settled stop self.old (happening.delivery_step number at self.old)) }
+            ≡ happening.next_state stop self.old (happening.delivery_step number at self.old)) }
         ensures err { OnErr result (self.new ≡ self.old) }
-        ensures unmade { happening.is_reached (happening.delivery_step number at self.old)
+        ensures needs_no_memory { happening.is_reached (happening.delivery_step number at self.old)
             ≡ false → IsOk result }
-        ensures kept { state.IsKept self.old }
+        ensures kept { state.IsConsistent self.old }
     {
         let Some(message) = self.messages.read(alloc, number)? else {
             return Ok(Answer::without_step(Word::NoMessage));
         };
         if message.receiver == *self.master.controller().name() {
-            return self.tell_master(alloc, Cause::Message(message), at, stop);
+            return self.tell_master(alloc, StepInput::Message(message), at, stop);
         }
         let place = place_of(self.workers.as_slice(), &message.receiver);
         self.tell_worker(
             alloc,
             place,
             Word::NoMessage,
-            Cause::Message(message),
+            StepInput::Message(message),
             at,
             stop,
         )
@@ -232,9 +232,10 @@ impl World {
             ≡ settling.answer_without_step (happening.restart_word name.now self.old)) }
         ensures state { OnOk result (self.new ≡ self.old) }
         ensures err { OnErr result (self.new ≡ self.old) }
-        ensures unmade { happening.is_reached (Err (happening.restart_word name.now self.old))
+        ensures needs_no_memory { happening.is_reached (Err
+            (happening.restart_word name.now self.old))
             ≡ false → IsOk result }
-        ensures kept { state.IsKept self.old }
+        ensures kept { state.IsConsistent self.old }
     {
         if name == self.master.controller().name() {
             self.master.restart(alloc)?;
@@ -265,7 +266,7 @@ impl World {
         ensures answer { IfOk result (λ a. a ≡ happening.answer_to event self.old) }
         ensures state { OnOk result (self.new ≡ happening.after event self.old) }
         ensures err { OnErr result (self.new ≡ self.old) }
-        ensures unmade { happening.reaches event self.old ≡ false → IsOk result }
+        ensures needs_no_memory { happening.reaches event self.old ≡ false → IsOk result }
         ensures alone { (c d : Changer) (x : List ℕ)
             → MayChange self.new c x → MayChange self.new d x → c ≡ d }
         ensures held { (c : Changer) (x : List ℕ)
@@ -273,11 +274,11 @@ impl World {
     {
         let Event { what, at, stop } = event;
         match what {
-            What::MasterOrder(order) => self.tell_master(alloc, Cause::Order(order), at, stop),
+            What::MasterOrder(order) => self.tell_master(alloc, StepInput::Order(order), at, stop),
             What::WorkerOrder(name, order) => {
                 let place = place_of(self.workers.as_slice(), &name);
                 let none = Word::Refused(Refusal::UnknownWorker);
-                self.tell_worker(alloc, place, none, Cause::Order(order), at, stop)
+                self.tell_worker(alloc, place, none, StepInput::Order(order), at, stop)
             }
             What::Deliver(number) => self.deliver(alloc, number, at, stop),
             What::Restart(name) => self.restart(alloc, &name),
@@ -306,7 +307,7 @@ impl World {
         ensures once { IfOk result (λ answers. AreMergedOnce answers.items) }
         ensures merges { IfOk result (λ answers. (name : List ℕ) (workers : List (List ℕ))
             (ticket : Job) → self.old ≡ state.opening name workers ticket
-            → AreToldAbove ticket answers.items (shows self.new).shop) }
+            → MergeAuditsMatch ticket answers.items (shows self.new).shop) }
         ensures alone { (c d : Changer) (x : List ℕ)
             → MayChange self.new c x → MayChange self.new d x → c ≡ d }
         ensures held { (c : Changer) (x : List ℕ)

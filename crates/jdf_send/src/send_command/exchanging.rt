@@ -4,7 +4,7 @@ use crate::input_file::{file_of, open_input};
 use crate::send_command::connecting::connect;
 use crate::until::{Until, time_left};
 use http_message::{MAX_BODY_BYTES, Received, receive, send_to};
-use jdf_commands::Caused;
+use jdf_commands::CausedFault;
 use peers_file::Destination;
 use std::alloc::Global;
 use std::io::{self, Read, Write};
@@ -25,7 +25,7 @@ pub(crate) fn read_message<R: Files, I: Read>(
     alloc: Global,
     file: Option<&str>,
     reader: &mut Counted<I>,
-) -> Result<Vec<u8>, Caused> {
+) -> Result<Vec<u8>, CausedFault> {
     let message = match file_of(file) {
         Some(path) => {
             let file = open_input(rt, alloc, path)?;
@@ -34,7 +34,7 @@ pub(crate) fn read_message<R: Files, I: Read>(
         None => read_named(alloc, "standard input", reader)?,
     };
     if message.len() > MAX_BODY_BYTES {
-        return Err(Caused::bare(Fault::Input(Refused::TooLarge)));
+        return Err(CausedFault::without_cause(Fault::Input(Refused::TooLarge)));
     }
     Ok(message)
 }
@@ -44,13 +44,13 @@ fn read_named<I: Read>(
     alloc: Global,
     name: &str,
     reader: &mut Counted<I>,
-) -> Result<Vec<u8>, Caused> {
+) -> Result<Vec<u8>, CausedFault> {
     match read_input(alloc, reader) {
         Ok(bytes) => Ok(bytes),
         Err(fault) if fault == Fault::Device(Refused::ReadFailed) => {
-            Err(Caused::at(alloc, fault, name))
+            Err(CausedFault::at(alloc, fault, name))
         }
-        Err(fault) => Err(Caused::bare(fault)),
+        Err(fault) => Err(CausedFault::without_cause(fault)),
     }
 }
 
@@ -75,19 +75,19 @@ pub(crate) fn post<R: Net + Clock>(
     alloc: Global,
     destination: &Destination,
     message: &[u8],
-) -> Result<Received, Caused> {
+) -> Result<Received, CausedFault> {
     let host = destination.authority();
     let stream = match connection(rt, destination) {
         Ok(stream) => stream,
         Err(error) => {
             let fault = Fault::Device(Refused::NoConnection);
-            return Err(Caused::of_error(alloc, fault, host, &error));
+            return Err(CausedFault::of_error(alloc, fault, host, &error));
         }
     };
     match exchange(alloc, destination, message, &mut Counted::new(stream)) {
         Ok(received) => Ok(received),
-        Err(Refused::Core(refusal)) => { Err(Caused::bare(Fault::Device(Refused::Core(refusal)))) }
-        Err(refused) => Err(Caused::at(alloc, Fault::Device(refused), host)),
+        Err(Refused::Core(refusal)) => { Err(CausedFault::without_cause(Fault::Device(Refused::Core(refusal)))) }
+        Err(refused) => Err(CausedFault::at(alloc, Fault::Device(refused), host)),
     }
 }
 

@@ -28,7 +28,7 @@ pub fn spawn_by_table(
 ) -> Result<(SpawnId, Part), Refusal>
     requires table { IsTable ticket.old.rows records.old.items holders.old }
     ensures ticket { OnOk result (ticket.new
-        ≡ spawning.spawned ticket.old
+        ≡ spawning.job_after_spawn ticket.old
         (spawning.new_record ticket.old.rows number node worker rw at)) }
     ensures records { OnOk result (records.new.items
         ≡ records.old.items ++ spawning.new_record ticket.old.rows number node worker rw at ∷ []) }

@@ -14,7 +14,7 @@ use ticket_items::{Audit, Id, NodeRow, Refusal, Resource};
 /// Puts an audit last at a node.
 pub fn append(rows: &mut IndexedRows, node: &Id, audit: Audit) -> Result<(), Refusal>
     requires { IsValid rows.old }
-    ensures ok { OnOk result (rows.new ≡ one.appended node.now audit rows.old) }
+    ensures ok { OnOk result (rows.new ≡ one.rows_with_audit node.now audit rows.old) }
     ensures err { OnErr result (rows.new ≡ rows.old) }
     ensures refused { IfSome (node_refusal node.now rows.old) (λ e. result ≡ Err e) }
     ensures memory { IfNone (node_refusal node.now rows.old)

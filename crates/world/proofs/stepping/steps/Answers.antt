@@ -1,6 +1,6 @@
 use Rattle.std.proofs.Common.{◌≡◌, ◌∙◌, unwrap_or, ap, rules}
 use Rattle.world.proofs.Answered.{sent_so, stored_so}
-use Rattle.stored_state.specs.Cause.{caused}
+use Rattle.stored_state.specs.Cause.{step_on}
 use Rattle.world.specs.Settling.{with_sent}
 use Rattle.world_items.specs.declared.stop.Stop.TheVariants.{BeforeSave, BeforeSend}
 use Rattle.world.proofs.stepping.steps.Goals as goal
@@ -8,15 +8,15 @@ use Rattle.world.proofs.stepping.steps.Goals as goal
 pub returns-then-eq-2-clause-stored : goal.returns-then-eq-2-clause-stored
 returns-then-eq-2-clause-stored g c =
     let kept : ¬ (c.args.stop ≡ BeforeSave) = search rules in
-    c.in_ok-stop_after.ensures.ok ∙ (λ i. unwrap_or (c.into_parts-next.ensures.next i) (c.step.ensures.state i)) ∙ ap (λ step. step.next) c.in_ok-made.ensures.made ∙ stored_so c.args.stop c.args.stored.now (caused g.C.Controller.order_step g.C.Controller.take_step c.args.cause c.args.at c.args.stored.now).next kept
+    c.in_ok-stop_after.ensures.ok ∙ (λ i. unwrap_or (c.into_parts-next.ensures.next i) (c.step.ensures.state i)) ∙ ap (λ step. step.next) c.in_ok-made.ensures.made ∙ stored_so c.args.stop c.args.stored.now (step_on g.C.Controller.order_step g.C.Controller.take_step c.args.cause c.args.at c.args.stored.now).next kept
 
 pub returns-clause-stored : goal.returns-clause-stored
 returns-clause-stored g c =
     let kept : ¬ (c.args.stop ≡ BeforeSave) = search rules in
-    c.store.ensures ∙ (λ i. unwrap_or (c.into_parts-next.ensures.next i) (c.step.ensures.state i)) ∙ ap (λ step. step.next) c.in_ok-made.ensures.made ∙ stored_so c.args.stop c.args.stored.now (caused g.C.Controller.order_step g.C.Controller.take_step c.args.cause c.args.at c.args.stored.now).next kept
+    c.store.ensures ∙ (λ i. unwrap_or (c.into_parts-next.ensures.next i) (c.step.ensures.state i)) ∙ ap (λ step. step.next) c.in_ok-made.ensures.made ∙ stored_so c.args.stop c.args.stored.now (step_on g.C.Controller.order_step g.C.Controller.take_step c.args.cause c.args.at c.args.stored.now).next kept
 
 pub returns-clause-messages : goal.returns-clause-messages
 returns-clause-messages g c =
     let kept : ¬ (c.args.stop ≡ BeforeSave) = search rules in
     let runs : ¬ (c.args.stop ≡ BeforeSend) = search rules in
-    c.in_ok-number.ensures.messages ∙ ap (with_sent c.args.messages.now) (c.into_parts-next.ensures.sent ∙ ap (λ step. step.sent) c.in_ok-made.ensures.made) ∙ sent_so c.args.stop c.args.messages.now (caused g.C.Controller.order_step g.C.Controller.take_step c.args.cause c.args.at c.args.stored.now).sent kept runs
+    c.in_ok-number.ensures.messages ∙ ap (with_sent c.args.messages.now) (c.into_parts-next.ensures.sent ∙ ap (λ step. step.sent) c.in_ok-made.ensures.made) ∙ sent_so c.args.stop c.args.messages.now (step_on g.C.Controller.order_step g.C.Controller.take_step c.args.cause c.args.at c.args.stored.now).sent kept runs

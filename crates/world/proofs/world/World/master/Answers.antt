@@ -1,6 +1,6 @@
 use Rattle.std.proofs.Common.{◌≡◌, ◌∙◌, ap, subst, sym}
 use Rattle.spawn.specs.Marking.{marks}
-use Rattle.master_core.specs.Master.{Known}
+use Rattle.master_core.specs.Master.{State as MasterState}
 use Rattle.world.proofs.MarksShown.{marks_are_shown}
 use Rattle.world.proofs.TicketSeen.{ticket_is_seen}
 use Rattle.world.specs.SeenTicket.{ticket_seen}
@@ -12,9 +12,9 @@ use Rattle.world.proofs.world.World.master.Goals as goal
 pub returns-clause-seen : goal.returns-clause-seen
 returns-clause-seen c =
     let w : State = state c.self.inside.master c.self.inside.workers.items c.self.inside.messages in
-    ap (λ (m : Known). m.ticket) c.controller.ensures ∙ subst (λ (v : State). w.controllers.master.ticket ≡ ticket_seen (shop_shown v.controllers)) c.self.view_is (sym (ticket_is_seen w c.self.invariant))
+    ap (λ (m : MasterState). m.ticket) c.controller.ensures ∙ subst (λ (v : State). w.controllers.master.ticket ≡ ticket_seen (shop_shown v.controllers)) c.self.view_is (sym (ticket_is_seen w c.self.invariant))
 
 pub returns-clause-marks : goal.returns-clause-marks
 returns-clause-marks c =
     let w : State = state c.self.inside.master c.self.inside.workers.items c.self.inside.messages in
-    ap (λ (m : Known). marks m.ticket.rows m.records) c.controller.ensures ∙ subst (λ (v : State). marks w.controllers.master.ticket.rows w.controllers.master.records ≡ shop_marks (shop_shown v.controllers)) c.self.view_is (sym (marks_are_shown w c.self.invariant))
+    ap (λ (m : MasterState). marks m.ticket.rows m.records) c.controller.ensures ∙ subst (λ (v : State). marks w.controllers.master.ticket.rows w.controllers.master.records ≡ shop_marks (shop_shown v.controllers)) c.self.view_is (sym (marks_are_shown w c.self.invariant))

@@ -9,8 +9,8 @@ use Rattle.world.specs.State.{State, state}
 use Rattle.world_items.specs.declared.word.Word.TheVariants.{Restarted}
 use Rattle.world.proofs.world.World.restart.Goals as goal
 
-pub returns-in_err-restart-in-Some-clause-unmade : goal.returns-in_err-restart-in-Some-clause-unmade
-returns-in_err-restart-in-Some-clause-unmade c =
+pub returns-in_err-restart-in-Some-clause-needs_no_memory : goal.returns-in_err-restart-in-Some-clause-needs_no_memory
+returns-in_err-restart-in-Some-clause-needs_no_memory c =
     let w : State = state c.self.inside.master c.self.inside.workers.items c.self.inside.messages in
     let workers = w.controllers.workers in
     let name = c.args.name.now in
@@ -18,7 +18,7 @@ returns-in_err-restart-in-Some-clause-unmade c =
     let here : StandsAt workers name c.in-Some.place x = stands_at workers c.as_slice.result.now name c.in-Some.place x c.as_slice.ensures.value (sym c.in-Some.ensures) c.index_mut-stored.ensures.value in
     let word : Restarted ≡ restart_word name c.args.self.now = worker_restarts w name x (found workers name c.in-Some.place x here) ∙ ap (restart_word name) c.self.view_is in
     let reached : true ≡ is_reached (Err (restart_word name c.args.self.now)) = ap (λ said. is_reached (Err said)) word in
-    λ unmade. absurd (true≢false (reached ∙ unmade))
+    λ needs_no_memory. absurd (true≢false (reached ∙ needs_no_memory))
 
 pub returns-in-None-clause-answer : goal.returns-in-None-clause-answer
 returns-in-None-clause-answer c =

@@ -2,9 +2,9 @@ use Rattle.std.proofs.Common.{◌∙◌, ap, sym}
 use Rattle.std.specs.List.{position}
 use Rattle.world.proofs.Changing.{alone, by_holders, kept_then}
 use Rattle.world.proofs.Replayed.{said_so, shown_so}
-use Rattle.world.proofs.Unmade.{unplaced}
+use Rattle.world.proofs.NeedsNoMemory.{unplaced}
 use Rattle.ticket_items.specs.declared.refusal.Refusal.TheVariants.{UnknownWorker}
-use Rattle.stored_state.specs.declared.cause.Cause.TheVariants.{Order}
+use Rattle.stored_state.specs.declared.cause.StepInput.TheVariants.{Order}
 use Rattle.world.specs.Happening.{is_reached, step_of}
 use Rattle.world.specs.State.{State, is_named}
 use Rattle.world_items.specs.declared.what.What.TheVariants.{MasterOrder, WorkerOrder, Deliver, Restart}
@@ -29,11 +29,11 @@ returns-in-WorkerOrder-clause-shown c =
     let place = sym (c.place_of-place.ensures ∙ ap (position (is_named c.in-WorkerOrder.name)) (c.as_slice.ensures.value ∙ ap (λ (v : State). v.controllers.workers) c.self.view_is)) in
     shown_so c.tell_worker.result c.args.event (WorkerOrder c.in-WorkerOrder.name c.in-WorkerOrder.order) c.args.self.now c.tell_worker.new.self c.tell_worker.ensures.kept c.in-WorkerOrder.is (c.tell_worker.ensures.state c.in-WorkerOrder.name place)
 
-pub returns-in-WorkerOrder-clause-unmade : goal.returns-in-WorkerOrder-clause-unmade
-returns-in-WorkerOrder-clause-unmade c =
+pub returns-in-WorkerOrder-clause-needs_no_memory : goal.returns-in-WorkerOrder-clause-needs_no_memory
+returns-in-WorkerOrder-clause-needs_no_memory c =
     let w : State = c.args.self.now in
     let place = sym (c.place_of-place.ensures ∙ ap (position (is_named c.in-WorkerOrder.name)) (c.as_slice.ensures.value ∙ ap (λ (v : State). v.controllers.workers) c.self.view_is)) in
-    λ unmade. c.tell_worker.ensures.unmade (unplaced c.in-WorkerOrder.name (Refused UnknownWorker) (Order c.in-WorkerOrder.order) c.args.event.at w c.place_of-place.result place (ap (λ what. is_reached (step_of what c.args.event.at w)) (sym c.in-WorkerOrder.is) ∙ unmade))
+    λ needs_no_memory. c.tell_worker.ensures.needs_no_memory (unplaced c.in-WorkerOrder.name (Refused UnknownWorker) (Order c.in-WorkerOrder.order) c.args.event.at w c.place_of-place.result place (ap (λ what. is_reached (step_of what c.args.event.at w)) (sym c.in-WorkerOrder.is) ∙ needs_no_memory))
 
 pub returns-in-Deliver-clause-said : goal.returns-in-Deliver-clause-said
 returns-in-Deliver-clause-said c = said_so c.deliver.result c.args.event (Deliver c.in-Deliver.number) c.args.self.now c.deliver.ensures.kept c.in-Deliver.is c.deliver.ensures.answer

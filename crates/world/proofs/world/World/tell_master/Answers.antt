@@ -1,10 +1,10 @@
 use Rattle.std.proofs.Common.{ap, subst, sym, ◌∙◌}
-use Rattle.stored_state.specs.Cause.{caused}
+use Rattle.stored_state.specs.Cause.{step_on}
 use Rattle.world.proofs.AlwaysKept.{master_keeps}
 use Rattle.world.proofs.Answered.{on_ok}
 use Rattle.world.proofs.Kept.{master_kept}
 use Rattle.world.proofs.Settled.{master_settled}
-use Rattle.world.specs.Happening.{ComesTo, master_step, settled}
+use Rattle.world.specs.Happening.{ComesTo, master_step, next_state}
 use Rattle.world.specs.State.{State, state}
 use Rattle.master_core.specs.Messages.{take_step as taken_by_master}
 use Rattle.master_core.specs.Orders.{order_step as ordered_master}
@@ -15,11 +15,11 @@ invariant_of-self c =
     let w : State = state c.self.inside.master c.self.inside.workers.items c.self.inside.messages in
     let comes = subst (λ (v : State). ComesTo v.controllers.master.name v.messages c.args.cause) (sym c.self.view_is) c.requires in
     let keeps = master_keeps c.args.cause c.args.at w c.self.invariant comes in
-    master_kept c.steps.result c.args.stop w.controllers.master c.steps.new.stored w.controllers.workers w.messages c.steps.new.messages (caused ordered_master taken_by_master c.args.cause c.args.at w.controllers.master) c.steps.ensures.stored c.steps.ensures.messages c.steps.ensures.err_stored c.steps.ensures.err_messages c.self.invariant keeps
+    master_kept c.steps.result c.args.stop w.controllers.master c.steps.new.stored w.controllers.workers w.messages c.steps.new.messages (step_on ordered_master taken_by_master c.args.cause c.args.at w.controllers.master) c.steps.ensures.stored c.steps.ensures.messages c.steps.ensures.err_stored c.steps.ensures.err_messages c.self.invariant keeps
 
 pub returns-clause-state : goal.returns-clause-state
 returns-clause-state c =
     let w : State = state c.self.inside.master c.self.inside.workers.items c.self.inside.messages in
     on_ok _ _ _ c.steps.result c.steps.ensures.stored c.steps.ensures.messages (λ is sent.
-    master_settled c.args.stop w.controllers.master c.steps.new.stored w.controllers.workers w.messages c.steps.new.messages (caused ordered_master taken_by_master c.args.cause c.args.at w.controllers.master) is sent
-    ∙ ap (λ (v : State). settled c.args.stop v (master_step c.args.cause c.args.at v)) c.self.view_is)
+    master_settled c.args.stop w.controllers.master c.steps.new.stored w.controllers.workers w.messages c.steps.new.messages (step_on ordered_master taken_by_master c.args.cause c.args.at w.controllers.master) is sent
+    ∙ ap (λ (v : State). next_state c.args.stop v (master_step c.args.cause c.args.at v)) c.self.view_is)
