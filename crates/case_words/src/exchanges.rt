@@ -5,7 +5,7 @@ use crate::files::locked;
 use http_edge::{Counted, Served, receive, send, serve_one};
 use keepers::{Keep, Locks};
 use std::alloc::{AllocError, Global};
-use stored_state::{Kept, AnyKept, StoredController, open_any};
+use stored_state::{AnyKept, Kept, StoredController, open_any};
 use streams::{Refused, refused_line};
 
 /// Appends a line with the refusal of a request, if there was one, and one with the status of the

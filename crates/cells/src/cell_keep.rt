@@ -40,8 +40,13 @@ impl<C: Cell> CellKeep<C> {
 
     /// A keeper over this cell, of which no call failed yet. It loads before it saves.
     pub fn over(alloc: Global, cell: C) -> CellKeep<C>
-        ensures { result ≡ record { cell = cell; holding = new_holding; is_conflict = false; count =
-            0 } }
+        ensures { result ≡ record {
+          cell = cell;
+          holding = new_holding;
+          is_conflict = false;
+          count =
+              0;
+        } }
     {
         CellKeep {
             cell,

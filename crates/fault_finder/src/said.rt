@@ -119,7 +119,10 @@ fn type_of(id: &str) -> &'static str {
 }
 
 /// Looks at a response: its ID, Type and queue entry are those of the command that it is to.
-fn look_at_response<'a>(walk: &mut Walk<'a>, response: &LocatedValue<'a>) -> Result<(), AllocError> {
+fn look_at_response<'a>(
+    walk: &mut Walk<'a>,
+    response: &LocatedValue<'a>,
+) -> Result<(), AllocError> {
     let Some(command) = response.text_under("refID") else {
         return Ok(());
     };

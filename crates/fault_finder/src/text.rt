@@ -44,7 +44,11 @@ fn number(at: usize, digits: &str) -> Result<LocatedValue<'_>, ReadFault> {
 
 /// The next value.
 #[cycle(read)]
-fn read<'a>(alloc: Global, reader: &mut Reader<'a>, depth: usize) -> Result<LocatedValue<'a>, ReadFault>
+fn read<'a>(
+    alloc: Global,
+    reader: &mut Reader<'a>,
+    depth: usize,
+) -> Result<LocatedValue<'a>, ReadFault>
     ensures shorter { OnOk result (length reader.new < length reader.old) }
 {
     let at = reader.offset();

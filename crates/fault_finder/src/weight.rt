@@ -34,7 +34,8 @@ fn weigh_alone(value: &LocatedValue<'_>, rule: Rule, of: Definition) -> u64 {
         return 0;
     }
     match (value, rule) {
-        (LocatedValue::Text(_, _), Rule::Word(_)) | (LocatedValue::Number(_, _), Rule::Number(_, _)) => {
+        (LocatedValue::Text(_, _), Rule::Word(_))
+        | (LocatedValue::Number(_, _), Rule::Number(_, _)) => {
             if is_told_by_word(of) { TELLING_WORD } else { 1 }
         }
         (LocatedValue::Text(_, _), Rule::Name | Rule::NodeStatus | Rule::SpawnId | Rule::Text) => 1,
@@ -83,7 +84,11 @@ fn weigh_lightest<'a>(members: &[(&'a str, LocatedValue<'a>)], definition: Defin
 
 /// How much is wrong with members.
 #[cycle(weigh)]
-fn weigh_members<'a>(members: &[(&'a str, LocatedValue<'a>)], object: &[Member], of: Definition) -> u64 {
+fn weigh_members<'a>(
+    members: &[(&'a str, LocatedValue<'a>)],
+    object: &[Member],
+    of: Definition,
+) -> u64 {
     let mut sum: u64 = 0;
     for (name, value) in members {
         let weight = match rule_in(object, name) {

@@ -16,7 +16,12 @@ pub(crate) enum ValuesOfName<'a> {
 }
 
 // What one more field makes of the values under the name so far.
-fn with_field<'a>(found: ValuesOfName<'a>, name: &[u8], bytes: &'a [u8], field: HeaderSpan) -> ValuesOfName<'a>
+fn with_field<'a>(
+    found: ValuesOfName<'a>,
+    name: &[u8],
+    bytes: &'a [u8],
+    field: HeaderSpan,
+) -> ValuesOfName<'a>
     requires { IsHeaderWithin (length bytes.now) field }
     ensures { named_seen result ≡ with_value (named_seen found.entry) name.now
         (header_bytes bytes.now field) }
@@ -31,7 +36,11 @@ fn with_field<'a>(found: ValuesOfName<'a>, name: &[u8], bytes: &'a [u8], field: 
 }
 
 /// The values under the name.
-pub(crate) fn find_named<'a>(name: &[u8], bytes: &'a [u8], fields: &[HeaderSpan]) -> ValuesOfName<'a>
+pub(crate) fn find_named<'a>(
+    name: &[u8],
+    bytes: &'a [u8],
+    fields: &[HeaderSpan],
+) -> ValuesOfName<'a>
     requires { All (IsHeaderWithin (length bytes.now)) fields.now }
     ensures { named_seen result ≡ summary (values_of name.now
         (map (header_bytes bytes.now) fields.now)) }

@@ -8,12 +8,12 @@ ghost use Rattle.http_message.specs.declared.look.Look.TheVariants as looks;
 
 use crate::arrival::Arrival;
 use crate::body::Body;
+use crate::head_says::HeadFacts;
 use crate::kind::Kind;
 use crate::look::Look;
 use crate::looking::{MAX_HEAD_BYTES, look_for_head};
 use crate::received::Received;
 use crate::standing::Standing;
-use crate::head_says::HeadFacts;
 use crate::wanted::Need;
 use crate::whole::WholeMessage;
 use std::alloc::{AllocError, Global};

@@ -6,6 +6,7 @@ mod arrival;
 mod body;
 mod expect;
 mod field;
+mod head_says;
 mod incoming;
 mod kind;
 pub mod laws;
@@ -28,7 +29,6 @@ mod standing;
 mod start;
 mod status;
 mod target;
-mod head_says;
 mod wanted;
 mod whole;
 

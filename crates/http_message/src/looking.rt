@@ -7,12 +7,12 @@ ghost use Rattle.http_message.specs.declared.kind.Kind.TheVariants as kinds;
 ghost use Rattle.http_message.specs.declared.look.Look.TheVariants as looks;
 
 use crate::expect::expects_continue;
+use crate::head_says::HeadFacts;
 use crate::kind::Kind;
 use crate::look::Look;
 use crate::methods::{Methods, method_of};
 use crate::says::says;
 use crate::start::Start;
-use crate::head_says::HeadFacts;
 use httparse::Status;
 use httparse::spans::{EMPTY_HEADER_SPAN, Span, parse_request, parse_response};
 

@@ -47,7 +47,13 @@ pub fn page_bytes(
 {
     let lines = page_lines(alloc, kind, lines)?;
     let mut writer = Counted::new(Vec::new(alloc));
-    match write_sent(&mut writer, status, &lines, body, body_part_for(method, body)) {
+    match write_sent(
+        &mut writer,
+        status,
+        &lines,
+        body,
+        body_part_for(method, body),
+    ) {
         Ok(()) => Ok(writer.into_inner()),
         Err(_) => Err(AllocError),
     }

@@ -38,7 +38,11 @@ fn no_body(length: Result<usize, Refused>) -> Result<usize, Refused>
 }
 
 /// The length of the body of a request by this method, where this is told of it.
-fn length_by_method(method: Method, length: Result<usize, Refused>, most: u32) -> Result<usize, Refused>
+fn length_by_method(
+    method: Method,
+    length: Result<usize, Refused>,
+    most: u32,
+) -> Result<usize, Refused>
     requires { IfOk length (λ n. n ≤ most) }
     ensures value { result ≡ rules.length_by_method method length }
     ensures bound { IfOk result (λ n. n ≤ most) }

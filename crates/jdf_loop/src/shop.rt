@@ -55,7 +55,10 @@ impl Model for Shop {
 }
 
 /// A controller beside a new keeper, which holds its state. Refuses `Memory` alone.
-fn in_memory<C: StoredController>(alloc: Global, controller: C) -> Result<Kept<C, MemoryKeep>, Refused>
+fn in_memory<C: StoredController>(
+    alloc: Global,
+    controller: C,
+) -> Result<Kept<C, MemoryKeep>, Refused>
     ensures is { IfOk result (λ kept. kept
         ≡ shops.in_memory (λ c. compact_text (C.state_data c)) controller) }
     ensures kept { IfOk result

@@ -150,7 +150,11 @@ fn run_with_journal<R: Locks + Net + Clock + Alloc + Clone + Drop, I: Read, W: W
     let mut journal = FileJournal::at(rt, Some(path));
     if let Err(error) = journal.check() {
         let fault = Fault::Device(Refused::SaveFailed);
-        return give_up_caused(alloc, CausedFault::of_error(alloc, fault, path, &error), faults);
+        return give_up_caused(
+            alloc,
+            CausedFault::of_error(alloc, fault, path, &error),
+            faults,
+        );
     }
     let status = run_call(rt, alloc, asked, reader, writer, faults, &mut journal);
     tell_missed(alloc, &journal, faults);

@@ -128,7 +128,9 @@ impl<'a, R: Locks + Net + Clock, F: Write + Drop> Server<'a, R, F> {
         {
             match refusal {
                 None => post.deliveries.accept_flight(line, self.clients.now),
-                Some(number) => post.deliveries.refuse_flight(line, number, self.clients.now),
+                Some(number) => post
+                    .deliveries
+                    .refuse_flight(line, number, self.clients.now),
             }
         }
     }
@@ -305,7 +307,12 @@ impl<'a, R: Locks + Net + Clock, F: Write + Drop> Server<'a, R, F> {
     }
 
     /// Does behind a call what is to be done.
-    fn follow_call(&mut self, path: String, parcel: Parcel, came: CallResult) -> Result<(), AllocError> {
+    fn follow_call(
+        &mut self,
+        path: String,
+        parcel: Parcel,
+        came: CallResult,
+    ) -> Result<(), AllocError> {
         match came {
             CallResult::Answer(message, refusal) => {
                 let task = Task::Take(message, refusal);

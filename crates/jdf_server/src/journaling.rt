@@ -10,7 +10,7 @@ ghost use Rattle.jdf_server.specs.Journaled.{AreJournaled, StepName, StepsJourna
 
 use controller::{Body, Reply};
 use journal::{Journal, message_word, order_word, step_line};
-use rounds::{AnsweredClient, Errand, AnsweredOperator};
+use rounds::{AnsweredClient, AnsweredOperator, Errand};
 use std::alloc::{AllocError, Global};
 use stored_state::{AnyController, Coming, SavedState, TakenBytes};
 use ticket_tree::{Id, Refusal};

@@ -259,7 +259,11 @@ impl<'a, R: Locks + Net + Clock, F: Write + Drop> Server<'a, R, F> {
     }
 
     /// Keeps what a file held last, where that is known.
-    pub(crate) fn keep_last(&mut self, path: &str, last: Option<SavedState>) -> Result<(), AllocError>
+    pub(crate) fn keep_last(
+        &mut self,
+        path: &str,
+        last: Option<SavedState>,
+    ) -> Result<(), AllocError>
         ensures clients { self.new.clients.all ≡ self.old.clients.all }
         ensures rest { (self.new.clients.now ≡ self.old.clients.now)
             × (self.new.lines ≡ self.old.lines) }
@@ -269,7 +273,12 @@ impl<'a, R: Locks + Net + Clock, F: Write + Drop> Server<'a, R, F> {
 
     /// Has those of a line wait on, whose file somebody else has locked, but for those who waited as
     /// long as they may.
-    fn wait_on(&mut self, path: String, line: Line, last: Option<SavedState>) -> Result<(), AllocError>
+    fn wait_on(
+        &mut self,
+        path: String,
+        line: Line,
+        last: Option<SavedState>,
+    ) -> Result<(), AllocError>
         ensures { OnOk result (WaitsOn (string_bytes path) line.to line.errands.items self.old
             self.new) }
     {

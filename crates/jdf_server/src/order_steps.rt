@@ -12,7 +12,7 @@ use http_message::missing_bytes;
 use journal::{FileJournal, Journal, seconds};
 use keepers::{FileKeep, Keep, Locks};
 use mio::net::UnixStream;
-use rounds::{Errand, AnsweredOperator, Room, WaitingClient, answer_all, refuse_errands};
+use rounds::{AnsweredOperator, Errand, Room, WaitingClient, answer_all, refuse_errands};
 use shop_folder::Owner;
 use std::alloc::{AllocError, Global};
 use std::io::Write;

@@ -7,7 +7,9 @@ ghost use Rattle.jdf_server.specs.Steps.{IsStepped, StepsKept};
 ghost use Rattle.jdf_server.specs.Journaled.{KeepsJournal, KeepsJournalIn, KeepsOwnJournal};
 ghost use Rattle.jdf_server.specs.Journaled.{OwnStepsKept};
 
-use crate::journaling::{calls_of_comings, calls_of_errands, journal_clients_steps, journal_own_steps};
+use crate::journaling::{
+    calls_of_comings, calls_of_errands, journal_clients_steps, journal_own_steps,
+};
 use journal::{Journal, seconds};
 use keepers::{FileKeep, Keep, KeepFault, Locks};
 use mio::net::TcpStream;

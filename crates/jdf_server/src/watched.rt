@@ -20,7 +20,10 @@ pub(crate) struct ControllerView {
 
 impl ControllerView {
     /// What is told of this controller.
-    pub(crate) fn of(alloc: Global, controller: &AnyController) -> Result<ControllerView, AllocError> {
+    pub(crate) fn of(
+        alloc: Global,
+        controller: &AnyController,
+    ) -> Result<ControllerView, AllocError> {
         let mut open = Vec::new(alloc);
         let all = match controller {
             AnyController::Master(master) => {

@@ -10,9 +10,9 @@ ghost use Rattle.jmf_message.specs.Items.{item_data};
 ghost use Rattle.jmf_message.specs.Family as said;
 ghost use Rattle.jmf_message.specs.Written as written;
 
+use crate::family::Family;
 use crate::ids::command_id;
 use crate::items::{Item, are_texts, is_of_texts, object, text};
-use crate::family::Family;
 use controller::Command;
 use json_items::text_under;
 use json_source::Source;

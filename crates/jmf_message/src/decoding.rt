@@ -9,10 +9,10 @@ ghost use Rattle.json_items.specs.Spawns.{spawn_named};
 ghost use Rattle.jmf_message.specs.Decoded as decoded;
 ghost use Rattle.controller.specs.Words.{may_be_sent};
 
-use crate::jmf::Jmf;
 use crate::family::Family;
+use crate::jmf::Jmf;
 use controller::{Body, Command, Message};
-use json_items::{Form, Validation, Raw, zip, check_members, text_under};
+use json_items::{Form, Raw, Validation, check_members, text_under, zip};
 use json_profile::RawPart;
 use json_source::{Scratch, Source, tree_of};
 use std::alloc::Global;

@@ -8,11 +8,11 @@ ghost use Rattle.jmf_message.specs.Family as said;
 ghost use Rattle.jmf_message.specs.Written as written;
 
 use crate::commands::{command_asked, command_of, has_part};
+use crate::family::{Family, confirmed_family, family_item, family_of};
 use crate::items::{Item, number, object, text};
 use crate::responses::{answer_in, is_response};
-use crate::family::{Family, confirmed_family, family_of, family_item};
 use controller::Message;
-use json_items::{Validation, zip, id_in, number_under, check_members, text_under};
+use json_items::{Validation, check_members, id_in, number_under, text_under, zip};
 use json_source::Source;
 use std::alloc::{AllocError, Global};
 use std::marker::Model;
@@ -64,7 +64,11 @@ impl<'a> Model for Jmf<'a> {
 
 /// Whether a part goes with a JMF object, which has exactly one of a command and a response, and
 /// what its sender says, if it is what a message may say. Refuses `NotProfile`, and `Memory`.
-fn family_in<S: Source>(alloc: Global, sender: &str, jmf: &S) -> Result<(bool, Option<Family>), Refusal>
+fn family_in<S: Source>(
+    alloc: Global,
+    sender: &str,
+    jmf: &S,
+) -> Result<(bool, Option<Family>), Refusal>
     ensures value { Gives (λ found. found) result
         (forms.family_form sender.now (S.content jmf.now)) }
     ensures sent { IfOk result (λ found. IfSome found.1 (λ s. said.can_be_sent s ≡ true)) }
@@ -73,7 +77,10 @@ fn family_in<S: Source>(alloc: Global, sender: &str, jmf: &S) -> Result<(bool, O
         (Some(command), None) => {
             let asked = command_of(command).ok_or(Refusal::NotProfile)?;
             let said = command_asked(asked, command);
-            Ok((has_part(asked), confirmed_family(alloc, sender, said, command)?))
+            Ok((
+                has_part(asked),
+                confirmed_family(alloc, sender, said, command)?,
+            ))
         }
         (None, Some(response)) => {
             if !is_response(response) {

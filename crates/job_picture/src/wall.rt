@@ -104,7 +104,12 @@ fn tallies(alloc: Global, lines: &[NodeLine]) -> Result<String, AllocError>
 
 /// How many are left out where there is room for so many, in words; nothing where none is.
 #[tactic(auto, unfolding(crate::specs::Wall::count_left_out))]
-fn count_left_out(alloc: Global, room: usize, count: usize, words: &str) -> Result<String, AllocError>
+fn count_left_out(
+    alloc: Global,
+    room: usize,
+    count: usize,
+    words: &str,
+) -> Result<String, AllocError>
     ensures { IfOk result (λ made. string_bytes made ≡ wall.count_left_out room count words.now) }
 {
     if count <= room {

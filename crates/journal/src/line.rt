@@ -7,7 +7,7 @@ ghost use Rattle.journal.specs.Line as line;
 
 use controller::Reply;
 use json::Writer;
-use json_text::{written_text, print_member, print_text};
+use json_text::{print_member, print_text, written_text};
 use std::alloc::{AllocError, Global};
 use ticket_items::Id;
 

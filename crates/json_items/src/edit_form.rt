@@ -4,7 +4,7 @@ ghost use Rattle.json_items.specs.Edits as edits;
 ghost use Rattle.json_items.specs.Validation.{Reads};
 
 use crate::members::found_members::find_five;
-use crate::{Form, Validation, zip, find_three, find_two, find_under, check_members, text_under};
+use crate::{Form, Validation, check_members, find_three, find_two, find_under, text_under, zip};
 use json_source::Source;
 use std::alloc::Global;
 use ticket_items::{Edit, Link, Refusal, Resource, Usage};

@@ -40,7 +40,11 @@ pub trait FormIn<W>: Drop {
     ghost texts_valid: { Self → Bool };
 
     /// What is found of it in a value. Refuses `NotProfile`, and `Memory`.
-    fn find_in<S: Source>(alloc: Global, value: &S, setting: &W) -> Result<Validation<Self>, Refusal>
+    fn find_in<S: Source>(
+        alloc: Global,
+        value: &S,
+        setting: &W,
+    ) -> Result<Validation<Self>, Refusal>
         ensures { Reads names_valid texts_valid result
             (form_in setting.now (S.content value.now)) };
 }
@@ -52,7 +56,11 @@ impl<T: Form> FormIn<()> for T {
 
     ghost texts_valid = { T.has_texts };
 
-    fn find_in<S: Source>(alloc: Global, value: &S, _setting: &()) -> Result<Validation<T>, Refusal> {
+    fn find_in<S: Source>(
+        alloc: Global,
+        value: &S,
+        _setting: &(),
+    ) -> Result<Validation<T>, Refusal> {
         T::find(alloc, value)
     }
 }

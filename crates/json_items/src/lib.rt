@@ -15,9 +15,9 @@ mod words;
 pub use form::{Form, FormIn, Validation};
 pub use lists::items_form::{find_list_in, push_found};
 pub use members::found_members::{
-    zip, find_four, find_pool, find_three, find_two, find_under, read_whole_in,
+    find_four, find_pool, find_three, find_two, find_under, read_whole_in, zip,
 };
-pub use members::member::{number_under, check_members, text_under};
+pub use members::member::{check_members, number_under, text_under};
 pub use raw::Raw;
 pub use resources::attrs_form::find_attrs;
 pub use resources::shown_form::Showing;

@@ -10,7 +10,7 @@ ghost use Rattle.json_text.specs.Written.{shown_data, ticket_data};
 ghost use Rattle.json_text.specs.Printed.{IsPrinted};
 
 use json::Writer;
-use json_text::{written_text, no_marks};
+use json_text::{no_marks, written_text};
 use std::alloc::{AllocError, Global};
 use std::mem;
 use ticket_tree::{Marks, Part, Ticket};

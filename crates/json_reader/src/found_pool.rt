@@ -9,7 +9,7 @@ ghost use Rattle.json_items.specs.Resources.{resource_form};
 ghost use Rattle.json_items.specs.Shown as marks;
 ghost use Rattle.json_reader.specs.Found.{FindsAs, IsMarked, IsPool};
 
-use json_items::{Form, Validation, Showing, check_members, push_found};
+use json_items::{Form, Showing, Validation, check_members, push_found};
 use json_source::Source;
 use std::alloc::Global;
 use ticket_tree::{Items, Refusal, Resource};
@@ -43,7 +43,10 @@ pub fn show_nothing(shown: &[Showing]) -> bool
 
 /// What is found of a resource, and what it shows of spawns. Refuses `NotProfile`, and `Memory`.
 #[tactic(auto, unfolding(json_items::specs::Resources::resource_form))]
-fn find_marked<S: Source>(alloc: Global, value: &S) -> Result<(Validation<Resource>, Showing), Refusal>
+fn find_marked<S: Source>(
+    alloc: Global,
+    value: &S,
+) -> Result<(Validation<Resource>, Showing), Refusal>
     ensures { FindsAs IsMarked result (resource_form (S.content value.now)) }
 {
     check_members(value, RESOURCE_MEMBERS)?;

@@ -5,7 +5,7 @@ ghost use Rattle.json_items.specs.TicketDraft as form;
 ghost use Rattle.json_reader.specs.Found.{FindsAs, IsRow};
 
 use crate::found_pool::FoundPool;
-use json_items::{Validation, Showing, zip, find_attrs, find_four, find_pool, check_members};
+use json_items::{Showing, Validation, check_members, find_attrs, find_four, find_pool, zip};
 use json_source::Source;
 use std::alloc::Global;
 use ticket_tree::{Items, NodeRow, Refusal};

@@ -4,7 +4,7 @@ ghost use Rattle.json_reader.specs.Groups.{taken_form};
 use crate::found_nodes::{FoundNodes, PART_MEMBERS, find_below};
 use crate::found_row::own_row;
 use crate::part_groups::{GroupSizes, group_sizes, take_copies};
-use json_items::{Form, Validation, Raw, zip, find_three, text_under};
+use json_items::{Form, Raw, Validation, find_three, text_under, zip};
 use json_source::Source;
 use std::alloc::Global;
 use std::marker::Model;

@@ -1,6 +1,6 @@
 use crate::found_nodes::{FoundNodes, PART_MEMBERS, find_node};
 use crate::taken_nodes::take_node;
-use json_items::{Form, Validation, Raw, zip, find_under};
+use json_items::{Form, Raw, Validation, find_under, zip};
 use json_source::{Source, Tree};
 use std::alloc::Global;
 use std::marker::Model;

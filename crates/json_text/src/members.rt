@@ -34,7 +34,11 @@ pub fn print_text(out: &mut Writer, name: &str, text: &str) -> Result<(), AllocE
 }
 
 /// Prints a list of items under a name. Their names and texts are valid.
-pub fn print_items<T: PrintForm>(out: &mut Writer, name: &str, items: &[T]) -> Result<(), AllocError>
+pub fn print_items<T: PrintForm>(
+    out: &mut Writer,
+    name: &str,
+    items: &[T],
+) -> Result<(), AllocError>
     ensures printed { OnOk result (IsAppended
         (TokenSeen.key name.now ∷ data_tokens (array (data_items T.written items.now)))
         out.old out.new) }

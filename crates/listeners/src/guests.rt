@@ -7,7 +7,7 @@ use crate::listener::GuestListener;
 use crate::wire::Wire;
 use http_message::{Received, refused_bytes};
 use mio::{Interest, Registry, Token};
-use peers::{OwedClient, Client, Limits, Turn};
+use peers::{Client, Limits, OwedClient, Turn};
 use slab::Slab;
 use std::alloc::{AllocError, Global};
 use std::io::{self, ErrorKind};

@@ -22,7 +22,7 @@ pub fn tell(
     ensures ok { OnOk result (ticket.new
         ≡ record ticket.old {
           rows = rows_with_audit (spawning.parent_of ticket.old.rows spawn.now.node) audit
-          ticket.old.rows;
+              ticket.old.rows;
         }) }
     ensures err { OnErr result (ticket.new ≡ ticket.old) }
     ensures memory { IfErr result (λ e. e ≡ Refusal.Memory) }

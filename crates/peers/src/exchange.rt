@@ -7,7 +7,7 @@ ghost use Rattle.peers.specs.Exchange as exchanges;
 use crate::call_limits::CallLimits;
 use crate::progress::Progress;
 use crate::writing::write_some;
-use http_message::{Arrival, Incoming, Kind, Received, Standing, Need, WholeMessage};
+use http_message::{Arrival, Incoming, Kind, Need, Received, Standing, WholeMessage};
 use std::alloc::{AllocError, Global};
 use std::io::{ErrorKind, Read, Write};
 use std::marker::Model;

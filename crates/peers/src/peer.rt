@@ -11,7 +11,7 @@ use crate::event::Event;
 use crate::limits::Limits;
 use crate::phase::Phase;
 use crate::writing::write_some;
-use http_message::{Arrival, Incoming, Kind, Standing, Need, WholeMessage};
+use http_message::{Arrival, Incoming, Kind, Need, Standing, WholeMessage};
 use std::alloc::{AllocError, Global};
 use std::io::{ErrorKind, Read, Write};
 use std::marker::Model;

@@ -6,8 +6,8 @@ ghost use Rattle.rounds.specs.Line as line;
 ghost use Rattle.rounds.specs.Line.{AreTold, AreToldOf, TellsLine};
 
 use crate::errand::Errand;
-use crate::room::Room;
 use crate::recipient::Recipient;
+use crate::room::Room;
 use crate::waiting::WaitingClient;
 use keepers::Keep;
 use std::alloc::Global;

@@ -10,7 +10,7 @@ use crate::waiting::WaitingClient;
 use controller::Reply;
 use http_edge::Served;
 use http_message::{refusal_body, served_bytes};
-use peers::{OwedClient, Client};
+use peers::{Client, OwedClient};
 use std::alloc::{AllocError, Global};
 use stored_state::TakenBytes;
 use streams::Refused;

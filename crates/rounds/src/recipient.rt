@@ -20,7 +20,12 @@ pub trait Recipient<S>: Drop {
     ghost is_told: { ℕ → Result TakenBytes Refused → WaitingClient S → Self → Type 0 };
 
     /// Who waited, with the response at this moment, in milliseconds, to what came.
-    fn tell(alloc: Global, waiting: WaitingClient<S>, came: Result<TakenBytes, Refused>, now: u64) -> Self
+    fn tell(
+        alloc: Global,
+        waiting: WaitingClient<S>,
+        came: Result<TakenBytes, Refused>,
+        now: u64,
+    ) -> Self
         ensures { is_told now came waiting result };
 }
 

@@ -62,7 +62,10 @@ fn push_worker<R: Files>(
     if Lies::at(rt, path.as_str()) != Lies::File {
         return Ok(());
     }
-    let owner = Owner::WorkerOf(Id::from_valid(alloc, worker)?, Id::from_valid(alloc, master)?);
+    let owner = Owner::WorkerOf(
+        Id::from_valid(alloc, worker)?,
+        Id::from_valid(alloc, master)?,
+    );
     found.push(FolderFile { path, owner })?;
     Ok(())
 }

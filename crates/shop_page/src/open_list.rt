@@ -10,7 +10,7 @@ use crate::open_work::OpenWork;
 use crate::picked::{late_of, refused_works};
 use crate::shop::Shop;
 use json::Writer;
-use json_text::{written_text, print_member, print_text};
+use json_text::{print_member, print_text, written_text};
 use list_text::print_work;
 use std::alloc::{AllocError, Global};
 

@@ -7,7 +7,7 @@ ghost use Rattle.json_text.specs.Printed.{AreMembersPrinted, IsPrinted};
 ghost use Rattle.shop_page.specs.WorkerJson as shown;
 
 use json::Writer;
-use json_text::{written_text, print_member, print_part, print_text};
+use json_text::{print_member, print_part, print_text, written_text};
 use std::alloc::{AllocError, Global};
 use ticket_tree::Part;
 use worker_core::{End, Entry, Stage, Worker};

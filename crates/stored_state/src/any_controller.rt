@@ -4,9 +4,9 @@ ghost use Rattle.stored_state.specs.Addressee.{name_of};
 ghost use Rattle.stored_state.specs.AnyStep.{text_of};
 ghost use Rattle.stored_state.specs.Opened.{any_state_read, kept_of};
 
+use crate::any_kept::AnyKept;
 use crate::kept::Kept;
 use crate::kind::{Kind, kind_of};
-use crate::any_kept::AnyKept;
 use controller_form::StateForm;
 use json_source::{Scratch, tree_of};
 use keepers::Keep;

@@ -3,9 +3,9 @@ ghost use Rattle.controller.specs.Step.{outcome_step};
 ghost use Rattle.controller.specs.Words.{may_be_sent};
 ghost use Rattle.stored_state.specs.Cause.{step_on};
 
+use crate::order_outcome::outcome_of_order;
 use crate::resting::{is_abort, is_idle, is_idle_on};
 use crate::stored::StoredController;
-use crate::order_outcome::outcome_of_order;
 use controller::{Message, Outcome};
 use std::alloc::{AllocError, Global};
 use ticket_tree::Duplicate;

@@ -104,7 +104,10 @@ pub(crate) fn load_bytes<K: Keep>(keep: &mut K) -> Result<Vec<u8>, Refused>
 
 /// The controller whose state bytes are the text of, twice. Refuses what they are refused for, and
 /// `Memory`.
-pub(crate) fn controllers_of<C: StoredController>(alloc: Global, bytes: &[u8]) -> Result<(C, C), Refusal>
+pub(crate) fn controllers_of<C: StoredController>(
+    alloc: Global,
+    bytes: &[u8],
+) -> Result<(C, C), Refusal>
     ensures first { IfOk result (λ c. IsReadAs C.state_read bytes.now (Ok c.0)) }
     ensures second { IfOk result (λ c. IsReadAs C.state_read bytes.now (Ok c.1)) }
     ensures refused { IfErr result (IsRefusalOf C.state_read bytes.now) }

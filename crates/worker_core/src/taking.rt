@@ -211,7 +211,12 @@ pub fn taken_as(entries: &Entries, body: &Body) -> Taken
 
 /// What a message is taken as by the worker of a name that has these entries of its master, or why
 /// it is refused.
-fn checked_taken(name: &Id, master: &Id, entries: &Entries, message: &Message) -> Result<Taken, Refusal>
+fn checked_taken(
+    name: &Id,
+    master: &Id,
+    entries: &Entries,
+    message: &Message,
+) -> Result<Taken, Refusal>
     ensures reply { (at : ℕ) → steps.reply_of result
         ≡ (messages.take_step message.now at
         (worker.state name.now master.now entries.now)).reply }

@@ -8,7 +8,7 @@ ghost use Rattle.world.specs.Settling as settling;
 
 use crate::sent::SentMessages;
 use std::alloc::{AllocError, Global};
-use stored_state::{StepInput, Station, StoredController};
+use stored_state::{Station, StepInput, StoredController};
 use ticket_tree::Duplicate;
 use world_items::{Answer, Stop, Word};
 

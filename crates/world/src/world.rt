@@ -5,7 +5,7 @@ use crate::workers::{new_workers, place_of, station_of};
 use master_core::Master;
 use std::alloc::{AllocError, Global};
 use std::marker::Model;
-use stored_state::{StepInput, Station};
+use stored_state::{Station, StepInput};
 use ticket_tree::{Id, Ids, Refusal, Ticket};
 use worker_core::Worker;
 use world_items::{Answer, Event, Stop, What, Word};

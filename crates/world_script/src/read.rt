@@ -11,7 +11,7 @@ ghost use Rattle.world_script.specs.Script.{IsRefusalOfRunning, parts_in, script
 use crate::event::InShop;
 use crate::script::Script;
 use controller_form::RawShop;
-use json_items::{Form, Validation, Raw, zip, find_list_in, check_members, text_under};
+use json_items::{Form, Raw, Validation, check_members, find_list_in, text_under, zip};
 use json_source::{Scratch, Source, tree_of};
 use std::alloc::Global;
 use ticket_tree::{Items, Refusal};

@@ -7,14 +7,18 @@ ghost use Rattle.world_items.specs.declared.what.What.TheVariants as whats;
 ghost use Rattle.world_script.specs.EventForm as forms;
 
 use controller_form::{find_master_order, find_worker_order};
-use json_items::{Validation, zip, find_under, id_in, check_members, text_under};
+use json_items::{Validation, check_members, find_under, id_in, text_under, zip};
 use json_source::Source;
 use std::alloc::Global;
 use ticket_tree::Refusal;
 use world_items::What;
 
 /// An order to the worker of a name.
-fn worker_order<S: Source>(alloc: Global, name: &str, value: &S) -> Result<Validation<What>, Refusal>
+fn worker_order<S: Source>(
+    alloc: Global,
+    name: &str,
+    value: &S,
+) -> Result<Validation<What>, Refusal>
     ensures { Reads forms.what_has_names forms.what_has_texts result
         (option_map (whats.WorkerOrder name.now)
         (worker_form.worker_order_form (S.content value.now))) }
@@ -81,7 +85,11 @@ fn restart<S: Source>(alloc: Global, value: &S) -> Result<Validation<What>, Refu
 /// What is found of what happens at the event that a value is, in a shop whose master has this
 /// name. Refuses `NotProfile`, and `Memory`.
 #[tactic(auto, unfolding(crate::specs::EventForm::what_form))]
-pub fn find_what<S: Source>(alloc: Global, master: &str, value: &S) -> Result<Validation<What>, Refusal>
+pub fn find_what<S: Source>(
+    alloc: Global,
+    master: &str,
+    value: &S,
+) -> Result<Validation<What>, Refusal>
     ensures { Reads forms.what_has_names forms.what_has_texts result
         (forms.what_form master.now (S.content value.now)) }
 {

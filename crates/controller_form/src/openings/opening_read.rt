@@ -7,7 +7,7 @@ ghost use Rattle.controller_form.specs.Openings.OpeningForm as form;
 
 use crate::openings::opening::Opening;
 use crate::openings::raw_shop::RawShop;
-use json_items::{Raw, find_two, check_members};
+use json_items::{Raw, check_members, find_two};
 use json_source::{Scratch, Source, tree_of};
 use master_core::Master;
 use std::alloc::Global;

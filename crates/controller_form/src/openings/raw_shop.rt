@@ -1,5 +1,5 @@
 use crate::openings::shop::Shop;
-use json_items::{Form, Validation, Raw, find_three};
+use json_items::{Form, Raw, Validation, find_three};
 use json_profile::RawTicket;
 use json_source::Source;
 use master_core::are_apart;

@@ -5,7 +5,7 @@ ghost use Rattle.ticket_items.specs.SpawnId.{is_spawn_number};
 ghost use Rattle.json_items.specs.Validation.{Reads};
 ghost use Rattle.controller_form.specs.Orders.KnownSpawn.{known_form};
 
-use json_items::{Validation, find_under, check_members};
+use json_items::{Validation, check_members, find_under};
 use json_source::Source;
 use std::alloc::Global;
 use ticket_tree::{Refusal, SpawnId};

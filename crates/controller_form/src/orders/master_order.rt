@@ -4,7 +4,7 @@ ghost use Rattle.json_items.specs.Validation.{Answers, Reads};
 ghost use Rattle.controller_form.specs.Orders.MasterForm as forms;
 
 use crate::orders::known_spawn::known_spawn;
-use json_items::{Validation, find_three, find_under, check_members, text_under};
+use json_items::{Validation, check_members, find_three, find_under, text_under};
 use json_source::Source;
 use master_core::Order;
 use std::alloc::Global;

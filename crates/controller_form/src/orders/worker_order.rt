@@ -5,7 +5,7 @@ ghost use Rattle.controller_form.specs.Orders.WorkerForm as forms;
 
 use crate::orders::end_named::end_named;
 use crate::orders::known_spawn::known_spawn;
-use json_items::{Validation, find_two, find_under, check_members, text_under};
+use json_items::{Validation, check_members, find_two, find_under, text_under};
 use json_source::Source;
 use std::alloc::Global;
 use ticket_tree::Refusal;

@@ -4,7 +4,7 @@ ghost use Rattle.std.specs.Prelude.{◌≡◌, IfErr, codes};
 ghost use Rattle.json_source.specs.Read.{Gives, number_under};
 ghost use Rattle.controller_form.specs.States.StateFormat as format;
 
-use json_items::{number_under, check_members};
+use json_items::{check_members, number_under};
 use json_source::Source;
 use ticket_tree::Refusal;
 

@@ -10,7 +10,7 @@ use crate::states::record_text::print_records;
 use crate::states::state_form::StateForm;
 use crate::states::stored_record::StoredRecord;
 use json::Writer;
-use json_items::{Raw, zip, find_list_in, find_three, check_members};
+use json_items::{Raw, check_members, find_list_in, find_three, zip};
 use json_profile::{RawTicket, print_ticket};
 use json_source::Source;
 use json_text::{print_items, print_member};

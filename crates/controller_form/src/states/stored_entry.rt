@@ -8,7 +8,7 @@ ghost use Rattle.controller_form.specs.States.EntryForm as form;
 use crate::orders::end_named::end_named;
 use crate::states::format::{Format, at_under};
 use crate::states::stage_word::stage_named;
-use json_items::{FormIn, Validation, Raw, find_two, find_under, check_members, text_under};
+use json_items::{FormIn, Raw, Validation, check_members, find_two, find_under, text_under};
 use json_profile::RawPart;
 use json_source::Source;
 use std::alloc::Global;

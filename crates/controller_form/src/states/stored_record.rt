@@ -6,7 +6,7 @@ ghost use Rattle.controller_form.specs.States.RecordForm as form;
 
 use crate::states::format::{Format, at_under};
 use crate::states::phase_word::phase_named;
-use json_items::{FormIn, Validation, zip, find_four, check_members, text_under};
+use json_items::{FormIn, Validation, check_members, find_four, text_under, zip};
 use json_profile::FoundPool;
 use json_source::Source;
 use spawn::{Phase, SpawnRec};

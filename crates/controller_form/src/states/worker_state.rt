@@ -11,7 +11,7 @@ use crate::states::format::{WRITTEN, controller_under, format_of};
 use crate::states::state_form::StateForm;
 use crate::states::stored_entries::build_entries;
 use json::Writer;
-use json_items::{zip, find_list_in, find_two, check_members};
+use json_items::{check_members, find_list_in, find_two, zip};
 use json_source::Source;
 use json_text::print_member;
 use std::alloc::{AllocError, Global};

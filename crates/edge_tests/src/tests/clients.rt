@@ -1,6 +1,6 @@
 use super::dripping::Dripping;
 use http_message::{Methods, Received};
-use peers::{OwedClient, Client, Limits, Turn};
+use peers::{Client, Limits, OwedClient, Turn};
 use std::alloc::{AllocError, Global};
 use std::test::Fail;
 

@@ -11,7 +11,7 @@ ghost use Rattle.json_source.specs.Tree.{tree_data};
 ghost use Rattle.controller_form.specs.Openings.ShopForm.{ticket_under};
 ghost use Rattle.jdf_commands.specs.EditCommand.Document as document;
 
-use json_items::{Form, Validation, zip, find_under, check_members, push_found};
+use json_items::{Form, Validation, check_members, find_under, push_found, zip};
 use json_profile::RawTicket;
 use json_source::{Tree, members_alone};
 use std::alloc::Global;

@@ -16,12 +16,16 @@ use controller_form::{Opening, opening_of};
 use keepers::Keep;
 use std::alloc::Global;
 use std::io::Read;
-use stored_state::{Addressee, AnyController, Kept, AnyKept, StoredController};
+use stored_state::{Addressee, AnyController, AnyKept, Kept, StoredController};
 use streams::{Counted, Fault, Output, Refused, read_input};
 
 /// A controller beside its keeper, which holds its state from then on. Refuses as `Device`
 /// `SaveFailed`, and `Memory`.
-fn kept_of<C: StoredController, K: Keep>(alloc: Global, controller: C, keep: K) -> Result<Kept<C, K>, Fault>
+fn kept_of<C: StoredController, K: Keep>(
+    alloc: Global,
+    controller: C,
+    keep: K,
+) -> Result<Kept<C, K>, Fault>
     ensures ok { IfOk result (begins.IsBegun K.is_honest K.held K.place
         (λ c. compact_text (C.state_data c)) keep controller) }
     ensures refused { IfErr result (begins.IsNotKept K.save_fails keep
@@ -58,7 +62,11 @@ fn beginning_of(alloc: Global, input: &[u8], to: Addressee<'_>) -> Result<AnyCon
 }
 
 /// A controller beside its keeper, which holds its state from then on. Refuses as `kept_of`.
-fn opened_of<K: Keep>(alloc: Global, controller: AnyController, keep: K) -> Result<AnyKept<K>, Fault>
+fn opened_of<K: Keep>(
+    alloc: Global,
+    controller: AnyController,
+    keep: K,
+) -> Result<AnyKept<K>, Fault>
     ensures ok { IfOk result (λ opened. begins.IsBegun K.is_honest K.held K.place text_of keep
         controller (kept_of opened)) }
     ensures refused { IfErr result (begins.IsNotKept K.save_fails keep (text_of controller)) }

@@ -40,7 +40,12 @@ fn kept_list<K: Keep>(alloc: Global, keep: K, asked: ListRequest) -> Result<Outp
 }
 
 /// The same of the controller in a file.
-fn file_list<R: Locks>(rt: &R, alloc: Global, file: &str, asked: ListRequest) -> Result<OutputWithNotes, Fault>
+fn file_list<R: Locks>(
+    rt: &R,
+    alloc: Global,
+    file: &str,
+    asked: ListRequest,
+) -> Result<OutputWithNotes, Fault>
     ensures ok { IfOk result (λ noted. listing.ListsOne asked calls.is_honest calls.file_bytes
         (calls.keep_in_file file.now) noted.output.text.items noted.output.refused
         noted.notes.items) }

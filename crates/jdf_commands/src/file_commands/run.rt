@@ -71,8 +71,14 @@ pub fn call_output<R: Locks + Clock + Alloc + Clone + Drop, I: Read, J: Journal>
         (IsFaultOfCall call.entry (traffic I.remaining reader.old reader.new)) }
 {
     match call {
-        Call::Edit => Ok(OutputWithNotes::without_notes(alloc, output_of::<Edit, I>(alloc, reader)?)),
-        Call::World => Ok(OutputWithNotes::without_notes(alloc, output_of::<WorldCommand, I>(alloc, reader)?)),
+        Call::Edit => Ok(OutputWithNotes::without_notes(
+            alloc,
+            output_of::<Edit, I>(alloc, reader)?,
+        )),
+        Call::World => Ok(OutputWithNotes::without_notes(
+            alloc,
+            output_of::<WorldCommand, I>(alloc, reader)?,
+        )),
         Call::New { file } => new_in_file(rt, alloc, file, reader),
         Call::Order { file, at } => order_output(rt, alloc, file, at, reader, journal),
         Call::Take { file, at } => take_output(rt, alloc, file, at, reader, journal),

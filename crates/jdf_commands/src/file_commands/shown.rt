@@ -127,7 +127,12 @@ fn text_shown<K: Keep>(
 
 /// What `show` writes of the controller that a keeper holds, which is what that shows or its
 /// picture, and what it notes of it.
-fn kept_shown<K: Keep>(alloc: Global, keep: K, picture: bool, now: u64) -> Result<OutputWithNotes, Fault>
+fn kept_shown<K: Keep>(
+    alloc: Global,
+    keep: K,
+    picture: bool,
+    now: u64,
+) -> Result<OutputWithNotes, Fault>
     ensures ok { IfOk result (λ noted. Shows picture now K.is_honest K.held K.place keep
         noted.output.text.items noted.output.refused noted.notes.items) }
     ensures refused { IfErr result (λ fault. IsNotLoaded K.is_honest K.held K.load_fails keep fault
@@ -187,5 +192,11 @@ pub(crate) fn show_output<R: Locks + Clock>(
         noted.output.text.items noted.output.refused noted.notes.items) }
     ensures refused { IfErr result (calls.IsNotSeen file.now at) }
 {
-    file_shown(rt, alloc, file, picture, moment_of_picture(rt, picture, at)?)
+    file_shown(
+        rt,
+        alloc,
+        file,
+        picture,
+        moment_of_picture(rt, picture, at)?,
+    )
 }

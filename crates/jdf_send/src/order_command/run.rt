@@ -10,8 +10,8 @@ use crate::order_command::send_order::SendOrder;
 use crate::send_command::{DONE, SendTo, no_place, post, tell_no_peer, tell_no_url, tell_status};
 use http_message::MAX_BODY_BYTES;
 use jdf_commands::{
-    CausedFault, OrderOutput, answer_output, finish_noting, give_up_caused, order_in_file, order_noted,
-    step_output, take_in_file,
+    CausedFault, OrderOutput, answer_output, finish_noting, give_up_caused, order_in_file,
+    order_noted, step_output, take_in_file,
 };
 use jmf_message::{Reply, decode};
 use journal::Journal;

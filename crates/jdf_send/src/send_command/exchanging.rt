@@ -86,7 +86,9 @@ pub(crate) fn post<R: Net + Clock>(
     };
     match exchange(alloc, destination, message, &mut Counted::new(stream)) {
         Ok(received) => Ok(received),
-        Err(Refused::Core(refusal)) => { Err(CausedFault::without_cause(Fault::Device(Refused::Core(refusal)))) }
+        Err(Refused::Core(refusal)) => {
+            Err(CausedFault::without_cause(Fault::Device(Refused::Core(refusal))))
+        }
         Err(refused) => Err(CausedFault::at(alloc, Fault::Device(refused), host)),
     }
 }

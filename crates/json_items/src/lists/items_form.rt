@@ -14,7 +14,10 @@ use std::alloc::{AllocError, Global};
 use ticket_items::{Items, Refusal};
 
 /// Appends what was found to a list that was found.
-pub fn push_found<T: Drop>(found: &mut Validation<Items<T>>, next: Validation<T>) -> Result<(), AllocError>
+pub fn push_found<T: Drop>(
+    found: &mut Validation<Items<T>>,
+    next: Validation<T>,
+) -> Result<(), AllocError>
     ensures { OnOk result ((names : T → Bool) (texts : T → Bool) (read : Option (List T))
         (next_read : Option T)
         → Finds (first_fault (list_all names) (list_all texts)) found.old read

@@ -1,7 +1,7 @@
 ghost use Rattle.std.specs.Prelude.{true};
 ghost use Rattle.json_items.specs.Ancestors as ancestors;
 
-use crate::{Form, Validation, find_two, check_members};
+use crate::{Form, Validation, check_members, find_two};
 use json_source::Source;
 use std::alloc::Global;
 use ticket_items::{Ancestor, Refusal};

@@ -4,7 +4,7 @@ ghost use Rattle.json_items.specs.Audits as audits;
 ghost use Rattle.json_items.specs.Validation.{Reads};
 
 use crate::members::found_members::find_five;
-use crate::{Form, Validation, find_three, find_two, find_under, check_members, text_under};
+use crate::{Form, Validation, check_members, find_three, find_two, find_under, text_under};
 use json_source::Source;
 use std::alloc::Global;
 use ticket_items::{Audit, Refusal};

@@ -3,7 +3,7 @@
 
 ghost use Rattle.json_items.specs.Resources as resources;
 
-use crate::{Form, Validation, zip, find_attrs, find_four};
+use crate::{Form, Validation, find_attrs, find_four, zip};
 use json_source::Source;
 use std::alloc::Global;
 use ticket_items::{Refusal, Resource};

@@ -10,7 +10,11 @@ use ticket_items::Resource;
 
 /// Prints a resource that shows this of spawns. Its names and texts are valid.
 #[tactic(auto, unfolding(json_items::specs::Resources::resource_has_names, json_items::specs::Resources::resource_has_texts))]
-pub fn print_marked(out: &mut Writer, resource: &Resource, shown: &Showing) -> Result<(), AllocError>
+pub fn print_marked(
+    out: &mut Writer,
+    resource: &Resource,
+    shown: &Showing,
+) -> Result<(), AllocError>
     ensures printed { OnOk result
         (IsPrinted (resources.resource_data shown.now resource.now) out.old out.new) }
     ensures names { OnOk result (resources.resource_has_names resource.now ≡ true) }

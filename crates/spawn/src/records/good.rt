@@ -20,7 +20,12 @@ struct UnmetCopies<'a> {
 }
 
 /// What is left behind a resource.
-fn meet<'a>(inside: &Rows<'_>, rw: &[Id], resource: &Resource, left: UnmetCopies<'a>) -> Option<UnmetCopies<'a>>
+fn meet<'a>(
+    inside: &Rows<'_>,
+    rw: &[Id],
+    resource: &Resource,
+    left: UnmetCopies<'a>,
+) -> Option<UnmetCopies<'a>>
     ensures { option_map (λ l. (l.rw.now, l.ro.now)) result
         ≡ walk.unmet_behind inside.now rw.now resource.now (left.entry.rw.now, left.entry.ro.now) }
 {
