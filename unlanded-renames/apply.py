@@ -479,6 +479,7 @@ class Renamer:
             if not used:
                 continue
             edits = []
+            named = set(re.findall(r"\b\w*goal\w*\.([^\s(){}\[\],;.:\"]+)", f.text))
             for m in re.finditer(r"(?<![\w'])([^\s(){}\[\],;.:\"]+)", f.text):
                 token = m.group(1)
                 if old not in token or f.off.has(m.start()) if f.read() else False:
@@ -487,7 +488,7 @@ class Renamer:
                 if old not in parts:
                     continue
                 before = f.text[max(0, m.start() - 12):m.start()]
-                is_goal = len(parts) > 1 and parts[0] in ("returns", "loop", "calls", "requires", "pre", "before", "at", "call", "closure", "decreases", "moment", "invariant")
+                is_goal = token in named or len(parts) > 1 and parts[0] in ("returns", "loop", "calls", "requires", "pre", "before", "at", "call", "closure", "decreases", "moment", "invariant")
                 if not (re.search(r"(?<![\w'])[cl]\.$", before) or is_goal or re.search(r"(?:goal|Goals)\.$", before)):
                     continue
                 if "clause" in parts and parts.index("clause") < parts.index(old):
