@@ -3,15 +3,15 @@ ghost use Rattle.std.specs.Option.{option_map};
 ghost use Rattle.serde_json.specs.Written.{compact_text};
 ghost use Rattle.json_profile.specs.ReadAs.{IsReadAs};
 ghost use Rattle.controller.specs.Words.{may_be_sent};
-ghost use Rattle.stored_state.specs.Cause.{caused};
+ghost use Rattle.stored_state.specs.Cause.{caused, led_to};
 ghost use Rattle.jmf_message.specs.Decoded.{IsDecodedAs};
 ghost use Rattle.stored_state.specs.Message.{message_text as text_sent};
 
-use crate::cause::{Cause, make};
+use crate::cause::{Cause, copy_unless_it_stays, make};
 use crate::order_bytes::OrderBytes;
 use crate::seat::Seat;
 use crate::stored::Stored;
-use crate::storing::{controllers_of, message_text};
+use crate::storing::{controller_in, message_text};
 use controller::{Outcome, Reply};
 use std::alloc::{AllocError, Global};
 use std::marker::Model;
@@ -77,23 +77,23 @@ impl<C: Stored> Station<C> {
         self.text.as_slice()
     }
 
-    /// What the text of its state is read as, twice.
-    fn read(&self, alloc: Global) -> Result<(C, C), AllocError>
-        ensures { IfOk result (λ read. (read.0 ≡ self.now) × (read.1 ≡ self.now)) }
+    /// What the text of its state is read as.
+    fn read(&self, alloc: Global) -> Result<C, AllocError>
+        ensures { IfOk result (λ controller. controller ≡ self.now) }
     {
-        match controllers_of(alloc, self.text.as_slice()) {
-            Ok(controllers) => Ok(controllers),
+        match controller_in(alloc, self.text.as_slice()) {
+            Ok(controller) => Ok(controller),
             Err(_) => Err(AllocError),
         }
     }
 
-    /// The controller stops, and is started again from the text of its state.
+    /// The controller stops, and is started again from the text of its state. The value that it was
+    /// is the second one then.
     fn start_again(&mut self, alloc: Global) -> Result<(), AllocError>
         ensures { self.new ≡ self.old }
     {
-        let (controller, spare) = self.read(alloc)?;
-        self.controller = controller;
-        self.spare = Some(spare);
+        let controller = self.read(alloc)?;
+        self.spare = Some(mem::replace(&mut self.controller, controller));
         Ok(())
     }
 
@@ -194,18 +194,27 @@ impl<C: Stored> Station<C> {
         controller
     }
 
-    /// Stores what a step led to. The controller that it was makes the same step, and is the second
-    /// value then; where memory runs out there is none.
-    fn store(&mut self, alloc: Global, next: Option<Station<C>>, cause: Cause<C::Order>, at: u64)
-        requires { (caused C.order_step C.take_step cause at self.old).next
-            ≡ unwrap_or next self.old }
+    /// Stores what a step led to. The controller that it was makes the same step, if it is told
+    /// one, and is the second value then; where memory runs out there is none.
+    fn store(
+        &mut self,
+        alloc: Global,
+        next: Option<Station<C>>,
+        again: Option<Cause<C::Order>>,
+        at: u64,
+    )
+        requires { led_to C.order_step C.take_step again at self.old ≡ unwrap_or next self.old }
         ensures { self.new ≡ unwrap_or next self.old }
     {
         let Some(next) = next else {
-            drop(cause);
+            drop(again);
             return;
         };
         let mut second = self.become_next(next);
+        let Some(cause) = again else {
+            self.spare = Some(second);
+            return;
+        };
         match make(alloc, &mut second, cause, at) {
             Ok((outcome, _)) => {
                 drop(outcome);
@@ -255,7 +264,7 @@ where
             ≡ (caused C.order_step C.take_step cause at self.old).next) }
         ensures err { OnErr result (self.new ≡ self.old) }
     {
-        let again = cause.copy(alloc)?;
+        let again = copy_unless_it_stays(alloc, &self.controller, &cause)?;
         let (next, given) = self.step_made(alloc, cause, at)?;
         self.store(alloc, next, again, at);
         Ok(given)
