@@ -9,7 +9,7 @@ ghost use Rattle.stored_state.specs.Station.{made_step};
 use crate::cause::{Cause, make};
 use crate::made::Made;
 use crate::stored::Stored;
-use crate::storing::{controllers_of, message_text};
+use crate::storing::{controller_in, message_text};
 use controller::Outcome;
 use std::alloc::{AllocError, Global};
 use std::marker::Model;
@@ -73,23 +73,23 @@ impl<C: Stored> Station<C> {
         self.text.as_slice()
     }
 
-    /// What the text of its state is read as, twice.
-    fn read(&self, alloc: Global) -> Result<(C, C), AllocError>
-        ensures { IfOk result (λ read. (read.0 ≡ self.now) × (read.1 ≡ self.now)) }
+    /// What the text of its state is read as.
+    fn read(&self, alloc: Global) -> Result<C, AllocError>
+        ensures { IfOk result (λ controller. controller ≡ self.now) }
     {
-        match controllers_of(alloc, self.text.as_slice()) {
-            Ok(controllers) => Ok(controllers),
+        match controller_in(alloc, self.text.as_slice()) {
+            Ok(controller) => Ok(controller),
             Err(_) => Err(AllocError),
         }
     }
 
-    /// The controller stops, and is started again from the text of its state.
+    /// The controller stops, and is started again from the text of its state. The value that it was
+    /// is the second one then.
     pub fn restart(&mut self, alloc: Global) -> Result<(), AllocError>
         ensures { self.new ≡ self.old }
     {
-        let (controller, spare) = self.read(alloc)?;
-        self.controller = controller;
-        self.spare = Some(spare);
+        let controller = self.read(alloc)?;
+        self.spare = Some(mem::replace(&mut self.controller, controller));
         Ok(())
     }
 

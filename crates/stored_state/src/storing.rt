@@ -102,16 +102,15 @@ pub(crate) fn load_bytes<K: Keep>(keep: &mut K) -> Result<Vec<u8>, Refused>
     }
 }
 
-/// The controller whose state bytes are the text of, twice. Refuses what they are refused for, and
+/// The controller whose state bytes are the text of. Refuses what they are refused for, and
 /// `Memory`.
-pub(crate) fn controllers_of<C: Stored>(alloc: Global, bytes: &[u8]) -> Result<(C, C), Refusal>
-    ensures first { IfOk result (λ c. IsReadAs C.state_read bytes.now (Ok c.0)) }
-    ensures second { IfOk result (λ c. IsReadAs C.state_read bytes.now (Ok c.1)) }
+pub(crate) fn controller_in<C: Stored>(alloc: Global, bytes: &[u8]) -> Result<C, Refusal>
+    ensures ok { IfOk result (λ c. IsReadAs C.state_read bytes.now (Ok c)) }
     ensures refused { IfErr result (IsRefusalOf C.state_read bytes.now) }
 {
     let mut scratch = Scratch::new(alloc);
     let tree = tree_of(alloc, bytes, &mut scratch)?;
-    C::pair_of(alloc, &tree)
+    C::state_of(alloc, &tree)
 }
 
 /// The controller whose state a keeper holds.
@@ -128,7 +127,5 @@ pub(crate) fn load<C: Stored, K: Keep>(alloc: Global, keep: &mut K) -> Result<C,
         (IsNotLoaded C.state_read (K.is_honest keep.old) (K.held keep.old)) }
 {
     let bytes = load_bytes(keep)?;
-    let mut scratch = Scratch::new(alloc);
-    let tree = tree_of(alloc, bytes.as_slice(), &mut scratch)?;
-    Ok(C::state_of(alloc, &tree)?)
+    Ok(controller_in(alloc, bytes.as_slice())?)
 }
