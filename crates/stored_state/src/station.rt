@@ -3,10 +3,10 @@ ghost use Rattle.serde_json.specs.Written.{compact_text};
 ghost use Rattle.json_profile.specs.ReadAs.{IsReadAs};
 ghost use Rattle.controller.specs.Step.{outcome_step};
 ghost use Rattle.controller.specs.Words.{may_be_sent};
-ghost use Rattle.stored_state.specs.Cause.{caused};
+ghost use Rattle.stored_state.specs.Cause.{caused, led_to, once_more};
 ghost use Rattle.stored_state.specs.Station.{made_step};
 
-use crate::cause::{Cause, make};
+use crate::cause::{Cause, copy_unless_it_stays, make};
 use crate::made::Made;
 use crate::stored::Stored;
 use crate::storing::{controller_in, message_text};
@@ -14,6 +14,7 @@ use controller::Outcome;
 use std::alloc::{AllocError, Global};
 use std::marker::Model;
 use std::mem;
+use ticket_tree::Duplicate;
 
 /// A controller beside the text of its state, from which it is started again (our own). Beside it
 /// may stand a second value of it, on which its next step is made, so that what is shown stays
@@ -177,24 +178,41 @@ impl<C: Stored> Station<C> {
         controller
     }
 
-    /// Stores what a step led to. The controller that it was makes the same step, and is the second
-    /// value then; where memory runs out there is none.
+    /// What causes a step, copied for the second value that is to make it too; none where it is
+    /// known beforehand to leave the controller as it is.
+    pub fn once_more(
+        &self,
+        alloc: Global,
+        cause: &Cause<C::Order>,
+    ) -> Result<Option<Cause<C::Order>>, AllocError>
+    where
+        C::Order: Duplicate,
+        ensures { IfOk result (λ again. again ≡ once_more C.stays cause.now self.now) }
+    {
+        copy_unless_it_stays(alloc, &self.controller, cause)
+    }
+
+    /// Stores what a step led to. The controller that it was makes the same step, if it is told
+    /// one, and is the second value then; where memory runs out there is none.
     pub fn store(
         &mut self,
         alloc: Global,
         next: Option<Station<C>>,
-        cause: Cause<C::Order>,
+        again: Option<Cause<C::Order>>,
         at: u64,
     )
-        requires { (caused C.order_step C.take_step cause at self.old).next
-            ≡ unwrap_or next self.old }
+        requires { led_to C.order_step C.take_step again at self.old ≡ unwrap_or next self.old }
         ensures { self.new ≡ unwrap_or next self.old }
     {
         let Some(next) = next else {
-            drop(cause);
+            drop(again);
             return;
         };
         let mut second = self.become_next(next);
+        let Some(cause) = again else {
+            self.spare = Some(second);
+            return;
+        };
         match make(alloc, &mut second, cause, at) {
             Ok((outcome, _)) => {
                 drop(outcome);

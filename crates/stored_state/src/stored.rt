@@ -1,8 +1,10 @@
-ghost use Rattle.std.specs.Prelude.{◌≡◌, ℕ, true};
+ghost use Rattle.std.specs.Prelude.{◌≡◌, ℕ, Bool, true};
+ghost use Rattle.controller.specs.declared.body.Body.{Body as BodySeen};
 ghost use Rattle.controller.specs.declared.message.Message.{Message};
 ghost use Rattle.stored_state.specs.Resting.{rests, rests_on};
 
-use controller::Controller;
+use crate::resting::rests_taken;
+use controller::{Body, Controller};
 use controller_form::StateForm;
 use master_core::Master;
 use worker_core::Worker;
@@ -10,6 +12,14 @@ use worker_core::Worker;
 /// A controller that is stored (our own). Where its reply tells that nothing changes, its state
 /// stays as it was.
 pub trait Stored: Controller + StateForm {
+    /// Whether a message that says this leaves it as it is, by what it would be taken as.
+    ghost stays: { BodySeen → Self → Bool };
+
+    /// Whether a message that says this leaves it as it is, taken or refused, as what it would be
+    /// taken as tells. Needs no memory.
+    fn stays_on(&self, body: &Body) -> bool
+        ensures { result ≡ stays body.now self.now };
+
     ghost order_rests: { (order : Self.Order) (at : ℕ) (c : Self)
         → rests (Self.Controller.order_step order at c).reply ≡ true
         → (Self.Controller.order_step order at c).next ≡ c };
@@ -17,20 +27,41 @@ pub trait Stored: Controller + StateForm {
     ghost take_rests: { (m : Message) (at : ℕ) (c : Self)
         → rests_on m.body (Self.Controller.take_step m at c).reply ≡ true
         → (Self.Controller.take_step m at c).next ≡ c };
+
+    ghost take_stays: { (m : Message) (at : ℕ) (c : Self) → stays m.body c ≡ true
+        → (Self.Controller.take_step m at c).next ≡ c };
 }
 
 impl Stored for Master {
     ghost use Rattle.stored_state.specs.Rested.{master_rests, master_rests_on};
+    ghost use Rattle.stored_state.specs.Rested.{master_stays, master_stays_so};
 
     ghost order_rests = { master_rests };
 
     ghost take_rests = { master_rests_on };
+
+    ghost stays = { master_stays };
+
+    ghost take_stays = { master_stays_so };
+
+    fn stays_on(&self, body: &Body) -> bool {
+        rests_taken(body, self.taken_as(body))
+    }
 }
 
 impl Stored for Worker {
     ghost use Rattle.stored_state.specs.Rested.{worker_rests, worker_rests_on};
+    ghost use Rattle.stored_state.specs.Rested.{worker_stays, worker_stays_so};
 
     ghost order_rests = { worker_rests };
 
     ghost take_rests = { worker_rests_on };
+
+    ghost stays = { worker_stays };
+
+    ghost take_stays = { worker_stays_so };
+
+    fn stays_on(&self, body: &Body) -> bool {
+        rests_taken(body, self.taken_as(body))
+    }
 }

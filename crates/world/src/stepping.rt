@@ -39,7 +39,7 @@ where
         stored.restart(alloc)?;
         return Ok(Answer::without_step(Word::Stopped));
     }
-    let again = cause.copy(alloc)?;
+    let again = stored.once_more(alloc, &cause)?;
     let made = stored.step(alloc, cause, at)?;
     let (next, reply, sent) = made.into_parts();
     let word = Word::of(reply);
