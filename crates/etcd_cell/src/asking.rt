@@ -23,6 +23,16 @@ const RANGE: &str = "/v3/kv/range";
 /// The target of a request that changes it.
 const CHANGE: &str = "/v3/kv/txn";
 
+/// What a response tells of what is under a key.
+fn found(alloc: Global, response: &Response) -> Result<Option<Versioned>, NoAnswer>
+    ensures ok { IfOk result (λ found. Tells response.now.status response.now.body.items
+        (λ _ j. IsFound j found)) }
+    ensures unknown { result ≡ Err Unknown → (found : Option Version)
+        → Tells response.now.status response.now.body.items (λ _ j. IsFound j found) → ⊥ }
+{
+    held_of(alloc, response.status, response.body.as_slice())
+}
+
 /// Asks for the value under a key. Refuses `Unknown` where no response comes, or one that tells
 /// nothing; and `Memory`.
 pub fn read_over<S: Read + Write>(
@@ -41,8 +51,10 @@ pub fn read_over<S: Read + Write>(
         → Tells status body (λ _ j. IsFound j found) → ⊥) }
 {
     let body = range_request(alloc, key)?;
-    let response = post(alloc, stream, gateway.authority(), RANGE, body.as_slice())?;
-    held_of(alloc, response.status, response.body.as_slice())
+    match post(alloc, stream, gateway.authority(), RANGE, body.as_slice()) {
+        Ok(response) => found(alloc, &response),
+        Err(fault) => Err(fault),
+    }
 }
 
 /// What a response tells of a swap or a touch.
@@ -69,8 +81,10 @@ pub fn swap_over<S: Read + Write>(
         (swap_asked gateway.now key.now revision bytes.now) }
 {
     let body = swap_request(alloc, key, revision, bytes)?;
-    let response = post(alloc, stream, gateway.authority(), CHANGE, body.as_slice())?;
-    Ok(told(alloc, &response)?)
+    match post(alloc, stream, gateway.authority(), CHANGE, body.as_slice()) {
+        Ok(response) => Ok(told(alloc, &response)?),
+        Err(fault) => Err(fault),
+    }
 }
 
 /// Asks for a later revision of what is under a key, where it has this one. Refuses `Unknown` where
@@ -89,6 +103,8 @@ pub fn touch_over<S: Read + Write>(
         (touch_asked gateway.now key.now revision) }
 {
     let body = touch_request(alloc, key, revision)?;
-    let response = post(alloc, stream, gateway.authority(), CHANGE, body.as_slice())?;
-    Ok(told(alloc, &response)?)
+    match post(alloc, stream, gateway.authority(), CHANGE, body.as_slice()) {
+        Ok(response) => Ok(told(alloc, &response)?),
+        Err(fault) => Err(fault),
+    }
 }

@@ -1,6 +1,6 @@
 //! One request over a stream, and the response to it.
 
-ghost use Rattle.std.specs.Prelude.{◌≡◌, ◌×◌, ◌⊎◌, true, Err, IfOk};
+ghost use Rattle.std.specs.Prelude.{◌≡◌, ◌⊎◌, true, Err, IfOk};
 ghost use Rattle.http_message.specs.Texts as texts;
 ghost use Rattle.http_message.specs.Texts.{request_to};
 ghost use Rattle.etcd_wire.specs.declared.no_answer.NoAnswer.TheVariants.{Unknown};
