@@ -1,17 +1,13 @@
 -- One request over a stream, from its parts.
 use Rattle.std.proofs.Common.{◌≡◌, ◌⊎◌, inl, inr, ℕ, List, sym, subst, refl, ◌∙◌, ap}
-use Rattle.std.specs.Prelude.{Option, Result, Err}
+use Rattle.std.specs.Prelude.{Option}
 use Rattle.http_message.specs.Texts.{request_to}
-use Rattle.etcd_wire.specs.declared.no_answer.NoAnswer.{NoAnswer}
 use Rattle.streams.specs.Counts.{Counts}
 use Rattle.streams.specs.Ends.{IsUnread}
 use Rattle.streams.specs.Streams.{IsInput, Writes, used}
 use Rattle.streams.specs.declared.fault.Fault.{Fault}
 use Rattle.etcd_wire.specs.Response.{Responds}
 use Rattle.etcd_cell.specs.Exchange.{Hears, IsAnswered, IsUnasked, IsUnheard}
-
-pub err_same : {A : Type 0} (e f : NoAnswer) → ◌≡◌ {A = Result A NoAnswer} (Err e) (Err f) → e ≡ f
-err_same e f same = cc same
 
 pub asked_so : (host gateway target bytes text : List ℕ) → host ≡ gateway → bytes ≡ text → request_to host target bytes ≡ request_to gateway target text
 asked_so host gateway target bytes text same_host same_text = ap (λ h. request_to h target bytes) same_host ∙ ap (request_to gateway target) same_text
