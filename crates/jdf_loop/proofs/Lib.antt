@@ -1,6 +1,3 @@
 mod AllEvents
 mod EventLines
-mod ShopKept
-mod ShopOpened
-mod ShopWorkers
-mod ShopOrders
+mod Seating

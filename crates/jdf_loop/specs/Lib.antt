@@ -1,4 +1,2 @@
 pub mod EventLine
-pub mod Handing
 pub mod Run
-pub mod Shop

@@ -2,15 +2,16 @@
 
 ghost use Rattle.std.specs.Prelude.{IfErr, IfOk};
 ghost use Rattle.jdf_loop.specs.Run as run;
-ghost use Rattle.jdf_loop.specs.Shop.{StepsAll};
 ghost use Rattle.streams.specs.Ends.{IsFaultOf};
 ghost use Rattle.streams.specs.Streams.{used};
+ghost use Rattle.world.specs.Replay as replay;
+ghost use Rattle.world.specs.Showing.{shows};
 ghost use Rattle.world_script.specs.Script.{IsRefusalOfRunning};
 
 use crate::event_line::EventLine;
-use crate::loopback::Loopback;
+use crate::exchanges::Exchanges;
 use crate::pushing::push;
-use crate::shop::Shop;
+use crate::shop::{Shop, new_shop};
 use crate::written::written_of;
 use std::alloc::Global;
 use std::io::{Read, Write};
@@ -19,39 +20,60 @@ use streams::{Counted, Fault, Output, Refused, finish, read_input};
 use world_items::Event;
 use world_script::{Script, running_script_of};
 
+/// Lets an event happen in a shop. Where its message is too large nothing is answered. Refuses what
+/// the run ends with.
+fn line_of<N: Net>(
+    exchanges: &mut Exchanges<'_, N>,
+    alloc: Global,
+    shop: &mut Shop,
+    event: Event,
+) -> Result<EventLine, Refused>
+    ensures { IfOk result (run.Happens replay.machine event (shows shop.old) (shows shop.new)) }
+{
+    match shop.step(exchanges, alloc, event) {
+        Ok(answer) => Ok(EventLine::Answered(answer)),
+        Err(Refused::TooLarge) => Ok(EventLine::Refused(Refused::TooLarge)),
+        Err(refused) => Err(refused),
+    }
+}
+
 /// Lets events happen in a shop, in turn. Refuses what the run ends with.
 fn run_events<N: Net>(
-    loopback: &Loopback<'_, N>,
+    exchanges: &mut Exchanges<'_, N>,
     alloc: Global,
     shop: &mut Shop,
     events: Vec<Event>,
 ) -> Result<Vec<EventLine>, Refused>
-    ensures { IfOk result (λ told. StepsAll events.items shop.old shop.new told.items) }
+    ensures { IfOk result (λ told. run.HappenAll replay.machine events.items (shows shop.old)
+        (shows shop.new) told.items) }
 {
     let mut lines = Vec::with_capacity(alloc, events.len())?;
     for event in events {
-        push(&mut lines, shop.step(loopback, alloc, event)?)?;
+        push(&mut lines, line_of(exchanges, alloc, shop, event)?)?;
     }
     Ok(lines)
 }
 
 /// What is written of a shop in which these events happen. Refuses what the run ends with.
 fn written_after<N: Net>(
-    loopback: &Loopback<'_, N>,
+    exchanges: &mut Exchanges<'_, N>,
     alloc: Global,
     shop: &mut Shop,
     events: Vec<Event>,
 ) -> Result<Output, Refused>
-    ensures { IfOk result (λ output. run.IsRunFrom shop.old events.items output.text.items
-        output.refused) }
+    ensures { IfOk result (λ output. run.IsRunFrom (shows shop.old) events.items
+        output.text.items output.refused) }
 {
-    let lines = run_events(loopback, alloc, shop, events)?;
-    Ok(written_of(alloc, lines.as_slice(), shop.master())?)
+    let lines = run_events(exchanges, alloc, shop, events)?;
+    match shop.master() {
+        Some(master) => Ok(written_of(alloc, lines.as_slice(), master)?),
+        None => Err(Refused::Stale),
+    }
 }
 
 /// What is written for a script whose messages are handed over so. Refuses what the run ends with.
 fn run_over<N: Net>(
-    loopback: &Loopback<'_, N>,
+    exchanges: &mut Exchanges<'_, N>,
     alloc: Global,
     script: Script,
 ) -> Result<Output, Refused>
@@ -63,9 +85,9 @@ fn run_over<N: Net>(
         ticket,
         events,
     } = script;
-    match Shop::new(alloc, master, workers, ticket) {
+    match new_shop(alloc, master, workers, ticket) {
         Ok(mut shop) => {
-            let written = written_after(loopback, alloc, &mut shop, events.into_vec());
+            let written = written_after(exchanges, alloc, &mut shop, events.into_vec());
             drop(shop);
             written
         }
@@ -80,8 +102,8 @@ fn run_over<N: Net>(
 fn run_script<N: Net>(rt: &N, alloc: Global, script: Script) -> Result<Output, Refused>
     ensures { IfOk result (λ output. run.IsRunOf script output.text.items output.refused) }
 {
-    match Loopback::open(rt) {
-        Ok(loopback) => run_over(&loopback, alloc, script),
+    match Exchanges::open(rt) {
+        Ok(mut exchanges) => run_over(&mut exchanges, alloc, script),
         Err(refused) => {
             drop(script);
             Err(refused)

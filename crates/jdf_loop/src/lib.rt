@@ -3,12 +3,10 @@
 #![tactic(auto)]
 
 mod command;
-mod delivery;
 mod event_line;
-mod handing;
+mod exchanges;
 mod loopback;
 mod pushing;
-mod sent_texts;
 mod shop;
 mod written;
 

@@ -1,17 +1,18 @@
-use Rattle.std.proofs.Common.{List, subst}
-use Rattle.master_core.specs.Master.{Known}
-use Rattle.jdf_loop.specs.Run.{IsWritten}
-use Rattle.jdf_loop.specs.declared.event_line.EventLine.{EventLine}
+use Rattle.std.proofs.Common.{◌∙◌, ◌∷◌, ◌++◌, [], ap}
+use Rattle.serde_json.specs.Written.{compact_text}
+use Rattle.json_text.specs.Written.{shown_data}
+use Rattle.world.specs.Showing.{shows}
+use Rattle.jdf_loop.specs.EventLine.{has_too_large, lines}
 use Rattle.jdf_loop.proofs.command.written_after.Goals as goal
 
-pub returns : goal.returns
-returns g c =
-    let output = c.in_ok-written_of.field-0 in
-    let closing = c.run_events.new.shop in
+pub returns-in-Some : goal.returns-in-Some
+returns-in-Some g c =
     record {
       told = c.in_ok-lines.lines.items;
-      closing = closing;
-      steps = c.in_ok-lines.ensures;
-      written = subst (λ (told : List EventLine). IsWritten told closing.master.controller output.text.items output.refused) c.as_slice.ensures.value
-          (subst (λ (m : Known). IsWritten c.as_slice.result.now m output.text.items output.refused) c.master.ensures c.in_ok-written_of.ensures.ok);
+      closing = shows c.run_events.new.shop;
+      happen = c.in_ok-lines.ensures;
+      written = record {
+        written = c.in_ok-written_of.ensures.text ∙ λ i. lines (c.as_slice.ensures.value i) ++ (compact_text (shown_data (c.in-Some.ensures.marks i) (c.in-Some.ensures.seen i)) ++ 10 ∷ []);
+        status = c.in_ok-written_of.ensures.status ∙ ap has_too_large c.as_slice.ensures.value;
+      };
     }
