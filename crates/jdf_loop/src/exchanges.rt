@@ -81,7 +81,7 @@ fn responds<S: Read + Write + Drop>(
     }
     let response = receive(alloc, &mut Counted::new(&mut client))?;
     match &given.message {
-        None => Ok(response.body.is_empty()),
+        None => Ok(response.body.as_slice().is_empty()),
         Some(text) => Ok(response.body.as_slice() == text.as_slice()),
     }
 }
