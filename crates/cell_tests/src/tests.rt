@@ -1,5 +1,4 @@
 mod answers;
-mod holders;
 mod kept_cells;
 mod requests;
 mod responses;
