@@ -12,7 +12,7 @@ use stored_state::Addressee;
 pub const PEERS: &str = "peers.json";
 
 /// A path as that of a folder and a name in it.
-fn parted(path: &str) -> (&str, &str) {
+fn folder_and_name(path: &str) -> (&str, &str) {
     match path.rsplit_once('/') {
         Some((folder, name)) => (folder, name),
         None => (".", path),
@@ -34,19 +34,19 @@ fn is_served<R: Files>(rt: &R, alloc: Global, folder: &str) -> Result<bool, Allo
 }
 
 /// The controller that a file is for: in a folder with a peers' file the one of the file's name; in
-/// a folder in such a folder the worker of that folder's name whose master has the file's name; none
-/// at all where such a name may not be that of a file; and else any. The folder that a process works
-/// in isn't looked at from within another.
+/// a folder in such a folder the worker of that folder's name whose master has the file's name;
+/// none at all where such a name may not be that of a file; and else any. The folder that a process
+/// works in isn't looked at from within another.
 pub fn owner_of<'a, R: Files>(
     rt: &R,
     alloc: Global,
     path: &'a str,
 ) -> Result<Addressee<'a>, AllocError> {
-    let (folder, name) = parted(path);
+    let (folder, name) = folder_and_name(path);
     if is_served(rt, alloc, folder)? {
         return Ok(Addressee::Named(servable(name)));
     }
-    let (above, worker) = parted(folder);
+    let (above, worker) = folder_and_name(folder);
     if is_served(rt, alloc, above)? {
         return Ok(Addressee::WorkerOf(servable(worker), servable(name)));
     }

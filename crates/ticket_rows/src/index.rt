@@ -53,8 +53,10 @@ fn add_row(spots: &mut BTreeMap<Id, Spot>, node: usize, row: &NodeRow) -> Result
 }
 
 impl Index {
-    ghost use Rattle.std.specs.Prelude.{◌≡◌, ◌<◌, [], ℕ, List, None, Some, suc, false, true, is_some};
-    ghost use Rattle.std.specs.Prelude.{if◌then◌else◌, length, slice_get, IfOk, IfSome, OnErr, OnOk};
+    ghost use Rattle.std.specs.Prelude.{◌≡◌, ◌<◌, [], ℕ, List, None};
+    ghost use Rattle.std.specs.Prelude.{Some, suc, false, true, is_some};
+    ghost use Rattle.std.specs.Prelude.{if◌then◌else◌, length, slice_get, IfOk};
+    ghost use Rattle.std.specs.Prelude.{IfSome, OnErr, OnOk};
     ghost use Rattle.std.specs.List.{insert};
     ghost use Rattle.std.specs.Option.{option_and_then};
     ghost use Rattle.std.specs.Str.{bytes_eq};
@@ -77,7 +79,7 @@ impl Index {
                 return Ok(None);
             }
         }
-        let places = Places::counted(alloc, rows.len())?;
+        let places = Places::with_count(alloc, rows.len())?;
         let runs = runs_of(alloc, rows)?;
         let parents = parents_of(alloc, runs.as_slice())?;
         Ok(Some(Index {
@@ -149,7 +151,7 @@ impl Index {
     {
         let end = place + 1 + self.runs[place];
         let row = rows[place].as_ref();
-        let parent = self.came(&row.id);
+        let parent = self.count_before(&row.id);
         self.places.reserve()?;
         self.parents.reserve(1)?;
         self.runs.reserve(1)?;
@@ -168,7 +170,7 @@ impl Index {
     }
 
     /// How many came before the node of an id.
-    fn came(&self, id: &Id) -> usize
+    fn count_before(&self, id: &Id) -> usize
         ensures { (k : ℕ) → option_and_then (node_at self.now.places.items)
             (spot_under self.now.spots id.now) ≡ Some k
             → slice_get self.now.places.items result ≡ Some k }
@@ -202,7 +204,7 @@ impl Index {
         ensures err { OnErr result (IsIndex (contents rows.now) self.new) }
     {
         let row = rows[place].as_ref();
-        let home = self.came(&row.id);
+        let home = self.count_before(&row.id);
         let spot = Spot::InPool {
             home,
             place: row.resources.as_slice().len(),
