@@ -1,6 +1,5 @@
 use crate::entries::Entries;
 use crate::entry::Entry;
-use crate::order::Order;
 use crate::ordering::do_order;
 use crate::stored::are_parts;
 use crate::taking::{do_take, taken_as};
@@ -8,6 +7,7 @@ use controller::{Body, Done, Message, Outcome, Taken};
 use std::alloc::{AllocError, Global};
 use std::marker::Model;
 use ticket_tree::{Id, Refusal, SpawnId};
+use world_items::worker_order::Order;
 
 /// A controller that works on parts of another's ticket, which is its master (JDF 1.5, 4.4). It
 /// keeps each part that it takes, in the order in which they come, until it was given back and has
@@ -144,7 +144,7 @@ impl Worker {
     /// refuses `Memory`. A refusal changes nothing.
     pub fn order(&mut self, alloc: Global, order: Order, at: u64) -> Result<Done, Refusal>
         // Proved: An order does just what it says to one entry, and what goes back is told.
-        // By `ok`, `err`; `Order::spawn`.
+        // By `ok`, `err`.
         ensures ok { IfOk result
             (λ done. done_step done self.new ≡ orders.order_step order at self.old) }
         ensures err { OnErr result (self.new ≡ self.old) }
