@@ -5,6 +5,7 @@ pub mod Loading
 pub mod MessageTexts
 mod OutSoFar
 mod HeldSeats
+mod SeatFaults
 mod SavedOnce
 mod TakingEach
 mod Unsaved

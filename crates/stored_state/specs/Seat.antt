@@ -1,13 +1,17 @@
 -- A controller beside what it is started again from.
 use Rattle.std.specs.Prelude.{◌≡◌, ◌⊎◌, ℕ, Bool, true, false, List, Ok, Option, option_and_then}
-use Rattle.std.specs.Prelude.{Result, unwrap_or}
+use Rattle.std.specs.Prelude.{Result, unwrap_or, ⊤}
 use Rattle.std.specs.Result.{result_ok}
 use Rattle.serde_json.specs.Data.{Data}
 use Rattle.serde_json.specs.Read.{read}
 use Rattle.ticket_items.specs.declared.refusal.Refusal.{Refusal}
+use Rattle.ticket_items.specs.declared.refusal.Refusal.TheVariants.{Memory}
 use Rattle.json_profile.specs.ReadAs.{IsReadAs}
 use Rattle.controller.specs.Step.{Step}
+use Rattle.keepers.specs.Keeper.{CountRose}
 use Rattle.stored_state.specs.Held.{KeptState}
+use Rattle.streams.specs.declared.refused.Refused.{Refused}
+use Rattle.streams.specs.declared.refused.Refused.TheVariants.{Core, LoadFailed, SaveFailed}
 
 -- a controller is the one before a step, or the one that the step leads to
 abbrev pub IsOldOrNext : {C M : Type 0} → C → Step C M → C → Type 0
@@ -31,3 +35,18 @@ pub record IsSeat {C K : Type 0} (own_name : C → List ℕ) (state_read : Data 
   pub again : IsReadAs state_read (held seat.keep) (Ok (kept_in state_read held seat))
   pub fresh : seat.stale ≡ false → seat.controller ≡ kept_in state_read held seat
   pub named : own_name seat.controller ≡ own_name (kept_in state_read held seat)
+
+-- ---- what is refused
+
+-- what a seat beside a keeper refuses a call for: memory ran out, or the keeper failed
+abbrev pub IsKeeperFault : Refused → Type 0
+IsKeeperFault (Core e) = e ≡ Memory
+IsKeeperFault LoadFailed = ⊤
+IsKeeperFault SaveFailed = ⊤
+IsKeeperFault other = ⊥
+
+-- and when, by how many calls of the keeper failed before and since: where it failed, it counted
+abbrev pub IsCounted : ℕ → ℕ → Refused → Type 0
+IsCounted before since LoadFailed = CountRose before since
+IsCounted before since SaveFailed = CountRose before since
+IsCounted before since other = ⊤

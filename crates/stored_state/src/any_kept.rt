@@ -1,4 +1,4 @@
-ghost use Rattle.std.specs.Prelude.{◌≡◌, ◌≤◌, ◌↔◌, Ok, false, true, IfOk, IfErr, IsErrOf};
+ghost use Rattle.std.specs.Prelude.{◌≡◌, ◌≤◌, ◌↔◌, Ok, false, true, IfOk, IfErr, IsErrOf, OnOk};
 ghost use Rattle.std.specs.Option.{option_map};
 ghost use Rattle.jmf_message.specs.Decoded.{IsRefusalOf as IsUndecoded};
 ghost use Rattle.streams.specs.declared.refused.Refused.TheVariants.{LoadFailed, Stale};
@@ -48,10 +48,13 @@ impl<K: Keep> AnyKept<K> {
     pub fn order(&mut self, alloc: Global, bytes: &[u8], at: u64) -> Result<OrderBytes, Refused>
         // Proved: What comes of the bytes of an order or a message is the reply and text of their
         // step, which is saved, whichever the controller is.
-        // By `ok`, `honest`, `counted`; `AnyKept::take`: `ok`, `honest`, `counted`.
+        // By `ok`, `again`, `honest`, `counted`; `AnyKept::take`: `ok`, `again`, `honest`,
+        // `counted`.
         ensures ok { IfOk result (λ given. GivesStep K.is_honest K.held text_of
             (IsOrdered at bytes.now (controller_in self.old)) (kept_of self.new)
             given.reply (option_map (λ b. b.items) given.message)) }
+        ensures again { OnOk result (K.is_honest (keep_in self.old) ≡ true →
+            IsReadAs any_state_read (K.held (keep_in self.new)) (Ok (controller_in self.new))) }
         ensures stale { (is_stale_in self.old ≡ true) ↔ IsErrOf result Stale }
         ensures honest { K.is_honest (keep_in self.new) ≡ K.is_honest (keep_in self.old) }
         ensures place { K.place (keep_in self.new) ≡ K.place (keep_in self.old) }
@@ -86,6 +89,8 @@ impl<K: Keep> AnyKept<K> {
             (IsHanded at bytes.now (controller_in self.old)) (kept_of self.new)
             given.reply (option_map (λ b. b.items) given.answer)) }
         ensures sender { IfOk result (λ given. IsSentBy bytes.now given.sender) }
+        ensures again { OnOk result (K.is_honest (keep_in self.old) ≡ true →
+            IsReadAs any_state_read (K.held (keep_in self.new)) (Ok (controller_in self.new))) }
         ensures stale { (is_stale_in self.old ≡ true) ↔ IsErrOf result Stale }
         ensures honest { K.is_honest (keep_in self.new) ≡ K.is_honest (keep_in self.old) }
         ensures place { K.place (keep_in self.new) ≡ K.place (keep_in self.old) }

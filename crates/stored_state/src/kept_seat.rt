@@ -1,10 +1,11 @@
-ghost use Rattle.std.specs.Prelude.{◌≡◌, true, false, Ok, IfOk, IfSome, OnErr, OnOk};
+ghost use Rattle.std.specs.Prelude.{◌≡◌, ◌≤◌, true, false, Ok, IfErr, IfOk, IfSome, OnErr};
+ghost use Rattle.std.specs.Prelude.{OnOk};
 ghost use Rattle.std.specs.Option.{option_map};
 ghost use Rattle.jmf_message.specs.Decoded.{IsDecodedAs};
 ghost use Rattle.stored_state.specs.Cause.{step_on};
 ghost use Rattle.stored_state.specs.Held.{IsReadAs};
 ghost use Rattle.stored_state.specs.Message.{message_text};
-ghost use Rattle.stored_state.specs.Seat.{IsOldOrNext, kept_in};
+ghost use Rattle.stored_state.specs.Seat.{IsCounted, IsKeeperFault, IsOldOrNext, kept_in};
 
 use crate::cause::StepInput;
 use crate::kept::Kept;
@@ -52,6 +53,10 @@ impl<C: StoredController, K: Keep> KeptSeat<C, K> {
         ensures state { kept_in C.state_read K.held self.new
             ≡ kept_in C.state_read K.held self.old }
         ensures fresh { OnOk result (self.new.stale ≡ false) }
+        ensures refused { IfErr result IsKeeperFault }
+        ensures failures { IfErr result
+            (IsCounted (K.count self.old.keep) (K.count self.new.keep)) }
+        ensures counted { K.count self.old.keep ≤ K.count self.new.keep }
     {
         if self.beside.is_stale() {
             return self.beside.reload(alloc);
@@ -83,6 +88,10 @@ impl<C: StoredController, K: Keep> KeptSeat<C, K> {
         ensures err { OnErr result (IsOldOrNext (kept_in C.state_read K.held self.old)
             (step_on C.order_step C.take_step cause at (kept_in C.state_read K.held self.old))
             (kept_in C.state_read K.held self.new)) }
+        ensures refused { IfErr result IsKeeperFault }
+        ensures failures { IfErr result
+            (IsCounted (K.count self.old.keep) (K.count self.new.keep)) }
+        ensures counted { K.count self.old.keep ≤ K.count self.new.keep }
     {
         self.beside.step(alloc, cause, at)
     }
@@ -98,6 +107,8 @@ impl<C: StoredController, K: Keep> Seat<C> for KeptSeat<C, K> {
     ghost is_fresh = { λ seat. not seat.stale };
 
     ghost is_sure = { false };
+
+    ghost refuses = { IsKeeperFault };
 
     ghost sure_is_fresh = { λ sure _. absurd (true≢false (sym sure)) };
 
@@ -119,9 +130,11 @@ impl<C: StoredController, K: Keep> Seat<C> for KeptSeat<C, K> {
         at: u64,
     ) -> Result<OrderBytes, Refused>
         // Proved: A controller beside an honest keeper is a seat too; where it is open which is
-        // held, it is read again before the next step.
-        // By `reply`, `message`, `read`, `state`, `fresh`, `err`; `KeptSeat::stop`: `reply`,
-        // `state`, `fresh`, `err`; `KeptSeat::of`.
+        // held, it is read again before the next step. Its calls are refused for want of memory,
+        // or where the keeper failed, which that counted.
+        // By `reply`, `message`, `read`, `state`, `fresh`, `err`, `refused`, `failures`,
+        // `counted`; `KeptSeat::stop`: `reply`, `state`, `fresh`, `err`, `refused`, `failures`,
+        // `counted`; `KeptSeat::restart`: `refused`, `failures`, `counted`; `KeptSeat::of`.
         ensures reply { IfOk result (λ given. given.reply
             ≡ (step_on C.order_step C.take_step cause at
             (kept_in C.state_read K.held self.old)).reply) }
@@ -138,6 +151,10 @@ impl<C: StoredController, K: Keep> Seat<C> for KeptSeat<C, K> {
         ensures err { OnErr result (IsOldOrNext (kept_in C.state_read K.held self.old)
             (step_on C.order_step C.take_step cause at (kept_in C.state_read K.held self.old))
             (kept_in C.state_read K.held self.new)) }
+        ensures refused { IfErr result IsKeeperFault }
+        ensures failures { IfErr result
+            (IsCounted (K.count self.old.keep) (K.count self.new.keep)) }
+        ensures counted { K.count self.old.keep ≤ K.count self.new.keep }
     {
         if let Err(refused) = self.refresh(alloc) {
             drop(cause);
@@ -162,6 +179,10 @@ impl<C: StoredController, K: Keep> Seat<C> for KeptSeat<C, K> {
         ensures err { OnErr result (IsOldOrNext (kept_in C.state_read K.held self.old)
             (step_on C.order_step C.take_step cause at (kept_in C.state_read K.held self.old))
             (kept_in C.state_read K.held self.new)) }
+        ensures refused { IfErr result IsKeeperFault }
+        ensures failures { IfErr result
+            (IsCounted (K.count self.old.keep) (K.count self.new.keep)) }
+        ensures counted { K.count self.old.keep ≤ K.count self.new.keep }
     {
         let OrderBytes { reply, message } = self.step(alloc, cause, at)?;
         drop(message);
@@ -169,7 +190,15 @@ impl<C: StoredController, K: Keep> Seat<C> for KeptSeat<C, K> {
         Ok(reply)
     }
 
-    fn restart(&mut self, alloc: Global) -> Result<(), Refused> {
+    fn restart(&mut self, alloc: Global) -> Result<(), Refused>
+        ensures state { kept_in C.state_read K.held self.new
+            ≡ kept_in C.state_read K.held self.old }
+        ensures fresh { OnOk result (self.new.stale ≡ false) }
+        ensures refused { IfErr result IsKeeperFault }
+        ensures failures { IfErr result
+            (IsCounted (K.count self.old.keep) (K.count self.new.keep)) }
+        ensures counted { K.count self.old.keep ≤ K.count self.new.keep }
+    {
         self.beside.reload(alloc)
     }
 }

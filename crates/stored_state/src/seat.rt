@@ -1,9 +1,11 @@
-ghost use Rattle.std.specs.Prelude.{◌≡◌, Bool, true, is_some, Ok, IfOk, IfSome, OnErr, OnOk};
+ghost use Rattle.std.specs.Prelude.{◌≡◌, Bool, true, is_some, Ok, IfErr, IfOk, IfSome, OnErr};
+ghost use Rattle.std.specs.Prelude.{OnOk};
 ghost use Rattle.std.specs.Option.{option_map};
 ghost use Rattle.jmf_message.specs.Decoded.{IsDecodedAs};
 ghost use Rattle.stored_state.specs.Cause.{step_on};
 ghost use Rattle.stored_state.specs.Message.{message_text};
 ghost use Rattle.stored_state.specs.Seat.{IsOldOrNext};
+ghost use Rattle.streams.specs.declared.refused.Refused.{Refused as RefusedSeen};
 
 use crate::cause::StepInput;
 use crate::order_bytes::OrderBytes;
@@ -26,6 +28,9 @@ pub trait Seat<C: StoredController>: Drop {
     /// Whether a step that is refused is never held, of any such seat.
     ghost is_sure: { Bool };
 
+    /// What any such seat refuses a call for.
+    ghost refuses: { RefusedSeen → Type 0 };
+
     /// The controller's name.
     fn name(&self) -> &Id
         ensures { result.now ≡ C.own_name (kept self.now) };
@@ -47,10 +52,11 @@ pub trait Seat<C: StoredController>: Drop {
         // Proved: A seat is a controller beside what it is started again from: its step is made
         // and held before anything of it is given out; of one that is refused the controller
         // before it is held, or the one that it leads to; a stop and a restart leave the
-        // controller that is held.
-        // By `reply`, `message`, `read`, `state`, `fresh`, `err`; `Seat::stop`: `reply`, `state`,
-        // `fresh`, `err`, `sure`; `Seat::restart`: `state`, `fresh`; `Seat::name`;
-        // `Seat::controller`: `kept`, `fresh`.
+        // controller that is held; and each is refused for nothing but what such a seat may
+        // refuse.
+        // By `reply`, `message`, `read`, `state`, `fresh`, `err`, `refused`; `Seat::stop`:
+        // `reply`, `state`, `fresh`, `err`, `sure`, `refused`; `Seat::restart`: `state`, `fresh`,
+        // `refused`; `Seat::name`; `Seat::controller`: `kept`, `fresh`.
         ensures reply { IfOk result (λ given. given.reply
             ≡ (step_on C.order_step C.take_step cause at (kept self.old)).reply) }
         ensures message { IfOk result (λ given. option_map (λ b. b.items) given.message
@@ -64,7 +70,8 @@ pub trait Seat<C: StoredController>: Drop {
         ensures fresh { OnOk result (is_fresh self.new ≡ true) }
         ensures err { OnErr result (IsOldOrNext (kept self.old)
             (step_on C.order_step C.take_step cause at (kept self.old)) (kept self.new)) }
-        ensures sure { OnErr result (is_sure ≡ true → kept self.new ≡ kept self.old) };
+        ensures sure { OnErr result (is_sure ≡ true → kept self.new ≡ kept self.old) }
+        ensures refused { IfErr result refuses };
 
     /// Its step, which is held, and of which no message is given out: the controller stops, and is
     /// started again. Gives what it replied.
@@ -81,12 +88,14 @@ pub trait Seat<C: StoredController>: Drop {
         ensures fresh { OnOk result (is_fresh self.new ≡ true) }
         ensures err { OnErr result (IsOldOrNext (kept self.old)
             (step_on C.order_step C.take_step cause at (kept self.old)) (kept self.new)) }
-        ensures sure { OnErr result (is_sure ≡ true → kept self.new ≡ kept self.old) };
+        ensures sure { OnErr result (is_sure ≡ true → kept self.new ≡ kept self.old) }
+        ensures refused { IfErr result refuses };
 
     /// The controller stops, and is started again.
     fn restart(&mut self, alloc: Global) -> Result<(), Refused>
         ensures state { kept self.new ≡ kept self.old }
-        ensures fresh { OnOk result (is_fresh self.new ≡ true) };
+        ensures fresh { OnOk result (is_fresh self.new ≡ true) }
+        ensures refused { IfErr result refuses };
 
     /// Of a seat at which a refused step is never held the controller is known.
     ghost sure_is_fresh: { is_sure ≡ true → (seat : Self) → is_fresh seat ≡ true };

@@ -227,13 +227,17 @@ impl<C: StoredController> Seat<C> for Station<C>
 where
     C::Order: Duplicate,
 {
-    ghost use Rattle.std.specs.Prelude.{refl};
+    ghost use Rattle.std.specs.Prelude.{refl, IfErr};
+    ghost use Rattle.ticket_items.specs.declared.refusal.Refusal.TheVariants.{Memory};
+    ghost use Rattle.streams.specs.declared.refused.Refused.TheVariants.{Core};
 
     ghost kept = { λ station. station };
 
     ghost is_fresh = { λ _. true };
 
     ghost is_sure = { true };
+
+    ghost refuses = { λ e. e ≡ Core Memory };
 
     ghost sure_is_fresh = { λ _ _. refl };
 
@@ -252,9 +256,10 @@ where
         at: u64,
     ) -> Result<OrderBytes, Refused>
         // Proved: A controller beside the text of its state is a seat, at which a step that is
-        // refused is never held.
-        // By `reply`, `message`, `read`, `state`, `err`; `Station::stop`: `reply`, `state`, `err`;
-        // `Station::text`: `text`, `again`; `Station::new`, `Station::controller`.
+        // refused is never held; none is refused but for want of memory.
+        // By `reply`, `message`, `read`, `state`, `err`, `refused`; `Station::stop`: `reply`,
+        // `state`, `err`, `refused`; `Station::text`: `text`, `again`; `Station::new`,
+        // `Station::controller`.
         ensures reply { IfOk result (λ given. given.reply
             ≡ (step_on C.order_step C.take_step cause at self.old).reply) }
         ensures message { IfOk result (λ given. option_map (λ b. b.items) given.message
@@ -265,6 +270,7 @@ where
         ensures state { OnOk result (self.new
             ≡ (step_on C.order_step C.take_step cause at self.old).next) }
         ensures err { OnErr result (self.new ≡ self.old) }
+        ensures refused { IfErr result (λ e. e ≡ Core Memory) }
     {
         let again = cause.copy(alloc)?;
         let (next, given) = self.step_made(alloc, cause, at)?;
@@ -283,6 +289,7 @@ where
         ensures state { OnOk result (self.new
             ≡ (step_on C.order_step C.take_step cause at self.old).next) }
         ensures err { OnErr result (self.new ≡ self.old) }
+        ensures refused { IfErr result (λ e. e ≡ Core Memory) }
     {
         let (next, given) = self.step_made(alloc, cause, at)?;
         let OrderBytes { reply, message } = given;

@@ -1,4 +1,5 @@
 pub mod Answered
+pub mod Faults
 pub mod Unknown
 pub mod Seated
 pub mod Settled

@@ -3,6 +3,7 @@ pub mod Messages
 pub mod State
 pub mod Sent
 pub mod StoredTexts
+pub mod Faults
 pub mod Stepping
 pub mod Running
 pub mod Happening

@@ -46,6 +46,9 @@ impl<M: Seat<Master>, W: Seat<Worker>> Seats<M, W> {
     ghost use Rattle.stored_state.specs.Message.{message_text, messages_in};
     ghost use Rattle.world.specs.Running.{IsCutOff, IsStopped};
     ghost use Rattle.world.specs.Changing.{Changer, Holds, MayChange};
+    ghost use Rattle.streams.specs.declared.refused.Refused.TheVariants.{Core};
+    ghost use Rattle.ticket_items.specs.declared.refusal.Refusal.TheVariants.{Memory};
+    ghost use Rattle.world.specs.Faults.{IsEventFault, IsLoss};
     ghost use Rattle.world.specs.Happening as happening;
     ghost use Rattle.plain_shop.specs.MergeAudits.{MergeAuditsMatch};
     ghost use Rattle.world.specs.Once.{AreMergedOnce};
@@ -141,6 +144,7 @@ impl<M: Seat<Master>, W: Seat<Worker>> Seats<M, W> {
             (happening.master_step cause at self.old) self.new) }
         ensures sure { OnErr result (M.is_sure ≡ true → R.is_direct ≡ true
             → self.new ≡ self.old) }
+        ensures refused { IfErr result (IsEventFault M.refuses W.refuses R.loses) }
         ensures kept { state.IsConsistent self.old }
     {
         stepping::steps(
@@ -184,6 +188,7 @@ impl<M: Seat<Master>, W: Seat<Worker>> Seats<M, W> {
             (happening.worker_step name none cause at self.old) self.new) }
         ensures sure { OnErr result (W.is_sure ≡ true → R.is_direct ≡ true
             → self.new ≡ self.old) }
+        ensures refused { IfErr result (IsEventFault M.refuses W.refuses R.loses) }
         ensures unmade { is_some place ≡ false → IsOk result }
         ensures kept { state.IsConsistent self.old }
     {
@@ -208,13 +213,17 @@ impl<M: Seat<Master>, W: Seat<Worker>> Seats<M, W> {
     ) -> Result<Option<Message>, Refused>
         ensures ok { IfOk result (λ found. found ≡ state.message_at self.now.messages number) }
         ensures none { state.message_at self.now.messages number ≡ None → IsOk result }
+        ensures lost { IfErr result (IsLoss R.loses) }
     {
         let Some(text) = self.messages.text_at(number) else {
             return Ok(None);
         };
         carrier.carry(alloc, text.as_slice())?;
-        let message = decode(alloc, text.as_slice())?;
-        Ok(Some(message))
+        // It is read as the message that it is of, unless memory runs out.
+        match decode(alloc, text.as_slice()) {
+            Ok(message) => Ok(Some(message)),
+            Err(_) => Err(Refused::Core(Refusal::Memory)),
+        }
     }
 
     /// The message of a number is handed to its receiver.
@@ -234,6 +243,7 @@ impl<M: Seat<Master>, W: Seat<Worker>> Seats<M, W> {
             (happening.delivery_step number at self.old) self.new) }
         ensures sure { OnErr result (M.is_sure ≡ true → W.is_sure ≡ true → R.is_direct ≡ true
             → self.new ≡ self.old) }
+        ensures refused { IfErr result (IsEventFault M.refuses W.refuses R.loses) }
         ensures unmade { happening.is_reached (happening.delivery_step number at self.old)
             ≡ false → IsOk result }
         ensures kept { state.IsConsistent self.old }
@@ -262,6 +272,7 @@ impl<M: Seat<Master>, W: Seat<Worker>> Seats<M, W> {
             ≡ settling.answer_without_step (happening.restart_word name.now self.old)) }
         ensures state { OnOk result (self.new ≡ self.old) }
         ensures err { OnErr result (self.new ≡ self.old) }
+        ensures refused { IfErr result (IsEventFault M.refuses W.refuses (λ _. ⊥)) }
         ensures unmade { happening.is_reached (Err (happening.restart_word name.now self.old))
             ≡ false → IsOk result }
         ensures kept { state.IsConsistent self.old }
@@ -312,8 +323,12 @@ impl<M: Seat<Master>, W: Seat<Worker>> Seats<M, W> {
         // Proved: Where no seat ever holds a step that it refuses, and each text comes, an event
         // that is refused changes nothing.
         // By `sure`; `Seats::run`: `sure`.
+        // Proved: An event at seats is refused for what a seat refuses, for what its text was lost
+        // for, or for want of memory, and for nothing else.
+        // By `refused`; `Seats::run`: `refused`.
         ensures sure { OnErr result (M.is_sure ≡ true → W.is_sure ≡ true → R.is_direct ≡ true
             → self.new ≡ self.old) }
+        ensures refused { IfErr result (IsEventFault M.refuses W.refuses R.loses) }
         ensures unmade { happening.reaches event self.old ≡ false → IsOk result }
         ensures alone { (c d : Changer) (x : List ℕ)
             → MayChange self.new c x → MayChange self.new d x → c ≡ d }
@@ -374,6 +389,7 @@ impl<M: Seat<Master>, W: Seat<Worker>> Seats<M, W> {
         ensures sure { OnErr result (M.is_sure ≡ true → W.is_sure ≡ true → R.is_direct ≡ true
             → (k : ℕ) × (k < length events.items)
             × (self.new ≡ happening.after_all (take k events.items) self.old)) }
+        ensures refused { IfErr result (IsEventFault M.refuses W.refuses R.loses) }
         ensures once { IfOk result (λ answers. AreMergedOnce answers.items) }
         ensures merges { IfOk result (λ answers. (name : List ℕ) (workers : List (List ℕ))
             (ticket : Job) → self.old ≡ state.opening name workers ticket

@@ -1,7 +1,7 @@
 //! What one controller makes of an order or a message: its step, which is held and whose message is
 //! sent as far as the stop lets it. A step that is lost isn't made.
 
-ghost use Rattle.std.specs.Prelude.{◌≡◌, Ok, true, IfOk, IfSome, OnErr, OnOk};
+ghost use Rattle.std.specs.Prelude.{◌≡◌, Ok, true, IfErr, IfOk, IfSome, OnErr, OnOk};
 ghost use Rattle.std.specs.Option.{option_map};
 ghost use Rattle.jmf_message.specs.Decoded.{IsDecodedAs};
 ghost use Rattle.stored_state.specs.Cause.{step_on};
@@ -9,6 +9,7 @@ ghost use Rattle.stored_state.specs.Message.{message_text};
 ghost use Rattle.stored_state.specs.Seat.{IsOldOrNext};
 ghost use Rattle.world_items.specs.Word.{word_of};
 ghost use Rattle.plain_shop.specs.Settling as settling;
+ghost use Rattle.world.specs.Faults.{IsStepFault};
 
 use crate::carrier::Carrier;
 use crate::sent::SentMessages;
@@ -43,6 +44,7 @@ fn steps_on<R: Carrier, C: StoredController, S: Seat<C>>(
     ensures err_messages { OnErr result (messages.new.messages ≡ messages.old.messages) }
     ensures sure { OnErr result (S.is_sure ≡ true → R.is_direct ≡ true
         → S.kept seat.new ≡ S.kept seat.old) }
+    ensures refused { IfErr result (IsStepFault S.refuses R.loses) }
 {
     if let Err(AllocError) = messages.reserve() {
         drop(cause);
@@ -82,6 +84,7 @@ pub fn steps<R: Carrier, C: StoredController, S: Seat<C>>(
     ensures err_messages { OnErr result (messages.new.messages ≡ messages.old.messages) }
     ensures sure { OnErr result (S.is_sure ≡ true → R.is_direct ≡ true
         → S.kept seat.new ≡ S.kept seat.old) }
+    ensures refused { IfErr result (IsStepFault S.refuses R.loses) }
 {
     match stop {
         Stop::Run => steps_on(carrier, alloc, seat, messages, cause, at),

@@ -1,18 +1,19 @@
 -- What a command on a controller that a keeper holds writes for its input, and why it gives up.
 use Rattle.std.specs.Prelude.{◌≡◌, ◌⊎◌, ℕ, Bool, false, true, List, [], Option, IfSome, Result}
-use Rattle.std.specs.Prelude.{if◌then◌else◌}
+use Rattle.std.specs.Prelude.{if◌then◌else◌, Ok}
 use Rattle.ticket_items.specs.declared.refusal.Refusal.{Refusal}
 use Rattle.streams.specs.declared.refused.Refused.TheVariants.{SaveFailed}
 use Rattle.streams.specs.declared.fault.Fault.{Fault}
 use Rattle.streams.specs.declared.fault.Fault.TheVariants.{Device}
 use Rattle.streams.specs.Ends.{IsUnread}
 use Rattle.streams.specs.Streams.{IsInput, IsUntouched, Traffic}
-use Rattle.stored_state.specs.Held.{KeptState}
+use Rattle.stored_state.specs.Held.{IsReadAs, KeptState}
 use Rattle.stored_state.specs.declared.addressee.Addressee.{Addressee}
 use Rattle.stored_state.specs.declared.any_controller.AnyController.{AnyController}
 use Rattle.stored_state.specs.declared.any_controller.AnyController.TheVariants.{Master as of_master}
 use Rattle.stored_state.specs.declared.any_controller.AnyController.TheVariants.{Worker as of_worker}
 use Rattle.stored_state.specs.AnyStep.{text_of}
+use Rattle.stored_state.specs.Opened.{any_state_read}
 use Rattle.jdf_commands.specs.FileCommands.Beginning.{IsBegunAs, IsNotBegun}
 use Rattle.jdf_commands.specs.FileCommands.Opening.{IsLoaded, IsNotLoaded}
 use Rattle.jdf_commands.specs.FileCommands.Pictured.{picture_text}
@@ -51,7 +52,8 @@ BeginsNone save_fails false keep to input fault =
 -- ---- a step of the controller that is held
 
 -- the step that the bytes are, of the controller that was held, is saved, and this is given out:
--- what is replied, and the text that goes out; all in the same place
+-- what is replied, and the text that goes out; all in the same place. What is held then is read
+-- again as the controller
 pub record GivesHeld {K : Type 0} (is_honest : K → Bool) (held place : K → List ℕ) (IsStep : Steps)
     (bytes : List ℕ) (keep : K) (after : KeptState AnyController K) (reply : Result Reply Refusal)
     (sent : Option (List ℕ)) : Type 0 where
@@ -60,6 +62,9 @@ pub record GivesHeld {K : Type 0} (is_honest : K → Bool) (held place : K → L
   pub gives : GivesStep is_honest held text_of (IsStep bytes before.controller) after reply sent
   pub honest : is_honest after.keep ≡ is_honest keep
   pub placed : place after.keep ≡ place keep
+  pub again :
+      is_honest keep ≡ true
+      → IsReadAs any_state_read (held after.keep) (Ok after.controller)
 
 -- the same of the input
 abbrev pub GivesStepOf : {K : Type 0} → (K → Bool) → (K → List ℕ) → (K → List ℕ) → Steps → K → Traffic

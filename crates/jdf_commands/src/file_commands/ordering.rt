@@ -63,8 +63,8 @@ fn order_held<K: Keep, J: Journal>(
 ) -> Result<(OrderBytes, AnyKept<K>), Fault>
     // Proved: What an order or a message to the controller that a keeper holds gives out is the
     // reply and the text of one step of it, and the controller beside its keeper as it is then: an
-    // honest one holds the state that the step leaves, in the same place. Else it says why not,
-    // and what that leaves.
+    // honest one holds the state that the step leaves, in the same place, which is read again as
+    // it. Else it says why not, and what that leaves.
     // By `ok`, `refused`; `take_held`: `ok`, `refused`.
     ensures ok { IfOk result (λ given. GivesHeld K.is_honest K.held K.place (IsOrdered at)
         input.now keep (kept_of given.1)

@@ -10,6 +10,7 @@ returns-in-Ok-clause-ok g c =
       gives = c.in-Ok.ensures.ok;
       honest = c.in-Ok.ensures.honest ∙ c.in_ok-opened.ensures.ok.honest;
       placed = c.in-Ok.ensures.place ∙ c.in_ok-opened.ensures.ok.placed;
+      again = λ honest. c.in-Ok.ensures.again (c.in_ok-opened.ensures.ok.honest ∙ honest);
     }
 
 pub returns-in-Err-clause-refused : goal.returns-in-Err-clause-refused

@@ -2,6 +2,8 @@ use Rattle.controller_form.specs.Orders.MasterForm.{master_order_read}
 use Rattle.controller_form.specs.Orders.WorkerForm.{worker_order_read}
 use Rattle.master_core.specs.Orders as master_orders
 use Rattle.worker_core.specs.Orders as worker_orders
+use Rattle.std.proofs.lemmas.Result.{on_ok_weaker}
+use Rattle.stored_state.proofs.KindTold.{any_of_master, any_of_worker}
 use Rattle.stored_state.specs.AnyStep.{text_of}
 use Rattle.stored_state.specs.Opened.{of_master, of_worker}
 use Rattle.stored_state.proofs.AnySteps.{any_not_ordered, any_ordered}
@@ -30,3 +32,11 @@ returns-in_ok-order-in-Worker-clause-refused g c =
     rw c.in-Worker.is
     (any_not_ordered of_worker g.K.Keep.is_honest g.K.Keep.held g.K.Keep.count g.K.Keep.save_fails text_of worker_order_read c.args.bytes.now
     (λ o. worker_orders.order_step o c.args.at c.in-Worker.kept.controller) c.in_ok-order-in-Worker.order c.in-Worker.kept c.order-in-Worker.new.self c.order-in-Worker.result c.in_ok-order-in-Worker.ensures.ok c.order-in-Worker.ensures.refused)
+
+pub returns-in_ok-order-in-Master-clause-again : goal.returns-in_ok-order-in-Master-clause-again
+returns-in_ok-order-in-Master-clause-again g c =
+    rw c.in-Master.is (on_ok_weaker c.order.result (λ is honest. any_of_master _ _ (is honest)) c.order.ensures.again)
+
+pub returns-in_ok-order-in-Worker-clause-again : goal.returns-in_ok-order-in-Worker-clause-again
+returns-in_ok-order-in-Worker-clause-again g c =
+    rw c.in-Worker.is (on_ok_weaker c.order-in-Worker.result (λ is honest. any_of_worker _ _ (is honest)) c.order-in-Worker.ensures.again)

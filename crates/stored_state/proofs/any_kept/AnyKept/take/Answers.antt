@@ -1,6 +1,8 @@
 use Rattle.master_core.specs.Messages as master_messages
 use Rattle.worker_core.specs.Messages as worker_messages
 use Rattle.jmf_message.specs.Decoded.{IsRefusalOf as IsUndecoded}
+use Rattle.std.proofs.lemmas.Result.{on_ok_weaker}
+use Rattle.stored_state.proofs.KindTold.{any_of_master, any_of_worker}
 use Rattle.stored_state.specs.AnyStep.{text_of}
 use Rattle.stored_state.specs.Opened.{of_master, of_worker}
 use Rattle.stored_state.proofs.AnySteps.{any_not_taken, any_taken}
@@ -29,3 +31,11 @@ returns-in-Worker-clause-refused g c =
     rw c.in-Worker.is
     (any_not_taken of_worker g.K.Keep.is_honest g.K.Keep.held g.K.Keep.count g.K.Keep.save_fails text_of (IsUndecoded c.args.bytes.now) c.args.bytes.now
     (λ m. worker_messages.take_step m c.args.at c.in-Worker.kept.controller) c.in-Worker.kept c.take-in-Worker.new.self c.take-in-Worker.result c.take-in-Worker.ensures.refused)
+
+pub returns-in-Master-clause-again : goal.returns-in-Master-clause-again
+returns-in-Master-clause-again g c =
+    rw c.in-Master.is (on_ok_weaker c.take.result (λ is honest. any_of_master _ _ (is honest)) c.take.ensures.again)
+
+pub returns-in-Worker-clause-again : goal.returns-in-Worker-clause-again
+returns-in-Worker-clause-again g c =
+    rw c.in-Worker.is (on_ok_weaker c.take-in-Worker.result (λ is honest. any_of_worker _ _ (is honest)) c.take-in-Worker.ensures.again)
