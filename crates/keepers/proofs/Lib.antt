@@ -1,1 +1,2 @@
+mod CutSaves
 mod Left

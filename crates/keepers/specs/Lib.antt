@@ -7,3 +7,4 @@ pub mod Keeper
 pub mod OnDisk
 pub mod Saved
 pub mod SystemFile
+pub mod Cut

@@ -36,6 +36,13 @@ impl<D: Disk> FileKeep<D> {
     {
         FileKeep { disk, is_new }
     }
+
+    /// The disk, which it leaves as it is.
+    pub(crate) fn into_disk(self) -> D
+        ensures { result ≡ self.disk }
+    {
+        self.disk
+    }
 }
 
 impl<'a, R: Locks> FileKeep<SystemDisk<'a, R>> {

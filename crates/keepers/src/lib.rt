@@ -1,6 +1,8 @@
 //! Keepers: what a controller's state is kept in, as one value of bytes.
 #![tactic(auto)]
 
+mod cut;
+mod cut_keep;
 mod disk;
 mod draft_file;
 mod draft_path;
@@ -16,6 +18,8 @@ mod memory_keep;
 mod saving;
 mod system_disk;
 
+pub use cut::Cut;
+pub use cut_keep::CutKeep;
 pub use disk::Disk;
 pub use failing_keep::FailingKeep;
 pub use file_keep::FileKeep;

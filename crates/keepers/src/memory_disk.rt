@@ -102,6 +102,13 @@ impl MemoryDisk {
         self.left.as_slice()
     }
 
+    /// The same, of a disk that isn't used any more.
+    pub(crate) fn into_left(self) -> Vec<Option<Vec<u8>>>
+        ensures { contents result.items ≡ self.left }
+    {
+        self.left
+    }
+
     /// Counts a call that failed, and is its fault.
     fn fail(&mut self) -> KeepFault
         ensures fault { result ≡ KeepFault.Failed }

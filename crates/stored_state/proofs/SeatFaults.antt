@@ -45,7 +45,7 @@ pub step_fault : {C K : Type 0} (h : K → Bool) (l : K → List ℕ) (n : K →
     → IsKeeperFault e × IsCounted (n old.keep) (n new.keep) e
 step_fault h l n sf T old new is (refused.Core x) why =
     (⊎_elim (λ same. same.0) (λ lost. lost.0) why.1, tt)
-step_fault h l n sf T old new is refused.SaveFailed why = (tt, why.3.failures)
+step_fault h l n sf T old new is refused.SaveFailed why = (tt, why.2.2.failures)
 step_fault h l n sf T old new is refused.Stale why = absurd (true≢false (sym why.0 ∙ is))
 step_fault h l n sf T old new is e why = absurd why
 
