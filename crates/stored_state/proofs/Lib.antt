@@ -3,6 +3,7 @@ mod Apart
 mod KindTold
 pub mod Loading
 pub mod MessageTexts
+pub mod OnceMore
 mod OutSoFar
 mod HeldSeats
 mod SeatFaults

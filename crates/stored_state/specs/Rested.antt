@@ -2,7 +2,7 @@
 use Rattle.std.specs.Prelude.{◌≡◌, ℕ, Bool, true, false, refl, if◌then◌else◌, Option, Some, None}
 use Rattle.std.specs.Prelude.{Ok, Err}
 use Rattle.std.specs.Option.{option_map_or}
-use Rattle.std.proofs.Common.{sym}
+use Rattle.std.proofs.Common.{◌∙◌, ap, sym}
 use Rattle.std.proofs.lemmas.Bool.{true≢false}
 use Rattle.ticket_items.specs.declared.refusal.Refusal.{Refusal}
 use Rattle.ticket_tree.specs.Part.{PartCopy}
@@ -83,6 +83,47 @@ pub master_rests_on : (m : Message) (at : ℕ) (w : master.State)
     → (by_master.take_step m at w).next ≡ w
 master_rests_on m at w is = taken_master (by_master.take_refusal m w) m m.body at w is
 
+-- what a message is taken as doesn't depend on the time
+if_same : (out : Bool) (x x' y : Taking master.State) → x.reply ≡ x'.reply
+    → (if out then x else y).reply ≡ (if out then x' else y).reply
+if_same true x x' y same = same
+if_same false x x' y same = refl
+
+out_same : (made made' : SpawnRec → Taking master.State) (other : Taking master.State)
+    (found : Option SpawnRec) → ((r : SpawnRec) → (made r).reply ≡ (made' r).reply)
+    → (by_master.while_out made other found).reply ≡ (by_master.while_out made' other found).reply
+out_same made made' other None same = refl
+out_same made made' other (Some r) same = if_same (is_out r) (made r) (made' r) other (same r)
+
+master_same : (body : Body) (at : ℕ) (w : master.State)
+    → (by_master.on_body body at w).reply ≡ (by_master.on_body body 0 w).reply
+master_same (Submit p) at w = refl
+master_same (Return p) at w =
+    out_same (by_master.merge_taking p at w) (by_master.merge_taking p 0 w) (by_master.repeat_taking p w)
+    (master.record_of w.records p.spawn_id) (λ r. refl)
+master_same (Abort s) at w = refl
+master_same (Answer c s told) at w =
+    if_same (by_master.is_declined c told) (by_master.on_decline s at w) (by_master.on_decline s 0 w)
+    (by_master.note_taking s w)
+    (out_same (by_master.withdrawal_taking s at w) (by_master.withdrawal_taking s 0 w) (by_master.note_taking s w)
+    (master.record_of w.records s) (λ r. refl))
+
+-- whether a message that says this leaves it as it is, by what it would be taken as
+abbrev pub master_stays : Body → master.State → Bool
+master_stays body w = is_idle_on body (Ok (by_master.on_body body 0 w).reply)
+
+stays_master : (why : Option Refusal) (m : Message) (at : ℕ) (w : master.State)
+    → master_stays m.body w ≡ true
+    → (message_step w.name m at why w (by_master.on_body m.body at w)).next ≡ w
+stays_master (Some e) m at w is = refl
+stays_master None m at w is =
+    taken_master None m m.body at w
+    (ap (λ r. is_idle_on m.body (Ok r)) (master_same m.body at w) ∙ is)
+
+pub master_stays_so : (m : Message) (at : ℕ) (w : master.State) → master_stays m.body w ≡ true
+    → (by_master.take_step m at w).next ≡ w
+master_stays_so m at w is = stays_master (by_master.take_refusal m w) m at w is
+
 -- ---- a worker
 
 abbrev worker_told : Option Refusal → worker_order.Order → ℕ → worker.State
@@ -120,3 +161,39 @@ pub worker_rests_on : (m : Message) (at : ℕ) (w : worker.State)
     → is_idle_on m.body (by_worker.take_step m at w).reply ≡ true
     → (by_worker.take_step m at w).next ≡ w
 worker_rests_on m at w is = taken_worker (by_worker.take_refusal m w) m m.body at w is
+
+submit_same : (found : Option Entry) (p : PartCopy) (at : ℕ) (w : worker.State)
+    → (option_map_or (by_worker.repeat_taking p.spawn_id w) found (by_worker.entry_taking p at w)).reply
+    ≡ (option_map_or (by_worker.repeat_taking p.spawn_id w) found (by_worker.entry_taking p 0 w)).reply
+submit_same (Some e) p at w = refl
+submit_same None p at w = refl
+
+abort_same : (found : Option Entry) (s at : ℕ) (w : worker.State)
+    → (option_map_or (by_worker.abort_taking s at w) found (by_worker.decline_taking s at w)).reply
+    ≡ (option_map_or (by_worker.abort_taking s 0 w) found (by_worker.decline_taking s 0 w)).reply
+abort_same (Some e) s at w = refl
+abort_same None s at w = refl
+
+worker_same : (body : Body) (at : ℕ) (w : worker.State)
+    → (by_worker.on_body body at w).reply ≡ (by_worker.on_body body 0 w).reply
+worker_same (Submit p) at w = submit_same (worker.entry_of w.entries p.spawn_id) p at w
+worker_same (Return p) at w = refl
+worker_same (Abort s) at w = abort_same (worker.entry_of w.entries s) s at w
+worker_same (Answer c s (Ok status)) at w = refl
+worker_same (Answer c s (Err reason)) at w = refl
+
+-- whether a message that says this leaves it as it is, by what it would be taken as
+abbrev pub worker_stays : Body → worker.State → Bool
+worker_stays body w = is_idle_on body (Ok (by_worker.on_body body 0 w).reply)
+
+stays_worker : (why : Option Refusal) (m : Message) (at : ℕ) (w : worker.State)
+    → worker_stays m.body w ≡ true
+    → (message_step w.name m at why w (by_worker.on_body m.body at w)).next ≡ w
+stays_worker (Some e) m at w is = refl
+stays_worker None m at w is =
+    taken_worker None m m.body at w
+    (ap (λ r. is_idle_on m.body (Ok r)) (worker_same m.body at w) ∙ is)
+
+pub worker_stays_so : (m : Message) (at : ℕ) (w : worker.State) → worker_stays m.body w ≡ true
+    → (by_worker.take_step m at w).next ≡ w
+worker_stays_so m at w is = stays_worker (by_worker.take_refusal m w) m at w is

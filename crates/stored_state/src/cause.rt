@@ -1,7 +1,7 @@
 ghost use Rattle.std.specs.Prelude.{◌≡◌, true, IfOk, IfSome, OnErr};
 ghost use Rattle.controller.specs.Step.{outcome_step};
 ghost use Rattle.controller.specs.Words.{may_be_sent};
-ghost use Rattle.stored_state.specs.Cause.{step_on};
+ghost use Rattle.stored_state.specs.Cause.{once_more, stays_at, step_on};
 
 use crate::order_outcome::outcome_of_order;
 use crate::resting::{is_abort, is_idle, is_idle_on};
@@ -53,4 +53,30 @@ pub(crate) fn make<C: StoredController>(
             Ok((outcome, is_same))
         }
     }
+}
+
+/// Whether what causes a step leaves a controller as it is, as is known before that is made.
+fn stays<C: StoredController>(controller: &C, cause: &StepInput<C::Order>) -> bool
+    ensures { result ≡ stays_at C.stays cause.now controller.now }
+{
+    match cause {
+        StepInput::Order(_) => false,
+        StepInput::Message(message) => controller.stays_on(&message.body),
+    }
+}
+
+/// What causes a step, copied; none where that is known to leave the controller as it is.
+pub(crate) fn copy_unless_it_stays<C: StoredController>(
+    alloc: Global,
+    controller: &C,
+    cause: &StepInput<C::Order>,
+) -> Result<Option<StepInput<C::Order>>, AllocError>
+where
+    C::Order: Duplicate,
+    ensures { IfOk result (λ again. again ≡ once_more C.stays cause.now controller.now) }
+{
+    if stays(controller, cause) {
+        return Ok(None);
+    }
+    Ok(Some(cause.copy(alloc)?))
 }

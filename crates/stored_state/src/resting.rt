@@ -1,9 +1,9 @@
 //! Steps that leave their controller as it was, as what they reply tells.
 
-ghost use Rattle.std.specs.Prelude.{◌≡◌, ◌&&◌, not};
+ghost use Rattle.std.specs.Prelude.{◌≡◌, ◌&&◌, not, Ok};
 ghost use Rattle.stored_state.specs.Resting as resting;
 
-use controller::{Body, Reply};
+use controller::{Body, Reply, Taken};
 use ticket_tree::Refusal;
 
 /// Whether a step on an order leaves the controller as it was.
@@ -32,4 +32,12 @@ pub(crate) fn is_idle_on(gives_up: bool, reply: &Result<Reply, Refusal>) -> bool
     ensures { result ≡ (not gives_up && resting.is_idle reply.now) }
 {
     !gives_up && is_idle(reply)
+}
+
+/// Whether a step on a message that says this, where it is taken so, leaves the controller as it
+/// was.
+pub(crate) fn rests_taken(body: &Body, taken: Taken) -> bool
+    ensures { result ≡ resting.is_idle_on body.now (Ok taken.reply) }
+{
+    is_idle_on(is_abort(body), &Ok(taken.reply))
 }

@@ -3,15 +3,15 @@ ghost use Rattle.std.specs.Option.{option_map};
 ghost use Rattle.serde_json.specs.Written.{compact_text};
 ghost use Rattle.json_profile.specs.ReadAs.{IsReadAs};
 ghost use Rattle.controller.specs.Words.{may_be_sent};
-ghost use Rattle.stored_state.specs.Cause.{step_on};
+ghost use Rattle.stored_state.specs.Cause.{led_to, step_on};
 ghost use Rattle.jmf_message.specs.Decoded.{IsDecodedAs};
 ghost use Rattle.stored_state.specs.Message.{message_text as text_sent};
 
-use crate::cause::{StepInput, make};
+use crate::cause::{StepInput, copy_unless_it_stays, make};
 use crate::order_bytes::OrderBytes;
 use crate::seat::Seat;
 use crate::stored::StoredController;
-use crate::storing::{controllers_of, message_text};
+use crate::storing::{controller_in, message_text};
 use controller::{Outcome, Reply};
 use std::alloc::{AllocError, Global};
 use std::marker::Model;
@@ -77,23 +77,23 @@ impl<C: StoredController> Station<C> {
         self.text.as_slice()
     }
 
-    /// What the text of its state is read as, twice.
-    fn read(&self, alloc: Global) -> Result<(C, C), AllocError>
-        ensures { IfOk result (λ read. (read.0 ≡ self.now) × (read.1 ≡ self.now)) }
+    /// What the text of its state is read as.
+    fn read(&self, alloc: Global) -> Result<C, AllocError>
+        ensures { IfOk result (λ controller. controller ≡ self.now) }
     {
-        match controllers_of(alloc, self.text.as_slice()) {
-            Ok(controllers) => Ok(controllers),
+        match controller_in(alloc, self.text.as_slice()) {
+            Ok(controller) => Ok(controller),
             Err(_) => Err(AllocError),
         }
     }
 
-    /// The controller stops, and is started again from the text of its state.
+    /// The controller stops, and is started again from the text of its state. The value that it was
+    /// is the second one then.
     fn start_again(&mut self, alloc: Global) -> Result<(), AllocError>
         ensures { self.new ≡ self.old }
     {
-        let (controller, twin) = self.read(alloc)?;
-        self.controller = controller;
-        self.twin = Some(twin);
+        let controller = self.read(alloc)?;
+        self.twin = Some(mem::replace(&mut self.controller, controller));
         Ok(())
     }
 
@@ -194,25 +194,28 @@ impl<C: StoredController> Station<C> {
         controller
     }
 
-    /// Stores what a step led to. The controller that it was makes the same step, and is the second
-    /// value then; where memory runs out there is none.
+    /// Stores what a step led to. The controller that it was makes the same step, if it is told
+    /// one, and is the second value then; where memory runs out there is none.
     fn store(
         &mut self,
         alloc: Global,
         next: Option<Station<C>>,
-        cause: StepInput<C::Order>,
+        again: Option<StepInput<C::Order>>,
         at: u64,
     )
         // Wants: the state that the step leads to.
-        requires { (step_on C.order_step C.take_step cause at self.old).next
-            ≡ unwrap_or next self.old }
+        requires { led_to C.order_step C.take_step again at self.old ≡ unwrap_or next self.old }
         ensures { self.new ≡ unwrap_or next self.old }
     {
         let Some(next) = next else {
-            drop(cause);
+            drop(again);
             return;
         };
         let mut second = self.become_next(next);
+        let Some(cause) = again else {
+            self.twin = Some(second);
+            return;
+        };
         match make(alloc, &mut second, cause, at) {
             Ok((outcome, _)) => {
                 drop(outcome);
@@ -272,7 +275,7 @@ where
         ensures err { OnErr result (self.new ≡ self.old) }
         ensures refused { IfErr result (λ e. e ≡ Core Memory) }
     {
-        let again = cause.copy(alloc)?;
+        let again = copy_unless_it_stays(alloc, &self.controller, &cause)?;
         let (next, given) = self.step_made(alloc, cause, at)?;
         self.store(alloc, next, again, at);
         Ok(given)

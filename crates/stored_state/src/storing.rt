@@ -106,19 +106,15 @@ pub(crate) fn load_bytes<K: Keep>(keep: &mut K) -> Result<Vec<u8>, Refused>
     }
 }
 
-/// The controller whose state bytes are the text of, twice. Refuses what they are refused for, and
+/// The controller whose state bytes are the text of. Refuses what they are refused for, and
 /// `Memory`.
-pub(crate) fn controllers_of<C: StoredController>(
-    alloc: Global,
-    bytes: &[u8],
-) -> Result<(C, C), Refusal>
-    ensures first { IfOk result (λ c. IsReadAs C.state_read bytes.now (Ok c.0)) }
-    ensures second { IfOk result (λ c. IsReadAs C.state_read bytes.now (Ok c.1)) }
+pub(crate) fn controller_in<C: StoredController>(alloc: Global, bytes: &[u8]) -> Result<C, Refusal>
+    ensures ok { IfOk result (λ c. IsReadAs C.state_read bytes.now (Ok c)) }
     ensures refused { IfErr result (IsRefusalOf C.state_read bytes.now) }
 {
     let mut scratch = Scratch::new(alloc);
     let tree = tree_of(alloc, bytes, &mut scratch)?;
-    C::pair_of(alloc, &tree)
+    C::state_of(alloc, &tree)
 }
 
 /// The controller whose state a keeper holds.
