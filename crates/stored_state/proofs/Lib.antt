@@ -5,7 +5,7 @@ pub mod Loading
 pub mod MessageTexts
 pub mod OnceMore
 mod OutSoFar
-mod HeldSeats
+pub mod HeldSeats
 mod SeatFaults
 mod SavedOnce
 mod TakingEach

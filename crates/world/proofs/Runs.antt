@@ -2,6 +2,7 @@ pub mod Answered
 pub mod Faults
 pub mod Unknown
 pub mod Seated
+pub mod Seating
 pub mod Settled
 pub mod SoFar
 pub mod Running

@@ -3,6 +3,7 @@
 #![tactic(auto)]
 
 mod apart;
+mod beginning;
 mod carrier;
 pub mod laws;
 mod memory;
@@ -12,6 +13,7 @@ mod stepping;
 mod workers;
 mod world;
 
+pub use beginning::{Keepers, begin};
 pub use carrier::{Carrier, Direct};
 pub use seats::Seats;
 pub use world::World;
