@@ -1,4 +1,5 @@
 mod answers;
+mod holders;
 mod kept_cells;
 mod requests;
 mod responses;
