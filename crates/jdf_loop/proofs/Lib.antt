@@ -1,6 +1,4 @@
 mod AllEvents
 mod EventLines
-mod ShopKept
-mod ShopOpened
-mod ShopWorkers
-mod ShopOrders
+mod LongTexts
+mod OneTicket

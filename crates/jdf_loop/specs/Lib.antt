@@ -1,4 +1,3 @@
 pub mod EventLine
-pub mod Handing
+pub mod Losses
 pub mod Run
-pub mod Shop

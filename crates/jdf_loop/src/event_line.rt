@@ -1,4 +1,3 @@
-use streams::Refused;
 use world_items::Answer;
 
 /// What is told of an event.
@@ -6,8 +5,8 @@ use world_items::Answer;
 pub enum EventLine {
     /// What came of it.
     Answered(Answer),
-    /// Why its message was not sent, or was refused by what HTTP wants.
-    Refused(Refused),
+    /// Its message was too large to be sent, so nothing came of it.
+    TooLarge,
 }
 
 impl EventLine {
@@ -19,8 +18,8 @@ impl EventLine {
         ensures { result ≡ event_line.is_too_large self.now }
     {
         match self {
-            EventLine::Refused(Refused::TooLarge) => true,
-            _ => false,
+            EventLine::Answered(_) => false,
+            EventLine::TooLarge => true,
         }
     }
 }

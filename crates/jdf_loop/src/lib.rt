@@ -6,12 +6,11 @@
 // what a client sent, or is answered.
 
 mod command;
-mod delivery;
 mod event_line;
-mod handing;
+mod exchanges;
 mod loopback;
+mod losses;
 mod pushing;
-mod sent_texts;
 mod shop;
 mod written;
 

@@ -2,7 +2,7 @@
 
 ghost use Rattle.std.specs.Prelude.{◌≡◌, ◌++◌, IfErr, IfOk, OnOk};
 ghost use Rattle.jdf_loop.specs.EventLine as event_line;
-ghost use Rattle.jdf_loop.specs.Run.{IsWritten};
+ghost use Rattle.jdf_commands.specs.FileCommands.Shown.{master_text};
 ghost use Rattle.ticket_items.specs.declared.refusal.Refusal.TheVariants.{Memory};
 
 use crate::event_line::EventLine;
@@ -10,7 +10,7 @@ use controller_form::push_shown;
 use jdf_commands::push_line;
 use master_core::Master;
 use std::alloc::{AllocError, Global};
-use streams::{Output, refused_line};
+use streams::{Output, Refused, refused_line};
 use ticket_tree::Refusal;
 
 /// Appends the line of an event.
@@ -19,8 +19,8 @@ fn push_event_line(alloc: Global, text: &mut Vec<u8>, line: &EventLine) -> Resul
 {
     match line {
         EventLine::Answered(answer) => push_line(alloc, text, answer),
-        EventLine::Refused(refused) => {
-            text.extend_from_slice(refused_line(*refused).as_bytes())?;
+        EventLine::TooLarge => {
+            text.extend_from_slice(refused_line(Refused::TooLarge).as_bytes())?;
             Ok(())
         }
     }
@@ -50,8 +50,10 @@ fn has_too_large(lines: &[EventLine]) -> bool
 /// What is written of a run: a line for each event, and the text of the ticket that the master
 /// shows at the end. Refuses `Memory` alone.
 pub fn run_text(alloc: Global, lines: &[EventLine], master: &Master) -> Result<Output, Refusal>
-    ensures ok { IfOk result
-        (λ output. IsWritten lines.now master.now output.text.items output.refused) }
+    ensures text { IfOk result (λ output. output.text.items
+        ≡ event_line.lines lines.now ++ master_text master.now) }
+    ensures status { IfOk result (λ output. output.refused
+        ≡ event_line.has_too_large lines.now) }
     ensures memory { IfErr result (λ e. e ≡ Memory) }
 {
     let mut text = Vec::new(alloc);

@@ -18,7 +18,7 @@ use Rattle.streams.specs.declared.fault.Fault.{Fault}
 use Rattle.streams.specs.declared.fault.Fault.TheVariants.{Input}
 use Rattle.streams.specs.declared.refused.Refused.TheVariants.{Core}
 use Rattle.jdf_send.specs.SendCommand.{IsNoPlace}
-use Rattle.jdf_send.specs.declared.order_command.run.OrderResult.{Came}
+use Rattle.jdf_send.specs.declared.order_command.run.OrderResult.{OrderResult}
 use Rattle.jdf_send.specs.declared.order_command.run.OrderResult.TheVariants.{Answered, NoPeer}
 use Rattle.jdf_send.specs.declared.order_command.run.OrderResult.TheVariants.{Refused}
 use Rattle.jdf_commands.specs.Calls.{DoesNone, file_bytes, is_honest, keep_in_file, place}
@@ -69,7 +69,7 @@ abbrev pub IsOfSome : Bor (List ℕ) → ℕ → List ℕ → Bool → Type 0
 IsOfSome file at text refused = (answer : List ℕ) × IsWrittenOf file at answer text refused
 
 -- the same of what came of a message
-abbrev pub IsCome : Bor (List ℕ) → ℕ → Came → Type 0
+abbrev pub IsCome : Bor (List ℕ) → ℕ → OrderResult → Type 0
 IsCome file at (Refused status) = Unit {0}
 IsCome file at NoPeer = Unit {0}
 IsCome file at (Answered output) = IsOfSome file at output.text.items output.refused

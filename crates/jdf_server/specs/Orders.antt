@@ -15,7 +15,7 @@ use Rattle.shop_folder.specs.declared.place.Place.{Place}
 use Rattle.shop_folder.specs.declared.place.Place.TheVariants as places
 use Rattle.jdf_server.specs.Requests.{LeadsToFile}
 use Rattle.jdf_server.specs.Steps.{TellsKept}
-use Rattle.jdf_server.specs.declared.order_steps.OrdersResult.{Stepped}
+use Rattle.jdf_server.specs.declared.order_steps.OrdersResult.{OrdersResult}
 use Rattle.jdf_server.specs.declared.order_steps.OrdersResult.TheVariants.{LockedOut, Told}
 use Rattle.jdf_server.specs.declared.route.Route.{Route}
 
@@ -33,7 +33,7 @@ OrdersKept is_honest file_bytes place count load_fails save_fails keep to now or
 -- the same of those who gave orders for the controller in the file of this path; or somebody else
 -- has that locked, and they wait on
 abbrev pub AreOrdersStepped : List ℕ → Addressee → ℕ → List (Errand UnixStream)
-    → Option AnyController → Stepped → Type 0
+    → Option AnyController → OrdersResult → Type 0
 AreOrdersStepped path to now orders last (Told told saved) =
     OrdersKept is_honest file_bytes place count load_fails save_fails (keep_in_file path) to now orders
     told.items saved

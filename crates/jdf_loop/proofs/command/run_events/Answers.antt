@@ -1,22 +1,25 @@
-use Rattle.std.proofs.Common.{◌++◌, ◌∷◌, [], refl, rules, subst, sym}
+use Rattle.std.proofs.Common.{◌∙◌, ap, refl, rules}
 use Rattle.std.proofs.lemmas.Iterator.Adapters.{YieldsList-from_vec}
-use Rattle.jdf_loop.specs.Shop.{StepsAll}
-use Rattle.jdf_loop.proofs.AllEvents.{one_more}
 use Rattle.world.proofs.Runs.SoFar.{all_of}
+use Rattle.jdf_loop.proofs.AllEvents.{one_more}
+use Rattle.jdf_loop.specs.Losses.{left_by_all, lines_to}
 use Rattle.jdf_loop.proofs.command.run_events.Goals as goal
 
 pub loop-event-init : goal.loop-event-init
-loop-event-init g c = subst (StepsAll [] c.args.shop.now c.args.shop.now) (sym c.in_ok-lines.ensures.items) refl
+loop-event-init g c = (c.in_ok-lines.ensures.items, refl)
 
 pub loop-event-preserved : goal.loop-event-preserved
 loop-event-preserved g c =
-    let done = c.loop-event.yielded in
-    let line = c.in_ok-step.field-0 in
-    subst (StepsAll (done ++ c.in-Some.event ∷ []) c.args.shop.now c.step.new.self) (sym c.in_ok-push.ensures.ok)
-    (one_more done c.in-Some.event c.args.shop.now c.loop-event.shop c.step.new.self c.loop-event.lines.items line c.loop-event.invariant c.in_ok-step.ensures.steps)
+    let now = c.loop-event in
+    one_more now.yielded c.in-Some.event c.args.shop.now now.shop c.line_of.new.shop now.lines.items c.push.new.items.items c.in_ok-line_of.field-0
+    now.invariant.0 now.invariant.1 c.in_ok-line_of.ensures.line c.in_ok-line_of.ensures.left c.in_ok-push.ensures.ok
 
-pub returns : goal.returns
-returns g c =
+pub returns-clause-lines : goal.returns-clause-lines
+returns-clause-lines g c =
     let all = YieldsList-from_vec {s = c.into_iter-event-iterator.result} c.args.events.items (search rules) (search rules) in
-    subst (λ es. StepsAll es c.args.shop.now c.loop-event.shop c.loop-event.lines.items)
-    (all_of all c.loop-event.yielded c.loop-event.event-iterator c.loop-event.yielded_by c.next.result c.next.new.self c.in-None.is c.next.ensures.steps) c.loop-event.invariant
+    c.loop-event.invariant.0 ∙ ap (λ es. lines_to es c.args.shop.now) (all_of all c.loop-event.yielded c.loop-event.event-iterator c.loop-event.yielded_by c.next.result c.next.new.self c.in-None.is c.next.ensures.steps)
+
+pub returns-clause-left : goal.returns-clause-left
+returns-clause-left g c =
+    let all = YieldsList-from_vec {s = c.into_iter-event-iterator.result} c.args.events.items (search rules) (search rules) in
+    c.loop-event.invariant.1 ∙ ap (λ es. left_by_all es c.args.shop.now) (all_of all c.loop-event.yielded c.loop-event.event-iterator c.loop-event.yielded_by c.next.result c.next.new.self c.in-None.is c.next.ensures.steps)
