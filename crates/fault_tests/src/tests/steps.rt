@@ -1,14 +1,14 @@
 //! A worker's work on a part, from its start to the answer that the part came back, and a spawn
-//! that is given up before it came, on a keeper of which one call fails: the call says so, nothing
-//! is taken until the state is loaded again, and the step that is repeated then comes to the same
-//! end.
+//! that is given up before it came, on a keeper of which one call fails, and over disks of which a
+//! save is cut off at any call: the step says so, nothing is taken until the state is loaded again,
+//! and the step that is repeated then comes to the same end.
 
 use super::lent::Lent;
 use super::loads;
 use super::texts::{ABORT, CLOSED_AND_DECLINED, NO_ENTRY, RETURN_TAKEN, SUBMIT};
 use jdf_commands::step_output;
-use keepers::{FailingKeep, Keep};
-use std::alloc::Global;
+use keepers::{Cut, CutKeep, FailingKeep, Keep};
+use std::alloc::{AllocError, Global};
 use std::test::Fail;
 use stored_state::{AnyKept, OrderBytes, Refused, TakenBytes, open_any};
 use streams::Output;
@@ -62,9 +62,6 @@ static STEPS: [Step; 5] = [
     },
 ];
 
-/// The worker beside a keeper that is lent.
-type Lending<'a> = AnyKept<Lent<'a, FailingKeep>>;
-
 /// The output of what was given out, as far as memory suffices for it.
 fn output_of(alloc: Global, given: OrderBytes) -> Option<Output> {
     let OrderBytes { reply, message } = given;
@@ -102,9 +99,9 @@ fn told(alloc: Global, given: Result<OrderBytes, Refused>) -> Result<Option<Outp
 }
 
 /// The output of a step, or why there is none.
-fn do_step(
+fn do_step<K: Keep>(
     alloc: Global,
-    opened: &mut Lending<'_>,
+    opened: &mut AnyKept<K>,
     step: &Step,
 ) -> Result<Option<Output>, Refused> {
     if step.is_order {
@@ -115,7 +112,7 @@ fn do_step(
 }
 
 /// Whether a step comes to this line.
-fn comes_to(alloc: Global, opened: &mut Lending<'_>, step: &Step, line: &str) -> bool {
+fn comes_to<K: Keep>(alloc: Global, opened: &mut AnyKept<K>, step: &Step, line: &str) -> bool {
     match do_step(alloc, opened, step) {
         Ok(Some(output)) => output.text.as_slice().starts_with(line.as_bytes()),
         Ok(None) => false,
@@ -124,7 +121,12 @@ fn comes_to(alloc: Global, opened: &mut Lending<'_>, step: &Step, line: &str) ->
 }
 
 /// Whether a step is refused so.
-fn is_refused(alloc: Global, opened: &mut Lending<'_>, step: &Step, refused: Refused) -> bool {
+fn is_refused<K: Keep>(
+    alloc: Global,
+    opened: &mut AnyKept<K>,
+    step: &Step,
+    refused: Refused,
+) -> bool {
     match do_step(alloc, opened, step).err() {
         Some(found) => found == refused,
         None => false,
@@ -132,7 +134,7 @@ fn is_refused(alloc: Global, opened: &mut Lending<'_>, step: &Step, refused: Ref
 }
 
 /// Whether the worker is stale, and is loaded again.
-fn is_reloaded(alloc: Global, opened: &mut Lending<'_>) -> bool {
+fn is_reloaded<K: Keep>(alloc: Global, opened: &mut AnyKept<K>) -> bool {
     match opened {
         AnyKept::Master(_) => false,
         AnyKept::Worker(kept) => kept.is_stale() && kept.reload(alloc).is_ok(),
@@ -141,7 +143,12 @@ fn is_reloaded(alloc: Global, opened: &mut Lending<'_>) -> bool {
 
 /// Whether a step of which the save fails is told so, and once more until the state is loaded, and
 /// comes then to the line of a step that was saved, or wasn't.
-fn comes_again(alloc: Global, opened: &mut Lending<'_>, step: &Step, was_saved: bool) -> bool {
+fn comes_again<K: Keep>(
+    alloc: Global,
+    opened: &mut AnyKept<K>,
+    step: &Step,
+    was_saved: bool,
+) -> bool {
     let line = if was_saved { step.again } else { step.line };
     is_refused(alloc, opened, step, Refused::SaveFailed)
         && is_refused(alloc, opened, step, Refused::Stale)
@@ -189,6 +196,80 @@ fn comes_to_the_same_end(rt: HostRuntime) -> Result<(), Fail> {
                 loads(&mut keep, CLOSED_AND_DECLINED.as_bytes()),
                 "{k} {leaves_new}"
             );
+        }
+    }
+    Ok(())
+}
+
+/// Whether a step comes to the line of one that was saved now, or of one that was saved before.
+fn comes_to_either<K: Keep>(alloc: Global, opened: &mut AnyKept<K>, step: &Step) -> bool {
+    match do_step(alloc, opened, step) {
+        Ok(Some(output)) => {
+            let text = output.text.as_slice();
+            text.starts_with(step.line.as_bytes()) || text.starts_with(step.again.as_bytes())
+        }
+        Ok(None) => false,
+        Err(_) => false,
+    }
+}
+
+/// Whether a step whose save may be cut off is done, or is told so and comes to its line or to that
+/// of one that was saved, once the state is loaded.
+fn comes_at_last<K: Keep>(alloc: Global, opened: &mut AnyKept<K>, step: &Step) -> bool {
+    match do_step(alloc, opened, step) {
+        Ok(Some(output)) => output.text.as_slice().starts_with(step.line.as_bytes()),
+        Ok(None) => false,
+        Err(refused) => {
+            refused == Refused::SaveFailed
+                && is_refused(alloc, opened, step, Refused::Stale)
+                && is_reloaded(alloc, opened)
+                && comes_to_either(alloc, opened, step)
+        }
+    }
+}
+
+/// Whether all steps are done at last.
+fn does_all_at_last(alloc: Global, keep: &mut CutKeep) -> bool {
+    let Ok(mut opened) = open_any(alloc, Lent::new(keep)) else {
+        return false;
+    };
+    STEPS
+        .iter()
+        .all(|step| comes_at_last(alloc, &mut opened, step))
+}
+
+/// A keeper of a worker with no entry, of which the save behind so many is cut off so.
+fn cut_behind(alloc: Global, saves: u8, cut: Cut) -> Result<CutKeep, AllocError> {
+    let mut cuts = Vec::new(alloc);
+    for _ in 0..saves {
+        cuts.push(Cut { call: 0, left: 0 })?;
+    }
+    cuts.push(cut)?;
+    let bytes = Vec::from_slice(alloc, NO_ENTRY.as_bytes())?;
+    Ok(CutKeep::new(bytes, cuts))
+}
+
+/// Whether the work comes to its end where the save behind so many is cut off so.
+fn ends_whole(alloc: Global, saves: u8, cut: Cut) -> Result<bool, AllocError> {
+    let mut keep = cut_behind(alloc, saves, cut)?;
+    let done = does_all_at_last(alloc, &mut keep);
+    Ok(done && loads(&mut keep, CLOSED_AND_DECLINED.as_bytes()))
+}
+
+#[test]
+fn a_save_that_is_cut_off_comes_to_the_same_end(rt: HostRuntime) -> Result<(), Fail> {
+    for saves in 0..5u8 {
+        for call in 1..=8u8 {
+            for left in 0..5u8 {
+                let cut = Cut {
+                    call: u64::from(call),
+                    left: usize::from(left),
+                };
+                assert!(rt;
+                    ends_whole(rt.alloc(), saves, cut)?,
+                    "{saves} {call} {left}"
+                );
+            }
         }
     }
     Ok(())
